@@ -1,14 +1,16 @@
 -- A checkpoint between two calls: the machine is as it was, and a stop leaves what it might have left.
-use Rattle.std.proofs.Common.{◌≡◌, ◌⊎◌, List, [], ◌∷◌, refl, sym, ap, ◌∙◌, subst, inl, inr, ⊎_elim, true, false, arith}
+use Rattle.std.proofs.Common.{◌≡◌, ◌⊎◌, ℕ, List, [], ◌∷◌, Result, Ok, Err, refl, sym, ap, ◌∙◌, subst, inl, inr, ⊎_elim, true, false, true≢false, arith}
 use Rattle.std.specs.List.{IsAmong}
 use Rattle.disk.specs.Moments.{History, AddsOnly}
 use Rattle.disk.proofs.MomentLemmas.{AddsOnly-weaken}
-use Rattle.compound.specs.States.{shared}
+use Rattle.compound.specs.States.{Agrees, shared}
+use Rattle.fs.specs.Changes.{Changes, fs_ending}
 use Rattle.fs.specs.FileSystem.{FileSystem}
 use Rattle.fs.specs.declared.fault.FsFault.{FsFault}
 use Rattle.fs.specs.declared.fault.FsFault.TheVariants as faults
 use Rattle.volume.proofs.FrontLaws.{among_more}
 use Rattle.layout.specs.Stands.{Kept}
+use Rattle.volume.specs.Changes.{Stays}
 use Rattle.volume.specs.Held.{Held, IsSameVolume, IsRecent, KeepsRecent, AddsTrees, StandsForOne, IsLeft, MayAdd, kept_of}
 use Rattle.model.specs.Keyed.{Keyed}
 use Rattle.model.specs.Opens.{Opens}
@@ -21,6 +23,7 @@ use Rattle.server.specs.Seen.{MayKeep, Checkpoints, Breaks}
 use Rattle.server.specs.Views.{world_by, serving_by}
 use Rattle.server.proofs.Moves.{broken_leaves, leaves_now}
 use Rattle.server.proofs.ServedTurns.{broken}
+use Rattle.server.proofs.Turning.{agrees_on}
 
 -- whichever event it is taken for
 keeping_moments : (old : Serving) (held : Held) (new : History) → IsRecent held old.recent → IsAmong old.held held.seats → AddsTrees held (kept_of held) new → (event : Event)
@@ -40,8 +43,18 @@ keeping_moments old held new is seated adds event = AddsOnly-weaken
     ))
     (adds old.recent is)
 
+-- The table agrees with the volume, as before, unless that is down
+
+pub agrees_still : {T : Type 0} (keeps_word : Type 0) (old new : FileSystem) (before after : ℕ) (table : Table) (result : Result T FsFault)
+    → Changes keeps_word (Stays old.volume) old new before after (fs_ending result) → keeps_word → Agrees old table → new.volume.is_down ≡ false → Agrees new table
+agrees_still keeps_word old new before after table (Ok done) changes keeps agrees up =
+    agrees_on old new table changes.volume_changes.same.run (changes.volume_changes.ends.seats keeps (kept_of old.volume) false (refl, refl)) agrees
+agrees_still keeps_word old new before after table (Err faults.Device) changes keeps agrees up =
+    absurd (true≢false (sym changes.volume_changes.ends.down ∙ up))
+agrees_still keeps_word old new before after table (Err fault) changes keeps agrees up = agrees_on old new table changes.volume_changes.same.run (ap (λ (h : Held). h.seats) changes.volume_changes.ends) agrees
+
 module _ (old new : FileSystem) (table : Table) (opens : Opens) (connections : Keyed Connection)
-    (same : IsSameVolume old.volume new.volume) (changes : new.changes ≡ old.changes) (seats : new.volume.seats ≡ old.volume.seats) where
+    (same : IsSameVolume old.volume new.volume) (changes : new.changes ≡ old.changes) where
   -- all but the tree
   pub keeps_world : (tree : Tree) → (let with_tree : FileSystem → World = λ files. record (world_by (shared files table opens) connections) { tree = tree } in with_tree new ≡ with_tree old)
   keeps_world tree = broken (shared old table opens) (shared new table opens) connections connections same changes refl refl tree
@@ -50,20 +63,20 @@ module _ (old new : FileSystem) (table : Table) (opens : Opens) (connections : K
   kept_world trees = keeps_world new.volume.tree ∙ ap (λ (tree : Tree). record (world_by (shared old table opens) connections) { tree = tree }) trees
 
   abbrev serving_of : FileSystem → List Tree → Serving
-  serving_of files recent = serving_by (world_by (shared files table opens) connections) recent files.volume.seats files.volume.is_down
+  serving_of files recent = serving_by (world_by (shared files table opens) connections) recent (files.volume.seats ∷ []) files.volume.is_down
 
   abbrev Keeps : (recent left : List Tree) → Type 0
   Keeps recent left =
       Checkpoints (record { serving = serving_of old recent; volume = old.volume }) (record { serving = serving_of new left; volume = new.volume })
 
   -- where it is done
-  pub checkpointed : new.volume.tree ≡ old.volume.tree → old.volume.is_down ≡ false → new.volume.is_down ≡ false → KeepsRecent old.volume new.volume
+  pub checkpointed : new.volume.tree ≡ old.volume.tree → new.volume.seats ≡ old.volume.seats → old.volume.is_down ≡ false → new.volume.is_down ≡ false → KeepsRecent old.volume new.volume
       → AddsTrees old.volume (kept_of old.volume) new.volume.history → (recent : List Tree) → IsRecent old.volume recent → Keeps recent recent
-  checkpointed trees up still_up keeps adds recent ready = record {
+  checkpointed trees seats up still_up keeps adds recent ready = record {
     serving =
-        ap (λ (world : World). serving_by world recent new.volume.seats new.volume.is_down) (kept_world trees)
-        ∙ (ap (λ (kept : Seats). serving_by (world_by (shared old table opens) connections) recent kept new.volume.is_down) seats
-        ∙ ap (serving_by (world_by (shared old table opens) connections) recent old.volume.seats) (still_up ∙ sym up));
+        ap (λ (world : World). serving_by world recent (new.volume.seats ∷ []) new.volume.is_down) (kept_world trees)
+        ∙ (ap (λ (kept : Seats). serving_by (world_by (shared old table opens) connections) recent (kept ∷ []) new.volume.is_down) seats
+        ∙ ap (serving_by (world_by (shared old table opens) connections) recent (old.volume.seats ∷ [])) (still_up ∙ sym up));
     moves = λ event. record {
       moments = keeping_moments (serving_of old recent) old.volume new.volume.history ready (0, (omega arith, refl)) adds event;
       leaves = leaves_now new.volume recent (keeps recent ready).leaves;
@@ -74,13 +87,14 @@ module _ (old new : FileSystem) (table : Table) (opens : Opens) (connections : K
 
   -- where the device fails in it
   pub checkpoint_fails : old.volume.is_down ≡ false → new.volume.is_down ≡ true → AddsTrees old.volume (kept_of old.volume) new.volume.history
-      → (event : Event) (recent : List Tree) → IsRecent old.volume recent → (after : List Tree)
+      → (event : Event) (recent : List Tree) → IsRecent old.volume recent → (after : List Tree) × (held : List Seats)
       × Breaks (record { serving = serving_of old recent; volume = old.volume }) event (record {
-        serving = serving_by (record (world_by (shared new table opens) connections) { tree = old.volume.tree }) after new.volume.seats new.volume.is_down;
+        serving = serving_by (record (world_by (shared new table opens) connections) { tree = old.volume.tree }) after held new.volume.is_down;
         volume = new.volume;
       })
   checkpoint_fails up down adds event recent ready = (
     old.volume.tree ∷ recent,
+    old.volume.seats ∷ old.volume.seats ∷ [],
     record {
       fails = record {
         up = up;
@@ -90,12 +104,14 @@ module _ (old new : FileSystem) (table : Table) (opens : Opens) (connections : K
             (λ (first : tree ≡ old.volume.tree). subst (λ (one : Tree). IsAmong recent one) (sym first) ready.newest)
             (λ (rest : IsAmong recent tree). rest)
             (among_more old.volume.tree recent tree left));
-        seats = λ one among. inl (subst (λ (kept : Seats). IsAmong (kept ∷ []) one) seats among);
+        seats = λ one among. inl (⊎_elim
+            (λ (first : one ≡ old.volume.seats). (0, (omega arith, first)))
+            (λ (rest : IsAmong (old.volume.seats ∷ []) one). rest)
+            (among_more old.volume.seats (old.volume.seats ∷ []) one among));
       };
       moves = record {
         moments = keeping_moments (serving_of old recent) old.volume new.volume.history ready (0, (omega arith, refl)) adds event;
-        leaves = leaves_now new.volume (old.volume.tree ∷ recent)
-            (broken_leaves old.volume new.volume old.volume.tree recent ready adds same seats);
+        leaves = broken_leaves old.volume new.volume (kept_of old.volume) recent ready adds same;
         same = same;
       };
     },

@@ -1,7 +1,9 @@
 pub mod Checkpoints
 pub mod HangUps
+pub mod LifeStops
 pub mod Moves
 pub mod Openings
+pub mod Persisting
 pub mod Refusals
 pub mod Resumptions
 pub mod ServedTurns

@@ -1,5 +1,5 @@
 -- What the calls of a server do to what a stop may leave.
-use Rattle.std.proofs.Common.{◌≡◌, ◌≤◌, ◌+◌, ℕ, List, [], ◌∷◌, length, Bool, false, None, refl, sym, ap, ap₂, ◌∙◌, subst, inl, ⊎_elim, arith}
+use Rattle.std.proofs.Common.{◌≡◌, ◌<◌, ◌≤◌, ◌+◌, ◌^◌, ℕ, List, [], ◌∷◌, length, Bool, false, None, refl, sym, ap, ap₂, ◌∙◌, subst, inl, ⊎_elim, arith}
 use Rattle.std.specs.List.{IsAmong}
 use Rattle.std.proofs.Math.Logic.{∥∥₁_elim, ∥∥₁_map, ∥∥₁_prop}
 use Rattle.model.specs.declared.limits.Limits.{Limits}
@@ -8,6 +8,7 @@ use Rattle.model.specs.SoundRuns.{IsStart}
 use Rattle.model.specs.Stamp.{stamp, next_stamp}
 use Rattle.model.specs.WellFormed.{IsWellFormed, IsBefore}
 use Rattle.model.proofs.ChangeLaws.{was_before}
+use Rattle.volume.specs.MountAnswers.{FindsSeats}
 use Rattle.volume.specs.Remounts.{IsFound}
 use Rattle.disk.specs.Moments as moments
 use Rattle.disk.specs.Moments.{Image, Moment, Left, LeftWithin, LeftSince, moment}
@@ -15,14 +16,15 @@ use Rattle.compound.specs.States.{shared}
 use Rattle.compound.proofs.QuietLaws.{same_volume}
 use Rattle.fs.specs.FileSystem.{FileSystem}
 use Rattle.layout.specs.Stands.{Kept}
-use Rattle.volume.specs.Held.{Held, IsSameVolume, StandsForOne, LeavesOne, IsRecent, Holds, IsLeft, MayAdd, AddsTrees, kept_of, with_tree}
+use Rattle.volume.specs.Held.{Held, IsSameVolume, StandsForOne, LeavesOne, IsRecent, Holds, IsLeft, MayAdd, AddsTrees, kept_of}
 use Rattle.volume.specs.Stands.{StandsFor}
 use Rattle.model.specs.Runs.{Serving, Event, executed_of, effect_of}
 use Rattle.model.specs.Opens.{Opens, no_opens}
-use Rattle.model.specs.Seats.{no_seats}
+use Rattle.model.specs.SeatRuns.{AreSeats}
+use Rattle.model.specs.Seats.{Seats}
 use Rattle.model.specs.Tree.{Tree}
 use Rattle.model.specs.Keyed.{Keyed}
-use Rattle.model.specs.Session.{Table, empty_table}
+use Rattle.model.specs.Session.{Table, loaded_table}
 use Rattle.model.specs.World.{World, Connection, mounted_world}
 use Rattle.server.specs.Headline.{IsMounted}
 use Rattle.server.specs.Views.{world_by, server_limits, serving_by}
@@ -68,31 +70,31 @@ leaves_now held recent leaves image left =
     let one = leaves image left in
     (one.0, (one.1.0, (0, (omega arith, one.1.1))), one.2)
 
--- after a failure a stop leaves one of the trees before the call, or the one after it, and the seats before it
-pub broken_leaves : (held after_held : Held) (after : Tree) (recent : List Tree) → IsRecent held recent → AddsTrees held (with_tree held after) after_held.history → IsSameVolume held after_held
-    → after_held.seats ≡ held.seats → LeavesOne after_held (after ∷ recent)
-broken_leaves held after_held after recent is adds same seats image left = ⊎_elim
+-- after a failure a stop leaves one of the trees before the call, or the one after it, and so the seats
+pub broken_leaves : (held after_held : Held) (after : Kept) (recent : List Tree) → IsRecent held recent → AddsTrees held after after_held.history → IsSameVolume held after_held
+    → (image : Image) → Left after_held.history.now image → StandsForOne after_held (λ kept. IsAmong (after.tree ∷ recent) kept.tree × IsAmong (after.seats ∷ held.seats ∷ []) kept.seats) image
+broken_leaves held after_held after recent is adds same image left = ⊎_elim
     (λ (earlier : LeftSince held.history (moment held.history) image).
     let one = is.leaves image (left_now held.history image earlier) in
     stays one.0 one.1 one.2)
-    (λ (added : StandsForOne held (MayAdd held recent (with_tree held after)) image). ⊎_elim
+    (λ (added : StandsForOne held (MayAdd held recent after) image). ⊎_elim
     (λ (before : IsLeft held recent added.0). stays added.0 before added.2)
-    (λ (behind : added.0 ≡ with_tree held after). (
+    (λ (behind : added.0 ≡ after). (
       added.0,
-      ((0, (omega arith, ap (λ (kept : Kept). kept.tree) behind)), ap (λ (kept : Kept). kept.seats) behind ∙ sym seats),
+      ((0, (omega arith, ap (λ (kept : Kept). kept.tree) behind)), (0, (omega arith, ap (λ (kept : Kept). kept.seats) behind))),
       stands_on held after_held added.0 image same added.2,
     ))
     added.1)
     ((adds recent is).added (moment held.history) image (omega arith) (inl left))
   where
     stays : (kept : Kept) → IsLeft held recent kept → StandsFor held.sectors held.limits.nodes held.run kept image
-        → StandsForOne after_held (IsLeft after_held (after ∷ recent)) image
-    stays kept among stands = (kept, (among_rest after recent kept.tree among.0, among.1 ∙ sym seats), stands_on held after_held kept image same stands)
+        → StandsForOne after_held (λ kept. IsAmong (after.tree ∷ recent) kept.tree × IsAmong (after.seats ∷ held.seats ∷ []) kept.seats) image
+    stays kept among stands = (kept, (among_rest after.tree recent kept.tree among.0, (1, (omega arith, among.1))), stands_on held after_held kept image same stands)
 
 -- a call that does an event without the device
 pub does_quietly : (held : Held) (old new : World) (down : Bool) (event : Event) (said : Said) → executed_of old event ≡ None → down ≡ false → new ≡ effect_of old event
     → new.table.seats ≡ held.seats → said ≡ told old event → (recent : List Tree) → IsRecent held recent → (after : List Tree)
-    × Does (record { serving = serving_by old recent held.seats down; volume = held }) event said (record { serving = serving_by new after held.seats down; volume = held })
+    × Does (record { serving = serving_by old recent (held.seats ∷ []) down; volume = held }) event said (record { serving = serving_by new after (held.seats ∷ []) down; volume = held })
 does_quietly held old new down event said none up is seated says recent ready = (
   recent,
   record {
@@ -103,29 +105,51 @@ does_quietly held old new down event said none up is seated says recent ready = 
   },
 )
 
--- the world of a server that was just mounted
-pub world_mounted : (fs : FileSystem) (table : Table) (opens : Opens) (connections : Keyed Connection) → table ≡ empty_table fs.volume.run → opens ≡ no_opens → connections ≡ [] → fs.changes ≡ 0
-    → fs.volume.seats ≡ no_seats → world_by (shared fs table opens) connections ≡ mounted_world (server_limits fs.volume.limits) fs.volume.run fs.volume.tree fs.volume.seats
-world_mounted fs table opens connections tables none_open none changes unseated =
-    ap₂ (λ (t : Table) (o : Opens). world_by (shared fs t o) connections) tables none_open
-    ∙ (ap (λ (k : Keyed Connection). world_by (shared fs (empty_table fs.volume.run) no_opens) k) none
-    ∙ (ap (λ (n : ℕ). record (world_by (shared fs (empty_table fs.volume.run) no_opens) []) { changes = n }) changes
-    ∙ ap (mounted_world (server_limits fs.volume.limits) fs.volume.run fs.volume.tree) (sym unseated)))
+-- the run is the restart count that the mount wrote
 
--- a server that was just mounted
-pub mounted_by : (fs : FileSystem) (table : Table) (opens : Opens) (connections : Keyed Connection) → table ≡ empty_table fs.volume.run → opens ≡ no_opens → connections ≡ [] → fs.changes ≡ 0 → fs.volume.seats ≡ no_seats → fs.volume.is_down ≡ false → Holds fs.volume
-    → ∥ IsStart fs.volume.limits fs.volume.run fs.volume.tree ∥₁ → fs.volume.limits.aces_set + 5 ≤ fs.volume.limits.aces
-    → IsMounted fs.volume.run (kept_of fs.volume) (record { serving = serving_by (world_by (shared fs table opens) connections) (fs.volume.tree ∷ []) fs.volume.seats fs.volume.is_down; volume = fs.volume })
-mounted_by fs table opens connections tables none_open none changes unseated up holds starts room = record {
-  serves =
-      ap (λ (w : World). serving_by w (fs.volume.tree ∷ []) fs.volume.seats fs.volume.is_down) (world_mounted fs table opens connections tables none_open none changes unseated)
-      ∙ ap (λ (b : Bool). serving_by (mounted_world (server_limits fs.volume.limits) fs.volume.run fs.volume.tree fs.volume.seats) (fs.volume.tree ∷ []) fs.volume.seats b) up;
-  counted = refl;
-  begins = refl;
-  starts = starts;
-  room = room;
-  ready = holds;
-}
+pub loaded : (count run : ℕ) (persistent : Bool) (seats : Seats) → count ≡ run → (table : Table) → table ≡ loaded_table count persistent seats → table ≡ loaded_table run persistent seats
+loaded count run persistent seats same table is = is ∙ ap (λ (r : ℕ). loaded_table r persistent seats) same
+
+pub few_runs : (count run : ℕ) → count ≡ run → count < 4294967296 → run < 2 ^ 32
+few_runs count run same few = subst (λ (r : ℕ). r < 2 ^ 32) same (omega (arith, few))
+
+module _ (fs : FileSystem) (table : Table) (opens : Opens) (connections : Keyed Connection) (persistent : Bool) (seats : Seats)
+    (tables : table ≡ loaded_table fs.volume.run persistent seats) (none_open : opens ≡ no_opens) (none : connections ≡ []) (changes : fs.changes ≡ 0) where
+  abbrev begun : Seats → World
+  begun found = mounted_world (server_limits fs.volume.limits persistent) fs.volume.run fs.volume.tree found
+
+  begun_with : world_by (shared fs table opens) connections ≡ begun seats
+  begun_with =
+      ap₂ (λ (t : Table) (o : Opens). world_by (shared fs t o) connections) tables none_open
+      ∙ (ap (λ (k : Keyed Connection). world_by (shared fs (loaded_table fs.volume.run persistent seats) no_opens) k) none
+      ∙ ap (λ (n : ℕ). record (world_by (shared fs (loaded_table fs.volume.run persistent seats) no_opens) []) { changes = n }) changes)
+
+  -- the world of a server that was just mounted
+  pub world_mounted : world_by (shared fs table opens) connections ≡ begun table.seats
+  world_mounted = begun_with ∙ ap begun (sym (ap (λ (t : Table). t.seats) tables))
+
+  -- and the server
+  pub mounted_by : {keeps_word : Type 0} → keeps_word → FindsSeats keeps_word fs.volume seats → fs.volume.run < 2 ^ 32 → fs.volume.is_down ≡ false → Holds fs.volume
+      → ∥ IsStart fs.volume.limits fs.volume.run fs.volume.tree ∥₁ → fs.volume.limits.aces_set + 5 ≤ fs.volume.limits.aces
+      → IsMounted persistent fs.volume.run (kept_of fs.volume) (record { serving = serving_by (world_by (shared fs table opens) connections) (fs.volume.tree ∷ []) (fs.volume.seats ∷ []) fs.volume.is_down; volume = fs.volume })
+  mounted_by keeps finds few up holds starts room = record {
+    serves =
+        ap (λ (w : World). serving_by w (fs.volume.tree ∷ []) (fs.volume.seats ∷ []) fs.volume.is_down) (begun_with ∙ ap begun (finds.are keeps))
+        ∙ ap (λ (b : Bool). serving_by (begun fs.volume.seats) (fs.volume.tree ∷ []) (fs.volume.seats ∷ []) b) up;
+    counted = refl;
+    few = few;
+    begins = refl;
+    seats = subst (AreSeats fs.volume.run) (finds.are keeps) (record {
+      apart = finds.of_runs.apart;
+      earlier = λ id has.
+          let made = finds.of_runs.made id has in
+          let raised = finds.counted in
+          omega (arith, made.1, raised);
+    });
+    starts = starts;
+    room = room;
+    ready = holds;
+  }
 
 -- the tree that was found is one with which this run may begin
 pub found_start : (sectors : ℕ) (old : moments.History) (held : Held) → IsFound sectors old held → held.limits ≡ limits_of sectors held.limits.nodes
@@ -140,8 +164,8 @@ pub limits_room : (sectors : ℕ) (held : Held) → held.limits ≡ limits_of se
 limits_room sectors held limits = subst (λ (l : Limits). l.aces_set + 5 ≤ l.aces) (sym limits) (omega arith)
 
 pub same_seen : (old new : World) (recent : List Tree) (old_held new_held : Held) → new ≡ old → new_held ≡ old_held
-    → (let one : Seen = record { serving = serving_by old recent old_held.seats old_held.is_down; volume = old_held } in one)
-    ≡ record { serving = serving_by new recent new_held.seats new_held.is_down; volume = new_held }
+    → (let one : Seen = record { serving = serving_by old recent (old_held.seats ∷ []) old_held.is_down; volume = old_held } in one)
+    ≡ record { serving = serving_by new recent (new_held.seats ∷ []) new_held.is_down; volume = new_held }
 same_seen old new recent old_held new_held worlds volumes =
-    ap (λ (w : World). let one : Seen = record { serving = serving_by w recent old_held.seats old_held.is_down; volume = old_held } in one) (sym worlds)
-    ∙ ap (λ (h : Held). let one : Seen = record { serving = serving_by new recent h.seats h.is_down; volume = h } in one) (sym volumes)
+    ap (λ (w : World). let one : Seen = record { serving = serving_by w recent (old_held.seats ∷ []) old_held.is_down; volume = old_held } in one) (sym worlds)
+    ∙ ap (λ (h : Held). let one : Seen = record { serving = serving_by new recent (h.seats ∷ []) h.is_down; volume = h } in one) (sym volumes)

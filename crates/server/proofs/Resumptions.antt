@@ -1,5 +1,5 @@
 -- The COMPOUND that a record asks for, between its turns.
-use Rattle.std.proofs.Common.{◌≡◌, ℕ, true, List, Option, Some, None, ◌≤◌, refl, sym, subst, arith}
+use Rattle.std.proofs.Common.{◌≡◌, ℕ, true, List, Option, Some, None, ◌<◌, refl, sym, subst}
 use Rattle.compound.specs.Steps.{GoesFurther}
 use Rattle.compound.specs.Views.{Asked, resumed, asked_of, in_progress_of}
 use Rattle.compound.specs.declared.progress.Progress.{Progress}
@@ -39,18 +39,18 @@ pub run_of : (run : ℕ) (asked : Option Asked) (progress : Progress) → can_go
 run_of run None progress can here = let never : ⊥ = cc in absurd never
 run_of run (Some asked) progress can here = here (resumed asked progress) refl
 
--- and it has no more results than operations
-pub no_more : (asked : Option Asked) (progress : Progress) (request : InProgress) → can_go_on asked progress ≡ true → begun asked progress ≡ Busy request → request.answered ≤ request.count
-no_more None progress request can is = let never : ⊥ = cc in absurd never
-no_more (Some asked) progress request can is =
+-- and has operations left, unless it has ended
+pub some_more : (asked : Option Asked) (progress : Progress) (request : InProgress) → can_go_on asked progress ≡ true → begun asked progress ≡ Busy request
+    → request.ended ≡ None → request.answered < request.count
+some_more None progress request can is = let never : ⊥ = cc in absurd never
+some_more (Some asked) progress request can is =
     let same : resumed asked progress ≡ request = cc in
-    let more : progress.answered ≤ asked.compound.count = omega (arith, fits_more asked progress can) in
-    subst (λ (r : InProgress). r.answered ≤ r.count) same more
+    subst (λ (r : InProgress). r.ended ≡ None → r.answered < r.count) same (fits_more asked progress can)
 
 -- after a step of it
 stepped_on : (running : Running) (done : Stepped) → GoesFurther (in_progress_of running) done → HasGoneOn (Some (Busy (in_progress_of running))) (Some (left_by (Some (asked_of running)) done))
 unfolding in_progress_of
-stepped_on running (stepped.Ran progress) further = (further, refl)
+stepped_on running (stepped.Ran progress) further = (further.0, further.1, refl)
 stepped_on running (stepped.Answered reply) further = tt
 
 pub gone_on : (asked : Option Asked) (running : Running) (done : Stepped) → asked ≡ Some (asked_of running) → GoesFurther (in_progress_of running) done

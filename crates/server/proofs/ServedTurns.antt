@@ -1,26 +1,32 @@
 -- A turn of a connection, as the turn of its server.
-use Rattle.std.proofs.Common.{◌≡◌, ℕ, List, subst, false, Option, Some, refl, sym, ap, ◌∙◌, inl, inr, arith}
+use Rattle.std.proofs.Common.{◌≡◌, ℕ, Bool, List, [], ◌∷◌, subst, false, true≢false, Option, Some, Result, Ok, Err, OnOk, OnErr, refl, sym, ap, ap₂, ◌∙◌, inl, inr, arith}
 use Rattle.disk.specs.Moments.{History, AddsOnly}
 use Rattle.disk.proofs.MomentLemmas.{AddsOnly-weaken}
-use Rattle.compound.specs.States.{SharedState, HasState, with_state}
-use Rattle.compound.specs.Volumes.{TurnGives, lasts}
+use Rattle.compound.specs.States.{Agrees, SharedState, HasState, with_state}
+use Rattle.compound.specs.Volumes.{TurnGives, ending, kept_in, lasts}
+use Rattle.compound.specs.declared.fault.Fault.{Fault}
+use Rattle.compound.specs.declared.fault.Fault.TheVariants as faults
+use Rattle.fs.specs.Changes.{Changes}
 use Rattle.fs.specs.FileSystem.{FileSystem}
 use Rattle.layout.specs.Stands.{Kept}
-use Rattle.volume.specs.Held.{IsSameVolume, AddsTrees, StandsForOne, IsRecent, MayAdd, with_tree}
+use Rattle.volume.specs.Changes.{Given}
+use Rattle.volume.specs.Held.{Held, IsSameVolume, AddsTrees, StandsForOne, IsRecent, MayAdd}
 use Rattle.model.specs.declared.limits.Limits.{Limits}
 use Rattle.model.specs.Tree.{Tree}
 use Rattle.model.specs.Keyed.{Keyed, at, with}
 use Rattle.model.proofs.KeyedLaws.{at-with_same}
 use Rattle.model.specs.Runs as runs
-use Rattle.model.specs.Runs.{Serving, MayLeave}
+use Rattle.model.specs.Runs.{Serving}
+use Rattle.model.specs.Session.{Table}
 use Rattle.model.specs.World as world
-use Rattle.model.specs.World.{one, with_connection}
+use Rattle.model.specs.World.{World, one, with_connection}
 use Rattle.server.specs.declared.turn.Turn.{Turn}
 use Rattle.server.specs.Connections.{Turns, IsRising, HasGoneOn, turn_view}
 use Rattle.server.specs.Seen.{MayKeep}
 use Rattle.server.specs.Views.{world_by, server_limits, serving_by}
-use Rattle.server.proofs.Turning.{one_is}
-use Rattle.server.proofs.Worlds.{may_leave_from}
+use Rattle.server.proofs.Persisting.{one_persists}
+use Rattle.server.proofs.Turning.{one_is, agrees_on}
+use Rattle.server.proofs.Worlds.{may_leave_from, may_hold_from}
 
 pub has_state : (state : SharedState) (connections : Keyed world.Connection) → HasState (world_by state connections) state
 has_state state connections = record {
@@ -42,9 +48,11 @@ module _ (state left : SharedState) (old new : Keyed world.Connection) (number n
       → (turn_view done ≡ (one (world_by state old) number now).turn) × (world_by left new ≡ (one (world_by state old) number now).world)
   turned done turns rises is same =
       let made = turns (world_by state old) number (has_state state old) rises is in
+      let stays : left.table.persistent ≡ state.table.persistent
+      = sym (ap (λ (w : World). w.table.persistent) made.1) ∙ one_persists (world_by state old) number now in
       let here : world_by left new ≡ with_connection (with_state (world_by state old) left) number after
-      = ap (λ (l : Limits). record (world_by left new) { limits = server_limits l }) same.limits
-      ∙ (ap (λ (r : ℕ). record (world_by left new) { limits = server_limits state.files.volume.limits; run = r }) same.run
+      = ap₂ (λ (l : Limits) (b : Bool). record (world_by left new) { limits = server_limits l b }) same.limits stays
+      ∙ (ap (λ (r : ℕ). record (world_by left new) { limits = server_limits state.files.volume.limits state.table.persistent; run = r }) same.run
       ∙ ap (λ (connections : Keyed world.Connection). record (with_state (world_by state old) left) { connections = connections }) written) in
       (sym made.0, here ∙ sym made.1)
 
@@ -59,8 +67,8 @@ pub broken : (state left : SharedState) (old new : Keyed world.Connection) → I
     → left ≡ record state { files = left.files } → new ≡ old → (tree : Tree) → record (world_by left new) { tree = tree } ≡ record (world_by state old) { tree = tree }
 broken state left old new same changes stays connections tree =
     ap (λ (s : SharedState). record (world_by s new) { tree = tree }) stays
-    ∙ (ap (λ (l : Limits). record (world_by (record state { files = left.files }) new) { tree = tree; limits = server_limits l }) same.limits
-    ∙ (ap (λ (r : ℕ). record (world_by (record state { files = left.files }) new) { tree = tree; limits = server_limits state.files.volume.limits; run = r }) same.run
+    ∙ (ap (λ (l : Limits). record (world_by (record state { files = left.files }) new) { tree = tree; limits = server_limits l state.table.persistent }) same.limits
+    ∙ (ap (λ (r : ℕ). record (world_by (record state { files = left.files }) new) { tree = tree; limits = server_limits state.files.volume.limits state.table.persistent; run = r }) same.run
     ∙ (ap (λ (n : ℕ). record (world_by state new) { tree = tree; changes = n }) changes
     ∙ ap (λ (kept : Keyed world.Connection). record (world_by state kept) { tree = tree }) connections)))
 
@@ -72,35 +80,47 @@ gone_on_at old new number before after there written further =
     (subst (λ (a : Option world.Connection). HasGoneOn (Some before) a) (sym (ap (at number) written ∙ at-with_same old number after)) further)
 
 -- what the turn of a connection gives in the server's world
+
+abbrev pub turn_of : SharedState → Keyed world.Connection → (number now : ℕ) → world.Turned
+turn_of state connections number now = one (world_by state connections) number now
+
 pub gives_one : (state : SharedState) (connections : Keyed world.Connection) (number now : ℕ) (before : world.Connection) → at number connections ≡ Some before
-    → TurnGives state (λ w n. world.turned w n now (Some before)) (with_tree state.files.volume (one (world_by state connections) number now).world.tree) (lasts (one (world_by state connections) number now).executed)
+    → TurnGives state (λ w n. world.turned w n now (Some before)) (kept_in (turn_of state connections number now).world) (lasts (turn_of state connections number now).executed)
 gives_one state connections number now before is =
     let same = one_is (world_by state connections) number now before is in
     record {
       world = world_by state connections;
       number = number;
       has = has_state state connections;
-      kept = ap (λ (t : world.Turned). with_tree state.files.volume t.world.tree) same;
+      kept = ap (λ (t : world.Turned). kept_in t.world) same;
       lasting_is = ap (λ (t : world.Turned). lasts t.executed) same;
     }
 
 -- what a stop within it may leave
 
 abbrev pub serving_of : SharedState → Keyed world.Connection → List Tree → Serving
-serving_of state connections recent = serving_by (world_by state connections) recent state.files.volume.seats state.files.volume.is_down
+serving_of state connections recent = serving_by (world_by state connections) recent (state.files.volume.seats ∷ []) state.files.volume.is_down
 
 pub turning_moments : (state : SharedState) (old : Keyed world.Connection) (number now : ℕ) (recent : List Tree) (new : History) → IsRecent state.files.volume recent → state.files.volume.is_down ≡ false
-    → AddsTrees state.files.volume (with_tree state.files.volume (one (world_by state old) number now).world.tree) new
+    → AddsTrees state.files.volume (kept_in (turn_of state old number now).world) new
     → AddsOnly (StandsForOne state.files.volume (MayKeep (serving_of state old recent) (runs.Turns number now))) state.files.volume.history new
 turning_moments state old number now recent new is up moments =
     AddsOnly-weaken _ (StandsForOne state.files.volume (MayKeep (serving_of state old recent) (runs.Turns number now))) state.files.volume.history new
     (λ image found. (found.0, either found.0 found.1, found.2)) (moments recent is)
   where
-    either : (kept : Kept) → MayAdd state.files.volume recent (with_tree state.files.volume (one (world_by state old) number now).world.tree) kept
+    either : (kept : Kept) → MayAdd state.files.volume recent (kept_in (turn_of state old number now).world) kept
         → MayKeep (serving_of state old recent) (runs.Turns number now) kept
     either kept (inl stays) = (inl stays.0, inl (0, (omega arith, stays.1)))
-    either kept (inr goes) = (
-      subst (MayLeave (serving_of state old recent) (runs.Turns number now)) (sym (ap (λ (of : Kept). of.tree) goes))
-          (may_leave_from (world_by state old) recent state.files.volume.seats state.files.volume.is_down (runs.Turns number now) is.newest up),
-      inl (0, (omega arith, ap (λ (of : Kept). of.seats) goes)),
+    either kept (inr goes) = subst (MayKeep (serving_of state old recent) (runs.Turns number now)) (sym goes) (
+      may_leave_from (world_by state old) recent (state.files.volume.seats ∷ []) state.files.volume.is_down (runs.Turns number now) is.newest up,
+      may_hold_from (world_by state old) recent (state.files.volume.seats ∷ []) state.files.volume.is_down (runs.Turns number now) up,
     )
+
+-- The table agrees with the volume after a turn too, unless that is down
+pub agrees_after : {T : Type 0} (keeps_word : Type 0) (given : Given) (old new : FileSystem) (before after : ℕ) (was is : Table) (result : Result T Fault)
+    → Changes keeps_word given old new before after (ending result) → OnOk result (Agrees new is) → OnErr result (is ≡ was) → Agrees old was → new.volume.is_down ≡ false → Agrees new is
+agrees_after keeps_word given old new before after was is (Ok done) changes agreed same agrees up = agreed
+agrees_after keeps_word given old new before after was is (Err faults.Device) changes agreed same agrees up =
+    absurd (true≢false (sym changes.volume_changes.ends.down ∙ up))
+agrees_after keeps_word given old new before after was is (Err faults.Memory) changes agreed same agrees up =
+    subst (Agrees new) (sym same) (agrees_on old new was changes.volume_changes.same.run (ap (λ (h : Held). h.seats) changes.volume_changes.ends) agrees)

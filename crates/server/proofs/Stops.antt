@@ -1,5 +1,5 @@
 -- The calls of a server are a run of the machine, and what a stop within one leaves stands for what the machine may leave.
-use Rattle.std.proofs.Common.{◌≡◌, ◌<◌, ◌+◌, ◌^◌, ℕ, List, refl, sym, ap, ◌∙◌, subst, inl, ⊎_elim, arith}
+use Rattle.std.proofs.Common.{◌≡◌, ◌<◌, ◌+◌, ◌^◌, ℕ, Bool, List, refl, sym, ap, ◌∙◌, subst, inl, ⊎_elim, arith}
 use Rattle.std.specs.List.{IsAmong}
 use Rattle.std.proofs.Math.Logic.{∥∥₁_elim, ∥∥₁_map}
 use Rattle.std.proofs.Props.{props}
@@ -98,8 +98,8 @@ joined first last calls leaves (Keeps_on {old = old} {new = new} before keeps) =
     }
 
 -- a server that was just mounted leaves what it begins with
-pub mounted_leaves : (run : ℕ) (start : Kept) (first : Seen) → IsMounted run start first → LeavesNow first
-mounted_leaves run start first mounted image left =
+pub mounted_leaves : (persistent : Bool) (run : ℕ) (start : Kept) (first : Seen) → IsMounted persistent run start first → LeavesNow first
+mounted_leaves persistent run start first mounted image left =
     let one = mounted.ready.leaves image left in
     let seated : first.volume.seats ≡ start.seats = ap (λ (kept : Kept). kept.seats) mounted.begins in (
       one.0,
@@ -114,7 +114,7 @@ every_stop stopped image left =
     let first = stopped.first in
     let old = stopped.old in
     let history = history_of first.serving.world stopped.calls in
-    let all = joined first old stopped.calls (mounted_leaves stopped.run stopped.start first stopped.mounted) stopped.served in
+    let all = joined first old stopped.calls (mounted_leaves stopped.persistent stopped.run stopped.start first stopped.mounted) stopped.served in
     let found = stopped_in old stopped.new stopped.event all.leaves stopped.moves image left in
     let stands : StandsFor first.volume.sectors first.volume.limits.nodes stopped.run found.0 image =
     subst (λ (s : ℕ). StandsFor s first.volume.limits.nodes stopped.run found.0 image) all.same.sectors
@@ -123,7 +123,7 @@ every_stop stopped image left =
     record {
       kept = found.0;
       good = record {
-        tree = every_run (server_limits first.volume.limits) stopped.run stopped.start.tree stopped.start.seats old.serving history
+        tree = every_run (server_limits first.volume.limits stopped.persistent) stopped.run stopped.start.tree stopped.start.seats old.serving history
             (subst (λ (s : Serving). IsRun s old.serving history) stopped.mounted.serves all.run) stopped.event found.0.tree found.1.0;
         seats = found.1.1;
       };
@@ -207,7 +207,7 @@ never_lost = record {
       (lasting sectors nodes stopped.run (IsGood stopped) stopped.new.volume.history (moment stopped.old.volume.history) device from (leaves_good stopped) remounts);
 }
 
-follows_run : (old new : Stopped) → Follows old new → ∥ IsGood old new.start ∥₁ × (old.run < new.run)
+pub follows_run : (old new : Stopped) → Follows old new → ∥ IsGood old new.start ∥₁ × (old.run < new.run)
 follows_run old new follows =
     let again = every_run_again old follows.device follows.from new.first.volume follows.remounts follows.found in
     (subst (λ (kept : Kept). ∥ IsGood old kept ∥₁) new.mounted.begins again.good, subst (λ (r : ℕ). old.run < r) new.mounted.counted again.counted)
@@ -229,8 +229,8 @@ stamped_within stopped =
     let first = stopped.first in
     let old = stopped.old in
     let history = history_of first.serving.world stopped.calls in
-    let all = joined first old stopped.calls (mounted_leaves stopped.run stopped.start first stopped.mounted) stopped.served in
-    every_stamp (server_limits first.volume.limits) stopped.run stopped.start.tree stopped.start.seats old.serving history
+    let all = joined first old stopped.calls (mounted_leaves stopped.persistent stopped.run stopped.start first stopped.mounted) stopped.served in
+    every_stamp (server_limits first.volume.limits stopped.persistent) stopped.run stopped.start.tree stopped.start.seats old.serving history
     (subst (λ (s : Serving). IsRun s old.serving history) stopped.mounted.serves all.run) stopped.event
 
 given_within : (stopped : Stopped) → ∥ AreGiven stopped.run (executed_in stopped) ∥₁
@@ -238,9 +238,9 @@ given_within stopped =
     let first = stopped.first in
     let old = stopped.old in
     let history = history_of first.serving.world stopped.calls in
-    let all = joined first old stopped.calls (mounted_leaves stopped.run stopped.start first stopped.mounted) stopped.served in
+    let all = joined first old stopped.calls (mounted_leaves stopped.persistent stopped.run stopped.start first stopped.mounted) stopped.served in
     ∥∥₁_map stopped.mounted.starts (λ starts.
-    every_stamp_is_given (server_limits first.volume.limits) stopped.run stopped.start.tree stopped.start.seats old.serving history stopped.mounted.room starts
+    every_stamp_is_given (server_limits first.volume.limits stopped.persistent) stopped.run stopped.start.tree stopped.start.seats old.serving history stopped.mounted.room starts
     (subst (λ (s : Serving). IsRun s old.serving history) stopped.mounted.serves all.run) stopped.event)
 
 pub every_stamping : EveryStamping

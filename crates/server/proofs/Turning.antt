@@ -2,7 +2,7 @@
 use Rattle.std.proofs.Common.{◌≡◌, ℕ, false, List, [], ◌∷◌, Option, Some, None, Result, Ok, Err, IfOk, inl, inr, refl, ap, ap₂, sym, subst, ◌∙◌, arith, eq-eqb, ne_eqb, le-ltb}
 use Rattle.std.proofs.lemmas.Bool.{cases_order}
 use Rattle.std.proofs.lemmas.Option.{same_Some}
-use Rattle.compound.specs.States.{SharedState, HasState, with_state}
+use Rattle.compound.specs.States.{Agrees, SharedState, HasState, with_state}
 use Rattle.compound.specs.Steps.{Steps, stepped_on, turn_by, connection_by}
 use Rattle.compound.specs.Views.{Asked, asked_of, in_progress_of}
 use Rattle.compound.specs.declared.running.Running.{Running}
@@ -10,8 +10,9 @@ use Rattle.compound.specs.declared.step.Stepped.{Stepped}
 use Rattle.compound.specs.declared.step.Stepped.TheVariants as stepped
 use Rattle.compound.specs.declared.fault.Fault.{Fault}
 use Rattle.compound.specs.Volumes.{TurnGives}
-use Rattle.compound.proofs.VolumeLaws.{turn_stays, same_turns, idle_turns}
+use Rattle.compound.proofs.VolumeLaws.{same_turns, idle_turns}
 use Rattle.fs.specs.Changes.{Changes}
+use Rattle.layout.specs.Stands.{Kept}
 use Rattle.volume.specs.Changes.{Ending, Done}
 use Rattle.fs.specs.FileSystem.{FileSystem}
 use Rattle.fs.proofs.ChangeLaws.{changes_by}
@@ -20,6 +21,7 @@ use Rattle.compound.proofs.Rooms.{state_same}
 use Rattle.model.proofs.KeyedLaws.{at-below, at-first, at-rest, some≢none}
 use Rattle.model.specs.Keyed.{Keyed, at, with, IsAbove}
 use Rattle.model.specs.Rpc.{read_call}
+use Rattle.model.specs.Session.{Table}
 use Rattle.model.specs.World as world
 use Rattle.model.specs.World.{World, Connection, Turned, Waiting, Busy, Replied, one, called, turned, idle, is_busy, with_connection}
 use Rattle.rpc.specs.Assembly.{Assembly, Gathers, Holds, Refuses, connection_of}
@@ -159,8 +161,17 @@ module _ (keeps_word : Type 0) (state : SharedState) (fs new : FileSystem) (befo
   same_changes turn other same ending changes =
       changes_by keeps_word (TurnGives state turn) (TurnGives state other) (same_turns state turn other same) fs new before after ending changes
 
--- one that does nothing
-pub idle_changes : (keeps_word : Type 0) (state : SharedState) (failed : ℕ) (turn : World → ℕ → Turned) → state.files.volume.is_down ≡ false
-    → ((world : World) (number : ℕ) → HasState world state → (turn world number).executed ≡ None) → Changes keeps_word (TurnGives state turn) state.files state.files failed failed Done
-idle_changes keeps_word state failed turn up idle =
-    answers_quietly keeps_word (TurnGives state turn) state.files state.files failed failed refl (omega arith) up (turn_stays state turn) (idle_turns state turn idle)
+-- one that does nothing, beside a table that has the seats of the volume
+pub idle_changes : (keeps_word : Type 0) (state : SharedState) (failed : ℕ) (turn : World → ℕ → Turned) → state.files.volume.is_down ≡ false → (keeps_word → Agrees state.files state.table)
+    → ((world : World) (number : ℕ) → HasState world state → (turn world number).executed ≡ None) → ((world : World) (number : ℕ) → HasState world state → (turn world number).world.table ≡ world.table)
+    → Changes keeps_word (TurnGives state turn) state.files state.files failed failed Done
+idle_changes keeps_word state failed turn up agrees idle tables =
+    answers_quietly keeps_word (TurnGives state turn) state.files state.files failed failed refl (omega arith) up
+    (λ keeps kept lasts gives.
+    ap (λ (k : Kept). k.seats) gives.kept
+    ∙ (ap (λ (t : Table). t.seats) (tables gives.world gives.number gives.has ∙ gives.has.table_is) ∙ (agrees keeps).seats))
+    (idle_turns state turn idle)
+
+-- a table that agrees with a volume agrees with one of the same run and seats
+pub agrees_on : (old new : FileSystem) (table : Table) → new.volume.run ≡ old.volume.run → new.volume.seats ≡ old.volume.seats → Agrees old table → Agrees new table
+agrees_on old new table runs seats agrees = record { run = agrees.run ∙ sym runs; seats = agrees.seats ∙ sym seats }

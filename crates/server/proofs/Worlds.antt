@@ -1,12 +1,12 @@
 -- Events of a server that keeps each change at once.
-use Rattle.std.proofs.Common.{◌≡◌, ◌⊎◌, ◌+◌, ◌<◌, ◌≤◌, ℕ, zero, suc, Bool, true, false, List, [], ◌∷◌, ◌++◌, length, get_or, None, Some, Result, Ok, Err, IfOk, OnOk, OnErr, refl, sym, ap, ◌∙◌, subst, inl, inr, cond, arith, lt-ltb}
+use Rattle.std.proofs.Common.{◌≡◌, ◌+◌, ◌<◌, ◌≤◌, ℕ, zero, suc, Bool, true, false, List, [], ◌∷◌, ◌++◌, length, get_or, None, Some, Result, Ok, Err, IfOk, OnOk, OnErr, refl, sym, ap, ◌∙◌, subst, inl, inr, cond, arith, lt-ltb}
 use Rattle.std.specs.List.{IsAmong}
 use Rattle.std.proofs.lemmas.Bool.{cases_eq}
 use Rattle.layout.specs.Stands.{Kept}
 use Rattle.model.specs.Keyed.{Keyed, at, with, without}
 use Rattle.model.specs.Record.{RecordLimits, Front, Partial, Refused, Whole, front}
 use Rattle.model.specs.Rpc.{is_call_read, read_call}
-use Rattle.model.specs.Runs.{Event, Happens, Fails, StaysDown, MayLeave, effect_of, executed_of, executed_by}
+use Rattle.model.specs.Runs.{Event, Happens, Fails, StaysDown, MayLeave, MayHold, IsSeatedAfter, effect_of, executed_of, executed_by}
 use Rattle.model.specs.Seats.{Seats}
 use Rattle.model.specs.Tree.{Tree}
 use Rattle.model.specs.World as world
@@ -16,6 +16,7 @@ use Rattle.compound.specs.States.{SharedState}
 use Rattle.compound.specs.Volumes.{lasts}
 use Rattle.volume.specs.Changes.{Leaves}
 use Rattle.volume.specs.Held.{Held}
+use Rattle.volume.proofs.FrontLaws.{among_more}
 use Rattle.model.proofs.RuledOutLaws.{each_event_happens, dropped}
 use Rattle.model.proofs.RunLaws.{EntryFits, event_fits}
 use Rattle.rpc.specs.Assembly.{record_limits}
@@ -37,7 +38,7 @@ only_one one seats among = by_place among.0 among.1.0 among.1.1
 
 -- an event that executes nothing leaves the trees
 pub happened_quietly : (old new : World) (recent : List Tree) (kept : Seats) (old_down new_down : Bool) (event : Event) → executed_of old event ≡ None → old_down ≡ false → new_down ≡ false → new ≡ effect_of old event
-    → new.table.seats ≡ kept → Happens (serving_by old recent kept old_down) event (serving_by new recent kept new_down)
+    → new.table.seats ≡ kept → Happens (serving_by old recent (kept ∷ []) old_down) event (serving_by new recent (kept ∷ []) new_down)
 happened_quietly old new recent kept old_down new_down event none up still is seated = record {
   up = up;
   world = is;
@@ -49,7 +50,7 @@ happened_quietly old new recent kept old_down new_down event none up still is se
   seats = λ seats left. only_one kept seats left ∙ sym seated;
 }
 
-pub may_leave_from : (old : World) (recent : List Tree) (kept : Seats) (down : Bool) (event : Event) → IsAmong recent old.tree → down ≡ false
+pub may_leave_from : (old : World) (recent : List Tree) (kept : List Seats) (down : Bool) (event : Event) → IsAmong recent old.tree → down ≡ false
     → MayLeave (serving_by old recent kept down) event (effect_of old event).tree
 may_leave_from old recent kept down event newest up =
     subst (λ (b : Bool). MayLeave (serving_by old recent kept b) event (effect_of old event).tree) (sym up) (
@@ -57,9 +58,9 @@ may_leave_from old recent kept down event newest up =
     subst (MayLeave (serving_by old recent kept false) event) (ap (λ (w : World). w.tree) made.1.world) (made.1.no_others made.0.world.tree made.2))
 
 -- an event that leaves a stop some of the trees before and the one after it, and after what has to last that one alone
-pub happened_leaving : (held : Held) (after : Kept) (old new : World) (recent left : List Tree) (kept : Seats) (old_down new_down : Bool) (event : Event) → IsAmong recent old.tree → old_down ≡ false → new_down ≡ false
+pub happened_leaving : (held : Held) (after : Kept) (old new : World) (recent left : List Tree) (kept : List Seats) (old_down new_down : Bool) (event : Event) → IsAmong recent old.tree → old_down ≡ false → new_down ≡ false
     → new ≡ effect_of old event → new.table.seats ≡ held.seats → after.tree ≡ (effect_of old event).tree → Leaves held after (lasts (executed_of old event)) recent left
-    → Happens (serving_by old recent kept old_down) event (serving_by new left held.seats new_down)
+    → Happens (serving_by old recent kept old_down) event (serving_by new left (held.seats ∷ []) new_down)
 happened_leaving held after old new recent left kept old_down new_down event newest up still is seated tree leaves = record {
   up = up;
   world = is;
@@ -75,19 +76,17 @@ happened_leaving held after old new recent left kept old_down new_down event new
   seats = λ seats among. only_one held.seats seats among ∙ sym seated;
 }
 
-among_more : (more : Tree) (recent : List Tree) (tree : Tree) → IsAmong (more ∷ recent) tree → (tree ≡ more) ⊎ IsAmong recent tree
-among_more more recent tree among = by_place among.0 among.1.0 among.1.1
-  where
-    by_place : (place : ℕ) → place < length (more ∷ recent) → tree ≡ get_or (more ∷ recent) place tree → (tree ≡ more) ⊎ IsAmong recent tree
-    by_place zero less e = inl e
-    by_place (suc place) less e = inr (place, (omega (arith, less), e))
+pub among_rest : {A : Type 0} (more : A) (recent : List A) (one : A) → IsAmong recent one → IsAmong (more ∷ recent) one
+among_rest more recent one among = (suc among.0, (omega (arith, among.1.0), among.1.1))
 
-pub among_rest : (more : Tree) (recent : List Tree) (tree : Tree) → IsAmong recent tree → IsAmong (more ∷ recent) tree
-among_rest more recent tree among = (suc among.0, (omega (arith, among.1.0), among.1.1))
+-- and the seats that it leaves
+pub may_hold_from : (old : World) (recent : List Tree) (kept : List Seats) (down : Bool) (event : Event) → down ≡ false
+    → MayHold (serving_by old recent kept down) event (effect_of old event).table.seats
+may_hold_from old recent kept down event up = inr (subst (λ (b : Bool). IsSeatedAfter old event b (effect_of old event).table.seats) (sym up) refl)
 
-pub failed_from : (old new : World) (recent : List Tree) (kept left : Seats) (old_down new_down : Bool) (event : Event) → IsAmong recent old.tree → old_down ≡ false → new_down ≡ true → new ≡ old → left ≡ kept
-    → Fails (serving_by old recent kept old_down) event (serving_by new ((effect_of old event).tree ∷ recent) left new_down)
-failed_from old new recent kept left old_down new_down event newest up down is same = record {
+pub failed_from : (old new : World) (recent : List Tree) (kept : List Seats) (old_down new_down : Bool) (event : Event) → IsAmong recent old.tree → old_down ≡ false → new_down ≡ true → new ≡ old
+    → Fails (serving_by old recent kept old_down) event (serving_by new ((effect_of old event).tree ∷ recent) ((effect_of old event).table.seats ∷ kept) new_down)
+failed_from old new recent kept old_down new_down event newest up down is = record {
   up = up;
   world = is;
   down = down;
@@ -95,10 +94,13 @@ failed_from old new recent kept left old_down new_down event newest up down is s
     | inl first ↦ subst (MayLeave (serving_by old recent kept old_down) event) (sym first) (may_leave_from old recent kept old_down event newest up)
     | inr rest ↦ inl rest
   ];
-  seats = λ seats among. inl (subst (λ (one : Seats). IsAmong (one ∷ []) seats) same among);
+  seats = λ seats left. elim (among_more (effect_of old event).table.seats kept seats left) [
+    | inl first ↦ subst (MayHold (serving_by old recent kept old_down) event) (sym first) (may_hold_from old recent kept old_down event up)
+    | inr rest ↦ inl rest
+  ];
 }
 
-pub stays_down : (old new : World) (old_down new_down : Bool) (recent : List Tree) (kept : Seats) (connection : ℕ) → old_down ≡ true → new_down ≡ true → new ≡ takes old connection
+pub stays_down : (old new : World) (old_down new_down : Bool) (recent : List Tree) (kept : List Seats) (connection : ℕ) → old_down ≡ true → new_down ≡ true → new ≡ takes old connection
     → StaysDown (serving_by old recent kept old_down) connection (serving_by new recent kept new_down)
 stays_down old new old_down new_down recent kept connection was down is = record {
   down = was;

@@ -58,10 +58,11 @@ abbrev pub IsOfRun : (run : ℕ) → world.Connection → Type 0
 IsOfRun run connection =
     (request : InProgress) → connection ≡ Busy request → request.context.run ≡ run
 
--- after a turn a request that had begun has one result more, or its reply is there
+-- after a turn a request that had begun has one result more, unless that was the last one, or its
+-- reply is there
 abbrev pub HasGoneOn : (before after : Option world.Connection) → Type 0
 HasGoneOn (Some (Busy request)) (Some (Busy left)) =
-    (left.answered ≡ request.answered + 1) × (left.count ≡ request.count)
+    (request.ended ≡ None) × (left.answered ≡ request.answered + 1) × (left.count ≡ request.count)
 HasGoneOn (Some (Busy request)) (Some (Replied reply)) = Unit {0}
 HasGoneOn (Some (Busy request)) _ = ⊥
 HasGoneOn _ _ = Unit {0}

@@ -1,9 +1,10 @@
 -- What users of the server can rely on, from the bytes that come to the sectors that a stop leaves.
-use Rattle.std.specs.Prelude.{ℕ, List, [], ◌∷◌, slice_get, Some, ◌≡◌, ◌≢◌, ◌<◌, ◌≤◌, ◌+◌}
+use Rattle.std.specs.Prelude.{ℕ, Bool, List, [], ◌∷◌, slice_get, Some, ◌≡◌, ◌≢◌, ◌<◌, ◌≤◌, ◌+◌, ◌^◌}
 use Rattle.disk.specs.Moments.{Image, History, LeftSince, at_rest, moment, seen}
 use Rattle.layout.specs.Stands.{Kept, bare}
 use Rattle.model.specs.Fresh.{fresh_tree}
 use Rattle.model.specs.Runs.{Event, MayHold, IsGoodPrefix, AreStamped, mounted, executed, done_with, before, stamp_in}
+use Rattle.model.specs.SeatRuns.{AreSeats}
 use Rattle.model.specs.SoundRuns.{IsStart}
 use Rattle.model.specs.StampRuns.{AreGiven}
 use Rattle.model.specs.Tree.{Tree}
@@ -21,24 +22,29 @@ use Rattle.server.specs.declared.server.Server.{Server}
 use Rattle.disk.specs.declared.device.Device.{Ghosts}
 
 -- a server that was just mounted, and begins a run with this tree, which is well formed and from
--- before its stamps, and with these seats: a stop now leaves them
-pub record IsMounted (run : ℕ) (start : Kept) (first : Seen) : Type 0 where
-  pub serves :
-      first.serving ≡ mounted (server_limits first.volume.limits) run start.tree start.seats
+-- before its stamps, and with these seats, which are of sessions of earlier runs: a stop now leaves
+-- them
+pub record IsMounted (persistent : Bool) (run : ℕ) (start : Kept) (first : Seen) : Type 0 where
+  pub serves : first.serving
+      ≡ mounted (server_limits first.volume.limits persistent) run start.tree start.seats
   pub counted : first.volume.run ≡ run
+  pub few : run < 2 ^ 32
   pub begins : kept_of first.volume ≡ start
+  pub seats : AreSeats run start.seats
   pub starts : ∥ IsStart first.volume.limits run start.tree ∥₁
   pub room : first.volume.limits.aces_set + 5 ≤ first.volume.limits.aces
   pub ready : IsRecent first.volume first.serving.recent
 
 -- so begins a server that a mount gives
-abbrev pub Begins : {D : Type 0} {g : Ghosts D} → Server D g → Type 0
-Begins server =
-    IsMounted (volume_of server).run (kept_of (volume_of server))
+abbrev pub Begins : {D : Type 0} {g : Ghosts D} → (persistent : Bool) → Server D g → Type 0
+Begins persistent server =
+    IsMounted persistent (volume_of server).run (kept_of (volume_of server))
     (seen_with server ((volume_of server).tree ∷ []))
 
 -- A run that was stopped at some moment of a call, or since its start.
 pub record Stopped : Type 0 where
+  -- whether its sessions may be persistent
+  pub persistent : Bool
   pub run : ℕ
   pub start : Kept
   pub first : Seen
@@ -46,7 +52,7 @@ pub record Stopped : Type 0 where
   pub old : Seen
   pub event : Event
   pub new : Seen
-  pub mounted : IsMounted run start first
+  pub mounted : IsMounted persistent run start first
   pub served : IsServed first calls old
   pub moves : Moves old event new
 

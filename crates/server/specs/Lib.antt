@@ -1,6 +1,7 @@
 pub mod Connections
 pub mod Faults
 pub mod Headline
+pub mod LifeLaws
 pub mod Refused
 pub mod RunLaws
 pub mod Seen

@@ -1,5 +1,5 @@
 -- What follows of every run.
-use Rattle.std.specs.Prelude.{ℕ, List, [], Option, Some, ◌≡◌, ◌↔◌}
+use Rattle.std.specs.Prelude.{ℕ, Bool, List, [], Option, Some, ◌≡◌, ◌↔◌}
 use Rattle.layout.specs.Stands.{Kept}
 use Rattle.model.specs.Keyed.{at}
 use Rattle.model.specs.Rpc.{NoCall, read_call}
@@ -23,8 +23,9 @@ HangUpIsCalls =
 -- one that claims that a stop leaves nothing
 abbrev pub NeverEmpty : Type 0
 NeverEmpty =
-    (run : ℕ) (start : Kept) (first last : Seen) (calls : List Call) → IsMounted run start first
-    → IsServed first calls last → last.serving.recent ≡ [] → ⊥
+    (persistent : Bool) (run : ℕ) (start : Kept) (first last : Seen) (calls : List Call)
+    → IsMounted persistent run start first → IsServed first calls last
+    → last.serving.recent ≡ [] → ⊥
 
 -- nothing to do: no whole call waits, and no request has begun
 abbrev pub IsIdle : Option Connection → Type 0

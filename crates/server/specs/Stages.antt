@@ -1,5 +1,5 @@
 -- What a connection does, and what has come over it.
-use Rattle.std.specs.Prelude.{ℕ, Bool, true, false, List, [], ◌∷◌, Option, Some, None}
+use Rattle.std.specs.Prelude.{◌≡◌, ℕ, Bool, true, false, List, [], ◌∷◌, Option, Some, None}
 use Rattle.compound.specs.Views.{Asked, resumed, fits}
 use Rattle.compound.specs.declared.progress.Progress.{Progress}
 use Rattle.compound.specs.declared.step.Stepped.{Stepped}
@@ -48,6 +48,11 @@ left_by asked (stepped.Answered reply) = Replied reply.items
 abbrev pub can_go_on : Option Asked → Progress → Bool
 can_go_on (Some asked) progress = fits asked progress
 can_go_on None progress = false
+
+-- and in this run, in which it began
+pub record CanGoOn (run : ℕ) (asked : Option Asked) (progress : Progress) : Type 0 where
+  pub can : can_go_on asked progress ≡ true
+  pub began_in : progress.run ≡ run
 
 abbrev pub can_follow : Option Asked → Stepped → Bool
 can_follow asked (stepped.Ran progress) = can_go_on asked progress

@@ -23,20 +23,22 @@ use Rattle.server.specs.Seen.{Seen, LeavesNow, Said, Gave, Does, Breaks, Checkpo
 abbrev pub most_connections : ℕ
 most_connections = 16
 
--- 64 clients, 32 sessions, 8 slots; records of 16,384 bytes; an OK result ends within 16,368
--- bytes of its reply. A constant of the code that is changed is refused.
-abbrev pub server_limits : Limits → ServerLimits
-server_limits volume = record {
+-- 64 clients, 32 sessions, 8 slots and 2 of a session that has a seat; records of 16,384 bytes; an
+-- OK result ends within 16,368 bytes of its reply. A constant of the code that is changed is
+-- refused. Whether a new session may have a seat is said when the run begins.
+abbrev pub server_limits : Limits → (persistent : Bool) → ServerLimits
+server_limits volume persistent = record {
   volume = volume;
   sessions = served;
   records = record_limits;
   connections = most_connections;
+  persistent = persistent;
   reply_bytes = most_reply_bytes;
 }
 
 abbrev pub world_by : SharedState → (connections : List (ℕ × world.Connection)) → World
 world_by state connections = record {
-  limits = server_limits state.files.volume.limits;
+  limits = server_limits state.files.volume.limits state.table.persistent;
   run = state.files.volume.run;
   tree = state.files.volume.tree;
   changes = state.files.changes;
@@ -57,28 +59,29 @@ files_of server = fs_of server.fs
 unfoldable pub volume_of : {D : Type 0} {g : Ghosts D} → Server D g → Held
 volume_of server = (fs_of server.fs).volume
 
--- it has the tree and the seats of its volume, and no client, session or connection
-abbrev pub BeginsEmpty : {D : Type 0} {g : Ghosts D} → Server D g → Type 0
-BeginsEmpty server = world_of server
-    ≡ mounted_world (server_limits (volume_of server).limits) (volume_of server).run
-    (volume_of server).tree (volume_of server).seats
+-- it has the tree of its volume and the seats that its mount read, and no client, session or
+-- connection
+abbrev pub BeginsEmpty : {D : Type 0} {g : Ghosts D} → (persistent : Bool) → Server D g → Type 0
+BeginsEmpty persistent server = world_of server
+    ≡ mounted_world (server_limits (volume_of server).limits persistent) (volume_of server).run
+    (volume_of server).tree (world_of server).table.seats
 
 -- how often the device has failed
 unfoldable pub failures_of : {D : Type 0} {g : Ghosts D} → Server D g → ℕ
 failures_of server = fs_failures server.fs
 
--- the machine of the headline: a stop may leave these trees now, with these seats
-abbrev pub serving_by : World → List Tree → Seats → (is_down : Bool) → Serving
-serving_by world recent seats is_down = record {
+-- the machine of the headline: a stop may leave these trees now, each with any of these seats
+abbrev pub serving_by : World → List Tree → (held : List Seats) → (is_down : Bool) → Serving
+serving_by world recent held is_down = record {
   world = world;
   recent = recent;
-  held = seats ∷ [];
+  held = held;
   is_down = is_down;
 }
 
--- the server as that machine
+-- the server as that machine, with the seats of its volume alone
 abbrev pub serving : {D : Type 0} {g : Ghosts D} → Server D g → List Tree → Serving
-serving server recent = serving_by (world_of server) recent (volume_of server).seats
+serving server recent = serving_by (world_of server) recent ((volume_of server).seats ∷ [])
     (volume_of server).is_down
 
 -- the same with the volume below it
@@ -86,12 +89,12 @@ abbrev pub seen_with : {D : Type 0} {g : Ghosts D} → Server D g → List Tree 
 seen_with server recent = record { serving = serving server recent; volume = volume_of server }
 
 -- and one that is down: what its volume shows since it failed is left open, and its world has the
--- tree that it had
-abbrev pub seen_down : {D : Type 0} {g : Ghosts D} → Server D g → Tree → List Tree → Seen
-seen_down server tree recent = record {
+-- tree that it had; a stop may leave any of these seats
+abbrev pub seen_down : {D : Type 0} {g : Ghosts D} → Server D g → Tree → List Tree → List Seats
+    → Seen
+seen_down server tree recent held = record {
   serving =
-      serving_by (record (world_of server) { tree = tree }) recent (volume_of server).seats
-      (volume_of server).is_down;
+      serving_by (record (world_of server) { tree = tree }) recent held (volume_of server).is_down;
   volume = volume_of server;
 }
 
@@ -113,15 +116,15 @@ Keeps old new = (recent : List Tree) → IsRecent (volume_of old) recent
 -- the device fails in it
 abbrev pub Fails : {D : Type 0} {g : Ghosts D} → (old new : Server D g) → Event → Type 0
 Fails old new event = (recent : List Tree) → IsRecent (volume_of old) recent
-    → (after : List Tree)
-    × Breaks (seen_with old recent) event (seen_down new (volume_of old).tree after)
+    → (after : List Tree) × (held : List Seats)
+    × Breaks (seen_with old recent) event (seen_down new (volume_of old).tree after held)
 
 -- a server that is down gives a reply, whichever tree it had
 abbrev pub Gives : {D : Type 0} {g : Ghosts D} → (old new : Server D g) → (connection : ℕ) → Said
     → Type 0
-Gives old new connection said = (tree : Tree) (recent : List Tree)
-    → LeavesNow (seen_down old tree recent)
-    → GivesDown (seen_down old tree recent) connection said (seen_down new tree recent)
+Gives old new connection said = (tree : Tree) (recent : List Tree) (held : List Seats)
+    → LeavesNow (seen_down old tree recent held)
+    → GivesDown (seen_down old tree recent held) connection said (seen_down new tree recent held)
 
 -- so many turns of a connection, and then what comes
 abbrev pub Turning : {D : Type 0} {g : Ghosts D} → (old : Server D g) → (connection now : ℕ)

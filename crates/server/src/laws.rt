@@ -1,6 +1,7 @@
 //! What holds of every run of a server.
 
 ghost use Rattle.server.specs.Headline.{EveryRun, EveryStop, EveryTrace, EveryLife, EveryStamping, EveryFirst, NeverLost};
+ghost use Rattle.server.specs.LifeLaws.{EveryHeld, EveryStays, EveryFollows, EveryDead, EveryOnce, EveryRetried, EverySits, EveryStored, EveryAsked};
 ghost use Rattle.server.specs.RunLaws.{HangUpIsCalls, NeverEmpty, OnlyIdle};
 
 /// Whatever bytes arrive on whatever connections, and wherever the server is stopped: however often
@@ -32,4 +33,26 @@ pub fn every_run()
     ensures hang_up { HangUpIsCalls }
     // and no run claims that a stop leaves nothing
     ensures empty { NeverEmpty }
+{}
+
+/// Exactly once over restarts, on sessions that have a seat, over any list of runs that follow one
+/// another: a reply that a slot was given is held by what a stop leaves until the slot's next is,
+/// or the seat was freed, and that was asked. A session of an earlier run is answered by what its
+/// seat holds and runs nothing, so a slot runs a number again only after the 2^32 - 1 others.
+pub fn every_life()
+    // what was held in a run is held at the stop of each later one
+    ensures held { EveryHeld }
+    // and is given again in each, to who asks for it again
+    ensures retried { EveryRetried }
+    // a seat that a run began with is left as it was, or was freed
+    ensures stays { EveryStays }
+    // a later run may begin with the seats that a stop leaves
+    ensures follows { EveryFollows }
+    ensures dead { EveryDead }
+    ensures once { EveryOnce }
+    // a session that was told that it persists has a seat, and no other
+    ensures sits { EverySits }
+    // no reply of a session that has a seat can be taken before the seat holds it
+    ensures stored { EveryStored }
+    ensures asked { EveryAsked }
 {}

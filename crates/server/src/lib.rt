@@ -15,6 +15,6 @@ mod turn;
 
 pub use fault::ServerFault;
 pub use fs::{FormatFault, MountFault, Unmounted, is_volume_size};
-pub use laws::every_run;
+pub use laws::{every_life, every_run};
 pub use server::{MAX_CONNECTIONS, Server};
 pub use turn::Turn;

@@ -1,12 +1,8 @@
 //! Making a volume, and serving one.
 
-ghost use Rattle.std.specs.Prelude.{◌≡◌, IfOk, IfErr};
-ghost use Rattle.fs.specs.Views.{fs_of, fs_failures};
-ghost use Rattle.volume.specs.MountAnswers.{MountServes, MountGivesBack};
-
 use crate::server::{MAX_CONNECTIONS, Server};
 use disk::Device;
-use fs::{FormatFault, Fs, MountFault, Unmounted};
+use fs::{FormatFault, Fs, MountFault, Mounted, Unmounted};
 use opens::Opens;
 use session::Table;
 use slab::Slab;
@@ -29,26 +25,28 @@ impl<D: Device> Server<D> {
         Fs::format(alloc, device, nodes)
     }
 
-    /// Serves the volume on this device, without a client or a connection yet: `Fs::mount`. Every
-    /// map that a stop leaves from then on has the new restart count.
+    /// Serves the volume on this device, without a client or a connection yet: `Fs::mount_seated`.
+    /// Every map that a stop leaves from then on has the new restart count. Only where
+    /// `persistent` is true can a session that is made get a seat; what the seats that stand hold is
+    /// answered in any case.
     ///
     /// # Errors
     /// The device comes back with the reason. NotVolume, then Worn, by the first sector, and then
     /// nothing was written; then Damaged exactly where no tree stands; Device where the device
     /// failed, and Memory.
-    pub fn mount(alloc: Global, device: D) -> Result<Server<D>, Unmounted<D>>
-        ensures world { IfOk result BeginsEmpty }
+    pub fn mount(alloc: Global, device: D, persistent: bool) -> Result<Server<D>, Unmounted<D>>
+        ensures world { IfOk result (BeginsEmpty persistent) }
         ensures serves { IfOk result (λ server. MountServes D.keeps_word D.size D.failed D.history
             device (volume_of server) (failures_of server)) }
-        ensures begins { D.keeps_word → IfOk result Begins }
+        ensures begins { D.keeps_word → IfOk result (Begins persistent) }
         ensures gives_back { IfErr result (MountGivesBack D.keeps_word D.size D.failed D.history
             device) }
     {
-        Server::mount_with(alloc, device, None)
+        Server::mount_with(alloc, device, None, persistent)
     }
 
-    /// The same, with a journal that keeps so many sectors in memory: `Fs::mount_cached`. Many
-    /// connections at once work on more sectors than one does.
+    /// The same, with a journal that keeps so many sectors in memory. Many connections at once work
+    /// on more sectors than one does.
     ///
     /// # Errors
     /// As `mount`.
@@ -56,15 +54,16 @@ impl<D: Device> Server<D> {
         alloc: Global,
         device: D,
         cached: NonZeroUsize,
+        persistent: bool,
     ) -> Result<Server<D>, Unmounted<D>>
-        ensures world { IfOk result BeginsEmpty }
+        ensures world { IfOk result (BeginsEmpty persistent) }
         ensures serves { IfOk result (λ server. MountServes D.keeps_word D.size D.failed D.history
             device (volume_of server) (failures_of server)) }
-        ensures begins { D.keeps_word → IfOk result Begins }
+        ensures begins { D.keeps_word → IfOk result (Begins persistent) }
         ensures gives_back { IfErr result (MountGivesBack D.keeps_word D.size D.failed D.history
             device) }
     {
-        Server::mount_with(alloc, device, Some(cached))
+        Server::mount_with(alloc, device, Some(cached), persistent)
     }
 
     /// Mounts with as many sectors in memory as are asked, or as a journal keeps by itself.
@@ -72,11 +71,12 @@ impl<D: Device> Server<D> {
         alloc: Global,
         device: D,
         cached: Option<NonZeroUsize>,
+        persistent: bool,
     ) -> Result<Server<D>, Unmounted<D>>
-        ensures world { IfOk result BeginsEmpty }
+        ensures world { IfOk result (BeginsEmpty persistent) }
         ensures serves { IfOk result (λ server. MountServes D.keeps_word D.size D.failed D.history
             device (volume_of server) (failures_of server)) }
-        ensures begins { D.keeps_word → IfOk result Begins }
+        ensures begins { D.keeps_word → IfOk result (Begins persistent) }
         ensures gives_back { IfErr result (MountGivesBack D.keeps_word D.size D.failed D.history
             device) }
     {
@@ -89,8 +89,8 @@ impl<D: Device> Server<D> {
                 });
             }
         };
-        let fs = mount_files(alloc, device, cached)?;
-        let table = Table::new(alloc, fs.restart_count());
+        let Mounted { fs, seats } = Fs::mount_seated(alloc, device, cached)?;
+        let table = Table::load(alloc, fs.restart_count(), persistent, seats);
         let opens = Opens::new(alloc);
         Ok(Server {
             alloc,
@@ -99,22 +99,5 @@ impl<D: Device> Server<D> {
             opens,
             connections,
         })
-    }
-}
-
-fn mount_files<D: Device>(
-    alloc: Global,
-    device: D,
-    cached: Option<NonZeroUsize>,
-) -> Result<Fs<D>, Unmounted<D>>
-    ensures serves { IfOk result (λ fs. MountServes D.keeps_word D.size D.failed D.history
-        device (fs_of fs).volume (fs_failures fs)) }
-    ensures no_change { IfOk result (λ fs. (fs_of fs).changes ≡ 0) }
-    ensures gives_back { IfErr result (MountGivesBack D.keeps_word D.size D.failed D.history
-        device) }
-{
-    match cached {
-        Some(cached) => Fs::mount_cached(alloc, device, cached),
-        None => Fs::mount(alloc, device),
     }
 }

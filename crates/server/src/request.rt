@@ -1,6 +1,6 @@
 //! A whole record: its call is answered at once, or its COMPOUND begins.
 
-ghost use Rattle.std.specs.Prelude.{◌≡◌, Some, [], true, false, IfOk, IfErr, OnErr};
+ghost use Rattle.std.specs.Prelude.{◌≡◌, Some, [], true, false, IfOk, IfErr, OnOk, OnErr};
 ghost use Rattle.fs.specs.Views.{fs_of, Alters};
 ghost use Rattle.model.specs.Record.{framed};
 ghost use Rattle.model.specs.Rpc as rpc;
@@ -9,7 +9,7 @@ ghost use Rattle.model.specs.World.{Busy, called};
 ghost use Rattle.rpc.specs.Views.{reply_view, tail_of};
 ghost use Rattle.opens.specs.Views.{opens_of};
 ghost use Rattle.session.specs.Views.{table_of};
-ghost use Rattle.compound.specs.States.{shared_of};
+ghost use Rattle.compound.specs.States.{Agrees, shared_of};
 ghost use Rattle.compound.specs.Steps.{StaysInRun, turn_by};
 ghost use Rattle.compound.specs.Volumes.{TurnGives, ending};
 ghost use Rattle.compound.specs.declared.fault.Fault.TheVariants.{Memory};
@@ -50,15 +50,17 @@ pub fn first_turn<D: Device>(
 ) -> Result<Stepped, Fault>
     requires up { (fs_of fs.old).volume.is_down ≡ false }
     requires call { is_call_read (rpc.read_call request.now) ≡ true }
+    requires agrees { D.keeps_word → Agrees (fs_of fs.old) (table_of table.old) }
     ensures turn { D.keeps_word → IfOk result (λ done. Leads (λ world number.
         called world number now (rpc.read_call request.now))
         (shared_of fs.old table.old opens.old) (shared_of fs.new table.new opens.new)
         (left_by (asked_in request.now) done) (turn_by done)) }
     ensures stays { IfOk result (StaysInRun (fs_of fs.old).volume.run) }
     ensures follows { IfOk result (λ done. can_follow (asked_in request.now) done ≡ true) }
+    ensures agrees { D.keeps_word → OnOk result (Agrees (fs_of fs.new) (table_of table.new)) }
     // Refused
-    ensures table { OnErr result (table_of table.new ≡ table_of table.old) }
-    ensures opens { OnErr result (opens_of opens.new ≡ opens_of opens.old) }
+    ensures back { OnErr result ((table_of table.new ≡ table_of table.old)
+        × (opens_of opens.new ≡ opens_of opens.old)) }
     // In every answer
     ensures volume { Alters fs.old fs.new (TurnGives (shared_of fs.old table.old opens.old)
         (λ world number. called world number now (rpc.read_call request.now))) (ending result) }

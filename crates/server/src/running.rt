@@ -21,14 +21,14 @@ impl Connection {
     ghost use Rattle.opens.specs.Views.{opens_of};
     ghost use Rattle.session.specs.Views.{table_of};
     ghost use Rattle.rpc.specs.Assembly.{Holds};
-    ghost use Rattle.compound.specs.States.{shared_of};
+    ghost use Rattle.compound.specs.States.{Agrees, shared_of};
     ghost use Rattle.compound.specs.Steps.{turn_by};
     ghost use Rattle.compound.specs.Volumes.{TurnGives, ending};
     ghost use Rattle.server.specs.Connections.{connection_view, turn_view, Turns, Leads, IsOfRun, HasGoneOn};
-    ghost use Rattle.server.specs.Stages.{asked_held, begun, left_by, can_go_on, can_follow};
+    ghost use Rattle.server.specs.Stages.{CanGoOn, asked_held, begun, left_by, can_follow};
 
-    /// Runs one operation of the request that waits or has begun, at this moment in nanoseconds
-    /// since 1970.
+    /// Runs one operation of the request that waits or has begun, or has a seat hold the reply of
+    /// one that has ended, at this moment in nanoseconds since 1970.
     pub fn turn<D: Device>(
         &mut self,
         fs: &mut Fs<D>,
@@ -38,12 +38,14 @@ impl Connection {
     ) -> Result<Turn, Fault>
         requires up { (fs_of fs.old).volume.is_down ≡ false }
         requires run { IsOfRun (fs_of fs.old).volume.run (connection_view self.old) }
+        requires agrees { D.keeps_word → Agrees (fs_of fs.old) (table_of table.old) }
         ensures turn { D.keeps_word → IfOk result (Turns now (shared_of fs.old table.old opens.old)
             (shared_of fs.new table.new opens.new) (connection_view self.old)
             (connection_view self.new)) }
         ensures further { OnOk result
             (HasGoneOn (Some (connection_view self.old)) (Some (connection_view self.new))) }
         ensures run { IsOfRun (fs_of fs.old).volume.run (connection_view self.new) }
+        ensures agrees { D.keeps_word → OnOk result (Agrees (fs_of fs.new) (table_of table.new)) }
         // Refused
         ensures back { OnErr result ((connection_view self.new ≡ connection_view self.old)
             × (table_of table.new ≡ table_of table.old)
@@ -69,7 +71,7 @@ impl Connection {
         }
     }
 
-    /// One more operation of the request that has begun.
+    /// One more operation of the request that has begun, or its reply.
     fn next_turn<D: Device>(
         &mut self,
         progress: Progress,
@@ -78,10 +80,10 @@ impl Connection {
         opens: &mut Opens,
         now: u64,
     ) -> Result<Turn, Fault>
-        // A request that can go on, in the run in which it began
-        requires held { can_go_on (asked_held self.old.assembler) progress ≡ true }
+        requires goes_on { CanGoOn (fs_of fs.old).volume.run (asked_held self.old.assembler)
+            progress }
         requires up { (fs_of fs.old).volume.is_down ≡ false }
-        requires run { progress.run ≡ (fs_of fs.old).volume.run }
+        requires agrees { D.keeps_word → Agrees (fs_of fs.old) (table_of table.old) }
         // What it answers
         ensures turn { D.keeps_word → IfOk result (λ done. Leads (λ world number.
             turned world number now (Some (begun (asked_held self.old.assembler) progress)))
@@ -91,6 +93,7 @@ impl Connection {
             (Some (begun (asked_held self.old.assembler) progress))
             (Some (connection_view self.new))) }
         ensures run { IsOfRun (fs_of fs.old).volume.run (connection_view self.new) }
+        ensures agrees { D.keeps_word → OnOk result (Agrees (fs_of fs.new) (table_of table.new)) }
         // Refused
         ensures back { OnErr result
             ((connection_view self.new ≡ begun (asked_held self.old.assembler) progress)

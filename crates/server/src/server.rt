@@ -1,10 +1,12 @@
 //! The server over a device.
 
-ghost use Rattle.std.specs.Prelude.{◌≡◌, ◌≤◌, ℕ, Some};
+ghost use Rattle.std.specs.Prelude.{◌≡◌, ◌≤◌, ℕ, false, Some};
 ghost use Rattle.slab.specs.Slab.{slab_len};
+ghost use Rattle.compound.specs.States.{Agrees};
 ghost use Rattle.fs.specs.Views.{fs_of};
 ghost use Rattle.model.specs.Keyed.{at};
 ghost use Rattle.model.specs.World as world;
+ghost use Rattle.session.specs.Views.{table_of};
 ghost use Rattle.server.specs.Connections.{connections_of, IsOfRun};
 ghost use Rattle.server.specs.declared.server.TheConstants.{MAX_CONNECTIONS};
 
@@ -21,7 +23,8 @@ use std::alloc::Global;
 /// The most connections at a time.
 pub const MAX_CONNECTIONS: usize = 16;
 
-/// A mounted volume, the clients and sessions of this run, and connections.
+/// A mounted volume, the clients and sessions of this run, and connections. The seats of the table
+/// are those that the volume keeps.
 #[derive(Drop)]
 pub struct Server<D: Device> {
     pub(crate) alloc: Global,
@@ -33,12 +36,15 @@ pub struct Server<D: Device> {
     ghost of_run: { (n : ℕ) (connection : world.Connection)
         → at n (connections_of connections) ≡ Some connection
         → IsOfRun (fs_of fs).volume.run connection },
+    ghost agrees: { D.keeps_word → (fs_of fs).volume.is_down ≡ false
+        → Agrees (fs_of fs) (table_of table) },
 }
 
 #[tactic(auto, unfolding(crate::specs::Views::world_of, crate::specs::Views::files_of, crate::specs::Views::volume_of, crate::specs::Views::failures_of))]
 impl<D: Device> Server<D> {
     ghost use Rattle.std.specs.Prelude.{◌≡◌, ◌≤◌, ◌↔◌, List, true, false, Some, None, length, OnOk, OnErr, IfOk, IfErr, IsErrOf};
     ghost use Rattle.model.specs.Runs as runs;
+    ghost use Rattle.model.specs.Seats.{Seats};
     ghost use Rattle.model.specs.Tree.{Tree};
     ghost use Rattle.model.specs.World.{Closed, is_busy, can_connect};
     ghost use Rattle.server.specs.Connections.{turn_view};
@@ -132,7 +138,8 @@ impl<D: Device> Server<D> {
     }
 
     /// Gives the connection a turn at this moment, in nanoseconds since 1970: one operation of its
-    /// request runs. A change is kept on the device before its result is there.
+    /// request runs, or after the last one a seat holds the reply. A change is kept on the device
+    /// before its result is there, and a reply that a seat is to hold before it can be taken.
     ///
     /// # Errors
     /// Device where the file system is down, or goes down in this call: then no reply tells of the
@@ -170,7 +177,7 @@ impl<D: Device> Server<D> {
     }
 
     /// Drops the connection, and all that it holds. A request that has begun is run to its end
-    /// first, and its slot keeps the reply.
+    /// first, and its slot keeps the reply, and its seat holds it.
     ///
     /// # Errors
     /// Device and NoConnection as in `turn`. After Memory what was run stays run, and the
@@ -187,8 +194,8 @@ impl<D: Device> Server<D> {
             (after : List Tree) × (between ≡ seen_with self.new after)) }
         ensures fails { D.keeps_word → (volume_of self.old).is_down ≡ false
             → IsErrOf result ServerFault.Device → Turning self.old conn now (λ between.
-            (after : List Tree) × Breaks between (runs.Turns conn now)
-            (seen_down self.new between.serving.world.tree after)) }
+            (after : List Tree) × (held : List Seats) × Breaks between (runs.Turns conn now)
+            (seen_down self.new between.serving.world.tree after held)) }
         // Refused
         ensures refused { IfErr result (RefusesHangUp (view self.old) (view self.new) conn) }
         ensures is_down { (volume_of self.old).is_down ≡ true

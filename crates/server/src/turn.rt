@@ -3,7 +3,7 @@
 pub enum Turn {
     /// No whole request waits, or the last reply was not taken.
     Idle,
-    /// One operation ran, and more remain.
+    /// One operation ran, and more remain, or a seat is to hold the reply.
     Ran,
     /// The reply is in the output.
     Answered,

@@ -17,9 +17,9 @@ pub fn format<D: Device>(alloc: Global, device: &mut D, nodes: u32) -> Result<()
     Server::format(alloc, device, nodes)
 }
 
-/// A server on a device; a refusal tells its reason alone.
+/// A server on a device, whose sessions may be persistent; a refusal tells its reason alone.
 pub fn mount<D: Device>(alloc: Global, device: D) -> Result<Server<D>, MountFault> {
-    match Server::mount(alloc, device) {
+    match Server::mount(alloc, device, true) {
         Ok(server) => Ok(server),
         Err(unmounted) => Err(unmounted.fault),
     }
@@ -28,6 +28,11 @@ pub fn mount<D: Device>(alloc: Global, device: D) -> Result<Server<D>, MountFaul
 /// The device of a server, which ends.
 pub fn into_device<D: Device>(server: Server<D>) -> D {
     server.into_device()
+}
+
+/// The run of a server.
+pub fn restart_count<D: Device>(server: &Server<D>) -> u32 {
+    server.restart_count()
 }
 
 /// A new connection.

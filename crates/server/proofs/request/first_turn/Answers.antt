@@ -23,8 +23,9 @@ returns-in_err-reply-clause-volume g c =
 pub returns-in-Answers-clause-volume : goal.returns-in-Answers-clause-volume
 returns-in-Answers-clause-volume g c =
     let opens = rw c.in-Answers.is at c.in_ok-reply.ensures.ok in
-    idle_changes g.D.Device.keeps_word (shared_of c.args.fs.now c.args.table.now c.args.opens.now) (fs_failures c.args.fs.now) (λ world number. called world number c.args.now (read_call c.args.request.now)) c.requires.up
+    idle_changes g.D.Device.keeps_word (shared_of c.args.fs.now c.args.table.now c.args.opens.now) (fs_failures c.args.fs.now) (λ world number. called world number c.args.now (read_call c.args.request.now)) c.requires.up c.requires.agrees
     (λ world number served. ap (λ (t : Turned). t.executed) (opens world number c.args.now))
+    (λ world number served. ap (λ (t : Turned). t.world.table) (opens world number c.args.now))
 
 pub returns-in-Ok-clause-volume : goal.returns-in-Ok-clause-volume
 returns-in-Ok-clause-volume g c =

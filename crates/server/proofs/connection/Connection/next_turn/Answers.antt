@@ -47,4 +47,4 @@ returns-in-Ok-clause-further g c =
     ap (λ (a : Assembly). begun (asked_held a) c.args.progress) c.in-Some.ensures.waits ∙ c.resume.ensures.request in
     subst (λ (before : Connection). HasGoneOn (Some before) (Some (connection_view c.settle.new.self))) (sym same)
     (subst (λ (after : Connection). HasGoneOn (Some (Busy (in_progress_of c.resume.result))) (Some after)) (sym c.settle.ensures.state)
-    (gone_on asked c.resume.result c.in-Ok.done (ap asked_held c.in-Some.ensures.waits ∙ c.resume.ensures.asked) c.in-Ok.ensures.further))
+    (gone_on asked c.resume.result c.in-Ok.done (ap asked_held c.in-Some.ensures.waits ∙ c.resume.ensures.asked) c.in-Ok.ensures.goes_on.further))

@@ -5,7 +5,7 @@ use Rattle.compound.specs.Volumes.{ending, ending_of}
 use Rattle.volume.specs.Changes.{Done}
 use Rattle.fs.specs.Views.{fs_of, fs_failures}
 use Rattle.model.specs.Rpc.{read_call}
-use Rattle.model.specs.World.{Connection, is_busy, Waiting, Replied, Turned, called, turned}
+use Rattle.model.specs.World.{World, Connection, is_busy, Waiting, Replied, Turned, called, idle, turned}
 use Rattle.rpc.specs.Assembly.{Assembly, Gathers, Holds, Refuses, connection_of}
 use Rattle.server.specs.Connections.{connection_view, HasGoneOn, IsOfRun}
 use Rattle.server.specs.Stages.{stage_view, asked_in, asked_held, begun, left_by, is_ready}
@@ -22,13 +22,17 @@ receiving_before assembly stage is = ap (stage_view assembly) (sym is)
 waits : (assembly : Assembly) (stage : Stage) (request : List ℕ) → stages.Receiving ≡ stage → assembly ≡ Holds request → stage_view assembly stage ≡ Waiting request
 waits assembly stage request is holds = receiving_before assembly stage is ∙ ap connection_of holds
 
-pub next_turn-requires-clause-run : goal.next_turn-requires-clause-run
+pub next_turn-requires-clause-goes_on : goal.next_turn-requires-clause-goes_on
 unfolding connection_view
-next_turn-requires-clause-run g c =
+next_turn-requires-clause-goes_on g c =
     let assembly = c.args.self.now.assembler in
-    run_of (fs_of c.args.fs.now).volume.run (asked_held assembly) c.in-Running.progress
-    (subst (λ (s : Stage). is_ready s assembly ≡ true) (sym c.in-Running.ensures.value) c.args.self.now.ready)
-    (subst (IsOfRun (fs_of c.args.fs.now).volume.run) (ap (stage_view assembly) (sym c.in-Running.ensures.value)) c.requires.run)
+    let can : is_ready (stages.Running c.in-Running.progress) assembly ≡ true =
+    subst (λ (s : Stage). is_ready s assembly ≡ true) (sym c.in-Running.ensures.value) c.args.self.now.ready in
+    record {
+      can = can;
+      began_in = run_of (fs_of c.args.fs.now).volume.run (asked_held assembly) c.in-Running.progress can
+          (subst (IsOfRun (fs_of c.args.fs.now).volume.run) (ap (stage_view assembly) (sym c.in-Running.ensures.value)) c.requires.run);
+    }
 
 pub returns-in-Ok-clause-turn : goal.returns-in-Ok-clause-turn
 unfolding connection_view
@@ -91,9 +95,10 @@ unfolding connection_view
 returns-in-None-clause-volume g c =
     let assembly = c.args.self.now.assembler in
     let before = receiving_before assembly c.args.self.now.stage c.in-Receiving.ensures.value in
-    idle_changes g.D.Device.keeps_word (shared_of c.args.fs.now c.args.table.now c.args.opens.now) (fs_failures c.args.fs.now) (λ world number. turned world number c.args.now (Some (connection_view c.args.self.now))) c.requires.up
-    (λ world number served. ap (λ (t : Turned). t.executed)
-    (ap (λ (b : Connection). turned world number c.args.now (Some b)) before ∙ no_record_comes c.args.now assembly c.in-None.ensures.waits world number))
+    let comes : (world : World) (number : ℕ) → turned world number c.args.now (Some (connection_view c.args.self.now)) ≡ idle world
+    = λ world number. ap (λ (b : Connection). turned world number c.args.now (Some b)) before ∙ no_record_comes c.args.now assembly c.in-None.ensures.waits world number in
+    idle_changes g.D.Device.keeps_word (shared_of c.args.fs.now c.args.table.now c.args.opens.now) (fs_failures c.args.fs.now) (λ world number. turned world number c.args.now (Some (connection_view c.args.self.now))) c.requires.up c.requires.agrees
+    (λ world number served. ap (λ (t : Turned). t.executed) (comes world number)) (λ world number served. ap (λ (t : Turned). t.world.table) (comes world number))
 
 pub returns-in-Running-clause-volume : goal.returns-in-Running-clause-volume
 unfolding connection_view
@@ -109,9 +114,9 @@ pub returns-in-Replied-clause-volume : goal.returns-in-Replied-clause-volume
 unfolding connection_view
 returns-in-Replied-clause-volume g c =
     let before = ap (stage_view c.args.self.now.assembler) (sym c.in-Replied.ensures.value) in
-    idle_changes g.D.Device.keeps_word (shared_of c.args.fs.now c.args.table.now c.args.opens.now) (fs_failures c.args.fs.now) (λ world number. turned world number c.args.now (Some (connection_view c.args.self.now))) c.requires.up
-    (λ world number served. ap (λ (t : Turned). t.executed)
-    (replied_comes c.args.now (connection_view c.args.self.now) c.in-Replied.reply.items before world number))
+    let comes = replied_comes c.args.now (connection_view c.args.self.now) c.in-Replied.reply.items before in
+    idle_changes g.D.Device.keeps_word (shared_of c.args.fs.now c.args.table.now c.args.opens.now) (fs_failures c.args.fs.now) (λ world number. turned world number c.args.now (Some (connection_view c.args.self.now))) c.requires.up c.requires.agrees
+    (λ world number served. ap (λ (t : Turned). t.executed) (comes world number)) (λ world number served. ap (λ (t : Turned). t.world.table) (comes world number))
 
 -- One more of the request that has begun
 

@@ -1,5 +1,4 @@
-use Rattle.std.proofs.Common.{◌≡◌, ℕ, false, true, Err, inl, inr, refl, sym, ap, ◌∙◌, subst, true≢false}
-use Rattle.fs.specs.FileSystem.{FileSystem}
+use Rattle.std.proofs.Common.{◌≡◌, ℕ, false, Err, inl, inr, refl, sym, ap, ◌∙◌, subst, true≢false}
 use Rattle.fs.specs.Views.{fs_of}
 use Rattle.fs.specs.declared.fault.FsFault.TheVariants as fault
 use Rattle.opens.specs.Views.{opens_of}
@@ -7,8 +6,7 @@ use Rattle.session.specs.Views.{table_of}
 use Rattle.server.specs.Connections.{connections_of}
 use Rattle.server.specs.Views.{world_of, volume_of, failures_of}
 use Rattle.volume.specs.Held.{kept_of}
-use Rattle.compound.proofs.Unseated.{seats_stay}
-use Rattle.server.proofs.Checkpoints.{checkpointed, checkpoint_fails, keeps_world, only_device}
+use Rattle.server.proofs.Checkpoints.{agrees_still, checkpointed, checkpoint_fails, keeps_world, only_device}
 use Rattle.server.proofs.Worlds.{AllOfRun}
 use Rattle.server.proofs.server.Server.checkpoint.Goals as goal
 
@@ -26,6 +24,7 @@ invariant_of-self g c =
     let s = c.args.self.now in
     record {
       few = s.few;
+      agrees = λ keeps up. agrees_still g.D.Device.keeps_word (fs_of s.fs) (fs_of c.checkpoint.new.self) _ _ (table_of s.table) c.checkpoint.result c.checkpoint.ensures.volume keeps (s.agrees keeps (sym c.if-is_down.ensures)) up;
       of_run = subst (λ (r : ℕ). AllOfRun r (connections_of s.connections)) (sym c.checkpoint.ensures.volume.volume_changes.same.run) s.of_run;
     }
 
@@ -35,8 +34,8 @@ returns-in-Ok-clause-ok g c = λ keeps.
     let s = c.args.self.now in
     let did = c.in-Ok.ensures in
     let volume = did.volume.volume_changes in
-    checkpointed (fs_of s.fs) (fs_of c.checkpoint.new.self) (table_of s.table) (opens_of s.opens) (connections_of s.connections) volume.same did.changes (seats_stay s.fs c.checkpoint.new.self)
-    (did.shows.tree_is keeps) (sym c.if-is_down.ensures) volume.ends.still_up (did.recent keeps) (volume.moments keeps (kept_of (fs_of s.fs).volume) false (refl, refl))
+    checkpointed (fs_of s.fs) (fs_of c.checkpoint.new.self) (table_of s.table) (opens_of s.opens) (connections_of s.connections) volume.same did.changes
+    (did.shows.tree_is keeps) (volume.ends.seats keeps (kept_of (fs_of s.fs).volume) false (refl, refl)) (sym c.if-is_down.ensures) volume.ends.still_up (did.recent keeps) (volume.moments keeps (kept_of (fs_of s.fs).volume) false (refl, refl))
 
 pub returns-in-Ok-clause-kept : goal.returns-in-Ok-clause-kept
 unfolding world_of volume_of failures_of
@@ -50,7 +49,7 @@ returns-in-Ok-clause-kept g c =
       none_failed = volume.none (λ broken. cc);
       same = volume.same;
       world = keeps_world (fs_of s.fs) (fs_of c.checkpoint.new.self) (table_of s.table) (opens_of s.opens) (connections_of s.connections) volume.same did.changes
-          (seats_stay s.fs c.checkpoint.new.self) (fs_of c.checkpoint.new.self).volume.tree;
+          (fs_of c.checkpoint.new.self).volume.tree;
     }
 
 pub returns-in-Err-clause-fails : goal.returns-in-Err-clause-fails
@@ -63,7 +62,7 @@ returns-in-Err-clause-fails g c = λ keeps up.
     (λ down. true≢false (sym (did.down.0 (ap Err down)) ∙ up)) in
     let failed = rw device at did.volume in
     checkpoint_fails (fs_of s.fs) (fs_of c.checkpoint.new.self) (table_of s.table) (opens_of s.opens) (connections_of s.connections) volume.same did.changes
-    (seats_stay s.fs c.checkpoint.new.self) up failed.volume_changes.ends.down (volume.moments keeps (kept_of (fs_of s.fs).volume) false (refl, refl))
+    up failed.volume_changes.ends.down (volume.moments keeps (kept_of (fs_of s.fs).volume) false (refl, refl))
 
 pub returns-in-Err-clause-refused : goal.returns-in-Err-clause-refused
 unfolding world_of volume_of failures_of
@@ -77,7 +76,7 @@ returns-in-Err-clause-refused g c =
     record {
       told = refl;
       world = keeps_world (fs_of s.fs) (fs_of c.checkpoint.new.self) (table_of s.table) (opens_of s.opens) (connections_of s.connections) volume.same did.changes
-          (seats_stay s.fs c.checkpoint.new.self) (fs_of c.checkpoint.new.self).volume.tree;
+          (fs_of c.checkpoint.new.self).volume.tree;
       cause = inr failed.volume_changes.ends.cause;
       down = failed.volume_changes.ends.down;
     }

@@ -6,7 +6,6 @@ use Rattle.server.specs.Connections.{connections_of, connection_view, IsOfRun}
 use Rattle.server.specs.declared.fault.ServerFault.TheVariants as faults
 use Rattle.server.specs.Views.{world_of, volume_of, world_by}
 use Rattle.model.specs.Runs as runs
-use Rattle.compound.proofs.Unseated.{seated}
 use Rattle.server.proofs.Moves.{does_quietly}
 use Rattle.server.proofs.Refusals.{told_by}
 use Rattle.server.proofs.SlabLaws.{count_of, with_slot, stands_none, grew}
@@ -23,6 +22,7 @@ invariant_of-self g c =
     let run = (fs_of s.fs).volume.run in
     record {
       few = omega (arith, inserted_count s.connections c.insert.new.self c.insert.result c.insert.ensures.len c.insert.ensures.err);
+      agrees = s.agrees;
       of_run = inserted_of_run run s.connections c.insert.new.self c.in_ok-connection.connection c.insert.result c.insert.ensures.updates c.insert.ensures.err
           (subst (IsOfRun run) (sym c.in_ok-connection.ensures) (quiet_of_run run [])) s.of_run;
     }
@@ -63,7 +63,7 @@ returns-clause-ok g c =
     λ keeps. does_quietly (fs_of s.fs).volume _ _ _ (runs.Connects conn) _ refl up
     (connected (shared_of s.fs s.table s.opens) (connections_of s.connections) _ conn (connection_view c.in_ok-connection.connection) can
     (with_slot s.connections c.insert.new.self conn c.in_ok-connection.connection updates) c.in_ok-connection.ensures)
-    (seated s.fs s.table) refl
+    (s.agrees keeps up).seats refl
 
 pub returns-clause-is_full : goal.returns-clause-is_full
 unfolding world_of

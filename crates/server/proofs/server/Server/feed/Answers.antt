@@ -6,7 +6,6 @@ use Rattle.rpc.specs.Assembly.{record_limits}
 use Rattle.server.specs.Connections.{IsOfRun, connections_of, connection_view}
 use Rattle.server.specs.Seen.{Took, taken_on}
 use Rattle.server.specs.Views.{world_of, volume_of, world_by}
-use Rattle.compound.proofs.Unseated.{seated}
 use Rattle.server.proofs.Moves.{does_quietly}
 use Rattle.server.proofs.SlabLaws.{stands, stands_none, wrote, wrote_count}
 use Rattle.server.proofs.Worlds.{AllOfRun, all_of_run_with, arrived_of_run, fed}
@@ -24,6 +23,7 @@ invariant_of-self-2 g c =
     let run = (fs_of s.fs).volume.run in
     record {
       few = omega (arith, wrote_count s.connections c.args.conn before after c.in-Some.ensures.value, s.few);
+      agrees = s.agrees;
       of_run = subst (AllOfRun run) (sym (wrote s.connections c.args.conn before after c.in-Some.ensures.value))
           (all_of_run_with run (connections_of s.connections) c.args.conn (connection_view after) s.of_run
           (subst (IsOfRun run) (sym c.feed.ensures.arrived) (arrived_of_run run record_limits c.args.piece.now (connection_view before)
@@ -42,7 +42,7 @@ returns-in_default-feed-clause-closed g c =
     λ keeps is. does_quietly (fs_of s.fs).volume _ _ _ (runs.Arrives c.args.conn c.args.piece.now) _ refl up
     (fed (shared_of s.fs s.table s.opens) (connections_of s.connections) _ c.args.conn c.args.piece.now (connection_view before) (connection_view after)
     there (wrote s.connections c.args.conn before after c.in-Some.ensures.value) c.feed.ensures.arrived)
-    (seated s.fs s.table) (ap Took (sym (ap (taken_on (world_by (shared_of s.fs s.table s.opens) (connections_of s.connections)) c.args.piece.now) there ∙ none)))
+    (s.agrees keeps up).seats (ap Took (sym (ap (taken_on (world_by (shared_of s.fs s.table s.opens) (connections_of s.connections)) c.args.piece.now) there ∙ none)))
 
 pub returns-in_default-feed-clause-is_none : goal.returns-in_default-feed-clause-is_none
 unfolding world_of
@@ -62,7 +62,7 @@ returns-clause-ok g c =
     λ keeps. does_quietly (fs_of s.fs).volume _ _ _ (runs.Arrives c.args.conn c.args.piece.now) _ refl up
     (fed (shared_of s.fs s.table s.opens) (connections_of s.connections) _ c.args.conn c.args.piece.now (connection_view before) (connection_view after)
     there (wrote s.connections c.args.conn before after c.in-Some.ensures.value) c.feed.ensures.arrived)
-    (seated s.fs s.table) (ap Took (sym (ap (taken_on (world_by (shared_of s.fs s.table s.opens) (connections_of s.connections)) c.args.piece.now) there ∙ some)))
+    (s.agrees keeps up).seats (ap Took (sym (ap (taken_on (world_by (shared_of s.fs s.table s.opens) (connections_of s.connections)) c.args.piece.now) there ∙ some)))
 
 pub returns-clause-is_none : goal.returns-clause-is_none
 unfolding world_of

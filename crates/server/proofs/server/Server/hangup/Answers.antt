@@ -7,7 +7,6 @@ use Rattle.server.specs.Connections.{connections_of}
 use Rattle.server.specs.declared.fault.ServerFault.TheVariants as faults
 use Rattle.server.specs.Refused.{view, IsUntouched, RefusesTurn}
 use Rattle.server.specs.Seen.{Stays}
-use Rattle.compound.proofs.Unseated.{seated}
 use Rattle.server.proofs.Refusals.{told_by, begins_on, runs_on, hang_up_refused}
 use Rattle.server.specs.Views.{world_of, volume_of, failures_of, seen_with}
 use Rattle.server.proofs.HangUps.{turned_on, fewer_left}
@@ -42,7 +41,7 @@ pub loop-self-smaller : goal.loop-self-smaller
 unfolding world_of
 loop-self-smaller g c =
     let mid = c.loop-self.self in
-    fewer_left c.turn.new.self.connections c.args.conn (at c.args.conn (connections_of mid.connections)) (sym c.is_busy.ensures ∙ c.loop-self-test.true)
+    fewer_left mid.connections c.args.conn (at c.args.conn (connections_of mid.connections)) (at c.args.conn (connections_of c.turn.new.self.connections)) refl (sym c.is_busy.ensures ∙ c.loop-self-test.true)
     (rw c.in_ok-turn.was at c.turn.ensures.turned).further
 
 pub loop-self-preserved : goal.loop-self-preserved
@@ -73,6 +72,7 @@ invariant_of-self g c =
     let mid = c.loop-self.self in
     record {
       few = omega (arith, removed_count mid.connections c.try_remove.new.self c.try_remove.result c.try_remove.ensures.len c.try_remove.ensures.absent, mid.few);
+      agrees = mid.agrees;
       of_run = subst (AllOfRun (fs_of mid.fs).volume.run) (sym (without_slot mid.connections c.try_remove.new.self c.args.conn c.try_remove.ensures.updates))
           (all_of_run_without (fs_of mid.fs).volume.run (connections_of mid.connections) c.args.conn mid.of_run);
     }
@@ -88,7 +88,7 @@ returns-clause-ok g c =
       was.1,
       does_quietly (fs_of mid.fs).volume _ _ _ (runs.HangsUp c.args.conn) _ refl inv.is_up
           (hung_up (shared_of mid.fs mid.table mid.opens) (connections_of mid.connections) _ c.args.conn (sym c.is_busy.ensures ∙ c.loop-self-test.false)
-          (without_slot mid.connections c.try_remove.new.self c.args.conn c.try_remove.ensures.updates)) (seated mid.fs mid.table) refl was.0 was.2,
+          (without_slot mid.connections c.try_remove.new.self c.args.conn c.try_remove.ensures.updates)) (mid.agrees keeps inv.is_up).seats refl was.0 was.2,
     )
 
 pub returns-clause-gone : goal.returns-clause-gone

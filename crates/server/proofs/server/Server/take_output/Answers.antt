@@ -9,7 +9,6 @@ use Rattle.session.specs.Views.{table_of}
 use Rattle.server.specs.Connections.{connections_of, connection_view, IsOfRun}
 use Rattle.server.specs.Seen.{Gave}
 use Rattle.server.specs.Views.{world_of, volume_of}
-use Rattle.compound.proofs.Unseated.{seated}
 use Rattle.server.proofs.Moves.{moves_none, does_quietly}
 use Rattle.server.proofs.SlabLaws.{stands, stands_none, wrote, wrote_count}
 use Rattle.server.proofs.Worlds.{AllOfRun, all_of_run_with, taken_of_run, took, stays_down}
@@ -23,6 +22,7 @@ invariant_of-self g c =
     let run = (fs_of s.fs).volume.run in
     record {
       few = omega (arith, wrote_count s.connections c.args.conn before after c.in-Some.ensures.value, s.few);
+      agrees = s.agrees;
       of_run = subst (AllOfRun run) (sym (wrote s.connections c.args.conn before after c.in-Some.ensures.value))
           (all_of_run_with run (connections_of s.connections) c.args.conn (connection_view after) s.of_run
           (subst (IsOfRun run) (sym c.take_output.ensures.left)
@@ -39,7 +39,7 @@ returns-in-Some-clause-ok g c =
     λ keeps up. does_quietly (fs_of s.fs).volume _ _ _ (runs.Takes c.args.conn) _ refl up
     (took (shared_of s.fs s.table s.opens) (connections_of s.connections) _ c.args.conn (connection_view before) (connection_view after)
     there (wrote s.connections c.args.conn before after c.in-Some.ensures.value) c.take_output.ensures.left)
-    (seated s.fs s.table) (ap Gave (c.take_output.ensures.given ∙ ap reply_in (sym there)))
+    (s.agrees keeps up).seats (ap Gave (c.take_output.ensures.given ∙ ap reply_in (sym there)))
 
 pub returns-in-Some-clause-down : goal.returns-in-Some-clause-down
 unfolding world_of volume_of
@@ -48,10 +48,10 @@ returns-in-Some-clause-down g c =
     let before = c.in-Some.connection.now in
     let after = c.take_output.new.self in
     let there = stands s.connections c.args.conn before c.in-Some.ensures.value in
-    λ keeps down tree recent leaves.
+    λ keeps down tree recent held leaves.
     let files : FileSystem = record (fs_of s.fs) { volume = record (fs_of s.fs).volume { tree = tree } } in
     record {
-      stays = stays_down _ _ _ _ recent (fs_of s.fs).volume.seats c.args.conn down down
+      stays = stays_down _ _ _ _ recent held c.args.conn down down
           (took (shared files (table_of s.table) (opens_of s.opens)) (connections_of s.connections) _ c.args.conn (connection_view before) (connection_view after)
           there (wrote s.connections c.args.conn before after c.in-Some.ensures.value) c.take_output.ensures.left);
       says = ap Gave (c.take_output.ensures.given ∙ ap reply_in (sym there));

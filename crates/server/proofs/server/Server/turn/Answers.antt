@@ -1,11 +1,13 @@
-use Rattle.std.proofs.Common.{◌≡◌, ◌∷◌, ℕ, Some, true, inl, inr, refl, sym, ap, ap₂, ◌∙◌, subst, arith}
+use Rattle.std.proofs.Common.{◌≡◌, ℕ, Some, Result, Ok, Err, OnErr, true, inl, inr, refl, sym, ap, ap₂, ◌∙◌, subst, arith}
 use Rattle.compound.specs.declared.fault.Fault.TheVariants as turns
 use Rattle.slab.specs.Slab.{with_value}
 use Rattle.compound.specs.States.{shared, shared_of}
+use Rattle.compound.specs.Volumes.{kept_in}
 use Rattle.fs.specs.FileSystem.{FileSystem}
 use Rattle.fs.specs.Views.{fs_of}
 use Rattle.model.specs.Runs as runs
-use Rattle.model.specs.World.{Closed, one}
+use Rattle.model.specs.World.{Closed}
+use Rattle.session.specs.Views.{table_of}
 use Rattle.server.specs.Connections.{connections_of, connection_view}
 use Rattle.server.specs.Faults.{turn_fault}
 use Rattle.server.specs.declared.fault.ServerFault.TheVariants as faults
@@ -14,11 +16,10 @@ use Rattle.server.specs.Views.{world_of, volume_of, failures_of, world_by}
 use Rattle.compound.proofs.QuietLaws.{left_all, broken≢done}
 use Rattle.model.proofs.KeyedLaws.{at-with_other}
 use Rattle.model.specs.Keyed.{at}
-use Rattle.compound.proofs.Unseated.{seated, seats_stay}
 use Rattle.server.proofs.Moves.{broken_leaves, leaves_now}
 use Rattle.server.proofs.Refusals.{told_by, device_told, turn_refused}
 use Rattle.server.proofs.SlabLaws.{stands, stands_none, wrote, wrote_count, rewrote, numbers_rise}
-use Rattle.server.proofs.ServedTurns.{turned, undone, broken, gone_on_at, gives_one, turning_moments}
+use Rattle.server.proofs.ServedTurns.{agrees_after, turned, turn_of, undone, broken, gone_on_at, gives_one, turning_moments}
 use Rattle.server.proofs.Worlds.{AllOfRun, all_of_run_with, happened_leaving, failed_from}
 use Rattle.server.proofs.server.Server.turn.Goals as goal
 
@@ -41,6 +42,7 @@ invariant_of-self-then-is_closed g c =
     let s = c.args.self.now in
     let before = c.in-Some.connection.now in
     record {
+      agrees = s.agrees;
       few = omega (arith, wrote_count s.connections c.args.conn before before c.in-Some.ensures.value, s.few);
       of_run = subst (AllOfRun (fs_of s.fs).volume.run) (sym (rewrote s.connections c.args.conn before before c.in-Some.ensures.value refl)) s.of_run;
     }
@@ -66,6 +68,13 @@ turn-requires-clause-run g c =
     let before = c.in-Some.connection.now in
     s.of_run c.args.conn (connection_view before) (stands s.connections c.args.conn before c.in-Some.ensures.value)
 
+tables_stay : {T E : Type 0} (A B C : Type 0) (result : Result T E) → OnErr result (A × B × C) → OnErr result B
+tables_stay A B C (Ok done) back = tt
+tables_stay A B C (Err fault) back = back.1
+
+pub turn-requires-clause-agrees : goal.turn-requires-clause-agrees
+turn-requires-clause-agrees g c = λ keeps. c.args.self.now.agrees keeps (sym c.if-is_down.ensures)
+
 pub invariant_of-self-2 : goal.invariant_of-self-2
 invariant_of-self-2 g c =
     let s = c.args.self.now in
@@ -74,6 +83,8 @@ invariant_of-self-2 g c =
     let run = (fs_of s.fs).volume.run in
     let same_run : (fs_of c.turn.new.fs).volume.run ≡ run = c.turn.ensures.volume.volume_changes.same.run in
     record {
+      agrees = λ keeps up. agrees_after g.D.Device.keeps_word _ (fs_of s.fs) (fs_of c.turn.new.fs) _ _ (table_of s.table) (table_of c.turn.new.table) c.turn.result c.turn.ensures.volume
+          (c.turn.ensures.agrees keeps) (tables_stay _ _ _ c.turn.result c.turn.ensures.back) (s.agrees keeps (sym c.if-is_down.ensures)) up;
       few = omega (arith, wrote_count s.connections c.args.conn before after c.in-Some.ensures.value, s.few);
       of_run = subst (λ (r : ℕ). AllOfRun r (connections_of (with_value s.connections c.args.conn after))) (sym same_run)
           (subst (AllOfRun run) (sym (wrote s.connections c.args.conn before after c.in-Some.ensures.value))
@@ -93,20 +104,19 @@ returns-in_err-turn-clause-fails g c =
     let device : refusal ≡ turns.Device = device_told refusal (let told_is : turn_fault refusal ≡ faults.Device = cc in told_is) in
     let volume = c.turn.ensures.volume.volume_changes in
     let failed = rw (c.in_err-turn.was, device) at c.turn.ensures.volume in
-    let left_tree = (one (world_by (shared_of s.fs s.table s.opens) (connections_of s.connections)) c.args.conn c.args.now).world.tree in
+    let left = kept_in (turn_of (shared_of s.fs s.table s.opens) (connections_of s.connections) c.args.conn c.args.now).world in
     let adds = volume.moments keeps _ _ (gives_one (shared_of s.fs s.table s.opens) (connections_of s.connections) c.args.conn c.args.now (connection_view before)
     (stands s.connections c.args.conn before c.in-Some.ensures.value)) in
     λ recent ready. (
       _,
+      _,
       record {
-        fails = failed_from _ _ recent _ _ _ _ (runs.Turns c.args.conn c.args.now) ready.newest up failed.volume_changes.ends.down
+        fails = failed_from _ _ recent _ _ _ (runs.Turns c.args.conn c.args.now) ready.newest up failed.volume_changes.ends.down
             (broken (shared_of s.fs s.table s.opens) (shared_of c.turn.new.fs c.turn.new.table c.turn.new.opens) (connections_of s.connections) _ volume.same (failed.no_count broken≢done)
-            (ap₂ (shared (fs_of c.turn.new.fs)) back.1 back.2) (rewrote s.connections c.args.conn before after c.in-Some.ensures.value back.0) (fs_of s.fs).volume.tree)
-            (seats_stay s.fs c.turn.new.fs);
+            (ap₂ (shared (fs_of c.turn.new.fs)) back.1 back.2) (rewrote s.connections c.args.conn before after c.in-Some.ensures.value back.0) (fs_of s.fs).volume.tree);
         moves = record {
           moments = turning_moments (shared_of s.fs s.table s.opens) (connections_of s.connections) c.args.conn c.args.now recent _ ready up adds;
-          leaves = leaves_now (fs_of c.turn.new.fs).volume (left_tree ∷ recent)
-              (broken_leaves (fs_of s.fs).volume (fs_of c.turn.new.fs).volume left_tree recent ready adds volume.same (seats_stay s.fs c.turn.new.fs));
+          leaves = broken_leaves (fs_of s.fs).volume (fs_of c.turn.new.fs).volume left recent ready adds volume.same;
           same = volume.same;
         };
       },
@@ -165,11 +175,12 @@ returns-clause-ok g c =
     let made = turned (shared_of s.fs s.table s.opens) (shared_of c.turn.new.fs c.turn.new.table c.turn.new.opens) (connections_of s.connections) _ c.args.conn c.args.now
     (connection_view before) (connection_view after) (wrote s.connections c.args.conn before after c.in-Some.ensures.value) c.in_ok-turn.field-0
     ((rw c.in_ok-turn.was at c.turn.ensures.turn) keeps) (numbers_rise s.connections) there volume.same in
+    let agreed = (rw c.in_ok-turn.was at c.turn.ensures.agrees) keeps in
     let left = volume.ends.leaves keeps _ _ gives recent ready in (
       left.0,
       record {
         happens = happened_leaving (fs_of c.turn.new.fs).volume _ _ _ recent left.0 _ _ _ (runs.Turns c.args.conn c.args.now) ready.newest up volume.ends.still_up made.1
-            (seated c.turn.new.fs c.turn.new.table) refl left.1;
+            agreed.seats refl left.1;
         says = ap Turned made.0;
         moves = record {
           moments = turning_moments (shared_of s.fs s.table s.opens) (connections_of s.connections) c.args.conn c.args.now recent _ ready up (volume.moments keeps _ _ gives);

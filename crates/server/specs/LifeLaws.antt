@@ -1,0 +1,151 @@
+-- Exactly once over restarts, of a server on its device: RFC 8881, sections 2.10.6.1 and 2.10.6.5.
+-- The seats that a stop leaves hold what was answered, and a session of an earlier run runs
+-- nothing.
+use Rattle.std.specs.Prelude.{ℕ, false, true, ◌↔◌, List, [], ◌∷◌, ◌++◌, option_to_list, slice_get, Some, ◌≡◌, ◌<◌, ◌⊎◌}
+use Rattle.disk.specs.Moments.{Image, History}
+use Rattle.layout.specs.Stands.{Kept}
+use Rattle.model.specs.Answer.{CreateSessionAnswer}
+use Rattle.model.specs.Keyed.{at}
+use Rattle.model.specs.Operation.{SequenceArguments}
+use Rattle.model.specs.Runs.{Event, Stored, effect_of, executed_of}
+use Rattle.model.specs.Runs as runs
+use Rattle.model.specs.SeatRuns.{AreSeats, AnswersBySeats, GivesHeld, HoldsFrom, IsFreed, IsFreedBy, Makes, storing, freeing, request_in}
+use Rattle.model.specs.Seats.{Seat, Seats, seat_of, has_seat}
+use Rattle.model.specs.ServedOnce.{numbers_in}
+use Rattle.model.specs.Session.{Table, Replays, begin}
+use Rattle.model.specs.SessionRuns.{CountsFrom, OthersBetween}
+use Rattle.model.specs.World.{one}
+use Rattle.volume.specs.Held.{Held}
+use Rattle.volume.specs.Remounts.{IsFound}
+use Rattle.volume.specs.Stands.{StandsFor}
+use Rattle.server.specs.Headline.{Stopped, LeftBy, IsMountedAfter, Follows, executed_in}
+use Rattle.server.specs.Seen.{history_of}
+
+-- A run that was stopped
+
+abbrev pub history_in : Stopped → runs.History
+history_in stopped = history_of stopped.first.serving.world stopped.calls
+
+-- The replies that its seats held, and the one that was being stored; and the sessions whose seats
+-- were freed, or were being freed
+
+abbrev pub stored_in : Stopped → List Stored
+stored_in stopped = (history_in stopped).stored
+    ++ option_to_list (storing stopped.old.serving (history_in stopped) stopped.event
+    stopped.old.serving.is_down)
+
+abbrev pub freed_in : Stopped → List (List ℕ)
+freed_in stopped = (history_in stopped).freed
+    ++ freeing stopped.old.serving stopped.event stopped.old.serving.is_down
+
+-- Seats that its stop left: those for which a map of it stands, or that a mount since then serves
+pub data Leaves (stopped : Stopped) : Seats → Type 0 where
+  OnMap : {image : Image} {nodes run : ℕ} {kept : Kept} → LeftBy stopped image
+      → StandsFor stopped.first.volume.sectors nodes run kept image → Leaves stopped kept.seats
+  OnMount : {device : History} {from : ℕ} {again : Held} → IsMountedAfter stopped device from
+      → IsFound stopped.first.volume.sectors device again → Leaves stopped again.seats
+
+-- the table of its server when the call began within which it was stopped
+abbrev pub table_in : Stopped → Table
+table_in stopped = stopped.old.serving.world.table
+
+-- The server was up when the call began within which it was stopped.
+abbrev pub WasUp : Stopped → Type 0
+WasUp stopped = stopped.old.serving.is_down ≡ false
+
+-- A seat that the run began with is left as it was, or it was freed.
+abbrev pub EveryStays : Type 0
+EveryStays = (stopped : Stopped) (left : Seats) → Leaves stopped left → (id : List ℕ) (seat : Seat)
+    → seat_of id stopped.start.seats ≡ Some seat
+    → ∥ ((seat_of id left ≡ Some seat) ⊎ IsFreed left (freed_in stopped) id) ∥₁
+
+-- What the stop leaves are seats of this run's sessions and of those before: a later run may begin
+-- with them.
+abbrev pub EveryFollows : Type 0
+EveryFollows = (stopped : Stopped) (left : Seats) → Leaves stopped left → (next : ℕ)
+    → stopped.run < next → AreSeats next left
+
+-- A session of an earlier run is answered by what its seat holds and is refused all else, and it
+-- runs nothing; and while the server is up a stop would leave the seats that it answers by.
+abbrev pub EveryDead : Type 0
+EveryDead = (stopped : Stopped) → WasUp stopped → AnswersBySeats stopped.old.serving stopped.run
+
+-- A session has a seat exactly where its CREATE_SESSION was answered with flag 1.
+abbrev pub EverySits : Type 0
+EverySits = (stopped : Stopped) → WasUp stopped → (event : Event) (answer : CreateSessionAnswer)
+    → Makes (table_in stopped) (effect_of stopped.old.serving.world event).table
+    (executed_of stopped.old.serving.world event) answer
+    → (answer.flags ≡ 1)
+    ↔ (has_seat answer.session (effect_of stopped.old.serving.world event).table.seats ≡ true)
+
+-- A turn that gives a request of a slot its reply lets the slot keep it, and a seat that there is
+-- holds it then.
+abbrev pub EveryStored : Type 0
+EveryStored = (stopped : Stopped) → WasUp stopped → (connection now : ℕ)
+    → GivesHeld (one stopped.old.serving.world connection now) connection
+    (request_in (at connection stopped.old.serving.world.connections))
+
+-- A seat goes by a DESTROY_SESSION of its session, or by a CREATE_SESSION for which it gives way,
+-- that is done.
+abbrev pub EveryAsked : Type 0
+EveryAsked = (stopped : Stopped) → WasUp stopped → (event : Event) (id : List ℕ) (seat : Seat)
+    → seat_of id stopped.old.serving.world.table.seats ≡ Some seat
+    → has_seat id (effect_of stopped.old.serving.world event).table.seats ≡ false
+    → IsFreedBy stopped.old.serving.world.table (executed_of stopped.old.serving.world event) id
+    seat
+
+-- Runs, one after another
+
+-- each follows after the stop of the one before it, and however many mounts that did not serve
+abbrev pub AreRuns : Stopped → List Stopped → Type 0
+AreRuns first [] = Unit {0}
+AreRuns first (next ∷ rest) = Follows first next × AreRuns next rest
+
+-- the last of them, or the first where there is no other
+abbrev pub last_of : Stopped → List Stopped → Stopped
+last_of first [] = first
+last_of first (next ∷ rest) = last_of next rest
+
+-- the numbers that a slot of a session ran in all of them together
+abbrev pub numbers_over : (id : List ℕ) → (slot : ℕ) → List Stopped → List ℕ
+numbers_over id slot [] = []
+numbers_over id slot (stopped ∷ rest) =
+    numbers_in id slot (executed_in stopped) ++ numbers_over id slot rest
+
+-- They run from 1 on, each after the one before it, and so one of them runs again only after the
+-- 2^32 - 1 others.
+abbrev pub EveryOnce : Type 0
+EveryOnce = (first : Stopped) (rest : List Stopped) → AreRuns first rest → (id : List ℕ) (slot : ℕ)
+    → CountsFrom 0 (numbers_over id slot (first ∷ rest))
+    × OthersBetween (numbers_over id slot (first ∷ rest))
+
+-- in one of them the session's seat was freed, and so the next did not begin with it
+abbrev pub WasFreed : (id : List ℕ) → Stopped → List Stopped → (left : Seats) → Type 0
+WasFreed id first [] left = IsFreed left (freed_in first) id
+WasFreed id first (next ∷ rest) left =
+    IsFreed next.start.seats (freed_in first) id ⊎ WasFreed id next rest left
+
+-- Each reply that a seat held in the first is held by what the stop of the last leaves, or the next
+-- one of its slot is, or the seat was freed on the way.
+abbrev pub EveryHeld : Type 0
+EveryHeld = (first : Stopped) (rest : List Stopped) → AreRuns first rest
+    → (left : Seats) → Leaves (last_of first rest) left → (i : ℕ) (one : Stored)
+    → slice_get (history_in first).stored i ≡ Some one
+    → ∥ (HoldsFrom left (stored_in first) i one ⊎ WasFreed one.session first rest left) ∥₁
+
+-- A reply is given, or one to a later request of its slot, where it is asked for again: under the
+-- number and by the uid that it is held for
+pub record IsGivenAgain (table : Table) (stored : List Stored) (i : ℕ) (one : Stored)
+    : Type 0 where
+  pub holds : HoldsFrom table.seats stored i one
+  pub gives : (count : ℕ) (arguments : SequenceArguments) → arguments.session ≡ one.session
+      → arguments.slot ≡ one.slot → arguments.sequence ≡ holds.reply.held.number
+      → begin holds.reply.held.uid count arguments table ≡ Replays holds.reply.held.result
+
+-- So it is in each later run, at each moment, unless the seat was freed on the way.
+abbrev pub EveryRetried : Type 0
+EveryRetried = (first next : Stopped) (rest : List Stopped) → AreRuns first (next ∷ rest)
+    → WasUp (last_of next rest) → (i : ℕ) (one : Stored)
+    → slice_get (history_in first).stored i ≡ Some one
+    → ∥ (IsGivenAgain (table_in (last_of next rest)) (stored_in first) i one
+    ⊎ WasFreed one.session first (next ∷ rest) (table_in (last_of next rest)).seats) ∥₁
