@@ -24,21 +24,22 @@ pub fn check<D: Device>(alloc: Global, device: &mut D) -> Result<Checked, Refuse
     Ok(Fs::check(alloc, device)?)
 }
 
-/// Mounts the device's volume.
-pub fn mount<D: Device>(alloc: Global, device: D) -> Result<Server<D>, Refused> {
-    match Server::mount(alloc, device) {
+/// Mounts the device's volume. Sessions may be persistent or not.
+pub fn mount<D: Device>(alloc: Global, device: D, persistent: bool) -> Result<Server<D>, Refused> {
+    match Server::mount(alloc, device, persistent) {
         Ok(server) => Ok(server),
         Err(unmounted) => Err(unmounted.fault.into()),
     }
 }
 
-/// Mounts the device's volume, with so many of its sectors in memory.
+/// The same, with so many of its sectors in memory.
 pub fn mount_cached<D: Device>(
     alloc: Global,
     device: D,
     cached: NonZeroUsize,
+    persistent: bool,
 ) -> Result<Server<D>, Refused> {
-    match Server::mount_cached(alloc, device, cached) {
+    match Server::mount_cached(alloc, device, cached, persistent) {
         Ok(server) => Ok(server),
         Err(unmounted) => Err(unmounted.fault.into()),
     }

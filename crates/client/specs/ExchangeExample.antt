@@ -50,17 +50,18 @@ limits = record {
     slots = 1;
     seat_slots = 1;
     operations = 8;
-    persistent = false;
     record_bytes = 1024;
   };
   records = record { bytes = 1024; fragments = 1 };
   connections = 2;
+  persistent = false;
   reply_bytes = 1024;
 }
 
 abbrev pub table : Table
 table = record {
   run = 1;
+  persistent = false;
   client_serial = 1;
   session_serial = 1;
   clients =

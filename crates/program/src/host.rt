@@ -56,10 +56,10 @@ impl From<Refused> for Parting {
 }
 
 impl<D: Device> Host<D> {
-    /// Mounts the device's volume.
+    /// Mounts the device's volume. Sessions may be persistent.
     pub fn mount(alloc: Global, device: D) -> Result<Host<D>, Refused> {
         Ok(Host {
-            server: link::mount(alloc, device)?,
+            server: link::mount(alloc, device, true)?,
             conn: None,
         })
     }

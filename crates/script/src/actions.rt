@@ -18,6 +18,9 @@ use wire::{
 };
 use wire_client::CHANNEL;
 
+/// `CREATE_SESSION4_FLAG_PERSIST`: the session is to outlive a crash (RFC 8881, section 18.36).
+const PERSIST: u32 = 1;
+
 /// Makes a new caller known by this name, and tells its number.
 pub fn hello<S, D, O>(
     server: &mut Server<D>,
@@ -81,11 +84,12 @@ fn known_of(results: &Results<'_>) -> Result<Known, Refused> {
     }
 }
 
-/// Asks for a session, and tells its id.
+/// Asks for a session, or for a persistent one, and tells its id.
 pub fn session<S, D, O>(
     alloc: Global,
     server: &mut Server<D>,
     user: &mut User<S>,
+    persistent: bool,
     out: &mut O,
 ) -> Result<(), Refused>
 where
@@ -94,7 +98,7 @@ where
     O: Write,
 {
     user.words = words(alloc, "session")?;
-    let id = ask_session(alloc, server, &mut user.caller, user.known)?;
+    let id = ask_session(alloc, server, &mut user.caller, user.known, persistent)?;
     user.has_session = true;
     tell_session(out, &user.name, &id)
 }
@@ -105,13 +109,15 @@ fn ask_session<S, D>(
     server: &mut Server<D>,
     caller: &mut Caller<S>,
     known: Known,
+    persistent: bool,
 ) -> Result<[u8; 16], Refused>
 where
     S: Read + Write + Drop,
     D: Device,
 {
     let security = vec![in alloc; CallbackSecurity::NoSecurity]?;
-    let reply = make_session(server, caller, known, security)?;
+    let flags = if persistent { PERSIST } else { 0 };
+    let reply = make_session(server, caller, known, flags, security)?;
     session_in(caller, &reply)
 }
 
@@ -120,6 +126,7 @@ fn make_session<S, D>(
     server: &mut Server<D>,
     caller: &mut Caller<S>,
     known: Known,
+    flags: u32,
     security: Vec<CallbackSecurity<'_>>,
 ) -> Result<Vec<u8>, Refused>
 where
@@ -127,7 +134,7 @@ where
     D: Device,
     requires { (length security.items ≤ 4) × All SecurityFits security.items }
 {
-    caller.call(server, &[create_session(known, security)])
+    caller.call(server, &[create_session(known, flags, security)])
 }
 
 fn session_in<S>(caller: &mut Caller<S>, reply: &[u8]) -> Result<[u8; 16], Refused>
@@ -281,15 +288,15 @@ fn exchange_id(owner: &[u8]) -> Argument<'_>
     })
 }
 
-/// CREATE_SESSION of this client (section 18.36).
-fn create_session<'a>(known: Known, security: Vec<CallbackSecurity<'a>>) -> Argument<'a>
+/// CREATE_SESSION of this client, with these flags (section 18.36).
+fn create_session<'a>(known: Known, flags: u32, security: Vec<CallbackSecurity<'a>>) -> Argument<'a>
     requires { (length security.items ≤ 4) × All SecurityFits security.items }
     ensures { ArgumentFits result }
 {
     Argument::CreateSession(CreateSessionArguments {
         client: known.id,
         sequence: known.sequence,
-        flags: 0,
+        flags,
         fore: CHANNEL,
         back: CHANNEL,
         callback_program: 0,

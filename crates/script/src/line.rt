@@ -19,8 +19,8 @@ pub enum Line<'a> {
 pub enum Action<'a> {
     /// A new client of this name connects and makes itself known.
     Hello { uid: u32, gid: u32 },
-    /// It asks for a session.
-    Session,
+    /// It asks for a session, or for a persistent one.
+    Session { persistent: bool },
     /// It sends these operations after a SEQUENCE.
     Call(Vec<Operation<'a>>),
     /// Its connection is given a turn.
@@ -63,6 +63,9 @@ fn read_action<'a>(alloc: Global, words: &[&'a str]) -> Result<Option<Action<'a>
             Ok(read_operations(alloc, operations)?.map(Action::Call))
         }
         [verb, uid, gid] if *verb == "hello" => Ok(hello_of(*uid, *gid)),
+        [verb, kind] if *verb == "session" && *kind == "persist" => {
+            Ok(Some(Action::Session { persistent: true }))
+        }
         [verb] => Ok(plain_action(*verb)),
         _ => Ok(None),
     }
@@ -77,7 +80,7 @@ fn hello_of<'a>(uid: &str, gid: &str) -> Option<Action<'a>> {
 
 fn plain_action<'a>(verb: &str) -> Option<Action<'a>> {
     match verb {
-        "session" => Some(Action::Session),
+        "session" => Some(Action::Session { persistent: false }),
         "turn" => Some(Action::Turn),
         "take" => Some(Action::Take),
         "retry" => Some(Action::Retry),

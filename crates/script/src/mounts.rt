@@ -80,7 +80,7 @@ where
     I: BufRead,
     O: Write,
 {
-    let mut server = link::mount(rt.alloc(), device)?;
+    let mut server = link::mount(rt.alloc(), device, true)?;
     run_server(rt, &mut server, users, restarted, input, out)
 }
 
@@ -268,7 +268,7 @@ where
 {
     match action {
         Action::Hello { .. } => Ok(()),
-        Action::Session => session(rt.alloc(), server, user, out),
+        Action::Session { persistent } => session(rt.alloc(), server, user, *persistent, out),
         Action::Call(operations) => call(rt.alloc(), server, user, operations),
         Action::Turn => turn(server, user, out),
         Action::Take => take(server, user, out),
