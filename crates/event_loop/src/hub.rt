@@ -38,9 +38,19 @@ const GLANCE_SECONDS: u64 = 1;
 /// journal keeps by itself.
 const CACHED_SECTORS: usize = 4096;
 
+/// How a volume is served.
+#[derive(Clone, Copy)]
+pub struct Settings {
+    /// After how long without a peer a new run begins, without clients; None: never.
+    pub forget_after: Option<Duration>,
+    /// Whether sessions may be persistent: they outlive a crash, and each of their requests waits
+    /// for a sync.
+    pub persistent: bool,
+}
+
 /// Mounts the device's volume, tells the door's address, and serves until the device, the clock or
-/// the system's telling of changes fails. Where no peer has been there for `forget_after`, a new run
-/// of the server begins, without clients, and is told on `err`.
+/// the system's telling of changes fails. Where no peer has been there for as long as the settings
+/// say, a new run of the server begins, without clients, and is told on `err`.
 ///
 /// # Errors
 /// As [`Hub::new`] and [`Hub::run`].
@@ -48,7 +58,7 @@ pub fn serve<R, D, O, E>(
     rt: &R,
     device: D,
     door: Door,
-    forget_after: Option<Duration>,
+    settings: Settings,
     out: &mut O,
     err: &mut E,
 ) -> Result<(), Refused>
@@ -58,7 +68,7 @@ where
     O: Write,
     E: Write,
 {
-    let mut hub = Hub::new(rt, device, door, forget_after)?;
+    let mut hub = Hub::new(rt, device, door, settings)?;
     writeln!(out, "serving {}", hub.door.address()?)?;
     out.flush()?;
     for _ in 0..u64::MAX {
@@ -84,7 +94,7 @@ pub struct Hub<D: Device> {
     is_rested: bool,
     /// Since when no peer has been there, where there was one in this run.
     alone_since: Option<Instant>,
-    forget_after: Option<Duration>,
+    settings: Settings,
 }
 
 impl<D: Device> Hub<D> {
@@ -92,12 +102,7 @@ impl<D: Device> Hub<D> {
     ///
     /// # Errors
     /// Those of a mount; Io where the system tells of no changes; Memory.
-    pub fn new<R>(
-        rt: &R,
-        device: D,
-        mut door: Door,
-        forget_after: Option<Duration>,
-    ) -> Result<Hub<D>, Refused>
+    pub fn new<R>(rt: &R, device: D, mut door: Door, settings: Settings) -> Result<Hub<D>, Refused>
     where
         R: Net + AllocGlobal,
     {
@@ -106,7 +111,7 @@ impl<D: Device> Hub<D> {
         let poll = Poll::new(rt)?;
         door.register(&poll, DOOR)?;
         Ok(Hub {
-            server: mounted(rt.alloc(), device)?,
+            server: mounted(rt.alloc(), device, settings.persistent)?,
             poll,
             events,
             door,
@@ -115,7 +120,7 @@ impl<D: Device> Hub<D> {
             pace: Pace::Goes,
             is_rested: true,
             alone_since: None,
-            forget_after,
+            settings,
         })
     }
 
@@ -142,11 +147,11 @@ impl<D: Device> Hub<D> {
             door,
             peers,
             told,
-            forget_after,
+            settings,
             ..
         } = self;
         Ok(Hub {
-            server: mounted(alloc, server.into_device())?,
+            server: mounted(alloc, server.into_device(), settings.persistent)?,
             poll,
             events,
             door,
@@ -155,7 +160,7 @@ impl<D: Device> Hub<D> {
             pace: Pace::Goes,
             is_rested: true,
             alone_since: None,
-            forget_after,
+            settings,
         })
     }
 
@@ -217,7 +222,7 @@ impl<D: Device> Hub<D> {
 
     fn until_forgetting(&self, now: Instant) -> Option<Duration> {
         let alone_for = now.duration_since(self.alone_since?);
-        Some(self.forget_after?.saturating_sub(alone_for))
+        Some(self.settings.forget_after?.saturating_sub(alone_for))
     }
 
     /// Makes a checkpoint, if something has changed since the last one.
@@ -384,7 +389,7 @@ fn is_broken(event: &Event) -> bool {
     event.is_error() || event.is_read_closed() || event.is_write_closed()
 }
 
-fn mounted<D: Device>(alloc: Global, device: D) -> Result<Server<D>, Refused> {
+fn mounted<D: Device>(alloc: Global, device: D, persistent: bool) -> Result<Server<D>, Refused> {
     let cached = NonZeroUsize::new(CACHED_SECTORS).unwrap_or(NonZeroUsize::MIN);
-    link::mount_cached(alloc, device, cached)
+    link::mount_cached(alloc, device, cached, persistent)
 }

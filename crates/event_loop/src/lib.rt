@@ -15,7 +15,7 @@ mod stream;
 mod told;
 
 pub use door::Door;
-pub use hub::{Hub, serve};
+pub use hub::{Hub, Settings, serve};
 pub use pace::Pace;
 pub use peer::{Peer, Step};
 pub use stream::Stream;

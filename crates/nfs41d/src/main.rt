@@ -10,7 +10,8 @@ use std::process::ExitCode;
 use system::{Unbegun, begin, open_volume, tell_outcome, tell_usage};
 use words::{Request, read_words};
 
-const USAGE: &str = "nfs41d [--forget-after SECONDS] FILE [ADDRESS:PORT]";
+const USAGE: &str =
+    "nfs41d [--forget-after SECONDS] [--no-persistent-sessions] FILE [ADDRESS:PORT]";
 
 fn main(rt: HostRuntime) -> ExitCode {
     ExitCode::from(run(&rt))
@@ -44,7 +45,7 @@ fn serve_file(rt: &HostRuntime, request: &Request<'_>) -> Result<(), Refused> {
         rt,
         device,
         door,
-        request.forget_after,
+        request.settings,
         &mut rt.stdout(),
         &mut rt.stderr(),
     )

@@ -1,7 +1,8 @@
 //! The words of a command line.
 
 use clap::error::ErrorKind;
-use clap::{Arg, ArgMatches, Command};
+use clap::{Arg, ArgAction, ArgMatches, Command};
+use event_loop::Settings;
 use script::decimal;
 use std::alloc::{AllocError, Global};
 use std::net::SocketAddr;
@@ -13,6 +14,8 @@ const ADDRESS: &str = "ADDRESS:PORT";
 
 const FORGET_AFTER: &str = "forget-after";
 
+const NO_PERSISTENT_SESSIONS: &str = "no-persistent-sessions";
+
 /// What the program is asked for.
 #[derive(Clone, Copy)]
 pub struct Request<'a> {
@@ -20,8 +23,7 @@ pub struct Request<'a> {
     pub file: &'a str,
     /// Where to listen; None on the socket that a service manager hands over.
     pub address: Option<SocketAddr>,
-    /// After how long without a connection a new run begins.
-    pub forget_after: Option<Duration>,
+    pub settings: Settings,
 }
 
 /// Reads the words after the program's name: None where they have no form.
@@ -42,6 +44,11 @@ fn command<'a>(alloc: Global) -> Result<Command<'a>, AllocError> {
     Command::new(alloc, "nfs41d")
         .no_binary_name(true)
         .arg(Arg::new(alloc, FORGET_AFTER).long(FORGET_AFTER))?
+        .arg(
+            Arg::new(alloc, NO_PERSISTENT_SESSIONS)
+                .long(NO_PERSISTENT_SESSIONS)
+                .action(ArgAction::SetTrue),
+        )?
         .arg(Arg::new(alloc, FILE).required(true))?
         .arg(Arg::new(alloc, ADDRESS))
 }
@@ -50,7 +57,10 @@ fn request_of<'a>(matches: &ArgMatches<'a>) -> Option<Request<'a>> {
     Some(Request {
         file: matches.get_str(FILE)?,
         address: address_in(matches.get_str(ADDRESS))?,
-        forget_after: seconds_in(matches.get_str(FORGET_AFTER))?,
+        settings: Settings {
+            forget_after: seconds_in(matches.get_str(FORGET_AFTER))?,
+            persistent: !matches.get_flag(NO_PERSISTENT_SESSIONS),
+        },
     })
 }
 
