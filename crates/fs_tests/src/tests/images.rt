@@ -78,6 +78,82 @@ fn try_parts(
     Ok(seen)
 }
 
+/// A seat at the first place: of session 2 of client 3 of run 1, of principal 7 and the owner `A`,
+/// with two slots, of which the first one holds a result of nine bytes.
+const SEAT: [Put; 2] = [
+    (
+        100,
+        0,
+        b"SESS\0\0\0\x01\0\0\0\x03\0\0\0\0\0\0\0\x02\0\0\0\x07\0\0\0\x02\0\0\0\x01A",
+    ),
+    (
+        101,
+        0,
+        b"\0\0\0\x01\0\0\0\x05\0\0\0\x07\0\0\0\x09\0\0\0\0\0\0\0\0the reply",
+    ),
+];
+
+/// Seats that may stand beside it, or in its place.
+const SEATS: [&[Put]; 7] = [
+    // at the last place, of run 2, with one slot and no owner
+    &[(136, 0, b"SESS\0\0\0\x02"), (136, 27, &[1])],
+    // at the second place, of another session of the client
+    &[
+        (109, 0, b"SESS\0\0\0\x01\0\0\0\x03\0\0\0\0\0\0\0\x03"),
+        (109, 27, &[2]),
+    ],
+    // an owner of 1,024 bytes
+    &[(100, 30, &[4, 0]), (100, 1_055, &[1])],
+    // a result of 16,360 bytes, one of none, and one in the other slot
+    &[(101, 14, &[0x3F, 0xE8]), (104, 4_095, &[1])],
+    &[(101, 15, &[0]), (101, 24, &[0; 9])],
+    &[(105, 3, &[1])],
+    // nothing is held
+    &[(101, 0, &[0; 64])],
+];
+
+#[test]
+fn seats_stand_beside_a_tree(rt: HostRuntime) -> Result<(), Fail> {
+    let mut good = filled(rt.alloc(), NODES)?;
+    put_all(&mut good, &SEAT);
+    assert_eq!(rt; check_image(rt.alloc(), &good), Ok(()));
+    assert_eq!(rt; checked(rt.alloc(), &good)?, Ok(()));
+    for changes in SEATS {
+        let mut image = copy_image(rt.alloc(), &good)?;
+        put_all(&mut image, changes);
+        assert!(rt; check_image(rt.alloc(), &image) == Ok(()), "{changes:?}");
+        assert!(rt; checked(rt.alloc(), &image)? == Ok(()), "{changes:?}");
+    }
+    Ok(())
+}
+
+/// Of its bytes: each change of a session's number in its run, of a principal, an owner's letter, a
+/// request's number, who sent it and a result's bytes; lengths up to zeros; a later count.
+const SEATED_FIT: u32 = 121;
+
+#[test]
+fn bytes_of_a_seat(rt: HostRuntime) -> Result<(), Fail> {
+    let mut image = filled(rt.alloc(), NODES)?;
+    put_all(&mut image, &SEAT);
+    let parts = [
+        (0, 20, 26),
+        (100, 0, 48),
+        (100, 1_054, 1_058),
+        (100, 4_094, 4_096),
+        (101, 0, 40),
+        (102, 0, 2),
+        (104, 4_094, 4_096),
+        (105, 0, 26),
+        (109, 0, 2),
+        (144, 4_094, 4_096),
+        (145, 0, 2),
+        (146, 4_094, 4_096),
+    ];
+    let seen = try_parts(&rt, rt.alloc(), image, &parts)?;
+    assert!(rt; seen.fit == SEATED_FIT, "{seen:?}");
+    Ok(())
+}
+
 /// Changes after which a tree stands: none, a list of 72 entries, and the mark of a migration that
 /// has moved all nodes.
 const FITTING: [&[Put]; 3] = [&[], &[(160, 85, &[72])], &[(147, 0, b"MIGR\0\0\0\x10")]];
@@ -219,6 +295,56 @@ const FAULTS: [&[Put]; 34] = [
     &[(171, 904, &[1])],
 ];
 
+/// What is wrong of a seat, each by itself.
+const SEAT_FAULTS: [&[Put]; 24] = [
+    // the magic, wrong at each end, and none
+    &[(100, 0, b"s")],
+    &[(100, 3, b"s")],
+    &[(100, 0, &[0])],
+    &[(100, 0, &[0; 4])],
+    // no head, but a reply; a head of zeros in front of one
+    &[(100, 0, &[0; 33])],
+    // no slot, three slots, and 257 of them
+    &[(100, 27, &[0])],
+    &[(100, 27, &[3])],
+    &[(100, 26, &[1, 1])],
+    // one slot, where the other one holds a reply
+    &[(100, 27, &[1]), (105, 3, &[1])],
+    // an owner of 1,025 bytes, and bytes past the owner
+    &[(100, 30, &[4, 1])],
+    &[(100, 33, &[1])],
+    &[(100, 1_056, &[1])],
+    &[(100, 4_095, &[1])],
+    // a session of run 0, of run 3 where 2 began, and of run 257
+    &[(100, 7, &[0])],
+    &[(100, 7, &[3])],
+    &[(100, 6, &[1])],
+    // a reply that is none, one of 16,361 bytes, and bytes between its fields and past it
+    &[(101, 3, &[2])],
+    &[(101, 14, &[0x3F, 0xE9])],
+    &[(101, 16, &[1])],
+    &[(101, 33, &[1])],
+    &[(104, 4_095, &[1])],
+    // a byte where no reply is held
+    &[(105, 4, &[1])],
+    // sectors behind the seats
+    &[(145, 0, &[1])],
+    &[(146, 4_095, &[1])],
+];
+
+/// Two seats of one session; and a seat beside the mark of a migration that has moved all nodes.
+const PAIRED_FAULTS: [&[Put]; 3] = [
+    &[
+        (109, 0, b"SESS\0\0\0\x01\0\0\0\x03\0\0\0\0\0\0\0\x02"),
+        (109, 27, &[1]),
+    ],
+    &[
+        (136, 0, b"SESS\0\0\0\x01\0\0\0\x03\0\0\0\0\0\0\0\x02"),
+        (136, 27, &[1]),
+    ],
+    &[(147, 0, b"MIGR\0\0\0\x10")],
+];
+
 /// The same of version 1, where 13 of the 16 places are moved, which have the nodes of the sectors
 /// 148, 159 and 160.
 const MOVING_FAULTS: [&[Put]; 14] = [
@@ -317,4 +443,25 @@ fn faults_of_a_migration_are_refused_and_nothing_is_written(rt: HostRuntime) -> 
     take_back(&mut good, 16, 13);
     try_faults(&rt, rt.alloc(), &good, &MOVING_FAULTS, DAMAGED)?;
     try_faults(&rt, rt.alloc(), &good, &NO_VERSIONS, NO_VOLUME)
+}
+
+#[test]
+fn faults_of_a_seat_are_refused_and_nothing_is_written(rt: HostRuntime) -> Result<(), Fail> {
+    let mut good = filled(rt.alloc(), NODES)?;
+    put_all(&mut good, &SEAT);
+    try_faults(&rt, rt.alloc(), &good, &SEAT_FAULTS, DAMAGED)?;
+    try_faults(&rt, rt.alloc(), &good, &PAIRED_FAULTS, DAMAGED)
+}
+
+/// Of version 1, of which none, some and all places are moved.
+#[test]
+fn a_seat_in_version_1_is_refused_and_nothing_is_written(rt: HostRuntime) -> Result<(), Fail> {
+    for moved in [0, 4, 16] {
+        let mut good = filled(rt.alloc(), NODES)?;
+        take_back(&mut good, 16, moved);
+        assert_eq!(rt; check_image(rt.alloc(), &good), Ok(()));
+        assert_eq!(rt; checked(rt.alloc(), &good)?, Ok(()));
+        try_faults(&rt, rt.alloc(), &good, &[&SEAT], DAMAGED)?;
+    }
+    Ok(())
 }

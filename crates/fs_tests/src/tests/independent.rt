@@ -8,11 +8,13 @@ const SECTOR: usize = 4_096;
 
 pub(super) type Image = Vec<[u8; SECTOR]>;
 
-/// The first sectors of the bitmap and of the spare ones, that of a mark, and the first of the node
-/// table.
+/// The first sectors of the bitmap, of the seats and behind them, that of a mark, and the first of
+/// the node table.
 const BITMAP: usize = 98;
 
-const SPARE: usize = 100;
+const SEATS: usize = 100;
+
+const BEHIND_SEATS: usize = 145;
 
 pub(super) const MARK: usize = 147;
 
@@ -24,6 +26,15 @@ const RUNS: usize = 500;
 const NAMES: usize = 15;
 
 const RECORD: usize = 272;
+
+/// The sectors of a seat, and of one of its slots; the most bytes of an owner and of a result.
+const SEAT_SECTORS: usize = 9;
+
+const SLOT_SECTORS: usize = 4;
+
+const MAX_OWNER: usize = 1_024;
+
+const MAX_RESULT: usize = 16_360;
 
 /// Why no tree stands there.
 #[derive(Clone, Copy, Debug, PartialEq, Eq)]
@@ -184,11 +195,72 @@ fn settled(alloc: Global, image: &[[u8; SECTOR]]) -> Result<Image, Unfit> {
     Ok(found)
 }
 
-/// The mark of a migration that the volume may have, and the other spare sectors, which are zero.
-fn mark_of(image: &[[u8; SECTOR]], shape: &Shape) -> Result<Option<usize>, Unfit> {
-    for spare in SPARE..MARK {
-        need(are_zero(sector(image, spare), 0, SECTOR))?;
+/// Whether so many sectors from this one on are zero.
+fn are_empty(image: &[[u8; SECTOR]], first: usize, count: usize) -> bool {
+    for i in 0..count {
+        if !are_zero(sector(image, first.saturating_add(i)), 0, SECTOR) {
+            return false;
+        }
     }
+    true
+}
+
+/// The four sectors of a slot from this one on: nothing, or a reply.
+fn check_slot(image: &[[u8; SECTOR]], first: usize) -> Result<(), Unfit> {
+    if are_empty(image, first, SLOT_SECTORS) {
+        return Ok(());
+    }
+    let head = sector(image, first);
+    let len = small(head, 12, 4);
+    need(number(head, 0, 4) == 1 && len <= MAX_RESULT && are_zero(head, 16, 24))?;
+    let end = len.saturating_add(24);
+    for i in 0..SLOT_SECTORS {
+        let from = end.saturating_sub(i.saturating_mul(SECTOR)).min(SECTOR);
+        need(are_zero(sector(image, first.saturating_add(i)), from, SECTOR))?;
+    }
+    Ok(())
+}
+
+/// The first sector of a seat: how many slots it has.
+fn check_head(head: &[u8], shape: &Shape) -> Result<usize, Unfit> {
+    let run = number(head, 4, 4);
+    let slots = small(head, 24, 4);
+    let len = small(head, 28, 4);
+    need(head.starts_with(b"SESS") && (slots == 1 || slots == 2) && len <= MAX_OWNER)?;
+    need(1 <= run && run <= shape.count && are_zero(head, len.saturating_add(32), SECTOR))?;
+    Ok(slots)
+}
+
+/// The seat of a place that is not free.
+fn check_seat(image: &[[u8; SECTOR]], shape: &Shape, first: usize) -> Result<(), Unfit> {
+    let slots = check_head(sector(image, first), shape)?;
+    let slot = first.saturating_add(1);
+    check_slot(image, slot)?;
+    let other = slot.saturating_add(SLOT_SECTORS);
+    if slots == 2 {
+        check_slot(image, other)
+    } else {
+        need(are_empty(image, other, SLOT_SECTORS))
+    }
+}
+
+/// The seats, no two of one session: how many there are. The sectors behind them are zero.
+fn check_seats(alloc: Global, image: &[[u8; SECTOR]], shape: &Shape) -> Result<usize, Unfit> {
+    let mut taken: Vec<&[u8]> = Vec::new(alloc);
+    for first in (SEATS..BEHIND_SEATS).step_by(SEAT_SECTORS) {
+        if !are_empty(image, first, SEAT_SECTORS) {
+            check_seat(image, shape, first)?;
+            let id = sector(image, first).get(4..20).unwrap_or(&[]);
+            need(!taken.contains(&id))?;
+            taken.push(id)?;
+        }
+    }
+    need(are_empty(image, BEHIND_SEATS, MARK.saturating_sub(BEHIND_SEATS)))?;
+    Ok(taken.len())
+}
+
+/// The mark of a migration that the volume may have.
+fn mark_of(image: &[[u8; SECTOR]], shape: &Shape) -> Result<Option<usize>, Unfit> {
     let mark = sector(image, MARK);
     if are_zero(mark, 0, SECTOR) {
         return Ok(None);
@@ -547,6 +619,8 @@ pub(super) fn read_image(alloc: Global, image: &[[u8; SECTOR]]) -> Result<Standi
     let shape = shape_of(image)?;
     let mut sectors = settled(alloc, image)?;
     let mark = mark_of(&sectors, &shape)?;
+    let seats = check_seats(alloc, &sectors, &shape)?;
+    need(seats == 0 || (shape.version == 2 && mark.is_none()))?;
     move_nodes(&mut sectors, &shape, mark)?;
     Ok(Standing {
         version: shape.version,
