@@ -23,7 +23,7 @@ impl Stage for Direct {
     fn begin(rt: &HostRuntime, arrival: Arrival) -> Result<Direct, Difference> {
         let alloc = rt.alloc();
         let device = new_volume(alloc, arrival.patience)?;
-        let served = connect(Served::mount(alloc, device, arrival.patience)?)?;
+        let served = connect(Served::mount(alloc, device, true, arrival.patience)?)?;
         Ok(Direct { served, arrival })
     }
 
@@ -34,7 +34,9 @@ impl Stage for Direct {
             arrival,
         } = self;
         match step {
-            Step::Restarts => served = connect(served.mount_anew(alloc)?)?,
+            Step::Restarts { persistent } => {
+                served = connect(served.mount_anew(alloc, *persistent)?)?;
+            }
             Step::Meets(calls) => {
                 meet(alloc, &mut served, &in_order(alloc, calls, arrival.order)?)?;
             }
@@ -80,7 +82,7 @@ fn act(alloc: Global, served: &mut Served, step: &Step) -> Result<(), Difference
         Step::HangsUp { connection } => expect(Answer::HungUp, served.hung_up(*connection)),
         Step::Lacks { connection } => lack(served, *connection),
         // These are taken above, or are no steps of the server itself.
-        Step::Meets(_) | Step::Restarts | Step::Waits { .. } => Ok(()),
+        Step::Meets(_) | Step::Restarts { .. } | Step::Waits { .. } => Ok(()),
     }
 }
 

@@ -17,19 +17,19 @@ pub struct Served {
 }
 
 impl Served {
-    /// Mounts a device.
+    /// Mounts a device, with persistent sessions or without.
     pub fn mount(
         alloc: Global,
         device: MemDevice,
+        persistent: bool,
         patience: Patience,
     ) -> Result<Served, Difference> {
-        let (server, again) = match Server::mount(alloc, device) {
+        let (server, again) = match Server::mount(alloc, device, persistent) {
             Ok(server) => (server, 0),
             Err(unmounted) => match (unmounted.fault, patience) {
-                (MountFault::Memory, Patience::Once) => (
-                    drivers::mount(alloc, unmounted.device)?,
-                    1,
-                ),
+                (MountFault::Memory, Patience::Once) => {
+                    (mount_again(alloc, unmounted.device, persistent)?, 1)
+                }
                 (fault, _) => return Err(fault.into()),
             },
         };
@@ -40,14 +40,15 @@ impl Served {
         })
     }
 
-    /// Mounts its device anew.
-    pub fn mount_anew(self, alloc: Global) -> Result<Served, Difference> {
+    /// Mounts its device anew, with persistent sessions or without.
+    pub fn mount_anew(self, alloc: Global, persistent: bool) -> Result<Served, Difference> {
         let Served {
             server,
             patience,
             again,
         } = self;
-        let mut served = Served::mount(alloc, drivers::into_device(server), patience)?;
+        let device = drivers::into_device(server);
+        let mut served = Served::mount(alloc, device, persistent, patience)?;
         served.again = served.again.saturating_add(again);
         Ok(served)
     }
@@ -125,5 +126,17 @@ impl Served {
             self.again = self.again.saturating_add(1);
         }
         is_again
+    }
+}
+
+/// Mounts a device whose first mount was refused for want of memory.
+fn mount_again(
+    alloc: Global,
+    device: MemDevice,
+    persistent: bool,
+) -> Result<Server<MemDevice>, MountFault> {
+    match Server::mount(alloc, device, persistent) {
+        Ok(server) => Ok(server),
+        Err(unmounted) => Err(unmounted.fault),
     }
 }

@@ -6,7 +6,7 @@ use super::step::Step;
 use crate::difference::{Answer, Difference, expect, expect_reply};
 use callers::Refused;
 use disk::MemDevice;
-use event_loop::{Door, Hub, Pace};
+use event_loop::{Door, Hub, Pace, Settings};
 use server::ServerFault;
 use slab::Slab;
 use std::alloc::Global;
@@ -54,14 +54,14 @@ pub struct Sockets {
 
 impl Stage for Sockets {
     fn begin(rt: &HostRuntime, arrival: Arrival) -> Result<Sockets, Difference> {
-        Sockets::over(rt, new_volume(rt.alloc(), arrival.patience)?, arrival)
+        Sockets::over(rt, new_volume(rt.alloc(), arrival.patience)?, true, arrival)
     }
 
     fn take(mut self, rt: &HostRuntime, step: &Step) -> Result<Sockets, Difference> {
         match step {
-            Step::Restarts => {
+            Step::Restarts { persistent } => {
                 let Sockets { hub, arrival, .. } = self;
-                return Sockets::over(rt, hub.into_device(), arrival);
+                return Sockets::over(rt, hub.into_device(), *persistent, arrival);
             }
             Step::Connects { connection } => self.connect(rt, *connection)?,
             _ => self.act(step)?,
@@ -83,11 +83,20 @@ impl Stage for Sockets {
 
 impl Sockets {
     /// A loop over a device's volume, and the connections that a row begins with.
-    fn over(rt: &HostRuntime, device: MemDevice, arrival: Arrival) -> Result<Sockets, Difference> {
+    fn over(
+        rt: &HostRuntime,
+        device: MemDevice,
+        persistent: bool,
+        arrival: Arrival,
+    ) -> Result<Sockets, Difference> {
+        let settings = Settings {
+            forget_after: None,
+            persistent,
+        };
         let door = Door::listen(rt, SocketAddr::from((Ipv4Addr::LOCALHOST, 0)))?;
         let address = door.address()?;
         let mut sockets = Sockets {
-            hub: Hub::new(rt, device, door, None)?,
+            hub: Hub::new(rt, device, door, settings)?,
             address,
             clock: (Still, rt.alloc()),
             pace: Pace::Goes,
@@ -120,7 +129,7 @@ impl Sockets {
             Step::Meets(calls) => self.meet(calls),
             // These are taken above, or the server itself is asked for them.
             Step::Connects { .. }
-            | Step::Restarts
+            | Step::Restarts { .. }
             | Step::Runs { .. }
             | Step::IsFull
             | Step::Lacks { .. } => Ok(()),

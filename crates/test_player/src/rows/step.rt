@@ -67,8 +67,10 @@ pub enum Step {
     Lacks {
         connection: usize,
     },
-    /// Mounts the volume again, and connects again.
-    Restarts,
+    /// Mounts the volume again, with persistent sessions or without, and connects again.
+    Restarts {
+        persistent: bool,
+    },
 }
 
 impl Step {
@@ -137,7 +139,8 @@ fn read_plain(verb: &str, words: &[&str]) -> Result<Step, Fault> {
         ("hangs", [up, word]) if *up == "up" => Ok(Step::HangsUp {
             connection: connection_of(*word)?,
         }),
-        ("restarts", []) => Ok(Step::Restarts),
+        ("restarts", []) => Ok(Step::Restarts { persistent: true }),
+        ("restarts", [word]) if *word == "plain" => Ok(Step::Restarts { persistent: false }),
         _ => Err(Fault::Step),
     }
 }
