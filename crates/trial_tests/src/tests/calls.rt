@@ -12,6 +12,9 @@ use xdr::{Refusal, Writer};
 /// The mark of a record's last fragment.
 const LAST_FRAGMENT: u32 = 1 << 31;
 
+/// `CREATE_SESSION4_FLAG_PERSIST` (RFC 8881, section 18.36).
+pub(super) const PERSIST: u32 = 1;
+
 /// Who calls, under which number.
 #[derive(Clone, Copy)]
 pub(super) struct Caller {
@@ -32,21 +35,33 @@ pub(super) fn hello(alloc: Global, caller: Caller) -> Result<Vec<u8>, Fail> {
     record_of(alloc, call)
 }
 
-/// A record with one CREATE_SESSION, the client's first.
-pub(super) fn session(alloc: Global, caller: Caller, client: u64) -> Result<Vec<u8>, Fail> {
+/// A record with one CREATE_SESSION, the client's first, with these flags.
+pub(super) fn session(
+    alloc: Global,
+    caller: Caller,
+    client: u64,
+    flags: u32,
+) -> Result<Vec<u8>, Fail> {
     let mut security = Vec::new(alloc);
     security.push(CallbackSecurity::NoSecurity)?;
     let mut call = begin_call(alloc, caller, 1)?;
     let asked = CreateSessionArguments {
         client,
         sequence: 1,
-        flags: 0,
+        flags,
         fore: CHANNEL,
         back: CHANNEL,
         callback_program: 0,
         security,
     };
     write_argument(&mut call, &Argument::CreateSession(asked))?;
+    record_of(alloc, call)
+}
+
+/// A record with one DESTROY_SESSION.
+pub(super) fn destroy(alloc: Global, caller: Caller, session: [u8; 16]) -> Result<Vec<u8>, Fail> {
+    let mut call = begin_call(alloc, caller, 1)?;
+    write_argument(&mut call, &Argument::DestroySession(session))?;
     record_of(alloc, call)
 }
 

@@ -107,6 +107,11 @@ impl Left {
         Ok(stopped.landed(self.alloc, chosen)?)
     }
 
+    /// The place of the newest tree.
+    pub(super) fn newest(&self) -> usize {
+        self.trees.len().saturating_sub(1)
+    }
+
     /// How many changes made the tree at a place.
     pub(super) fn changes(&self, place: usize) -> u32 {
         self.trees.get(place).map_or(0, |tree| tree.changes)

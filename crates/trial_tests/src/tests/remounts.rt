@@ -30,9 +30,19 @@ impl Tried {
 
     /// The landings of a device that stopped, but for those that an earlier stop had.
     pub(super) fn new_landings(&mut self, stopped: &CrashDevice) -> Result<Vec<Vec<Landed>>, Fail> {
+        let all = landings(self.alloc, &stopped.unsynced(self.alloc)?)?;
+        self.new_among(stopped, &all)
+    }
+
+    /// The same of these landings of the device.
+    pub(super) fn new_among(
+        &mut self,
+        stopped: &CrashDevice,
+        landings: &[Vec<Landed>],
+    ) -> Result<Vec<Vec<Landed>>, Fail> {
         self.go_on_to(count_syncs(stopped.calls()));
         let mut untried = Vec::new(self.alloc);
-        for landing in landings(self.alloc, &stopped.unsynced(self.alloc)?)?.iter() {
+        for landing in landings {
             let landed = landed_alone(self.alloc, landing)?;
             if self.adds(&landed)? {
                 untried.push(landed)?;
@@ -78,7 +88,7 @@ fn landed_alone(alloc: Global, landing: &[Landed]) -> Result<Vec<Landed>, AllocE
 
 /// Begins a run on a device, and ends it: the device then, and why the run did not begin.
 pub(super) fn mount(alloc: Global, device: CrashDevice) -> (CrashDevice, Option<MountFault>) {
-    match Server::mount(alloc, device) {
+    match Server::mount(alloc, device, true) {
         Ok(server) => (server.into_device(), None),
         Err(unmounted) => {
             let Unmounted { fault, device } = unmounted;

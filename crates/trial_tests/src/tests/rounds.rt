@@ -147,11 +147,7 @@ pub(super) fn begin_on<D: Device>(
     server: Server<D>,
     tree: Tree,
 ) -> Result<Twin<D>, Fail> {
-    let setting = Setting {
-        tree,
-        clients: 2,
-        may_stop: true,
-    };
+    let setting = Setting::new(alloc, tree, 2, 0, true)?;
     let mut twin = Twin::serve(alloc, server, setting)?;
     twin.connect(rt)?;
     twin.connect(rt)?;

@@ -5,13 +5,15 @@ mod files;
 mod naming;
 mod past;
 pub(super) mod refused;
+pub(super) mod seat_table;
 mod spelling;
 pub(super) mod stateids;
 pub(super) mod tree;
 
 use super::operation::{OpenState, Operation};
 use past::Past;
-use refused::{DELAY, NOFILEHANDLE, OK, Refused, SEQ_MISORDERED};
+use refused::{BAD_SLOT, DELAY, NOFILEHANDLE, OK, Refused, SEQ_MISORDERED};
+use seat_table::{SEAT_SLOTS, Seats};
 use spelling::{Results, refusal, reply};
 use stateids::{Opens, Place};
 use std::alloc::{AllocError, Global};
@@ -40,6 +42,8 @@ pub(super) struct Work {
     current: Option<Place>,
     saved: Option<Place>,
     results: Results,
+    /// Its whole result, once that is there and a seat is to hold it.
+    ended: Option<Vec<u8>>,
 }
 
 impl Work {
@@ -77,18 +81,25 @@ pub(super) struct Slot {
 pub(super) struct Client {
     pub(super) uid: u32,
     pub(super) session: [u8; 16],
+    /// Whether a seat holds the replies of its slots.
+    pub(super) is_seated: bool,
     pub(super) slots: Vec<Slot>,
 }
 
+/// The highest slot of a session without a seat, of which the trials use some.
+const HIGHEST_SLOT: u32 = 7;
+
 impl Client {
+    /// So many slots of a session without a seat are used.
     pub(super) fn new(
         alloc: Global,
         uid: u32,
         session: [u8; 16],
+        is_seated: bool,
         slots: usize,
     ) -> Result<Client, AllocError> {
         let mut free = Vec::new(alloc);
-        for _ in 0..slots {
+        for _ in 0..if is_seated { SEAT_SLOTS } else { slots } {
             free.push(Slot {
                 last: 0,
                 held: Held::Nothing,
@@ -98,8 +109,13 @@ impl Client {
         Ok(Client {
             uid,
             session,
+            is_seated,
             slots: free,
         })
+    }
+
+    fn highest_slot(&self) -> u32 {
+        if self.is_seated { 1 } else { HIGHEST_SLOT }
     }
 }
 
@@ -118,18 +134,35 @@ pub(super) struct World {
     pub(super) opens: Opens,
     pub(super) clients: Vec<Client>,
     pub(super) past: Past,
+    /// The seats, and what they were before what is under way.
+    pub(super) seats: Seats,
+    pub(super) seats_before: Option<Seats>,
 }
 
 impl World {
     /// A run on this tree. Where the device may stop, it keeps the trees that are to be there then.
-    pub(super) fn new(alloc: Global, tree: Tree, clients: Vec<Client>, may_stop: bool) -> World {
+    pub(super) fn new(
+        alloc: Global,
+        tree: Tree,
+        seats: Seats,
+        clients: Vec<Client>,
+        may_stop: bool,
+    ) -> World {
         World {
             alloc,
             tree,
             opens: Opens::new(alloc),
             clients,
             past: Past::new(alloc, may_stop),
+            seats,
+            seats_before: None,
         }
+    }
+
+    /// What was asked so far was answered.
+    pub(super) fn settle(&mut self) {
+        self.past.settle();
+        self.seats_before = None;
     }
 
     /// The newest tree.
@@ -154,8 +187,10 @@ impl World {
         };
         let uid = client.uid;
         let session = client.session;
+        let highest = client.highest_slot();
         let Some(slot) = client.slots.get_mut(request.slot) else {
-            return Err(AllocError);
+            let result = refusal(alloc, BAD_SLOT)?;
+            return Ok(Begun::Answers(reply(alloc, request.xid, &result)?));
         };
         if let Some(result) = slot.answer(alloc, request.number)? {
             return Ok(Begun::Answers(reply(alloc, request.xid, &result)?));
@@ -163,7 +198,7 @@ impl World {
         slot.last = request.number;
         slot.held = Held::Runs;
         let mut results = Results::new(alloc);
-        results.sequence(session, request.number, request.slot)?;
+        results.sequence(session, request.number, request.slot, highest)?;
         Ok(Begun::Runs(Work {
             request,
             uid,
@@ -171,11 +206,17 @@ impl World {
             current: None,
             saved: None,
             results,
+            ended: None,
         }))
     }
 
-    /// The next operation; where it is the last one, the reply.
+    /// The next operation; where it is the last one, the reply. Where a seat holds that, this is a
+    /// step of its own.
     pub(super) fn step(&mut self, work: &mut Work) -> Result<Option<Vec<u8>>, AllocError> {
+        if let Some(result) = work.ended.take() {
+            self.hold(work, &result)?;
+            return Ok(Some(self.answer(work, result)?));
+        }
         let Some(operation) = work.request.operations.get(work.done).copied() else {
             return Err(AllocError);
         };
@@ -193,16 +234,40 @@ impl World {
         if status == OK && work.done < work.request.count {
             return Ok(None);
         }
-        Ok(Some(self.end(work, status)?))
+        self.end(work, status)
     }
 
-    fn end(&mut self, work: &Work, status: u32) -> Result<Vec<u8>, AllocError> {
-        let alloc = self.alloc;
+    fn end(&mut self, work: &mut Work, status: u32) -> Result<Option<Vec<u8>>, AllocError> {
         let count = work.done.saturating_add(1);
-        let result = work.results.compound(alloc, status, count)?;
-        let answer = reply(alloc, work.request.xid, &result)?;
+        let result = work.results.compound(self.alloc, status, count)?;
+        let client = self.client(work.request.client);
+        if client.is_some_and(|client| client.is_seated) {
+            work.ended = Some(result);
+            return Ok(None);
+        }
+        Ok(Some(self.answer(work, result)?))
+    }
+
+    /// The seat of the session holds the result, which is on the device then with all before it.
+    fn hold(&mut self, work: &Work, whole: &[u8]) -> Result<(), AllocError> {
+        let Request {
+            client,
+            slot,
+            number,
+            ..
+        } = work.request;
+        let session = self.client(client).map_or([0; 16], |client| client.session);
+        self.seats_before = Some(self.seats.try_clone()?);
+        self.seats.hold(session, slot, number, whole)?;
+        self.past.leave_behind();
+        Ok(())
+    }
+
+    fn answer(&mut self, work: &Work, whole: Vec<u8>) -> Result<Vec<u8>, AllocError> {
+        let alloc = self.alloc;
+        let answer = reply(alloc, work.request.xid, &whole)?;
         if let Some(slot) = self.slot(work.request.client, work.request.slot) {
-            slot.held = Held::Keeps(result);
+            slot.held = Held::Keeps(whole);
         }
         Ok(answer)
     }

@@ -2,14 +2,18 @@
 //! reply is the model's, byte for byte. And what a stop at any moment leaves is one of the model's
 //! trees.
 
+use super::joins::Joining;
 use super::left::{Left, Tally, volume};
+use super::remounts::mount;
+use super::seated::{Found, SeatsLeft};
 use super::seed::Seed;
-use super::simple::Request;
 use super::simple::refused::{
-    ACCESS, BAD_STATEID, DELAY, EXIST, FBIG, INVAL, ISDIR, NOENT, NOFILEHANDLE, NOSPC, NOTDIR,
-    NOTEMPTY, OK, OLD_STATEID, OPENMODE, SEQ_MISORDERED, STALE,
+    ACCESS, BAD_SLOT, BAD_STATEID, DELAY, EXIST, FBIG, INVAL, ISDIR, NOENT, NOFILEHANDLE, NOSPC,
+    NOTDIR, NOTEMPTY, OK, OLD_STATEID, OPENMODE, SEQ_MISORDERED, STALE,
 };
+use super::simple::seat_table::Seats;
 use super::simple::tree::{Room, Tree};
+use super::simple::{Request, World};
 use super::twin::{SLOTS, Setting, Twin, status_of};
 use disk::{CrashDevice, Device, MemDevice, Stop};
 use std::alloc::Global;
@@ -29,7 +33,7 @@ const ROOM: Room = Room {
 const CLIENTS: usize = 8;
 
 /// The statuses that come up, each in every run.
-const STATUSES: [u32; 17] = [
+const STATUSES: [u32; 18] = [
     OK,
     NOENT,
     ACCESS,
@@ -47,7 +51,11 @@ const STATUSES: [u32; 17] = [
     BAD_STATEID,
     OPENMODE,
     SEQ_MISORDERED,
+    BAD_SLOT,
 ];
+
+/// How many of the clients have persistent sessions, where nothing stops.
+const PERSISTENT: usize = 3;
 
 #[derive(Drop)]
 struct Soak<D: Device> {
@@ -55,7 +63,7 @@ struct Soak<D: Device> {
     seed: Seed,
     xid: u32,
     /// How often each of the statuses was taken, and any other.
-    seen: [usize; 18],
+    seen: [usize; 19],
 }
 
 impl<D: Device> Soak<D> {
@@ -65,7 +73,7 @@ impl<D: Device> Soak<D> {
             twin: Twin::mount(alloc, device, setting)?,
             seed: Seed::new(seed),
             xid: 10,
-            seen: [0; 18],
+            seen: [0; 19],
         })
     }
 
@@ -158,6 +166,9 @@ impl<D: Device> Soak<D> {
 
     /// Events up to the device's stop. Whether it came.
     fn run(&mut self, rt: &impl Abort, events: usize) -> Result<bool, Fail> {
+        if self.twin.has_stopped {
+            return Ok(true);
+        }
         for _ in 0..events {
             if self.event(rt)? {
                 return Ok(true);
@@ -167,17 +178,13 @@ impl<D: Device> Soak<D> {
     }
 }
 
-#[test]
-fn replies_are_those_of_the_model(rt: HostRuntime) -> Result<(), Fail> {
-    let alloc = rt.alloc();
-    for seed in 1..9 {
-        let setting = Setting {
-            tree: Tree::new(alloc, ROOM)?,
-            clients: CLIENTS,
-            may_stop: false,
-        };
+/// 150,000 events of each of two seeds, from this one on: the replies are those of the model.
+fn replies_from(rt: &impl Abort, alloc: Global, first: u64) -> Result<(), Fail> {
+    for seed in [first, first.saturating_add(1)] {
+        let tree = Tree::new(alloc, ROOM)?;
+        let setting = Setting::new(alloc, tree, CLIENTS, PERSISTENT, false)?;
         let mut soak = Soak::mount(alloc, volume(alloc, SECTORS, NODES)?, setting, seed)?;
-        let has_stopped = soak.run(&rt, 150_000)?;
+        let has_stopped = soak.run(rt, 150_000)?;
         assert!(rt; !has_stopped);
         let (others, known) = soak.seen.split_last().ok_or("none")?;
         assert!(rt; known.iter().all(|times| *times > 0), "{:?}", soak.seen);
@@ -186,64 +193,211 @@ fn replies_are_those_of_the_model(rt: HostRuntime) -> Result<(), Fail> {
     Ok(())
 }
 
+#[test]
+fn replies_of_seeds_1_and_2(rt: HostRuntime) -> Result<(), Fail> {
+    replies_from(&rt, rt.alloc(), 1)
+}
+
+#[test]
+fn replies_of_seeds_3_and_4(rt: HostRuntime) -> Result<(), Fail> {
+    replies_from(&rt, rt.alloc(), 3)
+}
+
+#[test]
+fn replies_of_seeds_5_and_6(rt: HostRuntime) -> Result<(), Fail> {
+    replies_from(&rt, rt.alloc(), 5)
+}
+
+#[test]
+fn replies_of_seeds_7_and_8(rt: HostRuntime) -> Result<(), Fail> {
+    replies_from(&rt, rt.alloc(), 7)
+}
+
+/// Of about so many landings of a stop the seats are asked for, beside that of the next run.
+const SEATS_ASKED: usize = 3;
+
 /// A volume over several runs, each of which stops somewhere.
 #[derive(Drop)]
 struct Runs {
     alloc: Global,
     seed: Seed,
+    /// Whether some of the sessions are persistent.
+    has_seats: bool,
     tally: Tally,
+    seats: SeatsTally,
+}
+
+/// How often which seats were found, and how many replies they held.
+#[derive(Clone, Copy, Debug)]
+struct SeatsTally {
+    before: usize,
+    after: usize,
+    held: usize,
+}
+
+impl SeatsTally {
+    fn is_full(self) -> bool {
+        self.before > 0 && self.after > 0 && self.held > 0
+    }
+
+    fn count(&mut self, found: Found, held: usize) {
+        match found {
+            Found::Before => self.before = self.before.saturating_add(1),
+            Found::After => self.after = self.after.saturating_add(1),
+            Found::Both => {}
+        }
+        self.held = self.held.saturating_add(held);
+    }
+}
+
+/// What stands on a device.
+#[derive(Drop)]
+struct Landing {
+    device: MemDevice,
+    tree: Tree,
+    seats: Seats,
 }
 
 impl Runs {
-    fn next_stop(&mut self) -> Stop {
-        let step = (self.seed.below(150) as u64).saturating_add(20);
+    fn new(alloc: Global, has_seats: bool, seed: u64) -> Runs {
+        Runs {
+            alloc,
+            seed: Seed::new(seed),
+            has_seats,
+            tally: Tally::new(),
+            seats: SeatsTally {
+                before: 0,
+                after: 0,
+                held: 0,
+            },
+        }
+    }
+
+    /// Somewhere behind the mount, which takes so many steps; where there are seats the clients come
+    /// with writes too.
+    fn next_stop(&mut self, mount: u64) -> Stop {
+        let step = if self.has_seats {
+            (self.seed.below(300) as u64).saturating_add(mount)
+        } else {
+            (self.seed.below(150) as u64).saturating_add(20)
+        };
         match self.seed.below(3) {
             0 => Stop::Before(step),
             _ => Stop::Within(step),
         }
     }
 
-    /// Serves until the device stops: which trees may be there.
+    /// Which clients come to what landed, and which sessions of earlier runs are ended first.
+    fn setting(&mut self, tree: Tree, seats: Seats) -> Result<Setting, Fail> {
+        if !self.has_seats {
+            return Ok(Setting::new(self.alloc, tree, CLIENTS, 0, true)?);
+        }
+        let mut ending = Vec::new(self.alloc);
+        for seat in &seats.taken {
+            if self.seed.below(8) == 0 {
+                ending.push(seat.session)?;
+            }
+        }
+        let mut clients = Vec::new(self.alloc);
+        let first = u32::try_from(self.seed.below(5))?.saturating_add(100);
+        for uid in (first..).take(CLIENTS) {
+            clients.push(Joining {
+                uid,
+                is_persistent: self.seed.below(2) == 0,
+            })?;
+        }
+        Ok(Setting {
+            tree,
+            seats,
+            ending,
+            clients,
+            may_stop: true,
+        })
+    }
+
+    /// Serves until the device stops: the model as it is then, and the device.
     fn serve(
         &mut self,
         rt: &impl Abort,
-        device: &mut CrashDevice,
-        tree: Tree,
-    ) -> Result<Left, Fail> {
+        device: CrashDevice,
+        setting: Setting,
+    ) -> Result<(World, CrashDevice), Fail> {
         let seed = self.seed.below(1000) as u64;
-        let setting = Setting {
-            tree,
-            clients: CLIENTS,
-            may_stop: true,
-        };
         let mut soak = Soak::mount(self.alloc, device, setting, seed)?;
         let has_stopped = soak.run(rt, 20_000)?;
         assert!(rt; has_stopped);
         soak.twin.expect_down(rt)?;
         let Soak { twin, .. } = soak;
-        Ok(Left::new(self.alloc, twin.into_world())?)
+        Ok(twin.into_parts())
     }
 
-    /// Mounts every landing. One of them is given, with the tree on it.
-    fn land(&mut self, stopped: &CrashDevice, left: &Left) -> Result<(MemDevice, Tree), Fail> {
+    /// Mounts every landing, and asks some of them for their seats: those that hold what was under
+    /// way stand beside the newest tree. One of the landings is given, with what is on it.
+    fn land(
+        &mut self,
+        rt: &impl Abort,
+        stopped: &CrashDevice,
+        left: &Left,
+        seats: &SeatsLeft,
+    ) -> Result<Landing, Fail> {
         let places = left.places(stopped)?;
         self.tally.count(left, &places);
         let chosen = self.seed.below(places.len());
+        let mut chosen_seats = seats.seats(Found::Both)?;
+        for (number, place) in places.iter().enumerate() {
+            if !self.asks_for_seats(number == chosen, places.len()) {
+                continue;
+            }
+            let found = seats.found_on(left.device(stopped, number)?)?;
+            assert!(rt; found != Found::After || *place == left.newest());
+            let standing = seats.seats(found)?;
+            self.seats.count(found, standing.held());
+            if number == chosen {
+                chosen_seats = standing;
+            }
+        }
         let place = places.get(chosen).copied().ok_or("none")?;
-        let device = left.device(stopped, chosen)?;
-        Ok((device, left.tree(place)?))
+        Ok(Landing {
+            device: left.device(stopped, chosen)?,
+            tree: left.tree(place)?,
+            seats: chosen_seats,
+        })
+    }
+
+    /// Whether one of so many landings is asked for its seats.
+    fn asks_for_seats(&mut self, is_chosen: bool, landings: usize) -> bool {
+        self.has_seats && (is_chosen || self.seed.below(landings) < SEATS_ASKED)
+    }
+
+    /// A run on what landed, up to a stop, and what landed then.
+    fn run_once(&mut self, rt: &impl Abort, landing: Landing) -> Result<Landing, Fail> {
+        let Landing {
+            device,
+            tree,
+            seats,
+        } = landing;
+        let whole = CrashDevice::new(device, Stop::Never);
+        let device = whole.landed(self.alloc, &[])?;
+        let (mounted, _) = mount(self.alloc, whole);
+        let stop = self.next_stop(mounted.steps());
+        let setting = self.setting(tree, seats)?;
+        let device = CrashDevice::new(device, stop);
+        let (mut world, stopped) = self.serve(rt, device, setting)?;
+        let seats = SeatsLeft::of(self.alloc, &mut world)?;
+        let left = Left::new(self.alloc, world)?;
+        let mut landed = self.land(rt, &stopped, &left, &seats)?;
+        landed.tree.restart();
+        Ok(landed)
     }
 
     fn run(&mut self, rt: &impl Abort, runs: usize) -> Result<(), Fail> {
-        let mut tree = Tree::new(self.alloc, ROOM)?;
-        let mut device = volume(self.alloc, SECTORS, NODES)?;
+        let mut landing = Landing {
+            device: volume(self.alloc, SECTORS, NODES)?,
+            tree: Tree::new(self.alloc, ROOM)?,
+            seats: Seats::new(self.alloc),
+        };
         for _ in 0..runs {
-            let mut stopped = CrashDevice::new(device, self.next_stop());
-            let left = self.serve(rt, &mut stopped, tree)?;
-            let (landed, found) = self.land(&stopped, &left)?;
-            device = landed;
-            tree = found;
-            tree.restart();
+            landing = self.run_once(rt, landing)?;
         }
         Ok(())
     }
@@ -251,15 +405,29 @@ impl Runs {
 
 #[test]
 fn stops_leave_trees_of_the_model(rt: HostRuntime) -> Result<(), Fail> {
-    let alloc = rt.alloc();
-    let mut runs = Runs {
-        alloc,
-        seed: Seed::new(41),
-        tally: Tally::new(),
-    };
+    let mut runs = Runs::new(rt.alloc(), false, 41);
     for _ in 0..16 {
         runs.run(&rt, 6)?;
     }
     assert!(rt; runs.tally.is_full(), "{:?}", runs.tally);
     Ok(())
+}
+
+fn seats_from(rt: &impl Abort, alloc: Global, seed: u64) -> Result<(), Fail> {
+    let mut runs = Runs::new(alloc, true, seed);
+    for _ in 0..4 {
+        runs.run(rt, 6)?;
+    }
+    assert!(rt; runs.seats.is_full(), "{:?}", runs.seats);
+    Ok(())
+}
+
+#[test]
+fn stops_leave_trees_and_seats_of_the_model(rt: HostRuntime) -> Result<(), Fail> {
+    seats_from(&rt, rt.alloc(), 41)
+}
+
+#[test]
+fn stops_leave_trees_and_seats_of_the_model_again(rt: HostRuntime) -> Result<(), Fail> {
+    seats_from(&rt, rt.alloc(), 42)
 }

@@ -2,18 +2,17 @@
 //! byte for byte.
 
 use super::calls::{self, Caller, on_slot};
+use super::joins::{Joined, Joining, join_all};
 use super::line::{Line, Stage};
+use super::simple::seat_table::Seats;
 use super::simple::tree::Tree;
-use super::simple::{Client, Request, World};
+use super::simple::{Request, World};
 use disk::Device;
 use server::{Server, ServerFault, Turn};
 use server_drivers as drivers;
-use std::alloc::Global;
+use std::alloc::{AllocError, Global};
 use std::process::Abort;
 use std::test::Fail;
-use wire::{Answer, Outcome};
-use wire_client::read_outcome;
-use xdr::Reader;
 
 pub(super) const SLOTS: usize = 3;
 
@@ -26,9 +25,39 @@ pub(super) const MAX_TURNS: usize = 8;
 #[derive(Drop)]
 pub(super) struct Setting {
     pub(super) tree: Tree,
-    pub(super) clients: usize,
+    pub(super) seats: Seats,
+    /// The sessions of earlier runs that are ended first, and the clients that come then.
+    pub(super) ending: Vec<[u8; 16]>,
+    pub(super) clients: Vec<Joining>,
     /// Whether the device may stop.
     pub(super) may_stop: bool,
+}
+
+impl Setting {
+    /// A volume without seats, and so many clients, of which the first ones ask for persistent
+    /// sessions.
+    pub(super) fn new(
+        alloc: Global,
+        tree: Tree,
+        clients: usize,
+        persistent: usize,
+        may_stop: bool,
+    ) -> Result<Setting, AllocError> {
+        let mut joining = Vec::new(alloc);
+        for (i, uid) in (100..).take(clients).enumerate() {
+            joining.push(Joining {
+                uid,
+                is_persistent: i < persistent,
+            })?;
+        }
+        Ok(Setting {
+            tree,
+            seats: Seats::new(alloc),
+            ending: Vec::new(alloc),
+            clients: joining,
+            may_stop,
+        })
+    }
 }
 
 #[derive(Drop)]
@@ -37,6 +66,8 @@ pub(super) struct Twin<D: Device> {
     server: Server<D>,
     pub(super) world: World,
     pub(super) lines: Vec<Line>,
+    /// Whether the device stopped before all clients were there.
+    pub(super) has_stopped: bool,
 }
 
 /// The status of a reply: its eighth word, after the record's header and six of RPC.
@@ -61,45 +92,6 @@ pub(super) fn ask<D: Device>(
     drivers::take_output(server, conn)
 }
 
-/// The number that EXCHANGE_ID answers, or the session that CREATE_SESSION answers.
-fn answered(alloc: Global, reply: &[u8]) -> Result<(u64, [u8; 16]), Fail> {
-    let mut at = Reader::new(reply.get(40..).ok_or("a short reply")?);
-    match read_outcome(alloc, &mut at)? {
-        Outcome::Done(Answer::ExchangeId(answer)) => Ok((answer.client, [0; 16])),
-        Outcome::Done(Answer::CreateSession(answer)) => Ok((0, answer.session)),
-        _ => Err("another answer".into()),
-    }
-}
-
-/// A client that makes itself known and takes a session.
-fn join<D: Device>(
-    alloc: Global,
-    server: &mut Server<D>,
-    conn: usize,
-    uid: u32,
-) -> Result<Client, Fail> {
-    let caller = Caller { xid: 1, uid };
-    let hello = ask(server, conn, &calls::hello(alloc, caller)?)?;
-    let (number, _) = answered(alloc, &hello.ok_or("no reply")?)?;
-    let joined = ask(server, conn, &calls::session(alloc, caller, number)?)?;
-    let (_, session) = answered(alloc, &joined.ok_or("no reply")?)?;
-    Ok(Client::new(alloc, uid, session, SLOTS)?)
-}
-
-fn join_all<D: Device>(
-    alloc: Global,
-    server: &mut Server<D>,
-    count: usize,
-) -> Result<Vec<Client>, Fail> {
-    let conn = drivers::connect(server)?;
-    let mut clients = Vec::new(alloc);
-    for uid in (100..).take(count) {
-        clients.push(join(alloc, server, conn, uid)?)?;
-    }
-    drivers::hangup(server, conn)?;
-    Ok(clients)
-}
-
 impl<D: Device> Twin<D> {
     /// Mounts a volume that holds the tree; the clients are there, and no connection.
     pub(super) fn mount(alloc: Global, device: D, setting: Setting) -> Result<Twin<D>, Fail> {
@@ -113,13 +105,28 @@ impl<D: Device> Twin<D> {
         setting: Setting,
     ) -> Result<Twin<D>, Fail> {
         let mut server = server;
-        let clients = join_all(alloc, &mut server, setting.clients)?;
-        let Setting { tree, may_stop, .. } = setting;
+        let Setting {
+            tree,
+            seats,
+            ending,
+            clients,
+            may_stop,
+        } = setting;
+        let joined = join_all(alloc, &mut server, seats, &ending, &clients)?;
+        let Joined {
+            clients,
+            seats,
+            before,
+            has_stopped,
+        } = joined;
+        let mut world = World::new(alloc, tree, seats, clients, may_stop);
+        world.seats_before = before;
         Ok(Twin {
             alloc,
             server,
-            world: World::new(alloc, tree, clients, may_stop),
+            world,
             lines: Vec::new(alloc),
+            has_stopped,
         })
     }
 
@@ -140,7 +147,7 @@ impl<D: Device> Twin<D> {
 
     /// Whether the device stopped in it.
     pub(super) fn hang_up(&mut self, rt: &impl Abort, at: usize) -> Result<bool, Fail> {
-        self.world.past.settle();
+        self.world.settle();
         let Some(line) = self.lines.get_mut(at) else {
             return Ok(false);
         };
@@ -208,7 +215,7 @@ impl<D: Device> Twin<D> {
 
     /// Whether the device stopped in it.
     pub(super) fn turn(&mut self, rt: &impl Abort, at: usize) -> Result<bool, Fail> {
-        self.world.past.settle();
+        self.world.settle();
         let Some(line) = self.lines.get_mut(at) else {
             return Ok(false);
         };

@@ -35,7 +35,13 @@ pub(crate) const BAD_STATEID: u32 = 10025;
 
 pub(crate) const OPENMODE: u32 = 10038;
 
+pub(crate) const BAD_SESSION: u32 = 10052;
+
+pub(crate) const BAD_SLOT: u32 = 10053;
+
 pub(crate) const SEQ_MISORDERED: u32 = 10063;
+
+pub(crate) const DEAD_SESSION: u32 = 10078;
 
 /// A status other than OK, or want of memory in the model itself.
 #[derive(Drop)]

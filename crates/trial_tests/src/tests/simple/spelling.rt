@@ -143,11 +143,12 @@ impl Results {
         session: [u8; 16],
         number: u32,
         slot: usize,
+        highest: u32,
     ) -> Result<(), AllocError> {
         let slot = u32::try_from(slot).unwrap_or(0);
         self.words(&[SEQUENCE, OK])?;
         self.bytes.extend_from_slice(&session)?;
-        self.words(&[number, slot, 7, 7, 0])
+        self.words(&[number, slot, highest, highest, 0])
     }
 
     /// The result of a COMPOUND with so many results: the status, an empty tag, the results.
