@@ -551,7 +551,7 @@ impl Client {
         let sequence = results.number()?;
         let id = self.id;
         let create = Ops::new().with(Op::CreateSession, |words| {
-            words.u64(id).u32(sequence).u32(0);
+            words.u64(id).u32(sequence).u32(session_flags());
             for _ in 0..2 {
                 words.u32(0).u32(1 << 20).u32(1 << 20).u32(1 << 14);
                 words.u32(16).u32(SLOTS as u32).u32(0);
@@ -628,6 +628,11 @@ impl Client {
         skip_sequence(&mut results)?;
         Ok(results)
     }
+}
+
+/// A persistent session is asked for where PERSIST stands in the environment.
+fn session_flags() -> u32 {
+    u32::from(std::env::var_os("PERSIST").is_some())
 }
 
 /// Goes over what an OK result of SEQUENCE gives.

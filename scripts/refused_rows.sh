@@ -11,7 +11,7 @@ set -u
 here=$(dirname "$(realpath "$0")")
 data=$here/../crates/test_player/data
 player=$(realpath "${PLAYER:-$here/../crates/test_player/out/test_player}")
-[ $# -gt 0 ] || set -- sessions.rows operations.rows changes.rows lists.rows
+[ $# -gt 0 ] || set -- sessions.rows persistent.rows operations.rows changes.rows lists.rows
 folder=$(mktemp -d)
 trap 'rm -r "$folder"' EXIT
 cc -O2 -shared -fPIC -o "$folder/refused.so" "$here/refused_memory.c" || exit 1
