@@ -1,13 +1,16 @@
 -- What can be done to a tree can be done to each that is blanked alike.
-use Rattle.std.proofs.Common.{◌≡◌, ℕ, false, [], ◌∷◌, Option, Some, None, refl, sym, ap, ◌∙◌, arith, subst}
+use Rattle.std.proofs.Common.{◌≡◌, ℕ, false, List, [], ◌∷◌, Option, Some, None, refl, sym, ap, ◌∙◌, arith, subst}
 use Rattle.std.specs.Prelude.{is_some, IsTrue, IsFalse}
 use Rattle.edits.specs.declared.edit.Edit.{Edit}
 use Rattle.edits.specs.declared.edit.Edit.TheVariants as declared
 use Rattle.edits.specs.Edits.{edit_of, size_of, CanDo, DoableAlike, FewAlike}
+use Rattle.edits.specs.Making.{IsMaking}
 use Rattle.edits.specs.Outlines.{blanked}
 use Rattle.edits.proofs.BlankLaws.{key-blanked, directory-blanked, names-blanked, size-blanked, few-blanked, done-blanked}
 use Rattle.model.specs.Charge.{few_names}
+use Rattle.model.specs.declared.node.NodeKind.{NodeKind}
 use Rattle.model.specs.Edit.{done}
+use Rattle.model.specs.Edit as model
 use Rattle.model.specs.Keyed.{at, is_key}
 use Rattle.model.specs.Tree.{Tree, Node, names_at, is_directory_at, entry_of}
 
@@ -15,7 +18,7 @@ module _ (tree other : Tree) (alike : blanked other ≡ blanked tree) where
   key_alike : (number : ℕ) → is_key number other ≡ is_key number tree
   key_alike number = sym (key-blanked other number) ∙ ap (is_key number) alike ∙ key-blanked tree number
 
-  directory_alike : (number : ℕ) → is_directory_at other number ≡ is_directory_at tree number
+  pub directory_alike : (number : ℕ) → is_directory_at other number ≡ is_directory_at tree number
   directory_alike number = sym (directory-blanked other number) ∙ ap (λ (t : Tree). is_directory_at t number) alike ∙ directory-blanked tree number
 
   names_alike : (number : ℕ) → names_at other number ≡ names_at tree number
@@ -61,6 +64,21 @@ module _ (tree other : Tree) (alike : blanked other ≡ blanked tree) where
     is_file = subst IsFalse (sym (directory_alike file)) can.is_file;
     small = omega (arith, size_alike file, can.small);
     low = can.low;
+  }
+
+  -- and a node more can be made
+  pub making_alike : (directory : ℕ) (of : NodeKind) (size : ℕ) (edits : List model.Edit) → IsMaking tree directory of size edits → IsMaking other directory of size edits
+  making_alike directory of size edits is = record {
+    number = is.number;
+    stamp = is.stamp;
+    node = is.node;
+    entry = is.entry;
+    shown = is.shown;
+    is = is.is;
+    content = is.content;
+    some = is.some;
+    fresh = fresh_alike is.number is.fresh;
+    new_stamp = ap (at is.stamp) (names_alike directory) ∙ is.new_stamp;
   }
 
 pub doable_alike : DoableAlike

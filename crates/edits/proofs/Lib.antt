@@ -6,6 +6,7 @@ pub mod FileLaws
 pub mod FitLaws
 pub mod FrontLaws
 pub mod ListLaws
+pub mod MakingLaws
 pub mod NamedLaws
 pub mod OutcomeLaws
 pub mod PlaceLaws

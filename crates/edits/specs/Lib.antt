@@ -1,5 +1,6 @@
 pub mod Doing
 pub mod Edits
+pub mod Making
 pub mod Outcomes
 pub mod Outlines
 pub mod Parts

@@ -1,7 +1,8 @@
 //! Whether there is room for the tree after edits.
 
-ghost use Rattle.std.specs.Prelude.{◌≡◌, ◌≤◌, ◌<◌, ◌+◌, ◌^◌, ℕ, length};
+ghost use Rattle.std.specs.Prelude.{◌≡◌, ◌≤◌, ◌<◌, ◌+◌, ◌^◌, ℕ, true, length};
 ghost use Rattle.edits.specs.Edits.{AreDoable, edits_of};
+ghost use Rattle.edits.specs.Making.{IsMaking, size_of_new};
 ghost use Rattle.edits.specs.Outlines.{outline_of};
 ghost use Rattle.edits.specs.Sizes.{size_at, charge_of_size, nodes_in, names_in, IsBelow};
 ghost use Rattle.edits.specs.Sizes.{number_of, resized_by};
@@ -9,6 +10,7 @@ ghost use Rattle.layout.specs.Known.{AreCards};
 ghost use Rattle.model.specs.Charge.{charge, few_names, fits};
 ghost use Rattle.model.specs.Edit.{edited};
 ghost use Rattle.model.specs.Keyed.{total};
+ghost use Rattle.model.specs.Tree.{is_directory_at};
 
 use crate::edit::Edit;
 use cards::Table;
@@ -218,4 +220,55 @@ pub fn fits(table: &Table, limits: &Limits, edits: &[Edit<'_>]) -> bool
         return false;
     }
     have_few_names(table, edits, limits.names)
+}
+
+/// What a node takes that is made with no names, or as a file of so many bytes.
+fn new_size(kind: NodeKind, size: u64) -> Option<Size>
+    ensures size { result ≡ Some (size_of_new kind size) }
+    ensures small { IsBelow (2 ^ 65) result }
+{
+    match kind {
+        NodeKind::File => file(u128::from(size)),
+        NodeKind::Directory => directory(0),
+    }
+}
+
+/// What the nodes of the tree take with one more, of this size, that has a name in a directory of
+/// which this is the size.
+fn taken_with(table: &Table, parent: Option<Size>, child: Option<Size>) -> Taken
+    requires cards { (nodes : ℕ) × (mark : ℕ → ℕ) × AreCards nodes mark table.now }
+    requires parent { (number : ℕ) × (parent ≡ size_at (outline_of table.now) number) }
+    requires small { IsBelow (2 ^ 65) parent × IsBelow (2 ^ 65) child }
+    ensures charge { result.charge + charge_of_size parent
+        ≡ total charge (outline_of table.now) + charge_of_size child + charge_of_size
+        (Some (record { kind = NodeKind.Directory; count = names_in parent + 1 })) }
+    ensures nodes { result.nodes ≡ length (outline_of table.now) + 1 }
+{
+    let grown = directory(names_in(parent) + 1);
+    let charge = u128::from(table.charge()) + charge_of(child) + charge_of(grown);
+    Taken {
+        charge: charge - charge_of(parent),
+        nodes: u128::from(table.count()) + 1,
+    }
+}
+
+/// Whether the tree has room for one node more, of this kind, and for its name in a directory. Of a
+/// file the size counts, in bytes. Which number and which stamp it gets does not matter. Takes no
+/// memory, and one search by number.
+pub fn has_room(table: &Table, limits: &Limits, parent: u64, kind: NodeKind, size: u64) -> bool
+    requires cards { (nodes : ℕ) × (mark : ℕ → ℕ) × AreCards nodes mark table.now }
+    requires there { is_directory_at (outline_of table.now) parent ≡ true }
+    requires names { Names.MAX_NAMES ≤ limits.now.names }
+    ensures { (edits : _) → IsMaking (outline_of table.now) parent kind size edits
+        → result ≡ fits limits.now (edited edits (outline_of table.now)) }
+{
+    let own = size_in(table, parent);
+    let taken = taken_with(table, own, new_size(kind, size));
+    if taken.charge > limits.data_sectors as u128 {
+        return false;
+    }
+    if taken.nodes > limits.nodes as u128 {
+        return false;
+    }
+    names_in(own) < limits.names as u128
 }

@@ -8,7 +8,8 @@ use crate::fault::VolumeFault;
 use crate::volume::Volume;
 use disk::Device;
 use draft::{DraftFault, Outcome};
-use edits::{Edit, fits, outcome_of};
+use edits::{Edit, fits, has_room, outcome_of};
+use model::node::NodeKind;
 
 impl From<DraftFault> for VolumeFault {
     ghost from_gives = { λ refusal fault. fault ≡ draft_fault refusal };
@@ -26,7 +27,10 @@ impl From<DraftFault> for VolumeFault {
 impl<D: Device> Volume<D> {
     ghost use Rattle.std.specs.Prelude.{◌≡◌, ◌↔◌, true, false, OnOk, OnErr, IsErrOf};
     ghost use Rattle.edits.specs.Edits.{AreDoable};
+    ghost use Rattle.edits.specs.Making.{IsMaking};
     ghost use Rattle.model.specs.Charge.{fits};
+    ghost use Rattle.model.specs.Edit.{edited};
+    ghost use Rattle.model.specs.Tree.{is_directory_at};
     ghost use Rattle.volume.specs.Changes.{IsTree, ending_of};
     ghost use Rattle.volume.specs.Edits.{IsChange, IsEdited, edited_by};
     ghost use Rattle.volume.specs.Formed.{Shows};
@@ -42,6 +46,17 @@ impl<D: Device> Volume<D> {
             (edited_by (held_of self.now) edits.now) }
     {
         fits(&self.table, &self.limits, edits)
+    }
+
+    /// Whether the tree has room for one node more, of this kind and, of a file, of this size in
+    /// bytes, and for its name in a directory. It is answered as [`Volume::fits`] is, and the same
+    /// whichever number and stamp the node and the name get.
+    pub fn has_room(&self, directory: u64, kind: NodeKind, size: u64) -> bool
+        requires { is_directory_at (held_of self.now).tree directory ≡ true }
+        ensures { (edits : _) → IsMaking (held_of self.now).tree directory kind size edits
+            → result ≡ fits (held_of self.now).limits (edited edits (held_of self.now).tree) }
+    {
+        has_room(&self.table, &self.limits, directory, kind, size)
     }
 
     /// Changes the tree by edits, one after the other, as one transaction: a stop leaves all of
