@@ -56,7 +56,7 @@ file_of tree number card node file =
     ap is_directory_node node.there ∙ ap is_directory is.file
 
 -- numbers rise in a tree where they do in the one with zeros for the bytes of files
-above_flat : (least : ℕ) (tree : Tree) → IsAbove least (blanked tree) → IsAbove least tree
+pub above_flat : (least : ℕ) (tree : Tree) → IsAbove least (blanked tree) → IsAbove least tree
 above_flat least [] above = tt
 above_flat least (entry ∷ rest) above = (above.0, above_flat entry.0 rest above.1)
 

@@ -32,6 +32,7 @@ pub mod RefusedLaws
 pub mod RemovalPlans
 pub mod RemoveTests
 pub mod RemovedLaws
+pub mod RenameDoable
 pub mod RenameFlat
 pub mod RenamePlans
 pub mod RenameSteps
@@ -43,5 +44,6 @@ pub mod SettingPlans
 pub mod SettingSteps
 pub mod SettingTests
 pub mod SizePlans
+pub mod SizesAlike
 pub mod VerdictLaws
 pub mod WrittenLaws

@@ -5,6 +5,7 @@ use Rattle.std.proofs.Props.{props}
 use Rattle.std.specs.Prelude.{IsTrue, option_map}
 use Rattle.draft.specs.Nodes.{no_content}
 use Rattle.edits.specs.Edits.{fresh_node}
+use Rattle.edits.specs.Making.{first_content}
 use Rattle.edits.specs.Outlines.{blank, blank_node, blanked, zeros}
 use Rattle.edits.proofs.BlankLaws.{at-blanked, blanked-with, blanked-twice, edits_blanked, names-blanked, length-zeros}
 use Rattle.model.specs.declared.limits.Limits.{Limits}
@@ -22,7 +23,7 @@ use Rattle.model.proofs.KeyedLaws.{at-with_same, at-with_other, with-with_same, 
 use Rattle.model.proofs.OptionLaws.{none_unless}
 use Rattle.model.proofs.OpensLaws.{total-ones}
 use Rattle.fs.specs.FileSystem.{FileSystem}
-use Rattle.fs.specs.Making.{first_content, first_node, tree_with, MayBeMade}
+use Rattle.fs.specs.Making.{first_node, tree_with, MayBeMade}
 use Rattle.fs.specs.Ready.{MayStand}
 use Rattle.fs.proofs.FrontLaws.{made_by, after_is}
 use Rattle.fs.proofs.RoomLaws.{replaced_room, replaced_room_back, show_room, above_then}

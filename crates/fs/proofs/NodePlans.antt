@@ -1,6 +1,7 @@
 -- The edits of a node that is made, as code puts them together: what is proved of them, and what refuses them.
 use denote.Ref.{Bor}
-use Rattle.std.proofs.Common.{◌≡◌, ◌<◌, ◌+◌, ◌^◌, ◌++◌, ℕ, Bool, true, false, List, [], ◌∷◌, Option, Some, None, sym, ap, ◌∙◌, subst, not}
+use Rattle.std.proofs.Common.{◌≡◌, ◌<◌, ◌+◌, ◌^◌, ◌++◌, ℕ, Bool, true, false, List, [], ◌∷◌, Option, Some, None, refl, sym, ap, ◌∙◌, subst, not}
+use Rattle.std.proofs.lemmas.Bool.{ltb-true, not-false}
 use Rattle.std.specs.Prelude.{IsTrue}
 use Rattle.directory.specs.Listing.{by_stamp}
 use Rattle.draft.specs.declared.nodes.Shown.{Shown}
@@ -8,20 +9,24 @@ use Rattle.draft.specs.Nodes.{shown_of}
 use Rattle.edits.specs.declared.edit.Edit.{Edit}
 use Rattle.edits.specs.declared.edit.Edit.TheVariants as edit
 use Rattle.edits.specs.Edits.{AreEntries, AreDoable}
+use Rattle.edits.specs.Making.{IsMaking, first_content}
 use Rattle.layout.specs.Cards.{Card}
 use Rattle.model.specs.declared.node.NodeKind.{NodeKind}
 use Rattle.model.specs.declared.status.Status.TheVariants as status
-use Rattle.model.specs.Changes.{touched}
+use Rattle.model.specs.Changes.{made_edits, touched}
 use Rattle.model.specs.Charge.{fits}
+use Rattle.model.specs.Keyed.{at}
 use Rattle.model.specs.Limits.{limits_of}
 use Rattle.model.specs.Refusal.{first_refusal, refused_or}
 use Rattle.model.specs.Stamp.{next_stamp, is_stamp_left}
-use Rattle.model.specs.Tree.{Tree, Node, Directory}
+use Rattle.model.specs.Tree.{Tree, Node, Directory, is_directory, is_directory_at, is_directory_node, names_of_node}
+use Rattle.model.proofs.RefusalLaws.{none_in_front}
 use Rattle.fs.specs.FileSystem.{FileSystem}
 use Rattle.fs.specs.Making.{first_node, room_tests, sizing, tree_with, IsDirectoryOf, IsSizeOf, MayBeMade}
 use Rattle.fs.specs.Planned.{IsPlanned, shown_by}
 use Rattle.fs.specs.Ready.{MayStand}
 use Rattle.fs.proofs.CardViews.{names_are}
+use Rattle.fs.proofs.MakingLaws as laws
 use Rattle.fs.proofs.MakingPlans as plans
 use Rattle.fs.proofs.RemovalPlans.{shown_touched, entries_shown}
 use Rattle.volume.specs.Edits.{edited_by}
@@ -38,6 +43,32 @@ no_stamp fs after fit none = ap (λ (b : Bool). refused_or (not b) status.NoSpc 
 pub has_room : (fs : FileSystem) (after : Tree) → fits fs.volume.limits after ≡ true → is_stamp_left fs.changes ≡ true → first_refusal (room_tests fs after) ≡ None
 has_room fs after fit left = ap (λ (b : Bool). refused_or (not b) status.NoSpc (refused_or (not (is_stamp_left fs.changes)) status.ServerFault None)) fit
     ∙ ap (λ (b : Bool). refused_or (not b) status.ServerFault None) left
+
+-- The room of a node that is made does not depend on its number
+module _ (fs : FileSystem) (formed : MayStand fs.volume fs.changes) (number : ℕ) (name : List ℕ) (of : NodeKind) (size : ℕ) (card : Card) (parent : IsDirectoryOf fs.volume.tree number card) where
+  names : parent.node.node.content ≡ Directory (by_stamp card.names)
+  names = names_are fs.volume.tree number card parent.node parent.directory
+
+  pub there : is_directory_at fs.volume.tree number ≡ true
+  there = ap is_directory_node parent.node.there ∙ ap is_directory names
+
+  pub making : (now : ℕ) (node : Node) → node.content ≡ first_content of size
+      → IsMaking fs.volume.tree number of size (made_edits fs.volume.tree number name node (next_stamp fs.volume.run fs.changes) now)
+  making now node content =
+      let own = next_stamp fs.volume.run fs.changes in
+      record {
+        number = own;
+        stamp = own;
+        node = node;
+        entry = record { name = name; number = own };
+        shown = touched (at number fs.volume.tree) own now;
+        is = refl;
+        content = content;
+        some = laws.high fs formed now number name parent.node.node (by_stamp card.names) parent.node.there names;
+        fresh = laws.fresh fs formed now number name parent.node.node (by_stamp card.names) parent.node.there names;
+        new_stamp = ap (λ (found : Option Node). at own (names_of_node found)) parent.node.there
+            ∙ laws.new_stamp fs formed now number name parent.node.node (by_stamp card.names) parent.node.there names;
+      }
 
 module _ (fs : FileSystem) (formed : MayStand fs.volume fs.changes) (counted : fs.changes < 2 ^ 32) (limited : fs.volume.limits ≡ limits_of fs.volume.sectors fs.volume.limits.nodes)
     (now number : ℕ) (spelled : Bor (List ℕ)) (of : NodeKind) (size : ℕ) (child_shown parent_shown : Shown) (card : Card) (parent : IsDirectoryOf fs.volume.tree number card) (has : IsSizeOf of size)
@@ -82,3 +113,11 @@ module _ (fs : FileSystem) (formed : MayStand fs.volume fs.changes) (counted : f
   planned fit left = subst (IsPlanned fs) (sym list_is)
       (plans.planned fs formed counted limited now number spelled node (by_stamp card.names) parent.node.there content of child_shown parent_shown new_shown size has may entries parent_entries
       (ap (λ (l : List Edit). fits fs.volume.limits (edited_by fs.volume l)) (sym list_is) ∙ fit) left)
+
+  -- .. where the tests of room and stamps hold
+  pub planned_where : first_refusal (room_tests fs (tree_with fs number spelled.now (first_node of size (shown_of child_shown)) now)) ≡ None → IsPlanned fs edits
+  planned_where passed =
+      let wanted = tree_with fs number spelled.now (first_node of size (shown_of child_shown)) now in
+      let first = none_in_front (not (fits fs.volume.limits wanted)) status.NoSpc _ passed in
+      let second = none_in_front (not (is_stamp_left fs.changes)) status.ServerFault None first.1 in
+      planned (ap (fits fs.volume.limits) after ∙ not-false _ first.0) (ltb-true (fs.changes + 1) (2 ^ 32) (not-false _ second.0))

@@ -1,10 +1,10 @@
 -- The edits of a rename, as they stand in memory: a change that may be kept where it fits, which comes to what the definition says.
-use Rattle.std.proofs.Common.{◌≡◌, ◌≤◌, ◌<◌, ◌+◌, ◌^◌, ℕ, true, false, List, [], ◌∷◌, ◌++◌, Option, Some, None, take, length, refl, sym, ap, ap₂, ◌∙◌, arith, subst, inl}
+use Rattle.std.proofs.Common.{◌≡◌, ◌≤◌, ◌<◌, ◌+◌, ◌^◌, ℕ, true, false, List, [], ◌∷◌, ◌++◌, Option, Some, None, take, length, refl, sym, ap, ap₂, ◌∙◌, arith, subst, inl, inr, ◌⊎◌, true≢false}
 use denote.Ref.{Bor}
 use Rattle.std.proofs.Math.Logic.{∥∥₁_elim}
 use Rattle.std.proofs.Props.{props}
 use Rattle.std.proofs.lemmas.Bool.{lt-ltb}
-use Rattle.std.specs.Prelude.{IsTrue, option_map}
+use Rattle.std.specs.Prelude.{IsTrue, option_map, unwrap_or, MatchOption}
 use Rattle.directory.specs.Listing.{by_stamp}
 use Rattle.directory.specs.Records.{Record, AreStamped, record_from}
 use Rattle.draft.specs.declared.nodes.Shown.{Shown}
@@ -13,25 +13,22 @@ use Rattle.edits.specs.declared.edit.Edit.{Edit}
 use Rattle.edits.specs.Doing.{made_by, updates_of_all}
 use Rattle.edits.specs.Edits.{AreEntries, AreDoable, edits_of}
 use Rattle.edits.specs.Outlines.{blanked}
-use Rattle.edits.proofs.BlankLaws.{blanked-twice, directory-blanked, names-blanked, edits_blanked}
-use Rattle.edits.proofs.DoableLaws.{doable_alike}
+use Rattle.edits.proofs.BlankLaws.{names-blanked, edits_blanked}
 use Rattle.model.specs.declared.acl.Cred.{Cred}
 use Rattle.layout.specs.Cards.{Card}
 use Rattle.layout.specs.Known.{IsCard}
-use Rattle.model.specs.declared.limits.Limits.{Limits}
 use Rattle.model.specs.declared.status.Status.TheVariants as status
 use Rattle.model.specs.Changes.{touched}
 use Rattle.model.specs.Charge.{fits}
-use Rattle.model.specs.Edit.{DropName, PutName, Show, done, edited, name_dropped}
+use Rattle.model.specs.Edit.{DropName, PutName, Show, edited}
 use Rattle.model.specs.Edit as model
-use Rattle.model.specs.Keyed.{at, is_key}
+use Rattle.model.specs.Keyed.{at}
 use Rattle.model.specs.Limits.{limits_of}
 use Rattle.model.specs.Refusal.{first_refusal}
 use Rattle.model.specs.Operation.{Argument}
 use Rattle.model.specs.Stamp.{next_stamp, is_stamp_left}
 use Rattle.model.specs.Step.{State, does, refused}
 use Rattle.model.specs.Tree.{Tree, DirEntry, entry_of, names_at, is_directory_at}
-use Rattle.model.specs.WellFormed.{IsWellFormed}
 use Rattle.fs.specs.declared.renaming.Moving.{Moving}
 use Rattle.fs.specs.declared.renaming.Renaming.{Renaming}
 use Rattle.fs.specs.FileSystem.{FileSystem}
@@ -40,10 +37,9 @@ use Rattle.fs.specs.Ready.{MayStand}
 use Rattle.fs.specs.Renaming.{IsOnBoth, arguments_of, is_itself, renamed}
 use Rattle.fs.specs.RenameTests.{HasMoved, moving_refusals, placing_refusals, record_under, IsTarget, replacing, moving_edits}
 use Rattle.fs.proofs.CardViews.{entry_at, kind_told}
-use Rattle.fs.proofs.FlatLaws.{key-altered}
 use Rattle.fs.proofs.KeptLaws.{planned_by}
-use Rattle.fs.proofs.PlacedLaws.{CanMove, can_move, moved_doable, name_there, target_there}
-use Rattle.fs.proofs.MakingPlans.{name_some, name_short}
+use Rattle.fs.proofs.PlacedLaws.{CanMove, name_there}
+use Rattle.fs.proofs.RenameDoable.{can_move_there, doable_old, doable_own, moved_room, name_high, name_is_short, name_is_some, rising_by, shown_room}
 use Rattle.fs.proofs.RemovalPlans.{shown_touched, change_shown, entries_shown}
 use Rattle.fs.proofs.RenamedLaws as laws
 use Rattle.volume.specs.Edits.{HasPut, edited_by, named_by}
@@ -109,65 +105,19 @@ module _ (fs : FileSystem) (formed : MayStand fs.volume fs.changes) (counted : f
   pub after_is : edited_by fs.volume list ≡ after
   after_is = ap (λ (l : List model.Edit). edited l fs.volume.tree) wanted_is
 
-  places : laws.HasPlaces fs.volume.limits fs.volume.tree asked
-  places = laws.places fs formed counted limited cred now asked old_stamp number target found under passed placed other
-
-  can_by : IsWellFormed fs.volume.limits flat → CanMove (laws.cleared asked.to target flat) asked old_stamp number own
-  can_by well = can_move fs.volume.limits (laws.cleared asked.to target flat) own number old_stamp asked
-      (laws.free fs formed counted limited cred now asked old_stamp number target found under passed placed other well)
+  -- What it asks of the tree
 
   can : CanMove (laws.cleared asked.to target flat) asked old_stamp number own
-  can = record {
-    from_directory = ∥∥₁_elim formed.well_formed (Prim.hlevel props) (λ well. (can_by well).from_directory);
-    entry = ∥∥₁_elim formed.well_formed (Prim.hlevel props) (λ well. (can_by well).entry);
-    to_key = ∥∥₁_elim formed.well_formed (Prim.hlevel props) (λ well. (can_by well).to_key);
-    to_directory = ∥∥₁_elim formed.well_formed (Prim.hlevel props) (λ well. (can_by well).to_directory);
-    new_name = ∥∥₁_elim formed.well_formed (Prim.hlevel props) (λ well. (can_by well).new_name);
-    new_stamp = ∥∥₁_elim formed.well_formed (Prim.hlevel props) (λ well. (can_by well).new_stamp);
-  }
-
-  some : 0 < length asked.new_name.now
-  some = name_some fs.volume.limits asked.new_name.now places.allowed
-
-  short : length asked.new_name.now ≤ 255
-  short = (let short = name_short fs.volume.limits asked.new_name.now places.allowed in omega (arith, short, ap (λ (l : Limits). l.name_bytes) limited))
-
-  high : 0 < own
-  high = omega arith
-
-  moved : AreDoable (laws.cleared asked.to target flat) (moving_edits asked old_stamp number own from_shown to_shown)
-  moved = moved_doable (laws.cleared asked.to target flat) own number old_stamp asked from_shown to_shown can high some short from_entries to_entries
-
-  to_flat : is_directory_at flat asked.to ≡ true
-  to_flat = directory-blanked fs.volume.tree asked.to ∙ places.to_directory
-
-  target_key : (one : ℕ × ℕ) → IsTarget fs.volume.tree asked (Some one) → is_key one.1 (done (DropName asked.to one.0) flat) ≡ true
-  target_key one there = ∥∥₁_elim formed.well_formed (Prim.hlevel props) (λ well.
-      key-altered (name_dropped one.0) flat asked.to one.1 ∙ target_there_by well)
-    where
-      target_there_by : IsWellFormed fs.volume.limits flat → is_key one.1 flat ≡ true
-      target_there_by well = target_there fs.volume.limits flat well own formed.before asked.from asked.to asked.old_name.now asked.new_name.now (record_from old_stamp asked.old_name.now number)
-          (directory-blanked fs.volume.tree asked.from ∙ places.from_directory) to_flat (ap (entry_of asked.old_name.now) (names-blanked fs.volume.tree asked.from) ∙ found)
-          (record_from one.0 asked.new_name.now one.1) (ap (entry_of asked.new_name.now) (names-blanked fs.volume.tree asked.to) ∙ there)
-          (names-blanked fs.volume.tree one.1 ∙ laws.empty_by fs.volume.tree cred asked one there placed)
-          (laws.differs fs formed counted limited cred now asked old_stamp number target found under passed placed other)
-
-  doable_by : (o : Option (ℕ × ℕ)) → IsTarget fs.volume.tree asked o → AreDoable (laws.cleared asked.to o flat) (moving_edits asked old_stamp number own from_shown to_shown)
-      → AreDoable flat (replacing asked.to asked.new_name o ++ moving_edits asked old_stamp number own from_shown to_shown)
-  doable_by None there rest = rest
-  doable_by (Some one) there rest = (
-    record { there = to_flat; number = one.1; named = ap (entry_of asked.new_name.now) (names-blanked fs.volume.tree asked.to) ∙ there },
-    (target_key one there, rest),
-  )
+  can = can_move_there fs formed counted limited cred now asked old_stamp number target found under passed placed other from_shown to_shown from_entries to_entries
 
   pub doable : AreDoable fs.volume.tree list
-  doable = doable_alike flat fs.volume.tree list (sym (blanked-twice fs.volume.tree)) (doable_by target under moved)
+  doable = doable_own fs formed counted limited cred now asked old_stamp number target found under passed placed other from_shown to_shown from_entries to_entries
 
   -- the name is there after them
   put_flat : at own (names_at (edited (edits_of list) flat) asked.to) ≡ Some put
   put_flat = ap (λ (l : List model.Edit). at own (names_at (edited l flat) asked.to)) (edits_are_of asked.to asked.new_name target (moving_edits asked old_stamp number own from_shown to_shown))
       ∙ ap (λ (t : Tree). at own (names_at t asked.to)) (laws.cleared_is asked.to target (edits_of (moving_edits asked old_stamp number own from_shown to_shown)) flat)
-      ∙ name_there (laws.cleared asked.to target flat) own number old_stamp asked from_shown to_shown can high some short from_entries to_entries
+      ∙ name_there (laws.cleared asked.to target flat) own number old_stamp asked from_shown to_shown can (name_high fs formed counted limited cred now asked old_stamp number target found under passed placed other from_shown to_shown from_entries to_entries) (name_is_some fs formed counted limited cred now asked old_stamp number target found under passed placed other from_shown to_shown from_entries to_entries) (name_is_short fs formed counted limited cred now asked old_stamp number target found under passed placed other from_shown to_shown from_entries to_entries) from_entries to_entries
 
   put_there : at own (names_at (edited_by fs.volume list) asked.to) ≡ Some put
   put_there = ap (at own) (sym (names-blanked (edited_by fs.volume list) asked.to) ∙ sym (ap (λ (t : Tree). names_at t asked.to) (edits_blanked (edits_of list) fs.volume.tree))
@@ -187,6 +137,20 @@ module _ (fs : FileSystem) (formed : MayStand fs.volume fs.changes) (counted : f
         fit left
         (subst (IsFormed fs.volume.limits (next_stamp fs.volume.run (fs.changes + 1))) (sym after_is)
         (laws.formed_after fs formed counted limited cred now asked old_stamp number target found under passed placed other fit_after (lt-ltb (fs.changes + 1) (2 ^ 32) left)))
+
+-- The stamp of its edits: the next one, or that of the entry which goes
+
+pub stamp_of : (fs : FileSystem) (old : ℕ) (next : Option ℕ)
+    → MatchOption next (is_stamp_left fs.changes ≡ false) (λ stamp. (stamp ≡ next_stamp fs.volume.run fs.changes) × (fs.changes + 1 < 2 ^ 32))
+    → (unwrap_or next old ≡ next_stamp fs.volume.run fs.changes) ⊎ (unwrap_or next old ≡ old)
+stamp_of fs old None none = inr refl
+stamp_of fs old (Some stamp) is = inl is.0
+
+pub own_stamp : (fs : FileSystem) (old : ℕ) (next : Option ℕ)
+    → MatchOption next (is_stamp_left fs.changes ≡ false) (λ stamp. (stamp ≡ next_stamp fs.volume.run fs.changes) × (fs.changes + 1 < 2 ^ 32))
+    → fs.changes + 1 < 2 ^ 32 → unwrap_or next old ≡ next_stamp fs.volume.run fs.changes
+own_stamp fs old None none left = absurd (true≢false (sym (lt-ltb (fs.changes + 1) (2 ^ 32) left) ∙ none))
+own_stamp fs old (Some stamp) is left = is.0
 
 -- By what memory has of both directories
 
@@ -208,7 +172,7 @@ module _ (fs : FileSystem) (formed : MayStand fs.volume fs.changes) (counted : f
     (placed : first_refusal (placing_refusals fs.volume.tree cred asked.from asked.to (arguments_of asked)) ≡ None)
     (other : is_itself asked.from asked.to (arguments_of asked) ≡ false) (names : List Record) (names_are : names ≡ moving.to.now.names)
     (told : AreStamped names → option_map (λ (found : ℕ × ℕ). record_from found.0 asked.new_name.now found.1) target ≡ entry_of asked.new_name.now (by_stamp names))
-    (stamp : ℕ) (stamp_is : stamp ≡ next_stamp fs.volume.run fs.changes) (from_shown to_shown : Shown) (from_told : shown_of from_shown ≡ shown_by moving.from.now.fields stamp now)
+    (stamp : ℕ) (from_shown to_shown : Shown) (from_told : shown_of from_shown ≡ shown_by moving.from.now.fields stamp now)
     (to_told : shown_of to_shown ≡ shown_by moving.to.now.fields stamp now) (edits : List Edit)
     (edits_told : edits ≡ replacing asked.to asked.new_name target ++ moving_edits asked moving.stamp moving.number stamp from_shown to_shown) where
   abbrev stamp_now : ℕ
@@ -217,53 +181,77 @@ module _ (fs : FileSystem) (formed : MayStand fs.volume fs.changes) (counted : f
   is_target : IsTarget fs.volume.tree asked target
   is_target = target_told fs.volume.tree asked moving.to.now moved.to moved.to_fits (laws.places_by fs.volume.limits fs.volume.tree asked passed).to_directory names names_are target told
 
-  from_then : shown_of from_shown ≡ touched (at asked.from fs.volume.tree) stamp_now now
-  from_then = from_told ∙ ap (λ (s : ℕ). shown_by moving.from.now.fields s now) stamp_is ∙ shown_touched fs.volume.tree asked.from moving.from.now moved.from stamp_now now
-
-  to_then : shown_of to_shown ≡ touched (at asked.to fs.volume.tree) stamp_now now
-  to_then = to_told ∙ ap (λ (s : ℕ). shown_by moving.to.now.fields s now) stamp_is ∙ shown_touched fs.volume.tree asked.to moving.to.now moved.to stamp_now now
-
   from_list : AreEntries (shown_of from_shown).acl
   from_list = entries_shown fs formed limited asked.from moving.from.now moved.from moved.from_fits from_shown stamp now from_told
 
   to_list : AreEntries (shown_of to_shown).acl
   to_list = entries_shown fs formed limited asked.to moving.to.now moved.to moved.to_fits to_shown stamp now to_told
 
-  edits_are : edits ≡ replacing asked.to asked.new_name target ++ moving_edits asked moving.stamp moving.number stamp_now from_shown to_shown
-  edits_are = edits_told ∙ ap (λ (s : ℕ). replacing asked.to asked.new_name target ++ moving_edits asked moving.stamp moving.number s from_shown to_shown) stamp_is
+  -- Which stamp it has does not matter to the room
 
-  pub doable_edits : AreDoable fs.volume.tree edits
-  doable_edits = subst (AreDoable fs.volume.tree) (sym edits_are)
-      (doable fs formed counted limited cred now asked moving.stamp moving.number target moved.entry is_target passed placed other from_shown to_shown from_then to_then from_list to_list)
+  doable_by_stamp : (stamp ≡ stamp_now) ⊎ (stamp ≡ moving.stamp) → AreDoable fs.volume.tree edits
+  doable_by_stamp (inl own) = subst (AreDoable fs.volume.tree)
+      (sym (edits_told ∙ ap (λ (s : ℕ). replacing asked.to asked.new_name target ++ moving_edits asked moving.stamp moving.number s from_shown to_shown) own))
+      (doable_own fs formed counted limited cred now asked moving.stamp moving.number target moved.entry is_target passed placed other from_shown to_shown from_list to_list)
+  doable_by_stamp (inr old) = subst (AreDoable fs.volume.tree)
+      (sym (edits_told ∙ ap (λ (s : ℕ). replacing asked.to asked.new_name target ++ moving_edits asked moving.stamp moving.number s from_shown to_shown) old))
+      (doable_old fs formed counted limited cred now asked moving.stamp moving.number target moved.entry is_target passed placed other from_shown to_shown from_list to_list)
 
-  pub planned_edits : IsTrue (fits fs.volume.limits (edited_by fs.volume edits)) → fs.changes + 1 < 2 ^ 32 → IsPlanned fs edits
-  planned_edits fit left = subst (IsPlanned fs) (sym edits_are)
-      (planned fs formed counted limited cred now asked moving.stamp moving.number target moved.entry is_target passed placed other from_shown to_shown from_then to_then from_list to_list
-      (ap (λ (l : List Edit). fits fs.volume.limits (edited_by fs.volume l)) (sym edits_are) ∙ fit) left)
+  module _ (stamp_in : (stamp ≡ next_stamp fs.volume.run fs.changes) ⊎ (stamp ≡ moving.stamp)) where
+    pub doable_edits : AreDoable fs.volume.tree edits
+    doable_edits = doable_by_stamp stamp_in
 
-  edits_after : edited_by fs.volume edits ≡ laws.after fs formed counted limited cred now asked moving.stamp moving.number target moved.entry is_target passed placed other
-  edits_after = ap (edited_by fs.volume) edits_are
-      ∙ after_is fs formed counted limited cred now asked moving.stamp moving.number target moved.entry is_target passed placed other from_shown to_shown from_then to_then from_list to_list
+    room_is : fits fs.volume.limits (edited_by fs.volume edits) ≡ fits fs.volume.limits (laws.after fs formed counted limited cred now asked moving.stamp moving.number target moved.entry is_target passed placed other)
+    room_is = ∥∥₁_elim formed.well_formed (Prim.hlevel props) (λ well.
+        let rises = rising_by fs formed counted limited cred now asked moving.stamp moving.number target moved.entry is_target passed placed other from_shown to_shown from_list to_list well in
+        let put : DirEntry = record { name = asked.new_name.now; number = moving.number } in
+        ap (λ (l : List Edit). fits fs.volume.limits (edited_by fs.volume l)) edits_told
+        ∙ moved_room fs.volume.limits fs.volume.tree asked moving.stamp moving.number stamp stamp_now target from_shown to_shown from_shown to_shown
+        rises (subst (AreDoable fs.volume.tree) edits_told doable_edits) (doable_own fs formed counted limited cred now asked moving.stamp moving.number target moved.entry is_target passed placed other from_shown to_shown from_list to_list)
+        ∙ ap (λ (l : List model.Edit). fits fs.volume.limits (edited l fs.volume.tree))
+        (edits_are_of asked.to asked.new_name target (moving_edits asked moving.stamp moving.number stamp_now from_shown to_shown))
+        ∙ shown_room fs.volume.limits fs.volume.tree asked moving.stamp stamp_now put target (shown_of from_shown) (shown_of to_shown)
+        (touched (at asked.from fs.volume.tree) stamp_now now) (touched (at asked.to fs.volume.tree) stamp_now now) rises.above)
 
-  module _ (state : State) (on : IsOnBoth fs cred asked.from asked.to state) where
-    pub full : fits fs.volume.limits (edited_by fs.volume edits) ≡ false
-        → does fs.volume.limits state now (Argument.Rename (arguments_of asked)) ≡ refused state (Argument.Rename (arguments_of asked)) status.NoSpc
-    full none = laws.full fs formed counted limited cred now asked moving.stamp moving.number target moved.entry is_target passed placed other state on (ap (fits fs.volume.limits) (sym edits_after) ∙ none)
+    module _ (state : State) (on : IsOnBoth fs cred asked.from asked.to state) where
+      pub full : fits fs.volume.limits (edited_by fs.volume edits) ≡ false
+          → does fs.volume.limits state now (Argument.Rename (arguments_of asked)) ≡ refused state (Argument.Rename (arguments_of asked)) status.NoSpc
+      full none = laws.full fs formed counted limited cred now asked moving.stamp moving.number target moved.entry is_target passed placed other state on (sym room_is ∙ none)
 
-    module _ (fit : fits fs.volume.limits (edited_by fs.volume edits) ≡ true) where
-      pub used_up : is_stamp_left fs.changes ≡ false
+      pub used_up : fits fs.volume.limits (edited_by fs.volume edits) ≡ true → is_stamp_left fs.changes ≡ false
           → does fs.volume.limits state now (Argument.Rename (arguments_of asked)) ≡ refused state (Argument.Rename (arguments_of asked)) status.ServerFault
-      used_up none = laws.used_up fs formed counted limited cred now asked moving.stamp moving.number target moved.entry is_target passed placed other state on (ap (fits fs.volume.limits) (sym edits_after) ∙ fit) none
+      used_up fit none = laws.used_up fs formed counted limited cred now asked moving.stamp moving.number target moved.entry is_target passed placed other state on (sym room_is ∙ fit) none
 
-      pub goes_on : is_stamp_left fs.changes ≡ true → (from_before to_before : ℕ) → from_before ≡ moving.from.now.fields.change → to_before ≡ moving.to.now.fields.change
-          → (replaced : Option ℕ) → replaced ≡ option_map (λ (f : ℕ × ℕ). f.1) target
-          → does fs.volume.limits state now (Argument.Rename (arguments_of asked))
-          ≡ renamed (edited_by fs.volume edits) (fs.changes + 1) state (arguments_of asked)
-          (record { source = record { before = from_before; after = stamp }; target = record { before = to_before; after = stamp }; replaced = replaced })
-      goes_on left from_before to_before from_is to_is replaced replaced_is =
-          let out = λ (t : Tree) (s : ℕ) (gone : Option ℕ). renamed t (fs.changes + 1) state (arguments_of asked)
-          (record { source = record { before = from_before; after = s }; target = record { before = to_before; after = s }; replaced = gone }) in
-          laws.goes_on fs formed counted limited cred now asked moving.stamp moving.number target moved.entry is_target passed placed other state on (ap (fits fs.volume.limits) (sym edits_after) ∙ fit) left
-          from_before to_before (change_shown fs.volume.tree asked.from moving.from.now moved.from ∙ sym from_is) (change_shown fs.volume.tree asked.to moving.to.now moved.to ∙ sym to_is)
-          ∙ ap (λ (t : Tree). out t stamp_now (option_map (λ (f : ℕ × ℕ). f.1) target)) (sym edits_after)
-          ∙ ap₂ (out (edited_by fs.volume edits)) (sym stamp_is) (sym replaced_is)
+  module _ (stamp_is : stamp ≡ next_stamp fs.volume.run fs.changes) where
+    from_then : shown_of from_shown ≡ touched (at asked.from fs.volume.tree) stamp_now now
+    from_then = from_told ∙ ap (λ (s : ℕ). shown_by moving.from.now.fields s now) stamp_is ∙ shown_touched fs.volume.tree asked.from moving.from.now moved.from stamp_now now
+
+    to_then : shown_of to_shown ≡ touched (at asked.to fs.volume.tree) stamp_now now
+    to_then = to_told ∙ ap (λ (s : ℕ). shown_by moving.to.now.fields s now) stamp_is ∙ shown_touched fs.volume.tree asked.to moving.to.now moved.to stamp_now now
+
+    edits_are : edits ≡ replacing asked.to asked.new_name target ++ moving_edits asked moving.stamp moving.number stamp_now from_shown to_shown
+    edits_are = edits_told ∙ ap (λ (s : ℕ). replacing asked.to asked.new_name target ++ moving_edits asked moving.stamp moving.number s from_shown to_shown) stamp_is
+
+    pub planned_edits : IsTrue (fits fs.volume.limits (edited_by fs.volume edits)) → fs.changes + 1 < 2 ^ 32 → IsPlanned fs edits
+    planned_edits fit left = subst (IsPlanned fs) (sym edits_are)
+        (planned fs formed counted limited cred now asked moving.stamp moving.number target moved.entry is_target passed placed other from_shown to_shown from_then to_then from_list to_list
+        (ap (λ (l : List Edit). fits fs.volume.limits (edited_by fs.volume l)) (sym edits_are) ∙ fit) left)
+
+    edits_after : edited_by fs.volume edits ≡ laws.after fs formed counted limited cred now asked moving.stamp moving.number target moved.entry is_target passed placed other
+    edits_after = ap (edited_by fs.volume) edits_are
+        ∙ after_is fs formed counted limited cred now asked moving.stamp moving.number target moved.entry is_target passed placed other from_shown to_shown from_then to_then from_list to_list
+
+    module _ (state : State) (on : IsOnBoth fs cred asked.from asked.to state) where
+      module _ (fit : fits fs.volume.limits (edited_by fs.volume edits) ≡ true) where
+        pub goes_on : is_stamp_left fs.changes ≡ true → (from_before to_before : ℕ) → from_before ≡ moving.from.now.fields.change → to_before ≡ moving.to.now.fields.change
+            → (replaced : Option ℕ) → replaced ≡ option_map (λ (f : ℕ × ℕ). f.1) target
+            → does fs.volume.limits state now (Argument.Rename (arguments_of asked))
+            ≡ renamed (edited_by fs.volume edits) (fs.changes + 1) state (arguments_of asked)
+            (record { source = record { before = from_before; after = stamp }; target = record { before = to_before; after = stamp }; replaced = replaced })
+        goes_on left from_before to_before from_is to_is replaced replaced_is =
+            let out = λ (t : Tree) (s : ℕ) (gone : Option ℕ). renamed t (fs.changes + 1) state (arguments_of asked)
+            (record { source = record { before = from_before; after = s }; target = record { before = to_before; after = s }; replaced = gone }) in
+            laws.goes_on fs formed counted limited cred now asked moving.stamp moving.number target moved.entry is_target passed placed other state on (ap (fits fs.volume.limits) (sym edits_after) ∙ fit) left
+            from_before to_before (change_shown fs.volume.tree asked.from moving.from.now moved.from ∙ sym from_is) (change_shown fs.volume.tree asked.to moving.to.now moved.to ∙ sym to_is)
+            ∙ ap (λ (t : Tree). out t stamp_now (option_map (λ (f : ℕ × ℕ). f.1) target)) (sym edits_after)
+            ∙ ap₂ (out (edited_by fs.volume edits)) (sym stamp_is) (sym replaced_is)

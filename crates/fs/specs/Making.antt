@@ -2,7 +2,7 @@
 use Rattle.std.specs.Prelude.{◌≡◌, ◌≤◌, ◌∷◌, [], ℕ, zero, suc, not, List, None, if◌then◌else◌}
 use Rattle.edits.specs.declared.edit.Edit.{Edit}
 use Rattle.edits.specs.declared.edit.Edit.TheVariants as edit
-use Rattle.edits.specs.Outlines.{zeros}
+use Rattle.edits.specs.Making.{first_content}
 use Rattle.layout.specs.Cards.{Card}
 use Rattle.layout.specs.Known.{IsCard}
 use Rattle.model.specs.declared.node.NodeKind.{NodeKind}
@@ -15,15 +15,10 @@ use Rattle.model.specs.Edit.{Shown, edited}
 use Rattle.model.specs.Name.{name_refusals}
 use Rattle.model.specs.Refusal.{Refusals, first_refusal}
 use Rattle.model.specs.Stamp.{next_stamp, is_stamp_left}
-use Rattle.model.specs.Tree.{Tree, Node, Content, File, Directory, entry_of, names_at}
+use Rattle.model.specs.Tree.{Tree, Node, entry_of, names_at}
 use Rattle.model.specs.WellFormed.{IsNode}
 use Rattle.volume.specs.Nodes.{IsNodeOf}
 use Rattle.fs.specs.FileSystem.{FileSystem}
-
--- a file of so many zeros, or a directory without names
-abbrev pub first_content : NodeKind → (size : ℕ) → Content
-first_content kind.File size = File (zeros size)
-first_content kind.Directory size = Directory []
 
 abbrev pub first_node : NodeKind → (size : ℕ) → Shown → Node
 first_node of size shown = record {

@@ -122,11 +122,15 @@ abbrev pub has_room : FileSystem → Opening → OpenRoom → Bool
 has_room fs asked room =
     has_room_for room (effect_of fs.volume.tree asked.directory asked.name.now (type_of asked.how))
 
+-- where nothing refuses an OPEN by this name, it is of the file of this number
+abbrev pub IsFileToOpen : FileSystem → Opening → (number : ℕ) → Type 0
+IsFileToOpen fs asked number = (state : State) (cred : Cred) → IsOn fs cred asked.directory state
+    → file_opened state (operation.Opens (type_of asked.how) (operation.ByName asked.name.now))
+    ≡ number
+
 -- which file it opened, and what it did to it
 pub record IsOpened (fs : FileSystem) (asked : Opening) (made : Opened) : Type 0 where
-  pub number_is : (state : State) (cred : Cred) → IsOn fs cred asked.directory state
-      → file_opened state (operation.Opens (type_of asked.how) (operation.ByName asked.name.now))
-      ≡ made.number
+  pub number_is : IsFileToOpen fs asked made.number
   pub effect_is :
       made.effect ≡ effect_of fs.volume.tree asked.directory asked.name.now (type_of asked.how)
 

@@ -38,13 +38,16 @@ struct Planned<'a> {
 
 #[tactic(auto, unfolding(crate::specs::Views::fs_of, crate::specs::Views::fs_failures))]
 impl<D: Device> Fs<D> {
-    ghost use Rattle.std.specs.Prelude.{◌≡◌, ◌≤◌, ◌<◌, true, false, length, OnOk, IfOk, IfErr, IsErrOf};
+    ghost use Rattle.std.specs.Prelude.{◌≡◌, ◌≤◌, ◌<◌, ◌+◌, ◌^◌, ℕ, true, false, None, length, OnOk, IfOk, IfErr, IsErrOf};
     ghost use Rattle.draft.specs.Nodes.{shown_of};
     ghost use Rattle.edits.specs.Edits.{AreEntries};
+    ghost use Rattle.edits.specs.Making.{first_content};
     ghost use Rattle.layout.specs.Known.{IsCard};
+    ghost use Rattle.model.specs.Refusal.{first_refusal};
     ghost use Rattle.model.specs.Stamp.{next_stamp};
     ghost use Rattle.model.specs.Step.{State};
-    ghost use Rattle.settings.specs.Given.{given_of, AreSettings, AreWithin, IsCheckedInMemory};
+    ghost use Rattle.model.specs.Tree.{Node};
+    ghost use Rattle.settings.specs.Given.{given_of, AreSettings, AreWithin, IsChecked, IsCheckedInMemory};
     ghost use Rattle.fs.specs.OnTree.{new_directory_refusals};
     ghost use Rattle.fs.specs.Changes.{fs_ending};
     ghost use Rattle.fs.specs.Views.{fs_of, Alters};
@@ -119,16 +122,14 @@ impl<D: Device> Fs<D> {
             (fault_of refusal)) }
     {
         let (parent, settings) = self.permit_dir(cred, asked)?;
-        let Some(stamp) = self.next_stamp() else {
-            return Err(NotDone::Memory);
-        };
-        let shown = self.new_node(cred, parent, NodeKind::Directory, settings, stamp, now)?;
         let new = NewNode {
             directory: asked.parent,
             name: asked.name,
             kind: NodeKind::Directory,
             size: 0,
         };
+        let stamp = self.stamp_for(parent, new)?;
+        let shown = self.new_node(cred, parent, NodeKind::Directory, settings, stamp, now)?;
         let edits = self.plan_node(parent, new, shown, stamp, now)?;
         Ok(Planned {
             edits,
@@ -181,8 +182,32 @@ impl<D: Device> Fs<D> {
         Ok((parent, settings))
     }
 
-    /// The change that makes a node below a directory, where the tree has room for it and a stamp
-    /// is left. NOSPC, SERVERFAULT.
+    /// The stamp of the change that makes a node below a directory, where the tree has room for it
+    /// and a stamp is left. NOSPC, SERVERFAULT.
+    pub(crate) fn stamp_for(&self, parent: &Card, new: NewNode<'_>) -> Result<u64, Status>
+        requires up { (fs_of self.now).volume.is_down ≡ false }
+        requires parent { IsDirectoryOf (fs_of self.now).volume.tree new.directory parent.now }
+        // Its tests, in their order
+        ensures tests { (node : Node) (now : ℕ)
+            → MayBeMade (fs_of self.now) new.entry.directory new.entry.name.now node
+            → node.content ≡ first_content new.entry.kind new.entry.size
+            → IsChecked (room_tests (fs_of self.now) (tree_with (fs_of self.now)
+            new.entry.directory new.entry.name.now node now)) result }
+        // Where none holds
+        ensures stamp { IfOk result (λ stamp.
+            stamp ≡ next_stamp (fs_of self.now).volume.run (fs_of self.now).changes) }
+        ensures left { OnOk result ((fs_of self.now).changes + 1 < 2 ^ 32) }
+    {
+        if !self.volume.has_room(new.directory, new.kind, new.size) {
+            return Err(Status::NoSpc);
+        }
+        match self.stamp_left() {
+            Some(stamp) => Ok(stamp),
+            None => Err(Status::ServerFault),
+        }
+    }
+
+    /// The change that makes a node below a directory, where the tests of room and stamps hold.
     pub(crate) fn plan_node<'a>(
         &self,
         parent: &Card,
@@ -190,7 +215,7 @@ impl<D: Device> Fs<D> {
         shown: Shown,
         stamp: u64,
         now: u64,
-    ) -> Result<Vec<Edit<'a>>, NotDone>
+    ) -> Result<Vec<Edit<'a>>, AllocError>
         requires up { (fs_of self.now).volume.is_down ≡ false }
         requires parent { IsDirectoryOf (fs_of self.now).volume.tree new.directory parent.now }
         requires size { IsSizeOf new.kind new.size }
@@ -198,11 +223,9 @@ impl<D: Device> Fs<D> {
             (first_node new.kind new.size (shown_of shown)) }
         requires entries { AreEntries (shown_of shown).acl }
         requires stamp { stamp ≡ next_stamp (fs_of self.now).volume.run (fs_of self.now).changes }
-        // Its tests, in their order
-        ensures tests { IsCheckedInMemory (room_tests (fs_of self.now) (tree_with (fs_of self.now)
-            new.entry.directory new.entry.name.now
-            (first_node new.entry.kind new.entry.size (shown_of shown)) now)) result }
-        // Where none holds
+        requires room { first_refusal (room_tests (fs_of self.now) (tree_with (fs_of self.now)
+            new.directory new.name.now (first_node new.kind new.size (shown_of shown)) now))
+            ≡ None }
         ensures planned { IfOk result (λ edits. IsPlanned (fs_of self.now) edits.items) }
         ensures after { IfOk result (λ edits. edited_by (fs_of self.now).volume edits.items
             ≡ tree_with (fs_of self.now) new.entry.directory new.entry.name.now
@@ -210,12 +233,6 @@ impl<D: Device> Fs<D> {
     {
         let directory_shown = touched(self.alloc, parent, stamp, now)?;
         let edits = made_edits(self.alloc, new, stamp, shown, directory_shown)?;
-        if !self.volume.fits(&edits) {
-            return Err(NotDone::Status(Status::NoSpc));
-        }
-        if self.changes == u32::MAX {
-            return Err(NotDone::Status(Status::ServerFault));
-        }
         Ok(edits)
     }
 

@@ -374,15 +374,13 @@ impl<D: Device> Fs<D> {
         if is_full {
             return Err(NotDone::Status(Status::Delay));
         }
-        let Some(stamp) = self.next_stamp() else {
-            return Err(NotDone::Memory);
-        };
         let new = NewNode {
             directory: asked.directory,
             name: asked.name,
             kind: NodeKind::File,
             size: settings.size.unwrap_or(0),
         };
+        let stamp = self.stamp_for(directory, new)?;
         let shown = self.new_node(cred, directory, NodeKind::File, settings, stamp, now)?;
         let edits = self.plan_node(directory, new, shown, stamp, now)?;
         Ok(Planned {

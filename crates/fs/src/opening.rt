@@ -128,27 +128,22 @@ pub(crate) fn may_open(card: &Card, cred: &Cred, access: u32, is_cut: bool) -> b
 #[tactic(auto, unfolding(crate::specs::Views::fs_of))]
 impl<D: Device> Fs<D> {
     ghost use Rattle.std.specs.Prelude.{◌≡◌, ℕ, true, false, MatchOption, IsErrOf, OnOk, ◌≤◌, ◌^◌};
-    ghost use Rattle.model.specs.Open.{creates, file_opened};
+    ghost use Rattle.model.specs.Open.{creates};
     ghost use Rattle.model.specs.Operation.{OpenType};
-    ghost use Rattle.model.specs.Operation as operation;
-    ghost use Rattle.model.specs.Stamp.{next_stamp};
     ghost use Rattle.model.specs.Step.{State};
     ghost use Rattle.fs.specs.OnTree.{IsState};
     ghost use Rattle.fs.specs.Views.{fs_of};
-    ghost use Rattle.fs.specs.Opening.{IsOpeningCurrent, OpensCurrent, handle_tests, type_of};
+    ghost use Rattle.fs.specs.Opening.{IsFileToOpen, IsOpeningCurrent, OpensCurrent, handle_tests};
     ghost use Rattle.fs.specs.Operations.{IsOn};
 
     /// The number of the file that an OPEN by a name opens where nothing refuses it, by which a
     /// caller tells whether the table of opens has room: that which the name leads to, or that of
-    /// the file which is made. None only after the last change of the last run, whose stamp would
-    /// have more than 64 bits.
+    /// the file which is made. None where that would have more than 64 bits, after the last change
+    /// of the last run.
     pub fn file_to_open(&self, asked: Opening<'_>) -> Option<u64>
-        ensures { MatchOption result
-            (2 ^ 64 ≤ next_stamp (fs_of self.now).volume.run (fs_of self.now).changes)
-            (λ number. (state : State) (cred : _)
-            → IsOn (fs_of self.now) cred asked.entry.directory state → file_opened state
-            (operation.Opens (type_of asked.entry.how) (operation.ByName asked.entry.name.now))
-            ≡ number) }
+        ensures { MatchOption result ((number : ℕ) × (2 ^ 64 ≤ number)
+            × IsFileToOpen (fs_of self.now) asked.entry number)
+            (IsFileToOpen (fs_of self.now) asked.entry) }
     {
         match self.named_in(asked.directory, asked.name) {
             Some((_, number)) => Some(number),

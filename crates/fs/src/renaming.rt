@@ -324,9 +324,8 @@ impl<D: Device> Fs<D> {
         let (from, to) = (moving.from, moving.to);
         let target = to.names.get(asked.new_name);
         self.permit_rename(cred, asked, moving, target)?;
-        let Some(stamp) = self.next_stamp() else {
-            return Err(NotDone::Memory);
-        };
+        // where no stamp is left one that goes asks for the same room
+        let stamp = self.stamp_left().unwrap_or(moving.stamp);
         let from_shown = touched(self.alloc, from, stamp, now)?;
         let to_shown = touched(self.alloc, to, stamp, now)?;
         let edits = renamed_edits(

@@ -1,4 +1,4 @@
-use Rattle.std.proofs.Common.{◌+◌, ◌∙◌, ap, sym}
+use Rattle.std.proofs.Common.{◌+◌, ◌∙◌, refl, ap, sym}
 use Rattle.std.proofs.lemmas.Result.{err_from_is_err_and}
 use Rattle.layout.specs.Cards.{Card}
 use Rattle.model.specs.declared.not_done.NotDone.{NotDone}
@@ -9,11 +9,13 @@ use Rattle.fs.proofs.Creating.{early_refusal}
 use Rattle.fs.specs.Views.{fs_of}
 use Rattle.draft.specs.Nodes.{shown_of}
 use Rattle.model.specs.declared.node.NodeKind.TheVariants as kind
+use Rattle.model.specs.Stamp.{next_stamp}
 use Rattle.model.specs.Tree.{Tree}
 use Rattle.fs.specs.Operations.{IsNotDone, created, new_directory}
 use Rattle.fs.specs.Refusals.{fault_of}
 use Rattle.fs.proofs.CreatedLaws as laws
-use Rattle.fs.specs.Making.{first_node, room_tests, tree_with}
+use Rattle.fs.specs.Making.{first_node}
+use Rattle.fs.specs.Planned.{child_shown, list_by}
 use Rattle.volume.specs.Views.{held_of}
 use Rattle.fs.proofs.fs.Fs.plan_dir.Goals as goal
 
@@ -46,29 +48,42 @@ plan_node-requires-clause-made g c =
     let fs = fs_of c.args.self.now in
     laws.may fs (c.args.self.now.ready c.requires.up) c.args.self.now.volume.limited c.args.cred.now c.args.now c.args.asked.parent c.args.asked.name.now (given_of c.args.asked.attributes)
     c.in_ok-parent.parent.now c.in_ok-parent.ensures.parent c.in_ok-parent.ensures.fit c.in_ok-parent.ensures.tests
-    c.in-Some.stamp c.in_ok-parent.settings (shown_of c.in_ok-shown.shown) c.in_ok-parent.ensures.settings c.in_ok-parent.ensures.within c.in-Some.ensures c.in_ok-shown.ensures.shown
+    c.in_ok-stamp.stamp c.in_ok-parent.settings (shown_of c.in_ok-shown.shown) c.in_ok-parent.ensures.settings c.in_ok-parent.ensures.within c.in_ok-stamp.ensures.stamp c.in_ok-shown.ensures.shown
 
-pub returns-in_err-edits-clause-refused : goal.returns-in_err-edits-clause-refused
+pub returns-in_err-stamp-clause-refused : goal.returns-in_err-stamp-clause-refused
 unfolding fs_of held_of
-returns-in_err-edits-clause-refused g c state on =
-    let p = err_from_is_err_and c.from_residual-in_err-edits.result c.from_residual-in_err-edits.ensures.1 in
-    rw (p.1, p.2) (by_reason c.in_err-edits.field-0.0 c.in_err-edits.ensures.tests)
-  where
-    by_reason : (reason : NotDone) → IsRefusedBy (room_tests (fs_of c.args.self.now) (tree_with (fs_of c.args.self.now) c.args.asked.parent c.args.asked.name.now (first_node kind.Directory 0 (shown_of c.in_ok-shown.shown)) c.args.now)) reason
-        → IsNotDone (fs_of c.args.self.now) state c.args.now (new_directory c.args.asked.name.now (given_of c.args.asked.attributes)) (fault_of reason)
-    by_reason (refusal.Status reason) late =
-        let fs = fs_of c.args.self.now in
-        laws.late_refusal fs (c.args.self.now.ready c.requires.up) c.args.self.now.volume.limited c.args.cred.now c.args.now c.args.asked.parent c.args.asked.name.now (given_of c.args.asked.attributes)
-        c.in_ok-parent.parent.now c.in_ok-parent.ensures.parent c.in_ok-parent.ensures.fit c.in_ok-parent.ensures.tests
-        c.in-Some.stamp c.in_ok-parent.settings (shown_of c.in_ok-shown.shown) c.in_ok-parent.ensures.settings c.in_ok-parent.ensures.within c.in-Some.ensures c.in_ok-shown.ensures.shown state on reason late
-    by_reason refusal.Memory late = tt
+returns-in_err-stamp-clause-refused g c state on =
+    let fs = fs_of c.args.self.now in
+    let own = next_stamp fs.volume.run fs.changes in
+    let settings = c.in_ok-parent.settings in
+    let child = child_shown c.args.cred.now (list_by kind.Directory c.in_ok-parent.parent.now.fields.acl settings) own c.args.now in
+    let may = laws.may fs (c.args.self.now.ready c.requires.up) c.args.self.now.volume.limited c.args.cred.now c.args.now c.args.asked.parent c.args.asked.name.now (given_of c.args.asked.attributes)
+    c.in_ok-parent.parent.now c.in_ok-parent.ensures.parent c.in_ok-parent.ensures.fit c.in_ok-parent.ensures.tests own settings child c.in_ok-parent.ensures.settings c.in_ok-parent.ensures.within refl refl in
+    let told = c.in_err-stamp.ensures.tests (first_node kind.Directory 0 child) c.args.now may refl in
+    let p = err_from_is_err_and c.from_residual-in_err-stamp.result c.from_residual-in_err-stamp.ensures.1 in
+    rw (p.1, p.2) (laws.late_refusal fs (c.args.self.now.ready c.requires.up) c.args.self.now.volume.limited c.args.cred.now c.args.now c.args.asked.parent c.args.asked.name.now (given_of c.args.asked.attributes)
+    c.in_ok-parent.parent.now c.in_ok-parent.ensures.parent c.in_ok-parent.ensures.fit c.in_ok-parent.ensures.tests
+    own settings child c.in_ok-parent.ensures.settings c.in_ok-parent.ensures.within refl refl state on c.in_err-stamp.field-0.0 told)
+
+pub plan_node-requires-clause-room : goal.plan_node-requires-clause-room
+unfolding fs_of held_of
+plan_node-requires-clause-room g c =
+    let fs = fs_of c.args.self.now in
+    c.in_ok-stamp.ensures.tests (first_node kind.Directory 0 (shown_of c.in_ok-shown.shown)) c.args.now
+    (laws.may fs (c.args.self.now.ready c.requires.up) c.args.self.now.volume.limited c.args.cred.now c.args.now c.args.asked.parent c.args.asked.name.now (given_of c.args.asked.attributes)
+    c.in_ok-parent.parent.now c.in_ok-parent.ensures.parent c.in_ok-parent.ensures.fit c.in_ok-parent.ensures.tests
+    c.in_ok-stamp.stamp c.in_ok-parent.settings (shown_of c.in_ok-shown.shown) c.in_ok-parent.ensures.settings c.in_ok-parent.ensures.within c.in_ok-stamp.ensures.stamp c.in_ok-shown.ensures.shown) refl
 
 pub returns-clause-step : goal.returns-clause-step
 unfolding fs_of held_of
 returns-clause-step g c state on =
     let fs = fs_of c.args.self.now in
+    let room = c.in_ok-stamp.ensures.tests (first_node kind.Directory 0 (shown_of c.in_ok-shown.shown)) c.args.now
+    (laws.may fs (c.args.self.now.ready c.requires.up) c.args.self.now.volume.limited c.args.cred.now c.args.now c.args.asked.parent c.args.asked.name.now (given_of c.args.asked.attributes)
+    c.in_ok-parent.parent.now c.in_ok-parent.ensures.parent c.in_ok-parent.ensures.fit c.in_ok-parent.ensures.tests
+    c.in_ok-stamp.stamp c.in_ok-parent.settings (shown_of c.in_ok-shown.shown) c.in_ok-parent.ensures.settings c.in_ok-parent.ensures.within c.in_ok-stamp.ensures.stamp c.in_ok-shown.ensures.shown) refl in
     laws.goes_on fs (c.args.self.now.ready c.requires.up) c.args.self.now.volume.limited c.args.cred.now c.args.now c.args.asked.parent c.args.asked.name.now (given_of c.args.asked.attributes)
     c.in_ok-parent.parent.now c.in_ok-parent.ensures.parent c.in_ok-parent.ensures.fit c.in_ok-parent.ensures.tests
-    c.in-Some.stamp c.in_ok-parent.settings (shown_of c.in_ok-shown.shown) c.in_ok-parent.ensures.settings c.in_ok-parent.ensures.within c.in-Some.ensures c.in_ok-shown.ensures.shown state on
-    c.in_ok-edits.ensures.tests c.parent.inside.inode.change (ap (λ (it : Card). it.fields.change) c.parent.view_is)
-    ∙ ap (λ (t : Tree). created t (fs.changes + 1) state (given_of c.args.asked.attributes) (record { number = c.in-Some.stamp; before = c.parent.inside.inode.change })) (sym c.in_ok-edits.ensures.after)
+    c.in_ok-stamp.stamp c.in_ok-parent.settings (shown_of c.in_ok-shown.shown) c.in_ok-parent.ensures.settings c.in_ok-parent.ensures.within c.in_ok-stamp.ensures.stamp c.in_ok-shown.ensures.shown state on
+    room c.parent.inside.inode.change (ap (λ (it : Card). it.fields.change) c.parent.view_is)
+    ∙ ap (λ (t : Tree). created t (fs.changes + 1) state (given_of c.args.asked.attributes) (record { number = c.in_ok-stamp.stamp; before = c.parent.inside.inode.change })) (sym c.in_ok-edits.ensures.after)

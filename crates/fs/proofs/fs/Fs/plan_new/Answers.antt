@@ -1,4 +1,4 @@
-use Rattle.std.proofs.Common.{◌≡◌, ◌+◌, ◌∙◌, ap, sym, rules}
+use Rattle.std.proofs.Common.{◌≡◌, ◌+◌, ◌∙◌, refl, ap, sym, rules}
 use Rattle.std.proofs.lemmas.Result.{err_from_is_err_and}
 use Rattle.std.specs.Prelude.{unwrap_or}
 use Rattle.draft.specs.Nodes.{shown_of}
@@ -6,13 +6,15 @@ use Rattle.layout.specs.Cards.{Card}
 use Rattle.model.specs.declared.node.NodeKind.TheVariants as kind
 use Rattle.model.specs.Open.{given_by}
 use Rattle.model.specs.Operation.{Argument}
+use Rattle.model.specs.Stamp.{next_stamp}
 use Rattle.model.specs.Tree.{Tree}
 use Rattle.model.specs.declared.not_done.NotDone.{NotDone}
 use Rattle.model.specs.declared.not_done.NotDone.TheVariants as refusal
 use Rattle.settings.specs.Given.{IsRefusedBy}
 use Rattle.fs.specs.declared.opening.OpenEffect.TheVariants as effect
 use Rattle.fs.specs.Views.{fs_of}
-use Rattle.fs.specs.Making.{first_node, room_tests, tree_with}
+use Rattle.fs.specs.Making.{first_node}
+use Rattle.fs.specs.Planned.{child_shown, list_by}
 use Rattle.fs.specs.Opening.{after_open, file_tests, type_of}
 use Rattle.fs.specs.Operations.{IsNotDone}
 use Rattle.fs.specs.Refusals.{fault_of}
@@ -59,28 +61,36 @@ plan_node-requires-clause-made g c =
     let size : c.unwrap_or.result ≡ unwrap_or c.in_ok-settings.settings.size 0 = search rules in
     files.may fs (c.args.self.now.ready c.requires.up) c.args.self.now.volume.limited c.args.cred.now c.args.now c.args.asked.directory c.args.asked.name.now (given_by (type_of c.args.asked.how))
     c.args.directory.now c.requires.directory c.requires.allowed c.requires.lacks c.in_ok-settings.settings c.in_ok-settings.ensures.settings c.in_ok-settings.ensures.within c.unwrap_or.result size
-    c.in-Some.stamp (shown_of c.in_ok-shown.shown) c.in-Some.ensures c.in_ok-shown.ensures.shown
+    c.in_ok-stamp.stamp (shown_of c.in_ok-shown.shown) c.in_ok-stamp.ensures.stamp c.in_ok-shown.ensures.shown
 
-pub returns-in_err-edits-clause-refused : goal.returns-in_err-edits-clause-refused
+pub returns-in_err-stamp-clause-refused : goal.returns-in_err-stamp-clause-refused
 unfolding fs_of held_of
-returns-in_err-edits-clause-refused g c state arguments placed =
-    let p = err_from_is_err_and c.from_residual-in_err-edits.result c.from_residual-in_err-edits.ensures.1 in
-    rw (p.1, p.2) (by_reason c.in_err-edits.field-0.0 c.in_err-edits.ensures.tests)
-  where
-    by_reason : (reason : NotDone)
-        → IsRefusedBy (room_tests (fs_of c.args.self.now) (tree_with (fs_of c.args.self.now) c.args.asked.directory c.args.asked.name.now (first_node kind.File c.unwrap_or.result (shown_of c.in_ok-shown.shown)) c.args.now)) reason
-        → IsNotDone (fs_of c.args.self.now) state c.args.now (Argument.Open arguments) (fault_of reason)
-    by_reason (refusal.Status reason) bad =
-        let fs = fs_of c.args.self.now in
-        let size : c.unwrap_or.result ≡ unwrap_or c.in_ok-settings.settings.size 0 = search rules in
-        let made = files.made_is fs (c.args.self.now.ready c.requires.up) c.args.self.now.volume.limited c.args.cred.now c.args.now c.args.asked.directory c.args.asked.name.now (given_by (type_of c.args.asked.how))
-        c.args.directory.now c.requires.directory c.requires.allowed c.requires.lacks c.in_ok-settings.settings c.in_ok-settings.ensures.settings c.in_ok-settings.ensures.within c.unwrap_or.result size
-        c.in-Some.stamp (shown_of c.in_ok-shown.shown) c.in-Some.ensures c.in_ok-shown.ensures.shown in
-        let before = change_shown fs.volume.tree c.args.asked.directory c.args.directory.now c.requires.directory.node in
-        laws.not_made fs c.args.cred.now c.args.now c.args.asked c.args.is_full state arguments placed.on placed.opening placed.passed
-        (c.in_ok-settings.ensures.tests state placed.on.is_state) c.if-is_full.false c.requires.lacks
-        (first_node kind.File c.unwrap_or.result (shown_of c.in_ok-shown.shown)) made c.in-Some.stamp c.args.directory.now.fields.change c.in-Some.ensures before reason bad
-    by_reason refusal.Memory bad = tt
+returns-in_err-stamp-clause-refused g c state arguments placed =
+    let fs = fs_of c.args.self.now in
+    let own = next_stamp fs.volume.run fs.changes in
+    let size : c.unwrap_or.result ≡ unwrap_or c.in_ok-settings.settings.size 0 = search rules in
+    let child = child_shown c.args.cred.now (list_by kind.File c.args.directory.now.fields.acl c.in_ok-settings.settings) own c.args.now in
+    let may = files.may fs (c.args.self.now.ready c.requires.up) c.args.self.now.volume.limited c.args.cred.now c.args.now c.args.asked.directory c.args.asked.name.now (given_by (type_of c.args.asked.how))
+    c.args.directory.now c.requires.directory c.requires.allowed c.requires.lacks c.in_ok-settings.settings c.in_ok-settings.ensures.settings c.in_ok-settings.ensures.within c.unwrap_or.result size
+    own child refl refl in
+    let made = files.made_is fs (c.args.self.now.ready c.requires.up) c.args.self.now.volume.limited c.args.cred.now c.args.now c.args.asked.directory c.args.asked.name.now (given_by (type_of c.args.asked.how))
+    c.args.directory.now c.requires.directory c.requires.allowed c.requires.lacks c.in_ok-settings.settings c.in_ok-settings.ensures.settings c.in_ok-settings.ensures.within c.unwrap_or.result size
+    own child refl refl in
+    let before = change_shown fs.volume.tree c.args.asked.directory c.args.directory.now c.requires.directory.node in
+    let told = c.in_err-stamp.ensures.tests (first_node kind.File c.unwrap_or.result child) c.args.now may refl in
+    let p = err_from_is_err_and c.from_residual-in_err-stamp.result c.from_residual-in_err-stamp.ensures.1 in
+    rw (p.1, p.2) (laws.not_made fs c.args.cred.now c.args.now c.args.asked c.args.is_full state arguments placed.on placed.opening placed.passed
+    (c.in_ok-settings.ensures.tests state placed.on.is_state) c.if-is_full.false c.requires.lacks
+    (first_node kind.File c.unwrap_or.result child) made own c.args.directory.now.fields.change refl before c.in_err-stamp.field-0.0 told)
+
+pub plan_node-requires-clause-room : goal.plan_node-requires-clause-room
+unfolding fs_of held_of
+plan_node-requires-clause-room g c =
+    let fs = fs_of c.args.self.now in
+    let size : c.unwrap_or.result ≡ unwrap_or c.in_ok-settings.settings.size 0 = search rules in
+    c.in_ok-stamp.ensures.tests (first_node kind.File c.unwrap_or.result (shown_of c.in_ok-shown.shown)) c.args.now (files.may fs (c.args.self.now.ready c.requires.up) c.args.self.now.volume.limited c.args.cred.now c.args.now c.args.asked.directory c.args.asked.name.now (given_by (type_of c.args.asked.how))
+    c.args.directory.now c.requires.directory c.requires.allowed c.requires.lacks c.in_ok-settings.settings c.in_ok-settings.ensures.settings c.in_ok-settings.ensures.within c.unwrap_or.result size
+    c.in_ok-stamp.stamp (shown_of c.in_ok-shown.shown) c.in_ok-stamp.ensures.stamp c.in_ok-shown.ensures.shown) refl
 
 pub returns-clause-step : goal.returns-clause-step
 unfolding fs_of held_of
@@ -89,11 +99,14 @@ returns-clause-step g c state arguments placed =
     let size : c.unwrap_or.result ≡ unwrap_or c.in_ok-settings.settings.size 0 = search rules in
     let made = files.made_is fs (c.args.self.now.ready c.requires.up) c.args.self.now.volume.limited c.args.cred.now c.args.now c.args.asked.directory c.args.asked.name.now (given_by (type_of c.args.asked.how))
     c.args.directory.now c.requires.directory c.requires.allowed c.requires.lacks c.in_ok-settings.settings c.in_ok-settings.ensures.settings c.in_ok-settings.ensures.within c.unwrap_or.result size
-    c.in-Some.stamp (shown_of c.in_ok-shown.shown) c.in-Some.ensures c.in_ok-shown.ensures.shown in
+    c.in_ok-stamp.stamp (shown_of c.in_ok-shown.shown) c.in_ok-stamp.ensures.stamp c.in_ok-shown.ensures.shown in
+    let room = c.in_ok-stamp.ensures.tests (first_node kind.File c.unwrap_or.result (shown_of c.in_ok-shown.shown)) c.args.now (files.may fs (c.args.self.now.ready c.requires.up) c.args.self.now.volume.limited c.args.cred.now c.args.now c.args.asked.directory c.args.asked.name.now (given_by (type_of c.args.asked.how))
+    c.args.directory.now c.requires.directory c.requires.allowed c.requires.lacks c.in_ok-settings.settings c.in_ok-settings.ensures.settings c.in_ok-settings.ensures.within c.unwrap_or.result size
+    c.in_ok-stamp.stamp (shown_of c.in_ok-shown.shown) c.in_ok-stamp.ensures.stamp c.in_ok-shown.ensures.shown) refl in
     let before = change_shown fs.volume.tree c.args.asked.directory c.args.directory.now c.requires.directory.node ∙ sym (ap (λ (it : Card). it.fields.change) c.directory.view_is) in
     laws.is_made fs c.args.cred.now c.args.now c.args.asked c.args.is_full state arguments placed.on placed.opening placed.passed
     (c.in_ok-settings.ensures.tests state placed.on.is_state) c.if-is_full.false c.requires.lacks
-    (first_node kind.File c.unwrap_or.result (shown_of c.in_ok-shown.shown)) made c.in-Some.stamp c.directory.inside.inode.change c.in-Some.ensures before c.in_ok-edits.ensures.tests
+    (first_node kind.File c.unwrap_or.result (shown_of c.in_ok-shown.shown)) made c.in_ok-stamp.stamp c.directory.inside.inode.change c.in_ok-stamp.ensures.stamp before room
     ∙ ap (λ (t : Tree). after_open t (fs.changes + 1) state arguments (type_of c.args.asked.how)
-    (record { number = c.in-Some.stamp; directory = record { before = c.directory.inside.inode.change; after = c.in-Some.stamp }; effect = effect.Made }))
+    (record { number = c.in_ok-stamp.stamp; directory = record { before = c.directory.inside.inode.change; after = c.in_ok-stamp.stamp }; effect = effect.Made }))
     (sym c.in_ok-edits.ensures.after)

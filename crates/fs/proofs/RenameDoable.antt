@@ -1,0 +1,200 @@
+-- The edits of a rename can be done one after the other, under the next stamp or under that of the entry which goes, and there is room for the one where there is for the other.
+use Rattle.std.proofs.Common.{◌≡◌, ◌≤◌, ◌<◌, ◌+◌, ◌^◌, ◌++◌, ℕ, true, false, List, [], ◌∷◌, Option, Some, None, length, refl, sym, ap, ◌∙◌, arith, subst}
+use denote.Ref.{Bor}
+use Rattle.std.proofs.Math.Logic.{∥∥₁_elim}
+use Rattle.std.proofs.Props.{props}
+use Rattle.directory.specs.Records.{record_from}
+use Rattle.draft.specs.declared.nodes.Shown.{Shown}
+use Rattle.draft.specs.Nodes.{shown_of}
+use Rattle.edits.specs.declared.edit.Edit.{Edit}
+use Rattle.edits.specs.declared.edit.Edit.TheVariants as edit
+use Rattle.edits.specs.Sizes.{resized_by}
+use Rattle.edits.proofs.SizeLaws.{IsRising}
+use Rattle.edits.specs.Edits.{AreEntries, AreDoable, edits_of}
+use Rattle.edits.specs.Outlines.{blanked}
+use Rattle.edits.proofs.BlankLaws.{blanked-twice, directory-blanked, names-blanked}
+use Rattle.edits.proofs.DoableLaws.{doable_alike}
+use Rattle.model.specs.declared.acl.Cred.{Cred}
+use Rattle.model.specs.declared.limits.Limits.{Limits}
+use Rattle.model.specs.declared.status.Status.TheVariants as status
+use Rattle.model.specs.Charge.{fits}
+use Rattle.model.specs.Edit.{DropName, PutName, Show, done, edited, name_dropped, name_put, showing}
+use Rattle.model.specs.Edit as model
+use Rattle.model.specs.Keyed.{at, is_key, IsAbove}
+use Rattle.model.specs.Limits.{limits_of}
+use Rattle.model.specs.Refusal.{first_refusal}
+use Rattle.model.specs.Stamp.{next_stamp}
+use Rattle.model.specs.Step.{does}
+use Rattle.model.specs.Tree.{Tree, DirEntry, entry_of, names_at, is_directory_at}
+use Rattle.model.specs.WellFormed.{IsWellFormed}
+use Rattle.model.proofs.ChangeLaws.{names_in}
+use Rattle.model.proofs.EditLaws.{forest_of}
+use Rattle.model.proofs.KeyedLaws.{IsAbove-without}
+use Rattle.fs.specs.declared.renaming.Renaming.{Renaming}
+use Rattle.fs.specs.FileSystem.{FileSystem}
+use Rattle.fs.specs.Ready.{MayStand}
+use Rattle.fs.specs.Renaming.{arguments_of, is_itself}
+use Rattle.fs.specs.RenameTests.{moving_refusals, placing_refusals, IsTarget, replacing, moving_edits}
+use Rattle.fs.proofs.FlatLaws.{key-altered}
+use Rattle.fs.proofs.LastPlans.{above_flat}
+use Rattle.fs.proofs.PlacedLaws.{CanMove, can_move, moved_doable, stamp_goes, target_there}
+use Rattle.fs.proofs.RoomLaws.{above_altered, show_room}
+use Rattle.fs.proofs.SizesAlike.{AlikeEdits, same_room}
+use Rattle.fs.proofs.MakingPlans.{name_some, name_short}
+use Rattle.fs.proofs.RenamedLaws as laws
+
+module _ (fs : FileSystem) (formed : MayStand fs.volume fs.changes) (counted : fs.changes < 2 ^ 32) (limited : fs.volume.limits ≡ limits_of fs.volume.sectors fs.volume.limits.nodes)
+    (cred : Cred) (now : ℕ) (asked : Renaming) (old_stamp number : ℕ) (target : Option (ℕ × ℕ))
+    (found : entry_of asked.old_name.now (names_at fs.volume.tree asked.from) ≡ Some (record_from old_stamp asked.old_name.now number)) (under : IsTarget fs.volume.tree asked target)
+    (passed : first_refusal (moving_refusals fs.volume.limits fs.volume.tree asked.from asked.to (arguments_of asked)) ≡ None)
+    (placed : first_refusal (placing_refusals fs.volume.tree cred asked.from asked.to (arguments_of asked)) ≡ None)
+    (other : is_itself asked.from asked.to (arguments_of asked) ≡ false)
+    (from_shown to_shown : Shown) (from_entries : AreEntries (shown_of from_shown).acl) (to_entries : AreEntries (shown_of to_shown).acl) where
+  abbrev own : ℕ
+  own = next_stamp fs.volume.run fs.changes
+
+  abbrev flat : Tree
+  flat = blanked fs.volume.tree
+
+  pub places : laws.HasPlaces fs.volume.limits fs.volume.tree asked
+  places = laws.places fs formed counted limited cred now asked old_stamp number target found under passed placed other
+
+  can_by : IsWellFormed fs.volume.limits flat → CanMove (laws.cleared asked.to target flat) asked old_stamp number own
+  can_by well = can_move fs.volume.limits (laws.cleared asked.to target flat) own number old_stamp asked
+      (laws.free fs formed counted limited cred now asked old_stamp number target found under passed placed other well)
+
+  pub can_move_there : CanMove (laws.cleared asked.to target flat) asked old_stamp number own
+  can_move_there = record {
+    from_directory = ∥∥₁_elim formed.well_formed (Prim.hlevel props) (λ well. (can_by well).from_directory);
+    entry = ∥∥₁_elim formed.well_formed (Prim.hlevel props) (λ well. (can_by well).entry);
+    to_key = ∥∥₁_elim formed.well_formed (Prim.hlevel props) (λ well. (can_by well).to_key);
+    to_directory = ∥∥₁_elim formed.well_formed (Prim.hlevel props) (λ well. (can_by well).to_directory);
+    new_name = ∥∥₁_elim formed.well_formed (Prim.hlevel props) (λ well. (can_by well).new_name);
+    new_stamp = ∥∥₁_elim formed.well_formed (Prim.hlevel props) (λ well. (can_by well).new_stamp);
+  }
+
+  pub name_is_some : 0 < length asked.new_name.now
+  name_is_some = name_some fs.volume.limits asked.new_name.now places.allowed
+
+  pub name_is_short : length asked.new_name.now ≤ 255
+  name_is_short = (let short = name_short fs.volume.limits asked.new_name.now places.allowed in omega (arith, short, ap (λ (l : Limits). l.name_bytes) limited))
+
+  pub name_high : 0 < own
+  name_high = omega arith
+
+  -- which stamp it gets does not matter, where its directory has none such
+  abbrev pub IsOpen : (stamp : ℕ) → Type 0
+  IsOpen stamp = at stamp (names_at (done (DropName asked.from old_stamp) (laws.cleared asked.to target flat)) asked.to) ≡ None
+
+  can_at : (stamp : ℕ) → IsOpen stamp → CanMove (laws.cleared asked.to target flat) asked old_stamp number stamp
+  can_at stamp none = record {
+    from_directory = can_move_there.from_directory;
+    entry = can_move_there.entry;
+    to_key = can_move_there.to_key;
+    to_directory = can_move_there.to_directory;
+    new_name = can_move_there.new_name;
+    new_stamp = none;
+  }
+
+  moved : (stamp : ℕ) → 0 < stamp → IsOpen stamp → AreDoable (laws.cleared asked.to target flat) (moving_edits asked old_stamp number stamp from_shown to_shown)
+  moved stamp above none = moved_doable (laws.cleared asked.to target flat) stamp number old_stamp asked from_shown to_shown (can_at stamp none) above name_is_some name_is_short from_entries to_entries
+
+  to_flat : is_directory_at flat asked.to ≡ true
+  to_flat = directory-blanked fs.volume.tree asked.to ∙ places.to_directory
+
+  target_key : (one : ℕ × ℕ) → IsTarget fs.volume.tree asked (Some one) → is_key one.1 (done (DropName asked.to one.0) flat) ≡ true
+  target_key one there = ∥∥₁_elim formed.well_formed (Prim.hlevel props) (λ well.
+      key-altered (name_dropped one.0) flat asked.to one.1 ∙ target_there_by well)
+    where
+      target_there_by : IsWellFormed fs.volume.limits flat → is_key one.1 flat ≡ true
+      target_there_by well = target_there fs.volume.limits flat well own formed.before asked.from asked.to asked.old_name.now asked.new_name.now (record_from old_stamp asked.old_name.now number)
+          (directory-blanked fs.volume.tree asked.from ∙ places.from_directory) to_flat (ap (entry_of asked.old_name.now) (names-blanked fs.volume.tree asked.from) ∙ found)
+          (record_from one.0 asked.new_name.now one.1) (ap (entry_of asked.new_name.now) (names-blanked fs.volume.tree asked.to) ∙ there)
+          (names-blanked fs.volume.tree one.1 ∙ laws.empty_by fs.volume.tree cred asked one there placed)
+          (laws.differs fs formed counted limited cred now asked old_stamp number target found under passed placed other)
+
+  doable_by : (stamp : ℕ) (o : Option (ℕ × ℕ)) → IsTarget fs.volume.tree asked o → AreDoable (laws.cleared asked.to o flat) (moving_edits asked old_stamp number stamp from_shown to_shown)
+      → AreDoable flat (replacing asked.to asked.new_name o ++ moving_edits asked old_stamp number stamp from_shown to_shown)
+  doable_by stamp None there rest = rest
+  doable_by stamp (Some one) there rest = (
+    record { there = to_flat; number = one.1; named = ap (entry_of asked.new_name.now) (names-blanked fs.volume.tree asked.to) ∙ there },
+    (target_key one there, rest),
+  )
+
+  abbrev pub list_at : (stamp : ℕ) → List Edit
+  list_at stamp = replacing asked.to asked.new_name target ++ moving_edits asked old_stamp number stamp from_shown to_shown
+
+  pub doable_at : (stamp : ℕ) → 0 < stamp → IsOpen stamp → AreDoable fs.volume.tree (list_at stamp)
+  doable_at stamp above none = doable_alike flat fs.volume.tree (list_at stamp) (sym (blanked-twice fs.volume.tree)) (doable_by stamp target under (moved stamp above none))
+
+  -- the next stamp is such, and that of the entry which goes
+
+  pub doable_own : AreDoable fs.volume.tree (list_at own)
+  doable_own = doable_at own name_high can_move_there.new_stamp
+
+  goes_by : IsWellFormed fs.volume.limits flat → (0 < old_stamp) × IsOpen old_stamp
+  goes_by well = stamp_goes fs.volume.limits (laws.cleared asked.to target flat) own asked.from asked.to asked.old_name.now asked.new_name.now old_stamp
+      (record { name = asked.old_name.now; number = number }) (laws.free fs formed counted limited cred now asked old_stamp number target found under passed placed other well)
+
+  pub doable_old : AreDoable fs.volume.tree (list_at old_stamp)
+  doable_old = doable_at old_stamp (∥∥₁_elim formed.well_formed (Prim.hlevel props) (λ well. (goes_by well).0))
+      (∥∥₁_elim formed.well_formed (Prim.hlevel props) (λ well. (goes_by well).1))
+
+  -- What the edits ask of a tree of which the numbers rise
+
+  pub rising_by : IsWellFormed fs.volume.limits flat → IsRising fs.volume.tree
+  rising_by well = record {
+    above = above_flat 0 fs.volume.tree well.numbered;
+    names = λ place. subst (IsAbove 0) (names-blanked fs.volume.tree place) ((names_in fs.volume.limits flat (forest_of fs.volume.limits flat well) place).rising);
+  }
+
+-- As much room is left under any two stamps
+
+put_alike : (to stamp other number : ℕ) (name : Bor (List ℕ)) (size : _) → resized_by (edit.PutName to stamp name number) size ≡ resized_by (edit.PutName to other name number) size
+put_alike to stamp other number name None = refl
+put_alike to stamp other number name (Some size) = refl
+
+alike_by : (to : ℕ) (name : Bor (List ℕ)) (target : Option (ℕ × ℕ)) (rest others : List Edit) → AlikeEdits rest others → AlikeEdits (replacing to name target ++ rest) (replacing to name target ++ others)
+alike_by to name None rest others alike = alike
+alike_by to name (Some one) rest others alike =
+    (record { number = refl; resized = λ size. refl }, (record { number = refl; resized = λ size. refl }, alike))
+
+pub moved_room : (limits : Limits) (tree : Tree) (asked : Renaming) (old_stamp number stamp other : ℕ) (target : Option (ℕ × ℕ)) (from_shown to_shown from_other to_other : Shown) → IsRising tree
+    → AreDoable tree (replacing asked.to asked.new_name target ++ moving_edits asked old_stamp number stamp from_shown to_shown)
+    → AreDoable tree (replacing asked.to asked.new_name target ++ moving_edits asked old_stamp number other from_other to_other)
+    → fits limits (edited (edits_of (replacing asked.to asked.new_name target ++ moving_edits asked old_stamp number stamp from_shown to_shown)) tree)
+    ≡ fits limits (edited (edits_of (replacing asked.to asked.new_name target ++ moving_edits asked old_stamp number other from_other to_other)) tree)
+moved_room limits tree asked old_stamp number stamp other target from_shown to_shown from_other to_other rising can could =
+    same_room limits tree (replacing asked.to asked.new_name target ++ moving_edits asked old_stamp number stamp from_shown to_shown)
+    (replacing asked.to asked.new_name target ++ moving_edits asked old_stamp number other from_other to_other)
+    (alike_by asked.to asked.new_name target (moving_edits asked old_stamp number stamp from_shown to_shown) (moving_edits asked old_stamp number other from_other to_other) (
+      record { number = refl; resized = λ size. refl },
+      (
+        record { number = refl; resized = put_alike asked.to stamp other number asked.new_name },
+        (record { number = refl; resized = λ size. refl }, (record { number = refl; resized = λ size. refl }, tt)),
+      ),
+    ))
+    can could rising
+
+-- and what both directories show does not matter either
+
+shows_room : (limits : Limits) (tree : Tree) (from to : ℕ) (one two three four : model.Shown) → IsAbove 0 tree
+    → fits limits (done (Show to two) (done (Show from one) tree)) ≡ fits limits (done (Show to four) (done (Show from three) tree))
+shows_room limits tree from to one two three four above =
+    show_room limits (done (Show from one) tree) to two (above_altered (showing one) tree from above) ∙ show_room limits tree from one above
+    ∙ sym (show_room limits (done (Show from three) tree) to four (above_altered (showing three) tree from above) ∙ show_room limits tree from three above)
+
+above_cleared : (tree : Tree) (to : ℕ) (target : Option (ℕ × ℕ)) → IsAbove 0 tree → IsAbove 0 (laws.cleared to target tree)
+above_cleared tree to None above = above
+above_cleared tree to (Some one) above = IsAbove-without (done (DropName to one.0) tree) one.1 0 (above_altered (name_dropped one.0) tree to above)
+
+pub shown_room : (limits : Limits) (tree : Tree) (asked : Renaming) (old_stamp stamp : ℕ) (put : DirEntry) (target : Option (ℕ × ℕ)) (one two three four : model.Shown) → IsAbove 0 tree
+    → fits limits (edited (laws.dropping asked.to target ++ (DropName asked.from old_stamp ∷ PutName asked.to stamp put ∷ Show asked.from one ∷ Show asked.to two ∷ [])) tree)
+    ≡ fits limits (edited (laws.dropping asked.to target ++ (DropName asked.from old_stamp ∷ PutName asked.to stamp put ∷ Show asked.from three ∷ Show asked.to four ∷ [])) tree)
+shown_room limits tree asked old_stamp stamp put target one two three four above =
+    let cleared = laws.cleared asked.to target tree in
+    let first = done (DropName asked.from old_stamp) cleared in
+    let rises = above_altered (name_put stamp put) first asked.to (above_altered (name_dropped old_stamp) cleared asked.from (above_cleared tree asked.to target above)) in
+    ap (fits limits) (laws.cleared_is asked.to target (DropName asked.from old_stamp ∷ PutName asked.to stamp put ∷ Show asked.from one ∷ Show asked.to two ∷ []) tree)
+    ∙ shows_room limits (done (PutName asked.to stamp put) first) asked.from asked.to one two three four rises
+    ∙ sym (ap (fits limits) (laws.cleared_is asked.to target (DropName asked.from old_stamp ∷ PutName asked.to stamp put ∷ Show asked.from three ∷ Show asked.to four ∷ []) tree))
