@@ -1,6 +1,6 @@
 //! OPEN of a file by its name (RFC 8881, section 18.16, `CLAIM_NULL`).
 
-ghost use Rattle.std.specs.Prelude.{◌≡◌, ◌≤◌, IsTrue, length};
+ghost use Rattle.std.specs.Prelude.{◌≡◌, ◌≤◌, ◌<◌, ◌^◌, IsTrue, length};
 ghost use Rattle.fs.specs.Opening.{set_by, type_of};
 ghost use Rattle.model.specs.Open.{given_by, size_alone};
 ghost use Rattle.settings.specs.Given.{given_of};
@@ -24,13 +24,14 @@ use wire::{Attributes, Bitmap, OpenArguments, OpenType, Operation};
 const SIZE: u32 = 0x10;
 
 impl Running<'_> {
-    ghost use Rattle.std.specs.Prelude.{◌≡◌, false, IfOk, OnErr};
+    ghost use Rattle.std.specs.Prelude.{◌≡◌, ◌≤◌, ◌^◌, ℕ, false, IfOk, OnErr};
+    ghost use Rattle.fs.specs.Opening.{IsFileToOpen};
     ghost use Rattle.fs.specs.Views.{fs_of, Alters};
     ghost use Rattle.model.specs.Operation as operations;
     ghost use Rattle.model.specs.Session.{Table};
     ghost use Rattle.opens.specs.Views.{opens_of};
     ghost use Rattle.wire.specs.ArgumentViews.{open_type_view, open_view, opening_view};
-    ghost use Rattle.compound.specs.Beside.{HasOpenRoom};
+    ghost use Rattle.compound.specs.Beside.{AsksFor, HasOpenRoom};
     ghost use Rattle.compound.specs.Operates.{ChangesTreeAndOpens, IsAnswered, IsKept};
     ghost use Rattle.compound.specs.States.{shared};
     ghost use Rattle.compound.specs.Views.{in_progress_of};
@@ -77,7 +78,7 @@ impl Running<'_> {
             how: how_of(how),
         };
         let Some(number) = fs.file_to_open(opening) else {
-            return Err(Fault::Memory);
+            return self.refuse_last_open(fs, opens, now, arguments, how, opening);
         };
         let asked = self.asked_open(arguments, number)?;
         opens.reserve()?;
@@ -87,6 +88,49 @@ impl Running<'_> {
             Ok(made) => {
                 let change = change_info(made.directory.before, made.directory.after);
                 Ok(self.give_open(opens, asked, change, set_by(made.effect, how)))
+            }
+            Err(fault) => self.tell_fault(Operation::Open, fault),
+        }
+    }
+
+    /// An open that would make its file after the last change of the last run: something refuses
+    /// it, at the latest that no stamp is left. Its file has no number of 64 bits, so it joins no
+    /// other open.
+    fn refuse_last_open<D: Device>(
+        &self,
+        fs: &mut Fs<D>,
+        opens: &Opens,
+        now: u64,
+        arguments: &OpenArguments<'_>,
+        how: &OpenType<'_>,
+        opening: Opening<'_>,
+    ) -> Result<Operated, Fault>
+        // It is up, in the run in which the request began
+        requires up { (fs_of fs.old).volume.is_down ≡ false }
+        requires run { (in_progress_of self.now).context.run ≡ (fs_of fs.old).volume.run }
+        requires asked { AsksFor (in_progress_of self.now) (open_view arguments.now)
+            (open_type_view how.now) opening }
+        requires high { (number : ℕ) × (2 ^ 64 ≤ number)
+            × IsFileToOpen (fs_of fs.old) opening number }
+        // What it answers
+        ensures gives { D.keeps_word → IfOk result
+            (ChangesTreeAndOpens (fs_of fs.old) (fs_of fs.new)
+            (opens_of opens.now) (opens_of opens.now) now (in_progress_of self.now)
+            (operations.Argument.Open (open_view arguments.now))) }
+        ensures answered { IfOk result (IsAnswered (in_progress_of self.now)) }
+        ensures kept { (table : Table) → IfOk result (IsKept table) }
+        // In any case
+        ensures volume { (table : Table) → Alters fs.old fs.new (OperationGives
+            (shared (fs_of fs.old) table (opens_of opens.now)) (in_progress_of self.now) now
+            (operations.Argument.Open (open_view arguments.now))) (ending result) }
+    {
+        let is_full = opens.has_no_room(fs.limits().opens);
+        let room = self.open_room(how);
+        match fs.open_file(&self.cred, now, opening, is_full, room) {
+            // the file that is made would have such a number
+            Ok(made) => {
+                has_64_bits(made.number);
+                unreachable!()
             }
             Err(fault) => self.tell_fault(Operation::Open, fault),
         }
@@ -103,6 +147,11 @@ impl Running<'_> {
         }
     }
 }
+
+/// Says what the type of a number does.
+fn has_64_bits(number: u64)
+    ensures { number < 2 ^ 64 }
+{}
 
 /// How the file is opened, as a file system is asked.
 fn how_of<'a>(how: &'a OpenType<'a>) -> How<'a>

@@ -25,7 +25,6 @@ use Rattle.compound.specs.declared.operated.Operated.{Operated}
 use Rattle.compound.proofs.Changing.{told_gives, told_changes, told_spelled}
 use Rattle.compound.proofs.OpenLaws.{on_tree}
 use Rattle.compound.proofs.OpenNamedLaws.{is_opening, open_makes, open_up, opens_to, sized}
-use Rattle.compound.proofs.QuietLaws.{leaves_all}
 use Rattle.compound.proofs.Rooms.{gives_refusal}
 use Rattle.compound.proofs.Trees.{is_on, wants}
 use Rattle.compound.proofs.VolumeLaws.{memory_changes, refusal_changes}
@@ -55,9 +54,6 @@ returns-in-Err-clause-volume g c = λ table.
     (gives_refusal c.args.now (shared fs table opens) (shared fs table opens) request kind 18 _ (wants c.args.now fs table opens request kind refl c.in-Err.ensures.err.1)))
 
 -- Where there is no memory
-
-pub returns-in_default-clause-volume : goal.returns-in_default-clause-volume
-returns-in_default-clause-volume g c = λ table. leaves_all g.D.Device.keeps_word _ _ _ _ _ refl refl
 
 pub returns-in_err-asked-clause-volume : goal.returns-in_err-asked-clause-volume
 returns-in_err-asked-clause-volume g c = λ table.
