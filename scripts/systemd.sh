@@ -52,8 +52,12 @@ qemu-system-x86_64 -machine accel=tcg -cpu max -m 1536 -display none -monitor no
     -append 'console=ttyS0 quiet loglevel=0 systemd.show_status=0 systemd.unit=work.service' \
     < /dev/null > qemu.txt 2>&1 &
 machine=$!
+# a machine that has told all may still take minutes to go off
 for ((seconds = 0; seconds < limit; seconds++)); do
     jobs -pr | grep -qx "$machine" || break
+    if grep -q '^== ends' console; then
+        break
+    fi
     sleep 1
 done
 sed -E 's/\r*$//; 0,/== begins$/d; /^== ends$/,$d' console | tee told.txt
