@@ -127,7 +127,7 @@ fn first_unfit(kind: NodeKind, acl: &[Ace]) -> Option<usize>
 }
 
 /// The index of the first entry that a client may not set on a node of this kind: one of a right
-/// that there is not, one of flags that the kind may not have, or the 33rd. Takes no memory.
+/// that there is not, one of flags that the kind may not have, or the 65th. Takes no memory.
 ///
 /// A file's entries have no flags. A directory's have NO_PROPAGATE or INHERIT_ONLY only beside
 /// FILE_INHERIT or DIRECTORY_INHERIT, and no other flag than these four: that a number is a group's

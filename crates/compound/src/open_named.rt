@@ -93,9 +93,9 @@ impl Running<'_> {
         }
     }
 
-    /// An open that would make its file after the last change of the last run: something refuses
-    /// it, at the latest that no stamp is left. Its file has no number of 64 bits, so it joins no
-    /// other open.
+    /// An open of a name that leads to no file, after the last change of the last run: something
+    /// refuses it, at the latest that no stamp is left. A file that it made would have a number of
+    /// 65 bits, so it joins no other open.
     fn refuse_last_open<D: Device>(
         &self,
         fs: &mut Fs<D>,
@@ -129,7 +129,7 @@ impl Running<'_> {
         match fs.open_file(&self.cred, now, opening, is_full, room) {
             // the file that is made would have such a number
             Ok(made) => {
-                has_64_bits(made.number);
+                tell_64_bits(made.number);
                 unreachable!()
             }
             Err(fault) => self.tell_fault(Operation::Open, fault),
@@ -149,7 +149,7 @@ impl Running<'_> {
 }
 
 /// Says what the type of a number does.
-fn has_64_bits(number: u64)
+fn tell_64_bits(number: u64)
     ensures { number < 2 ^ 64 }
 {}
 

@@ -233,8 +233,8 @@ fn new_size(kind: NodeKind, size: u64) -> Option<Size>
     }
 }
 
-/// What the nodes of the tree take with one more, of this size, that has a name in a directory of
-/// which this is the size.
+/// What the nodes of the tree take with one more of the size `child`, which has a name in a
+/// directory that had the size `parent` before.
 fn taken_with(table: &Table, parent: Option<Size>, child: Option<Size>) -> Taken
     requires cards { (nodes : ℕ) × (mark : ℕ → ℕ) × AreCards nodes mark table.now }
     requires parent { (number : ℕ) × (parent ≡ size_at (outline_of table.now) number) }

@@ -114,7 +114,7 @@ module _ (fs : FileSystem) (formed : MayStand fs.volume fs.changes) (counted : f
       (plans.planned fs formed counted limited now number spelled node (by_stamp card.names) parent.node.there content of child_shown parent_shown new_shown size has may entries parent_entries
       (ap (λ (l : List Edit). fits fs.volume.limits (edited_by fs.volume l)) (sym list_is) ∙ fit) left)
 
-  -- .. where the tests of room and stamps hold
+  -- .. where none of the tests of room and stamps holds
   pub planned_where : first_refusal (room_tests fs (tree_with fs number spelled.now (first_node of size (shown_of child_shown)) now)) ≡ None → IsPlanned fs edits
   planned_where passed =
       let wanted = tree_with fs number spelled.now (first_node of size (shown_of child_shown)) now in

@@ -207,7 +207,8 @@ impl<D: Device> Fs<D> {
         }
     }
 
-    /// The change that makes a node below a directory, where the tests of room and stamps hold.
+    /// The change that makes a node below a directory, where none of the tests of room and stamps
+    /// holds.
     pub(crate) fn plan_node<'a>(
         &self,
         parent: &Card,

@@ -324,7 +324,7 @@ impl<D: Device> Fs<D> {
         let (from, to) = (moving.from, moving.to);
         let target = to.names.get(asked.new_name);
         self.permit_rename(cred, asked, moving, target)?;
-        // where no stamp is left one that goes asks for the same room
+        // where none is left: the stamp of the entry that goes, whose edits need as much room
         let stamp = self.stamp_left().unwrap_or(moving.stamp);
         let from_shown = touched(self.alloc, from, stamp, now)?;
         let to_shown = touched(self.alloc, to, stamp, now)?;

@@ -47,7 +47,7 @@ unreachable-requires g c =
     let state : State = record { tree = fs.volume.tree; changes = fs.changes; opens = opens; context = request.context } in
     let on = is_on fs request c.args.opening.directory state c.requires.run c.requires.asked.has c.requires.asked.at (record { tree_is = refl; changes_is = refl; context_is = refl }) in
     let same = sym (c.requires.high.2 state request.context.cred on) ∙ c.in-Ok.ensures.opened.number_is state request.context.cred on in
-    omega (arith, c.requires.high.1, same, c.has_64_bits.ensures)
+    omega (arith, c.requires.high.1, same, c.tell_64_bits.ensures)
 
 -- where it is refused
 
