@@ -218,7 +218,7 @@ impl Names {
 fn clone_entries(alloc: Global, entries: &[Entry]) -> Result<Vec<Entry>, AllocError>
     ensures { IfOk result (λ copy. map record_of copy.items ≡ map record_of entries.now) }
 {
-    let mut copy = Vec::new(alloc);
+    let mut copy = Vec::with_capacity(alloc, entries.len())?;
     for entry in entries {
         copy.push(entry.try_clone()?)?;
     }

@@ -1,6 +1,6 @@
 //! The updates so far.
 
-ghost use Rattle.std.specs.Prelude.{◌≡◌, ◌≤◌, ◌<◌, ◌+◌, List, [], Option, Some, None, length, IfOk, IfSome, IfNone, OnOk, OnErr, IsTrue, is_err};
+ghost use Rattle.std.specs.Prelude.{◌≡◌, ◌≤◌, ◌<◌, ◌+◌, ◌++◌, ◌∷◌, List, [], Option, Some, None, length, IfOk, IfSome, IfNone, OnOk, OnErr, IsTrue, is_err};
 ghost use Rattle.disk.specs.Moments.{Image, put, applied};
 ghost use Rattle.disk.specs.declared.update.Update.{Update};
 ghost use Rattle.layout.specs.Health.{Reads};
@@ -10,6 +10,9 @@ use disk::{SECTOR, Update};
 use layout::sectors::{ReadFault, Sectors};
 use std::alloc::{AllocError, Global};
 use std::marker::Model;
+
+/// For so many updates there is room from the first one on: a WRITE of whole blocks has three.
+const ROOM: usize = 8;
 
 /// Updates of different sectors. Contracts see their list.
 #[derive(Drop)]
@@ -81,10 +84,11 @@ impl Updates {
                 };
             }
             None => {
-                self.list.push(Update {
+                let update = Update {
                     target,
                     content: *content,
-                })?;
+                };
+                push(&mut self.list, update)?;
             }
         }
         Ok(())
@@ -97,6 +101,18 @@ impl Updates {
         let Updates { list } = self;
         list
     }
+}
+
+/// Puts an update after the others. The first one takes room for most transactions.
+fn push(list: &mut Vec<Update>, update: Update) -> Result<(), AllocError>
+    ensures items { OnOk result (list.new.items ≡ list.old.items ++ update ∷ []) }
+    ensures err { OnErr result (list.new.items ≡ list.old.items) }
+{
+    if list.is_empty() {
+        list.reserve(ROOM)?;
+    }
+    list.push(update)?;
+    Ok(())
 }
 
 /// Where the update of a sector stands.

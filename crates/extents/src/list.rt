@@ -47,7 +47,7 @@ impl BlockList {
     pub fn try_clone(&self) -> Result<BlockList, AllocError>
         ensures { IfOk result (λ list. list ≡ self.now) }
     {
-        let sectors = self.sectors.clone()?;
+        let sectors = Vec::from_slice(*self.sectors.allocator(), &self.sectors)?;
         Ok(BlockList { sectors })
     }
 

@@ -86,7 +86,7 @@ impl Bitmap {
         ensures { IfOk result (λ places. places ≡ self.now) }
     {
         Ok(Bitmap {
-            bits: self.bits.clone()?,
+            bits: Vec::from_slice(*self.bits.allocator(), &self.bits)?,
             count: self.count,
             lowest: self.lowest,
             free: self.free,
