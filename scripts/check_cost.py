@@ -52,7 +52,7 @@ def tell_edit(rt, crate, name, seed, room):
     if why:
         return print(f"{name}: {why}")
     over, stages, before = f"{room}/{name}", f"{room}/stages", used()
-    rt.linked(seed, over)
+    shutil.copytree(seed, over)
     ran = rt.checked(crate, texts, ["--jobs", "1", "--stage-times", stages], over)
     with open(stages) as it:
         times = re.findall(r"^stage (\S+) (\S+)", it.read(), re.M)
@@ -64,7 +64,7 @@ def tell_edit(rt, crate, name, seed, room):
 
 def main(name, *edits):
     rt = load_rt()
-    crate = next(it for it in rt.crates_of(os.getcwd()) if it.name == name)
+    crate = next(it for it in rt.rtlib.crates_below(os.getcwd()) if it.name == name)
     with tempfile.TemporaryDirectory() as room:
         seed, before = f"{room}/seed", used()
         os.mkdir(seed)
