@@ -1,149 +1,216 @@
-//! Records of calls as a client sends them (RFC 5531, sections 9 and 11; RFC 8881, section 16.2).
+//! Calls of a file system, made again and again.
 
-ghost use Rattle.std.specs.Prelude.{◌≤◌, length};
-ghost use Rattle.wire_client.specs.ArgumentFits.{ArgumentFits};
-
-use crate::replies::reply_of;
-use anyhow::anyhow;
-use client::{Client, ClientFault};
-use model::acl::{Cred, Gids};
-use std::alloc::Global;
-use wire::{
-    Answer, Argument, Bitmap, CreateSessionAnswer, CreateSessionArguments, ExchangeIdAnswer,
-    ExchangeIdArguments, StableHow, StateId, WriteArguments,
+use crate::volumes::{
+    Directory, NOW, SizedFile, TRANSFER_BYTES, Tree, caller, make_file, mount, name_of, write,
 };
-use wire_client::CHANNEL;
+use crate::work::{Undone, Work};
+use disk::Device;
+use fs::{FsFault, Listing, Renaming};
+use std::alloc::Global;
+use std::fmt;
 
-/// How many calls a stream has.
-pub const CALLS: u32 = 32;
-/// The bytes of a WRITE.
-pub const DATA_BYTES: usize = 8192;
-/// The filehandle that each call puts.
-const HANDLE: [u8; 8] = [0, 0, 0, 0, 0, 0, 0, 9];
-/// The attributes that GETATTR asks for: type, change, size, fsid and fileid; mode, links, owner,
-/// group, space and times.
-pub const ASKED: [u32; 2] = [0x0010_011a, 0x0030_a03a];
+/// How often a call is made in a turn: even, so that the last rename gives a file its own name.
+const CALLS: u64 = 64;
+/// How many files are made in a directory and removed.
+const MADE: u32 = 4;
+/// The bytes of a page that has room for each name of the directory with few files.
+const PAGE_BYTES: u32 = 512;
 
-/// Calls of one kind, each after a SEQUENCE and a PUTFH.
-#[derive(Clone, Copy, Debug)]
-pub enum Kind {
-    /// WRITE of 8,192 bytes.
-    Write,
-    /// GETATTR.
-    GetAttr,
+/// A call that is measured.
+#[derive(Clone, Copy)]
+pub enum Call {
+    /// WRITE over the last 8,192 bytes of a file, kept before the answer or not.
+    Write { file: SizedFile, is_stable: bool },
+    /// READ of the last 8,192 bytes of a file.
+    Read(SizedFile),
+    /// LOOKUP of the last file of a directory.
+    LookUp(Directory),
+    /// RENAME of the last file of a directory within it, and back.
+    Rename(Directory),
+    /// READDIR of all names of the directory with few files.
+    List,
 }
 
-/// Records, one after the other.
-#[derive(Drop)]
-pub struct Stream {
-    pub bytes: Vec<u8>,
-    /// The bytes of each record, its header counted.
-    pub record_size: usize,
-}
-
-/// `CALLS` records, which are the same one, with a call of this kind.
-pub fn stream_of(alloc: Global, kind: Kind) -> anyhow::Result<Stream> {
-    let mut client = client_of(alloc)?;
-    let data = [0xa5; DATA_BYTES];
-    let asked = [Argument::PutFh(&HANDLE), argument_of(kind, &data)];
-    done(client.request(&asked))?;
-    let record = done(client.retry())?;
-    let mut bytes = Vec::new(alloc);
-    for _ in 0..CALLS {
-        bytes.extend_from_slice(record)?;
-    }
-    Ok(Stream {
-        bytes,
-        record_size: record.len(),
-    })
-}
-
-/// A client of two further groups, which was given a session.
-fn client_of(alloc: Global) -> anyhow::Result<Client> {
-    let mut gids = Gids::new();
-    gids.push(1000);
-    gids.push(27);
-    let cred = Cred {
-        uid: 1000,
-        gid: 1000,
-        gids,
-    };
-    let mut client = done(Client::new(alloc, &cred, b"", 1))?;
-    done(client.request(&[exchange_id()]))?;
-    let known = ExchangeIdAnswer {
-        client: 1,
-        sequence: 1,
-        flags: 0,
-        major_id: b"",
-        scope: b"",
-    };
-    let reply = reply_of(alloc, 1, Answer::ExchangeId(known))?;
-    done(client.reply(&reply))?;
-    done(client.request(&[create_session(alloc)]))?;
-    let session = CreateSessionAnswer {
-        session: [7; 16],
-        sequence: 1,
-        flags: 0,
-        fore: CHANNEL,
-        back: CHANNEL,
-    };
-    let reply = reply_of(alloc, 2, Answer::CreateSession(session))?;
-    done(client.reply(&reply))?;
-    Ok(client)
-}
-
-/// What the client answered, without what only it can tell of a refusal.
-fn done<T: Drop>(answered: Result<T, ClientFault<'_>>) -> anyhow::Result<T> {
-    match answered {
-        Ok(answered) => Ok(answered),
-        Err(_) => Err(anyhow!("the client refused a call")),
-    }
-}
-
-fn exchange_id() -> Argument<'static>
-    ensures { ArgumentFits result }
-{
-    Argument::ExchangeId(ExchangeIdArguments {
-        verifier: [0; 8],
-        owner: b"bench",
-        flags: 0,
-        implementation: None,
-    })
-}
-
-fn create_session(alloc: Global) -> Argument<'static>
-    ensures { ArgumentFits result }
-{
-    Argument::CreateSession(CreateSessionArguments {
-        client: 1,
-        sequence: 1,
-        flags: 0,
-        fore: CHANNEL,
-        back: CHANNEL,
-        callback_program: 0,
-        security: Vec::new(alloc),
-    })
-}
-
-fn argument_of(kind: Kind, bytes: &[u8]) -> Argument<'_>
-    requires { length bytes.now ≤ DATA_BYTES }
-    ensures { ArgumentFits result }
-{
-    match kind {
-        Kind::Write => Argument::Write(WriteArguments {
-            state: StateId {
-                seqid: 1,
-                other: [5; 12],
-            },
-            offset: 0,
-            stable: StableHow::FileSync,
-            data: bytes,
-        }),
-        Kind::GetAttr => {
-            let mut asked = Bitmap::new();
-            asked.push(ASKED[0]);
-            asked.push(ASKED[1]);
-            Argument::GetAttr(asked)
+impl fmt::Display for Call {
+    fn fmt<W: fmt::Write>(&self, f: &mut fmt::Formatter<W>) -> fmt::Result {
+        match self {
+            Call::Write { file, is_stable } => {
+                let kept = if *is_stable { " and kept" } else { "" };
+                let size = file.bytes;
+                write!(f, "8192 bytes written{kept} in a file of {size} bytes")
+            }
+            Call::Read(file) => {
+                let size = file.bytes;
+                write!(f, "8192 bytes read of a file of {size} bytes")
+            }
+            Call::LookUp(directory) => {
+                let names = directory.files;
+                write!(f, "file looked up among {names} names")
+            }
+            Call::Rename(directory) => {
+                let names = directory.files;
+                write!(f, "file renamed among {names} names")
+            }
+            Call::List => f.write_str("page of 4 names listed"),
         }
+    }
+}
+
+/// A call on a volume.
+#[derive(Drop)]
+pub struct Calls<D: Device> {
+    pub tree: Tree<D>,
+    pub call: Call,
+    /// What is read.
+    read: Vec<u8>,
+}
+
+impl<D: Device> Calls<D> {
+    pub fn new(alloc: Global, tree: Tree<D>) -> anyhow::Result<Calls<D>> {
+        Ok(Calls {
+            tree,
+            call: Call::List,
+            read: Vec::with_capacity(alloc, TRANSFER_BYTES)?,
+        })
+    }
+
+    fn write(&mut self, file: SizedFile, is_stable: bool) -> Result<(), FsFault> {
+        let offset = last_offset(file);
+        write(
+            &mut self.tree.fs,
+            file.number,
+            offset,
+            &self.tree.bytes,
+            is_stable,
+        )
+    }
+
+    fn read(&mut self, file: SizedFile) -> Result<(), FsFault> {
+        self.read.clear();
+        let offset = last_offset(file);
+        let count = TRANSFER_BYTES as u32;
+        self.tree.fs.read(
+            &caller(),
+            file.number,
+            Ok(()),
+            offset,
+            count,
+            &mut self.read,
+        )?;
+        Ok(())
+    }
+
+    fn look_up(&self, directory: Directory) -> Result<(), FsFault> {
+        let name = name_of(directory.files.saturating_sub(1));
+        self.tree.fs.lookup(&caller(), directory.number, &name)?;
+        Ok(())
+    }
+
+    fn rename(&mut self, directory: Directory, is_back: bool) -> Result<(), FsFault> {
+        let own = name_of(directory.files.saturating_sub(1));
+        let other = name_of(directory.files);
+        let (old_name, new_name) = if is_back { (other, own) } else { (own, other) };
+        let asked = Renaming {
+            from: directory.number,
+            old_name: &old_name,
+            to: directory.number,
+            new_name: &new_name,
+        };
+        self.tree.fs.rename(&caller(), NOW, asked, true)?;
+        Ok(())
+    }
+
+    fn list(&self) -> anyhow::Result<()> {
+        let Directory { number, files, .. } = self.tree.few;
+        let listing = Listing {
+            directory: number,
+            cookie: 0,
+            verifier: [0; 8],
+            max_count: PAGE_BYTES,
+            asked: &[],
+        };
+        let page = self.tree.fs.list(&caller(), listing)?;
+        anyhow::ensure!(page.entries.len() == files as usize, "another page");
+        Ok(())
+    }
+
+    fn call_once(&mut self, i: u64) -> anyhow::Result<()> {
+        match self.call {
+            Call::Write { file, is_stable } => self.write(file, is_stable)?,
+            Call::Read(file) => self.read(file)?,
+            Call::LookUp(directory) => self.look_up(directory)?,
+            Call::Rename(directory) => self.rename(directory, i % 2 == 1)?,
+            Call::List => self.list()?,
+        }
+        Ok(())
+    }
+}
+
+/// Where the last 8,192 bytes of a file begin.
+fn last_offset(file: SizedFile) -> u64 {
+    file.bytes.saturating_sub(TRANSFER_BYTES as u64)
+}
+
+impl<D: Device> Work for Calls<D> {
+    fn turn(&mut self) -> anyhow::Result<u64> {
+        for i in 0..CALLS {
+            self.call_once(i)?;
+        }
+        Ok(CALLS)
+    }
+}
+
+/// Makes files of no bytes in a directory; undone, they are removed.
+#[derive(Drop)]
+pub struct Makes<D: Device> {
+    pub tree: Tree<D>,
+    pub directory: Directory,
+}
+
+impl<D: Device> Work for Makes<D> {
+    fn turn(&mut self) -> anyhow::Result<u64> {
+        let Directory { number, files, .. } = self.directory;
+        for i in 0..MADE {
+            make_file(&mut self.tree.fs, number, &name_of(files.saturating_add(i)))?;
+        }
+        Ok(u64::from(MADE))
+    }
+}
+
+impl<D: Device> Undone for Makes<D> {
+    fn undo(&mut self) -> anyhow::Result<u64> {
+        let Directory { number, files, .. } = self.directory;
+        for i in 0..MADE {
+            let name = name_of(files.saturating_add(i));
+            self.tree.fs.remove(&caller(), NOW, number, &name, true)?;
+        }
+        Ok(u64::from(MADE))
+    }
+}
+
+/// Mounts a volume again and again.
+#[derive(Drop)]
+pub struct Mounts<D: Device> {
+    alloc: Global,
+    device: Option<D>,
+}
+
+impl<D: Device> Mounts<D> {
+    pub fn new(alloc: Global, tree: Tree<D>) -> Mounts<D> {
+        Mounts {
+            alloc,
+            device: Some(tree.fs.into_device()),
+        }
+    }
+}
+
+impl<D: Device> Work for Mounts<D> {
+    fn turn(&mut self) -> anyhow::Result<u64> {
+        let Some(device) = self.device.take() else {
+            anyhow::bail!("no device");
+        };
+        let fs = mount(self.alloc, device)?;
+        self.device = Some(fs.into_device());
+        Ok(1)
     }
 }

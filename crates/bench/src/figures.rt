@@ -1,88 +1,155 @@
 //! The figures, a line each.
 
-use crate::calls::{Kind, Stream, stream_of};
-use crate::copying::Copies;
-use crate::records::{ReadsCalls, ReadsRecord, Tally};
-use crate::replies::{REPLIES, WritesReplies};
-use crate::work::{Work, best_rate};
-use rpc::Assembler;
+use crate::calls::{Call, Calls, Makes, Mounts};
+use crate::rows::Rows;
+use crate::volumes::{Directory, LARGE, SAMPLE, SMALL, Shape, SizedFile, Tree};
+use crate::work::{Measure, Work, how_many, how_many_of_both, shortest_turn};
+use disk::{Device, FileDevice};
 use std::alloc::Global;
+use std::fs::{File, Files};
 use std::time::Clock;
 
-/// A piece as it is read from a socket.
-const PIECE_BYTES: usize = 4096;
-/// The most bytes of a reply.
-const REPLY_BYTES: usize = 16_384;
-
-/// Measures, and prints how many things of each kind are done a second.
-pub fn print_figures<R: Clock + Print>(rt: &R, alloc: Global) -> anyhow::Result<()> {
-    let writes = stream_of(alloc, Kind::Write)?;
-    print_reads(rt, alloc, "WRITE calls", &writes)?;
-    let asks = stream_of(alloc, Kind::GetAttr)?;
-    print_reads(rt, alloc, "SEQUENCE-PUTFH-GETATTR calls", &asks)?;
-    print_replies(rt, alloc)
-}
-
-fn print_reads<R: Clock + Print>(
-    rt: &R,
-    alloc: Global,
-    name: &str,
-    stream: &Stream,
-) -> anyhow::Result<()> {
-    println!(rt; "{name}: a record of {} bytes", stream.record_size)?;
-    let mut reads = ReadsCalls {
-        alloc,
-        assembler: Assembler::new(alloc)?,
-        bytes: &stream.bytes,
-        piece_size: stream.bytes.len(),
-        tally: Tally::NONE,
-    };
-    print_rate(rt, "read", &mut reads)?;
-    reads.piece_size = PIECE_BYTES;
-    print_rate(rt, "read in pieces of 4096 bytes", &mut reads)?;
-    let mut held = ReadsRecord {
-        alloc,
-        record_bytes: stream.bytes.get(4..stream.record_size).unwrap_or(&[]),
-        tally: Tally::NONE,
-    };
-    print_rate(rt, "read of a whole record", &mut held)?;
-    print_copies(rt, alloc, &stream.bytes, stream.record_size)
-}
-
-fn print_replies<R: Clock + Print>(rt: &R, alloc: Global) -> anyhow::Result<()> {
-    let mut replies = WritesReplies::new(alloc, REPLY_BYTES)?;
-    replies.turn()?;
-    let reply = replies.reply.clone()?;
-    println!(rt; "replies: a record of {} bytes", reply.len())?;
-    print_rate(rt, "written", &mut replies)?;
-    let mut bytes = Vec::new(alloc);
-    for _ in 0..REPLIES {
-        bytes.extend_from_slice(&reply)?;
+/// Measures a small and a large volume over memory, and both over a file that is made anew.
+pub fn print_figures<R>(rt: &R, alloc: Global, path: &str) -> anyhow::Result<()>
+where
+    R: Clock + Print + Files<File = File>,
+{
+    for shape in [SMALL, LARGE] {
+        print_shape(rt, shape, "memory")?;
+        let device = Rows::new(alloc, shape.sectors)?;
+        print_volume(rt, alloc, Measure::Rate, device, shape)?;
     }
-    print_copies(rt, alloc, &bytes, reply.len())
+    for shape in [SMALL, LARGE] {
+        print_shape(rt, shape, "a file")?;
+        let device = FileDevice::create(rt, alloc, path, shape.sectors)?;
+        print_volume(rt, alloc, Measure::Rate, device, shape)?;
+    }
+    Ok(())
 }
 
-fn print_copies<R: Clock + Print>(
+/// Does each kind of work once, on a volume that has all that the large one has.
+pub fn print_counts<R: Clock + Print>(rt: &R, alloc: Global) -> anyhow::Result<()> {
+    print_shape(rt, SAMPLE, "memory")?;
+    let device = Rows::new(alloc, SAMPLE.sectors)?;
+    print_volume(rt, alloc, Measure::Turn, device, SAMPLE)
+}
+
+fn print_shape<R: Print>(rt: &R, shape: Shape, over: &str) -> anyhow::Result<()> {
+    let Shape { sectors, nodes, .. } = shape;
+    println!(rt; "volume: {sectors} sectors and {nodes} nodes, over {over}")?;
+    Ok(())
+}
+
+fn print_volume<R: Clock + Print, D: Device>(
     rt: &R,
     alloc: Global,
-    bytes: &[u8],
-    record_size: usize,
+    measure: Measure,
+    device: D,
+    shape: Shape,
 ) -> anyhow::Result<()> {
-    let mut copies = Copies {
-        bytes,
-        record_size,
-        copy: Vec::with_capacity(alloc, record_size)?,
-    };
-    print_rate(rt, "copied", &mut copies)
+    let tree = Tree::new(alloc, device, shape)?;
+    let tree = print_all_makes(rt, measure, tree)?;
+    let mut calls = Calls::new(alloc, tree)?;
+    print_all_calls(rt, measure, &mut calls)?;
+    let mut mounts = Mounts::new(alloc, calls.tree);
+    print_mount(rt, measure, &mut mounts)
 }
 
-/// Measures one kind of work, and prints how many things it does a second.
-pub fn print_rate<R: Clock + Print, W: Work>(
+fn print_all_makes<R: Clock + Print, D: Device>(
     rt: &R,
-    verb: &str,
-    work: &mut W,
+    measure: Measure,
+    tree: Tree<D>,
+) -> anyhow::Result<Tree<D>> {
+    let mut makes = Makes {
+        directory: tree.few,
+        tree,
+    };
+    print_makes(rt, measure, &mut makes)?;
+    if let Some(many) = makes.tree.many {
+        makes.directory = many;
+        print_makes(rt, measure, &mut makes)?;
+    }
+    Ok(makes.tree)
+}
+
+fn print_makes<R: Clock + Print, D: Device>(
+    rt: &R,
+    measure: Measure,
+    makes: &mut Makes<D>,
 ) -> anyhow::Result<()> {
-    let rate = best_rate(rt, work)?;
-    println!(rt; "  {verb}: {rate} a second")?;
+    let names = makes.directory.files;
+    let (made, removed) = how_many_of_both(rt, measure, makes)?;
+    println!(rt; "  file made among {names} names: {made} {measure}")?;
+    println!(rt; "  file removed among {names} names: {removed} {measure}")?;
+    Ok(())
+}
+
+fn print_all_calls<R: Clock + Print, D: Device>(
+    rt: &R,
+    measure: Measure,
+    calls: &mut Calls<D>,
+) -> anyhow::Result<()> {
+    let (few, many) = (calls.tree.few, calls.tree.many);
+    print_in_directory(rt, measure, calls, few)?;
+    if let Some(many) = many {
+        print_in_directory(rt, measure, calls, many)?;
+    }
+    let (short, long) = (calls.tree.short, calls.tree.long);
+    print_in_file(rt, measure, calls, short)?;
+    if let Some(long) = long {
+        print_in_file(rt, measure, calls, long)?;
+    }
+    print_call(rt, measure, calls, Call::List)
+}
+
+fn print_in_directory<R: Clock + Print, D: Device>(
+    rt: &R,
+    measure: Measure,
+    calls: &mut Calls<D>,
+    directory: Directory,
+) -> anyhow::Result<()> {
+    print_call(rt, measure, calls, Call::Rename(directory))?;
+    print_call(rt, measure, calls, Call::LookUp(directory))
+}
+
+fn print_in_file<R: Clock + Print, D: Device>(
+    rt: &R,
+    measure: Measure,
+    calls: &mut Calls<D>,
+    file: SizedFile,
+) -> anyhow::Result<()> {
+    for is_stable in [true, false] {
+        print_call(rt, measure, calls, Call::Write { file, is_stable })?;
+    }
+    print_call(rt, measure, calls, Call::Read(file))
+}
+
+fn print_call<R: Clock + Print, D: Device>(
+    rt: &R,
+    measure: Measure,
+    calls: &mut Calls<D>,
+    call: Call,
+) -> anyhow::Result<()> {
+    calls.call = call;
+    let done = how_many(rt, measure, calls)?;
+    println!(rt; "  {call}: {done} {measure}")?;
+    Ok(())
+}
+
+fn print_mount<R: Clock + Print, D: Device>(
+    rt: &R,
+    measure: Measure,
+    mounts: &mut Mounts<D>,
+) -> anyhow::Result<()> {
+    match measure {
+        Measure::Turn => {
+            let mounted = mounts.turn()?;
+            println!(rt; "  mounted: {mounted} {measure}")?;
+        }
+        Measure::Rate => {
+            let time = shortest_turn(rt, mounts)?;
+            println!(rt; "  mounted in {} microseconds", time.as_micros())?;
+        }
+    }
     Ok(())
 }

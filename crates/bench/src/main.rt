@@ -1,14 +1,9 @@
-//! The program `bench`: how much a second one core reads, writes and takes.
+//! The program `bench`: how many calls a second one core takes on a small and on a large volume.
 #![tactic(auto)]
 
 mod calls;
-mod copying;
-mod counts;
 mod figures;
-mod records;
-mod replies;
 mod rows;
-mod volume_figures;
 mod volumes;
 mod work;
 
@@ -33,19 +28,15 @@ fn run(rt: &HostRuntime) -> anyhow::Result<ExitCode> {
     let words: Vec<String> = env::args(rt)?.skip(1).collect(rt.alloc())?;
     match words.as_slice() {
         [] => {
-            counts::print_counts(rt, rt.alloc())?;
-            Ok(ExitCode::SUCCESS)
-        }
-        [word] if word.as_str() == "measure" => {
-            figures::print_figures(rt, rt.alloc())?;
+            figures::print_counts(rt, rt.alloc())?;
             Ok(ExitCode::SUCCESS)
         }
         [word, path] if word.as_str() == "volumes" => {
-            volume_figures::print_volumes(rt, rt.alloc(), path)?;
+            figures::print_figures(rt, rt.alloc(), path)?;
             Ok(ExitCode::SUCCESS)
         }
         _ => {
-            eprintln!(rt; "usage: bench [measure | volumes FILE]")?;
+            eprintln!(rt; "usage: bench [volumes FILE]")?;
             Ok(ExitCode::from(USAGE))
         }
     }

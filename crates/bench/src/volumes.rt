@@ -1,31 +1,28 @@
-//! Files on a volume: what its calls do a second, on a small one and on a large one that is full.
+//! A volume that is measured, and what stands on it.
 
 ghost use Rattle.std.specs.Prelude.{◌≤◌, length};
 
-use crate::work::{Undone, Work};
 use acl_eval::{Cred, Gids};
 use disk::Device;
-use fs::{Fs, FsFault, How, Listing, NewDirectory, OpenRoom, Opening, Share, Writing};
+use fs::{Fs, FsFault, How, NewDirectory, OpenRoom, Opening, Share, Writing};
 use settings::GivenAttributes;
 use std::alloc::Global;
 
 /// The bytes of a WRITE and of a READ.
 pub const TRANSFER_BYTES: usize = 8_192;
-/// The files of the directory that is measured.
-pub const FILES: u32 = 4;
-/// How many more are made in it and removed.
-pub const MADE: u32 = 8;
+/// The files of the directory with few of them.
+const FEW_FILES: u32 = 4;
 
+/// The moment of every change.
+pub const NOW: u64 = 5;
 /// The attribute mode, and its value 755.
 const MODE: [u32; 2] = [0, 2];
 
 const MODE_755: [u8; 4] = [0, 0, 1, 0xED];
-/// The moment of every change.
-const NOW: u64 = 5;
-/// The bytes of a page that has room for each name of the directory that is measured.
-const PAGE_BYTES: u32 = 512;
+/// The root.
+const ROOT: u64 = 1;
 
-/// A volume, and what stands on it beside the directory that is measured.
+/// A volume, and what stands on it beside the directory with few files.
 #[derive(Clone, Copy)]
 pub struct Shape {
     pub sectors: u32,
@@ -33,6 +30,8 @@ pub struct Shape {
     /// Directories, and the files of each, of 8,192 bytes.
     pub directories: u32,
     pub files: u32,
+    /// The bytes of one long file, in transfers; 0 is no such file.
+    pub long_transfers: u32,
 }
 
 /// A volume with nothing else on it.
@@ -41,18 +40,45 @@ pub const SMALL: Shape = Shape {
     nodes: 16,
     directories: 0,
     files: 0,
+    long_transfers: 0,
 };
 
-/// A large volume with many files on it.
+/// The largest volume, with full directories, which have room for what is made in them, and a file
+/// as long as any may be.
 pub const LARGE: Shape = Shape {
     sectors: 65_536,
     nodes: 16_000,
-    directories: 15,
-    files: 1_000,
+    directories: 14,
+    files: 1_020,
+    long_transfers: 2_048,
 };
 
+/// A small volume that has all that the large one has.
+pub const SAMPLE: Shape = Shape {
+    sectors: 256,
+    nodes: 32,
+    directories: 1,
+    files: 8,
+    long_transfers: 2,
+};
+
+/// A directory, with files that are named by the numbers from 0 on.
+#[derive(Clone, Copy)]
+pub struct Directory {
+    pub number: u64,
+    pub files: u32,
+    pub last_file: u64,
+}
+
+/// A file, and how many bytes it has.
+#[derive(Clone, Copy)]
+pub struct SizedFile {
+    pub number: u64,
+    pub bytes: u64,
+}
+
 /// The name of this number: four letters.
-fn name_of(number: u32) -> [u8; 4] {
+pub fn name_of(number: u32) -> [u8; 4] {
     [
         b'n',
         letter(number / 256),
@@ -66,7 +92,8 @@ fn letter(number: u32) -> u8 {
     b'a' + (number % 16) as u8
 }
 
-fn caller() -> Cred {
+/// The one user, who owns all that is made.
+pub fn caller() -> Cred {
     Cred {
         uid: 7,
         gid: 7,
@@ -92,7 +119,8 @@ fn make_directory<D: Device>(fs: &mut Fs<D>, parent: u64, name: &[u8]) -> Result
     Ok(fs.make_dir(&caller(), NOW, asked, true)?.number)
 }
 
-fn make_file<D: Device>(fs: &mut Fs<D>, directory: u64, name: &[u8]) -> Result<u64, FsFault> {
+/// Makes a file of no bytes, kept before the answer.
+pub fn make_file<D: Device>(fs: &mut Fs<D>, directory: u64, name: &[u8]) -> Result<u64, FsFault> {
     let asked = Opening {
         directory,
         name,
@@ -107,14 +135,16 @@ fn make_file<D: Device>(fs: &mut Fs<D>, directory: u64, name: &[u8]) -> Result<u
     Ok(fs.open_file(&caller(), NOW, asked, false, room)?.number)
 }
 
-fn write<D: Device>(
+/// Writes these bytes, kept before the answer or not.
+pub fn write<D: Device>(
     fs: &mut Fs<D>,
     number: u64,
+    offset: u64,
     bytes: &[u8],
     is_stable: bool,
 ) -> Result<(), FsFault> {
     let asked = Writing {
-        offset: 0,
+        offset,
         bytes,
         is_stable,
     };
@@ -122,60 +152,76 @@ fn write<D: Device>(
     Ok(())
 }
 
-/// Makes a directory of the root with so many files, and answers its number and that of the last
-/// file.
+/// Makes a directory of the root with so many files.
 fn fill<D: Device>(
     fs: &mut Fs<D>,
     name: u32,
     files: u32,
     bytes: &[u8],
-) -> Result<(u64, u64), FsFault> {
-    let directory = make_directory(fs, 1, &name_of(name))?;
-    let mut last = directory;
+) -> Result<Directory, FsFault> {
+    let number = make_directory(fs, ROOT, &name_of(name))?;
+    let mut last_file = number;
     for i in 0..files {
-        last = make_file(fs, directory, &name_of(i))?;
-        write(fs, last, bytes, false)?;
+        last_file = make_file(fs, number, &name_of(i))?;
+        write(fs, last_file, 0, bytes, false)?;
     }
-    Ok((directory, last))
+    Ok(Directory {
+        number,
+        files,
+        last_file,
+    })
 }
 
-/// A call that is measured.
-#[derive(Clone, Copy)]
-pub enum Measured {
-    /// WRITE of 8,192 bytes over those of a file, kept before the answer or not.
-    Write { is_stable: bool },
-    /// READ of 8,192 bytes.
-    Read,
-    /// LOOKUP of the last file of the directory that is measured, or of a full one.
-    LookUp,
-    LookUpAmongMany,
-    /// READDIR of all names of the directory that is measured.
-    List,
+/// Makes so many directories, and answers the last.
+fn fill_many<D: Device>(
+    fs: &mut Fs<D>,
+    shape: Shape,
+    bytes: &[u8],
+) -> Result<Option<Directory>, FsFault> {
+    let mut last = None;
+    for i in 0..shape.directories {
+        let name = i.saturating_add(1);
+        last = Some(fill(fs, name, shape.files, bytes)?);
+    }
+    Ok(last)
 }
 
-/// How often a call is made in a turn.
-pub const CALLS: u64 = 64;
-
-/// A file system that is measured.
-#[derive(Drop)]
-pub struct Tree<D: Device> {
-    fs: Fs<D>,
-    pub call: Measured,
-    /// The directory that is measured, and its last file.
-    directory: u64,
-    file: u64,
-    /// A full directory, and how many files it has; else the one that is measured.
-    crowd: u64,
-    crowd_files: u32,
-    bytes: Vec<u8>,
-    read: Vec<u8>,
+/// Makes a file of the root of so many transfers, if it is to have any.
+fn fill_long<D: Device>(
+    fs: &mut Fs<D>,
+    transfers: u32,
+    bytes: &[u8],
+) -> Result<Option<SizedFile>, FsFault> {
+    if transfers == 0 {
+        return Ok(None);
+    }
+    let number = make_file(fs, ROOT, b"long")?;
+    let mut end = 0u64;
+    for _ in 0..transfers {
+        write(fs, number, end, bytes, false)?;
+        end = end.saturating_add(bytes.len() as u64);
+    }
+    Ok(Some(SizedFile { number, bytes: end }))
 }
 
-fn mount<D: Device>(alloc: Global, device: D) -> anyhow::Result<Fs<D>> {
+pub fn mount<D: Device>(alloc: Global, device: D) -> anyhow::Result<Fs<D>> {
     match Fs::mount(alloc, device) {
         Ok(fs) => Ok(fs),
         Err(refused) => anyhow::bail!("not mounted: {}", refused.fault),
     }
+}
+
+/// A mounted volume, and what is measured on it.
+#[derive(Drop)]
+pub struct Tree<D: Device> {
+    pub fs: Fs<D>,
+    pub few: Directory,
+    /// A full directory.
+    pub many: Option<Directory>,
+    pub short: SizedFile,
+    pub long: Option<SizedFile>,
+    /// What is written.
+    pub bytes: Vec<u8>,
 }
 
 impl<D: Device> Tree<D> {
@@ -185,127 +231,20 @@ impl<D: Device> Tree<D> {
         Fs::format(alloc, &mut device, shape.nodes)?;
         let mut fs = mount(alloc, device)?;
         let bytes = Vec::from_elem(alloc, 7, TRANSFER_BYTES)?;
-        let (directory, file) = fill(&mut fs, 0, FILES, &bytes)?;
-        let (mut crowd, mut crowd_files) = (directory, FILES);
-        for i in 0..shape.directories {
-            let (filled, _) = fill(&mut fs, i.saturating_add(1), shape.files, &bytes)?;
-            crowd = filled;
-            crowd_files = shape.files;
-        }
+        let few = fill(&mut fs, 0, FEW_FILES, &bytes)?;
+        let many = fill_many(&mut fs, shape, &bytes)?;
+        let long = fill_long(&mut fs, shape.long_transfers, &bytes)?;
+        let short = SizedFile {
+            number: few.last_file,
+            bytes: TRANSFER_BYTES as u64,
+        };
         Ok(Tree {
             fs,
-            call: Measured::Read,
-            directory,
-            file,
-            crowd,
-            crowd_files,
+            few,
+            many,
+            short,
+            long,
             bytes,
-            read: Vec::with_capacity(alloc, TRANSFER_BYTES)?,
         })
-    }
-
-    /// Mounts the device of this one again and again.
-    pub fn into_mounts(self, alloc: Global) -> Mounts<D> {
-        Mounts {
-            alloc,
-            device: Some(self.fs.into_device()),
-        }
-    }
-
-    fn read(&mut self) -> Result<(), FsFault> {
-        self.read.clear();
-        let count = TRANSFER_BYTES as u32;
-        self.fs
-            .read(&caller(), self.file, Ok(()), 0, count, &mut self.read)?;
-        Ok(())
-    }
-
-    fn look_up(&self, directory: u64, files: u32) -> Result<(), FsFault> {
-        let name = name_of(files.saturating_sub(1));
-        self.fs.lookup(&caller(), directory, &name)?;
-        Ok(())
-    }
-
-    fn list(&self) -> anyhow::Result<()> {
-        let listing = Listing {
-            directory: self.directory,
-            cookie: 0,
-            verifier: [0; 8],
-            max_count: PAGE_BYTES,
-            asked: &[],
-        };
-        let page = self.fs.list(&caller(), listing)?;
-        anyhow::ensure!(page.entries.len() == FILES as usize, "another page");
-        Ok(())
-    }
-
-    fn call_once(&mut self) -> anyhow::Result<()> {
-        match self.call {
-            Measured::Write { is_stable } => write(
-                &mut self.fs,
-                self.file,
-                &self.bytes,
-                is_stable,
-            )?,
-            Measured::Read => self.read()?,
-            Measured::LookUp => self.look_up(self.directory, FILES)?,
-            Measured::LookUpAmongMany => self.look_up(self.crowd, self.crowd_files)?,
-            Measured::List => self.list()?,
-        }
-        Ok(())
-    }
-}
-
-impl<D: Device> Work for Tree<D> {
-    fn turn(&mut self) -> anyhow::Result<u64> {
-        for _ in 0..CALLS {
-            self.call_once()?;
-        }
-        Ok(CALLS)
-    }
-}
-
-/// Makes files of no bytes in the directory that is measured; undone, they are removed.
-#[derive(Drop)]
-pub struct Makes<D: Device> {
-    pub tree: Tree<D>,
-}
-
-impl<D: Device> Work for Makes<D> {
-    fn turn(&mut self) -> anyhow::Result<u64> {
-        for i in 0..MADE {
-            let name = name_of(FILES.saturating_add(i));
-            make_file(&mut self.tree.fs, self.tree.directory, &name)?;
-        }
-        Ok(u64::from(MADE))
-    }
-}
-
-impl<D: Device> Undone for Makes<D> {
-    fn undo(&mut self) -> anyhow::Result<u64> {
-        for i in 0..MADE {
-            let name = name_of(FILES.saturating_add(i));
-            let directory = self.tree.directory;
-            self.tree.fs.remove(&caller(), NOW, directory, &name, true)?;
-        }
-        Ok(u64::from(MADE))
-    }
-}
-
-/// Mounts a volume again and again.
-#[derive(Drop)]
-pub struct Mounts<D: Device> {
-    alloc: Global,
-    device: Option<D>,
-}
-
-impl<D: Device> Work for Mounts<D> {
-    fn turn(&mut self) -> anyhow::Result<u64> {
-        let Some(device) = self.device.take() else {
-            anyhow::bail!("no device");
-        };
-        let fs = mount(self.alloc, device)?;
-        self.device = Some(fs.into_device());
-        Ok(1)
     }
 }

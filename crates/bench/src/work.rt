@@ -1,6 +1,25 @@
 //! Work that is measured, and how.
 
+use std::fmt;
 use std::time::{Clock, Duration, Instant};
+
+/// What is asked of work.
+#[derive(Clone, Copy)]
+pub enum Measure {
+    /// How many things one turn does.
+    Turn,
+    /// How many things it does a second, in the best round.
+    Rate,
+}
+
+impl fmt::Display for Measure {
+    fn fmt<W: fmt::Write>(&self, f: &mut fmt::Formatter<W>) -> fmt::Result {
+        f.write_str(match self {
+            Measure::Turn => "in a turn",
+            Measure::Rate => "a second",
+        })
+    }
+}
 
 /// Work of which a turn is done again and again.
 pub trait Work {
@@ -22,8 +41,27 @@ const ROUND_MILLISECONDS: u64 = 100;
 /// The most turns of a round.
 const MAX_TURNS: u32 = u32::MAX;
 
-/// How many things the work does a second, in the best round.
-pub fn best_rate<R: Clock, W: Work>(rt: &R, work: &mut W) -> anyhow::Result<u64> {
+/// How many things the work does.
+pub fn how_many<R: Clock, W: Work>(rt: &R, measure: Measure, work: &mut W) -> anyhow::Result<u64> {
+    match measure {
+        Measure::Turn => work.turn(),
+        Measure::Rate => best_rate(rt, work),
+    }
+}
+
+/// How many things the work does, and how many it undoes.
+pub fn how_many_of_both<R: Clock, W: Undone>(
+    rt: &R,
+    measure: Measure,
+    work: &mut W,
+) -> anyhow::Result<(u64, u64)> {
+    match measure {
+        Measure::Turn => Ok((work.turn()?, work.undo()?)),
+        Measure::Rate => best_rates(rt, work),
+    }
+}
+
+fn best_rate<R: Clock, W: Work>(rt: &R, work: &mut W) -> anyhow::Result<u64> {
     let mut best = 0;
     for _ in 0..ROUNDS {
         best = round_rate(rt, work)?.max(best);
@@ -31,8 +69,8 @@ pub fn best_rate<R: Clock, W: Work>(rt: &R, work: &mut W) -> anyhow::Result<u64>
     Ok(best)
 }
 
-/// How many things the work does a second, and how many it undoes, in the best round of each.
-pub fn best_rates<R: Clock, W: Undone>(rt: &R, work: &mut W) -> anyhow::Result<(u64, u64)> {
+/// The best round of each counts.
+fn best_rates<R: Clock, W: Undone>(rt: &R, work: &mut W) -> anyhow::Result<(u64, u64)> {
     let mut best = (0, 0);
     for _ in 0..ROUNDS {
         let (done, undone) = round_rates(rt, work)?;
