@@ -5,7 +5,7 @@ ghost use Rattle.std.specs.Prelude.{◌≤◌, length};
 use acl_eval::{Cred, Gids};
 use disk::Device;
 use fs::{Fs, FsFault, How, NewDirectory, OpenRoom, Opening, Share, Writing};
-use settings::GivenAttributes;
+use set_attributes::GivenAttributes;
 use std::alloc::Global;
 
 /// The bytes of a WRITE and of a READ.

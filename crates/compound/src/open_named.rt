@@ -3,7 +3,7 @@
 ghost use Rattle.std.specs.Prelude.{◌≡◌, ◌≤◌, ◌<◌, ◌^◌, IsTrue, length};
 ghost use Rattle.fs.specs.Opening.{set_by, type_of};
 ghost use Rattle.model.specs.Open.{given_by, size_alone};
-ghost use Rattle.settings.specs.Given.{given_of};
+ghost use Rattle.set_attributes.specs.Given.{given_of};
 ghost use Rattle.wire.specs.ArgumentViews.{open_type_view};
 ghost use Rattle.wire.specs.SmallViews.{attributes_view};
 ghost use Rattle.xdr.specs.Forms.{is_trimmed};
@@ -17,7 +17,7 @@ use crate::setting::was_set;
 use disk::Device;
 use fs::{Fs, How, OpenEffect, OpenRoom, Opening};
 use opens::Opens;
-use settings::GivenAttributes;
+use set_attributes::GivenAttributes;
 use wire::{Attributes, Bitmap, OpenArguments, OpenType, Operation};
 
 /// The attribute size, as a bitmap: all that a cut sets.

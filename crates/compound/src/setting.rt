@@ -16,7 +16,7 @@ use crate::running::Running;
 use disk::Device;
 use fs::{Fs, Setting};
 use opens::{Access, Opens};
-use settings::GivenAttributes;
+use set_attributes::GivenAttributes;
 use wire::{Answer, Bitmap, CreateAnswer, Operation, Outcome, SetAttrArguments};
 
 impl Running<'_> {

@@ -9,7 +9,7 @@ use crate::running::Running;
 use disk::Device;
 use fs::{Fs, FsFault, NewDirectory};
 use model::status::Status;
-use settings::GivenAttributes;
+use set_attributes::GivenAttributes;
 use wire::{
     Answer, Attributes, Bitmap, ChangeInfo, CreateAnswer, CreateArguments, Operation, Outcome,
 };

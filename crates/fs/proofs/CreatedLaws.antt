@@ -32,8 +32,8 @@ use Rattle.model.specs.Tree.{Tree, Node, kind_of, names_at, entry_of}
 use Rattle.model.specs.WellFormed.{IsNode}
 use Rattle.model.proofs.RefusalLaws.{none_in_front, none_in_both}
 use Rattle.model.proofs.OptionLaws.{none_by_test}
-use Rattle.settings.specs.declared.said.Settings.{Settings}
-use Rattle.settings.specs.Given.{AreSettings, AreWithin}
+use Rattle.set_attributes.specs.declared.said.Settings.{Settings}
+use Rattle.set_attributes.specs.Given.{AreSettings, AreWithin}
 use Rattle.fs.specs.OnTree.{new_directory_refusals}
 use Rattle.fs.proofs.Creating as creating
 use Rattle.fs.specs.FileSystem.{FileSystem}

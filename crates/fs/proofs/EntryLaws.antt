@@ -5,8 +5,8 @@ use Rattle.std.proofs.lemmas.Bool.{and_parts, eqb-true, leb-true, ltb-true}
 use Rattle.std.proofs.lemmas.Nat.{and_le_l}
 use Rattle.std.proofs.Math.Logic.{∥∥₁_elim}
 use Rattle.std.proofs.Props.{props}
-use Rattle.edits.specs.Outlines.{blank_node, blanked}
-use Rattle.edits.proofs.BlankLaws.{at-blanked}
+use Rattle.tree_edits.specs.Outlines.{blank_node, blanked}
+use Rattle.tree_edits.proofs.BlankLaws.{at-blanked}
 use Rattle.inode.specs.Fields.{IsAce, id_of}
 use Rattle.layout.specs.Cards.{Card}
 use Rattle.model.specs.declared.acl.Ace.{Ace}
@@ -21,8 +21,8 @@ use Rattle.model.specs.Limits.{limits_of}
 use Rattle.model.specs.SetAttr.{list_set}
 use Rattle.model.proofs.FileStepLaws.{list_given, list_is_set}
 use Rattle.model.proofs.LimitLaws.{modes_keep_limits, inheritance_keeps_limits}
-use Rattle.settings.specs.declared.said.Settings.{Settings}
-use Rattle.settings.specs.Given.{AreWithin}
+use Rattle.set_attributes.specs.declared.said.Settings.{Settings}
+use Rattle.set_attributes.specs.Given.{AreWithin}
 use Rattle.fs.specs.FileSystem.{FileSystem}
 use Rattle.fs.specs.Planned.{IsList}
 use Rattle.fs.specs.Ready.{MayStand}

@@ -3,7 +3,7 @@ use Rattle.std.proofs.Common.{◌≡◌, ◌≤◌, ◌<◌, ℕ, Bool, false, L
 use Rattle.std.specs.Prelude.{unwrap_or}
 use Rattle.std.specs.Option.{ForSome}
 use Rattle.std.proofs.lemmas.List.Elements.{All-replicate}
-use Rattle.edits.proofs.BlankLaws.{length-zeros}
+use Rattle.tree_edits.proofs.BlankLaws.{length-zeros}
 use Rattle.layout.specs.Cards.{Card}
 use Rattle.model.specs.declared.acl.Ace.{Ace}
 use Rattle.model.specs.declared.acl.Cred.{Cred}
@@ -23,8 +23,8 @@ use Rattle.model.specs.Stamp.{next_stamp}
 use Rattle.model.specs.Tree.{Node, entry_of, names_at}
 use Rattle.model.specs.WellFormed.{IsNode}
 use Rattle.model.proofs.OptionLaws.{none_by_test}
-use Rattle.settings.specs.declared.said.Settings.{Settings}
-use Rattle.settings.specs.Given.{AreSettings, AreWithin}
+use Rattle.set_attributes.specs.declared.said.Settings.{Settings}
+use Rattle.set_attributes.specs.Given.{AreSettings, AreWithin}
 use Rattle.fs.specs.FileSystem.{FileSystem}
 use Rattle.fs.specs.Making.{first_node, IsDirectoryOf, IsSizeOf, MayBeMade}
 use Rattle.fs.specs.Planned.{IsList, child_shown, list_by}

@@ -3,8 +3,8 @@ use Rattle.std.proofs.Common.{◌≡◌, ◌≢◌, ℕ, Bool, false, List, Opti
 use Rattle.std.specs.Prelude.{option_map, ◌||◌}
 use Rattle.std.proofs.lemmas.Bool.{cases_eq}
 use Rattle.std.proofs.lemmas.Option.{same_Some}
-use Rattle.edits.specs.Outlines.{blank_node, blanked}
-use Rattle.edits.proofs.BlankLaws.{at-blanked, blanked-with, blanked-without, names-blanked}
+use Rattle.tree_edits.specs.Outlines.{blank_node, blanked}
+use Rattle.tree_edits.proofs.BlankLaws.{at-blanked, blanked-with, blanked-without, names-blanked}
 use Rattle.model.specs.declared.acl.Cred.{Cred}
 use Rattle.model.specs.Acl.{delete, delete_child}
 use Rattle.model.specs.Changes.{touched}

@@ -3,9 +3,9 @@ use Rattle.std.proofs.Common.{◌≡◌, ◌≤◌, ◌<◌, ◌+◌, ℕ, zero,
 use Rattle.std.proofs.Math.Logic.{∥∥₁_map, ∥∥₁_elim}
 use Rattle.std.proofs.Props.{props}
 use Rattle.std.specs.Prelude.{IsTrue, option_map, All}
-use Rattle.edits.specs.Outlines.{blank, blank_node, blanked, zeros}
-use Rattle.edits.proofs.BlankLaws.{at-blanked, blanked-with, edits_blanked, length-zeros}
-use Rattle.edits.proofs.FitLaws.{fits-blanked}
+use Rattle.tree_edits.specs.Outlines.{blank, blank_node, blanked, zeros}
+use Rattle.tree_edits.proofs.BlankLaws.{at-blanked, blanked-with, edits_blanked, length-zeros}
+use Rattle.tree_edits.proofs.FitLaws.{fits-blanked}
 use Rattle.model.specs.declared.limits.Limits.{Limits}
 use Rattle.model.specs.declared.node.NodeKind.TheVariants as kind
 use Rattle.model.specs.Charge.{fits}

@@ -5,9 +5,9 @@ use Rattle.std.proofs.Props.{props}
 use Rattle.std.proofs.lemmas.Bool.{lt-ltb, le-ltb, leb-true, leb-false}
 use Rattle.std.proofs.lemmas.List.{take-replicate, drop-replicate, take_all, append-nil, replicate-append-replicate}
 use Rattle.std.specs.Prelude.{IsTrue, Result, Ok, option_map, nat_le}
-use Rattle.edits.specs.Outlines.{blank, blank_node, blanked, zeros}
-use Rattle.edits.proofs.BlankLaws.{at-blanked, blanked-with, key-blanked, directory-blanked, edits_blanked, length-zeros, overwritten-length}
-use Rattle.edits.proofs.FitLaws.{fits-blanked}
+use Rattle.tree_edits.specs.Outlines.{blank, blank_node, blanked, zeros}
+use Rattle.tree_edits.proofs.BlankLaws.{at-blanked, blanked-with, key-blanked, directory-blanked, edits_blanked, length-zeros, overwritten-length}
+use Rattle.tree_edits.proofs.FitLaws.{fits-blanked}
 use Rattle.model.specs.declared.acl.Cred.{Cred}
 use Rattle.model.specs.declared.limits.Limits.{Limits}
 use Rattle.model.specs.declared.status.Status.{Status}

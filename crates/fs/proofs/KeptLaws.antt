@@ -4,10 +4,10 @@ use Rattle.std.proofs.Math.Logic.{∥∥₁_map, ∥∥₁_elim}
 use Rattle.std.proofs.Props.{props}
 use Rattle.std.specs.Prelude.{IsTrue}
 use Rattle.std.specs.List.{IsAmong}
-use Rattle.edits.specs.declared.edit.Edit.{Edit}
-use Rattle.edits.specs.Doing.{made_by, updates_of_all}
-use Rattle.edits.specs.Edits.{AreDoable}
-use Rattle.edits.specs.Outlines.{blanked}
+use Rattle.tree_edits.specs.declared.edit.Edit.{Edit}
+use Rattle.tree_edits.specs.Doing.{made_by, updates_of_all}
+use Rattle.tree_edits.specs.Edits.{AreDoable}
+use Rattle.tree_edits.specs.Outlines.{blanked}
 use Rattle.model.specs.declared.limits.Limits.{Limits}
 use Rattle.model.specs.Charge.{fits}
 use Rattle.model.specs.Limits.{limits_of}

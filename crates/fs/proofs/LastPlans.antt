@@ -3,9 +3,9 @@ use Rattle.std.proofs.Common.{◌≡◌, ◌≤◌, ℕ, Bool, true, false, List
 use Rattle.std.proofs.Math.Logic.{∥∥₁_elim}
 use Rattle.std.proofs.Props.{props}
 use Rattle.std.specs.Prelude.{option_map, if◌then◌else◌}
-use Rattle.edits.specs.Edits.{AreDoable, IsFileTo, size_of}
-use Rattle.edits.specs.Outlines.{blank, blank_node, blanked}
-use Rattle.edits.proofs.BlankLaws.{at-blanked, length-zeros}
+use Rattle.tree_edits.specs.Edits.{AreDoable, IsFileTo, size_of}
+use Rattle.tree_edits.specs.Outlines.{blank, blank_node, blanked}
+use Rattle.tree_edits.proofs.BlankLaws.{at-blanked, length-zeros}
 use Rattle.layout.specs.Cards.{Card}
 use Rattle.model.specs.declared.limits.Limits.{Limits}
 use Rattle.model.specs.declared.node.NodeKind.{NodeKind}

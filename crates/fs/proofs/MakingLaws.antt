@@ -3,11 +3,11 @@ use Rattle.std.proofs.Common.{◌≡◌, ◌≢◌, ◌≤◌, ◌<◌, ◌+◌,
 use Rattle.std.proofs.Math.Logic.{∥∥₁_map, ∥∥₁_elim}
 use Rattle.std.proofs.Props.{props}
 use Rattle.std.specs.Prelude.{IsTrue, option_map}
-use Rattle.draft.specs.Nodes.{no_content}
-use Rattle.edits.specs.Edits.{fresh_node}
-use Rattle.edits.specs.Making.{first_content}
-use Rattle.edits.specs.Outlines.{blank, blank_node, blanked, zeros}
-use Rattle.edits.proofs.BlankLaws.{at-blanked, blanked-with, blanked-twice, edits_blanked, names-blanked, length-zeros}
+use Rattle.tree_transaction.specs.Nodes.{no_content}
+use Rattle.tree_edits.specs.Edits.{fresh_node}
+use Rattle.tree_edits.specs.Making.{first_content}
+use Rattle.tree_edits.specs.Outlines.{blank, blank_node, blanked, zeros}
+use Rattle.tree_edits.proofs.BlankLaws.{at-blanked, blanked-with, blanked-twice, edits_blanked, names-blanked, length-zeros}
 use Rattle.model.specs.declared.limits.Limits.{Limits}
 use Rattle.model.specs.declared.node.NodeKind.{NodeKind}
 use Rattle.model.specs.declared.node.NodeKind.TheVariants as kind

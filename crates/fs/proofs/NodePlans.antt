@@ -4,12 +4,12 @@ use Rattle.std.proofs.Common.{◌≡◌, ◌<◌, ◌+◌, ◌^◌, ◌++◌, �
 use Rattle.std.proofs.lemmas.Bool.{ltb-true, not-false}
 use Rattle.std.specs.Prelude.{IsTrue}
 use Rattle.directory.specs.Listing.{by_stamp}
-use Rattle.draft.specs.declared.nodes.Shown.{Shown}
-use Rattle.draft.specs.Nodes.{shown_of}
-use Rattle.edits.specs.declared.edit.Edit.{Edit}
-use Rattle.edits.specs.declared.edit.Edit.TheVariants as edit
-use Rattle.edits.specs.Edits.{AreEntries, AreDoable}
-use Rattle.edits.specs.Making.{IsMaking, first_content}
+use Rattle.tree_transaction.specs.declared.nodes.Shown.{Shown}
+use Rattle.tree_transaction.specs.Nodes.{shown_of}
+use Rattle.tree_edits.specs.declared.edit.Edit.{Edit}
+use Rattle.tree_edits.specs.declared.edit.Edit.TheVariants as edit
+use Rattle.tree_edits.specs.Edits.{AreEntries, AreDoable}
+use Rattle.tree_edits.specs.Making.{IsMaking, first_content}
 use Rattle.layout.specs.Cards.{Card}
 use Rattle.model.specs.declared.node.NodeKind.{NodeKind}
 use Rattle.model.specs.declared.status.Status.TheVariants as status

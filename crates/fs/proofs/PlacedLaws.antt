@@ -2,9 +2,9 @@
 use Rattle.std.proofs.Common.{◌≡◌, ◌≢◌, ◌≤◌, ◌<◌, ◌+◌, ◌⊎◌, ℕ, Bool, true, false, List, [], ◌∷◌, Option, Some, None, length, eqb, refl, sym, ap, ◌∙◌, arith, is_some, inl, inr, bytes_eq, lt_irrefl, true≢false}
 use Rattle.std.proofs.lemmas.Bool.{cases_eq, cases_Bool, eqb-true}
 use Rattle.directory.specs.Records.{record_from}
-use Rattle.draft.specs.declared.nodes.Shown.{Shown}
-use Rattle.draft.specs.Nodes.{shown_of}
-use Rattle.edits.specs.Edits.{AreEntries, AreDoable, edits_of}
+use Rattle.tree_transaction.specs.declared.nodes.Shown.{Shown}
+use Rattle.tree_transaction.specs.Nodes.{shown_of}
+use Rattle.tree_edits.specs.Edits.{AreEntries, AreDoable, edits_of}
 use Rattle.model.specs.declared.limits.Limits.{Limits}
 use Rattle.model.specs.Edit.{DropName, DropNode, PutName, Show, done, edited, name_put, name_dropped, showing, altered_at}
 use Rattle.model.specs.Edit as model

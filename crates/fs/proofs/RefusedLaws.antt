@@ -4,7 +4,7 @@ use Rattle.model.specs.declared.status.Status.{Status}
 use Rattle.model.specs.Refusal.{Refusals, first_refusal}
 use Rattle.model.specs.declared.not_done.NotDone.{NotDone}
 use Rattle.model.specs.declared.not_done.NotDone.TheVariants as refusal
-use Rattle.settings.specs.Given.{IsRefusedBy}
+use Rattle.set_attributes.specs.Given.{IsRefusedBy}
 
 -- what refuses by some tests refuses by others
 pub carried : (some others : Refusals) → ((reason : Status) → first_refusal some ≡ Some reason → first_refusal others ≡ Some reason)

@@ -4,8 +4,8 @@ use Rattle.std.proofs.Math.Logic.{∥∥₁_elim}
 use Rattle.std.proofs.Props.{props}
 use Rattle.std.proofs.lemmas.Bool.{not-false, lt-ltb}
 use Rattle.std.specs.Prelude.{IsTrue, nat_lt}
-use Rattle.edits.specs.Outlines.{blanked}
-use Rattle.edits.proofs.BlankLaws.{blanked-twice, key-blanked, directory-blanked, names-blanked, edits_blanked}
+use Rattle.tree_edits.specs.Outlines.{blanked}
+use Rattle.tree_edits.proofs.BlankLaws.{blanked-twice, key-blanked, directory-blanked, names-blanked, edits_blanked}
 use Rattle.model.specs.declared.acl.Cred.{Cred}
 use Rattle.model.specs.declared.limits.Limits.{Limits}
 use Rattle.model.specs.declared.status.Status.{Status}

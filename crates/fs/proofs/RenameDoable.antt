@@ -4,16 +4,16 @@ use denote.Ref.{Bor}
 use Rattle.std.proofs.Math.Logic.{∥∥₁_elim}
 use Rattle.std.proofs.Props.{props}
 use Rattle.directory.specs.Records.{record_from}
-use Rattle.draft.specs.declared.nodes.Shown.{Shown}
-use Rattle.draft.specs.Nodes.{shown_of}
-use Rattle.edits.specs.declared.edit.Edit.{Edit}
-use Rattle.edits.specs.declared.edit.Edit.TheVariants as edit
-use Rattle.edits.specs.Sizes.{resized_by}
-use Rattle.edits.proofs.SizeLaws.{IsRising}
-use Rattle.edits.specs.Edits.{AreEntries, AreDoable, edits_of}
-use Rattle.edits.specs.Outlines.{blanked}
-use Rattle.edits.proofs.BlankLaws.{blanked-twice, directory-blanked, names-blanked}
-use Rattle.edits.proofs.DoableLaws.{doable_alike}
+use Rattle.tree_transaction.specs.declared.nodes.Shown.{Shown}
+use Rattle.tree_transaction.specs.Nodes.{shown_of}
+use Rattle.tree_edits.specs.declared.edit.Edit.{Edit}
+use Rattle.tree_edits.specs.declared.edit.Edit.TheVariants as edit
+use Rattle.tree_edits.specs.Sizes.{resized_by}
+use Rattle.tree_edits.proofs.SizeLaws.{IsRising}
+use Rattle.tree_edits.specs.Edits.{AreEntries, AreDoable, edits_of}
+use Rattle.tree_edits.specs.Outlines.{blanked}
+use Rattle.tree_edits.proofs.BlankLaws.{blanked-twice, directory-blanked, names-blanked}
+use Rattle.tree_edits.proofs.DoableLaws.{doable_alike}
 use Rattle.model.specs.declared.acl.Cred.{Cred}
 use Rattle.model.specs.declared.limits.Limits.{Limits}
 use Rattle.model.specs.declared.status.Status.TheVariants as status

@@ -2,8 +2,9 @@
 use Rattle.std.proofs.Common.{◌≡◌, ◌&&◌, ◌||◌, ℕ, zero, suc, Bool, not, List, [], ◌∷◌, ◌++◌, length, refl, ap, ap₂, ◌∙◌, is_some}
 use Rattle.std.specs.Prelude.{if◌then◌else◌, nat_lt, ◌==◌}
 use Rattle.std.specs.List.{list_any, list_all}
-use Rattle.edits.specs.Outlines.{blank, blank_node, blanked}
-use Rattle.edits.proofs.BlankLaws.{key-blanked, directory-blanked, names-blanked, length-blanked}
+use Rattle.tree_edits.specs.Outlines.{blank, blank_node, blanked}
+use Rattle.tree_edits.proofs.BlankLaws.{key-blanked, directory-blanked, names-blanked}
+use Rattle.tree_edits.proofs.BlankLaws.{length-blanked}
 use Rattle.model.specs.declared.acl.Cred.{Cred}
 use Rattle.model.specs.declared.limits.Limits.{Limits}
 use Rattle.model.specs.declared.status.Status.TheVariants as status

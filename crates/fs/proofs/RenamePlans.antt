@@ -7,13 +7,13 @@ use Rattle.std.proofs.lemmas.Bool.{lt-ltb}
 use Rattle.std.specs.Prelude.{IsTrue, option_map, unwrap_or, MatchOption}
 use Rattle.directory.specs.Listing.{by_stamp}
 use Rattle.directory.specs.Records.{Record, AreStamped, record_from}
-use Rattle.draft.specs.declared.nodes.Shown.{Shown}
-use Rattle.draft.specs.Nodes.{shown_of}
-use Rattle.edits.specs.declared.edit.Edit.{Edit}
-use Rattle.edits.specs.Doing.{made_by, updates_of_all}
-use Rattle.edits.specs.Edits.{AreEntries, AreDoable, edits_of}
-use Rattle.edits.specs.Outlines.{blanked}
-use Rattle.edits.proofs.BlankLaws.{names-blanked, edits_blanked}
+use Rattle.tree_transaction.specs.declared.nodes.Shown.{Shown}
+use Rattle.tree_transaction.specs.Nodes.{shown_of}
+use Rattle.tree_edits.specs.declared.edit.Edit.{Edit}
+use Rattle.tree_edits.specs.Doing.{made_by, updates_of_all}
+use Rattle.tree_edits.specs.Edits.{AreEntries, AreDoable, edits_of}
+use Rattle.tree_edits.specs.Outlines.{blanked}
+use Rattle.tree_edits.proofs.BlankLaws.{names-blanked, edits_blanked}
 use Rattle.model.specs.declared.acl.Cred.{Cred}
 use Rattle.layout.specs.Cards.{Card}
 use Rattle.layout.specs.Known.{IsCard}

@@ -5,8 +5,9 @@ use Rattle.std.proofs.Props.{props}
 use Rattle.std.proofs.lemmas.Bool.{not-false}
 use Rattle.std.specs.Prelude.{IsTrue, option_map, ◌==◌}
 use Rattle.directory.specs.Records.{record_from}
-use Rattle.edits.specs.Outlines.{blanked}
-use Rattle.edits.proofs.BlankLaws.{blanked-twice, directory-blanked, names-blanked, edits_blanked}
+use Rattle.tree_edits.specs.Outlines.{blanked}
+use Rattle.tree_edits.proofs.BlankLaws.{blanked-twice, directory-blanked, names-blanked}
+use Rattle.tree_edits.proofs.BlankLaws.{edits_blanked}
 use Rattle.model.specs.declared.acl.Cred.{Cred}
 use Rattle.model.specs.declared.limits.Limits.{Limits}
 use Rattle.model.specs.declared.status.Status.{Status}

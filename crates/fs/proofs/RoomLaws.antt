@@ -3,7 +3,7 @@ use Rattle.std.proofs.Common.{◌≡◌, ◌≤◌, ◌&&◌, ℕ, Bool, true, f
 use Rattle.std.specs.Prelude.{IsTrue}
 use Rattle.std.proofs.lemmas.Bool.{cases_eq, le-leb}
 use Rattle.std.proofs.lemmas.Option.{same_Some}
-use Rattle.edits.proofs.NamedLaws.{few-at}
+use Rattle.tree_edits.proofs.NamedLaws.{few-at}
 use Rattle.model.specs.declared.limits.Limits.{Limits}
 use Rattle.model.specs.Charge.{blocks, charge, charge_of_blocks, fits}
 use Rattle.model.specs.Edit.{Shown, Show, DropName, DropNode, done, name_dropped, showing, altered, altered_at}
@@ -11,7 +11,7 @@ use Rattle.model.specs.Keyed.{Keyed, at, with, without, kept_or_not, total, wort
 use Rattle.model.specs.Tree.{Tree, Node, Content, File, Directory, names_of}
 use Rattle.model.proofs.KeyedLaws.{at-with_same, at-with_other, at-without_same, at-without_other, at-above, some≢none, IsAbove-with, IsAbove-without, total-with, total-without}
 use Rattle.model.proofs.OpensLaws.{total-ones}
-use Rattle.shape.proofs.FitLaws.{few-from}
+use Rattle.tree_check.proofs.FitLaws.{few-from}
 use Rattle.volume.proofs.EditLaws.{DoesFit, fit_parts}
 
 fit_of : (limits : Limits) (tree : Tree) → DoesFit limits tree → IsTrue (fits limits tree)

@@ -3,9 +3,9 @@ use Rattle.std.proofs.Common.{◌≡◌, ◌<◌, ◌+◌, ◌^◌, ℕ, zero, s
 use Rattle.std.proofs.Math.Logic.{∥∥₁_elim}
 use Rattle.std.proofs.Props.{props}
 use Rattle.std.specs.Prelude.{IsTrue, Result, Ok, option_map, if◌then◌else◌}
-use Rattle.edits.specs.Outlines.{blank_node, blanked, zeros}
-use Rattle.edits.proofs.BlankLaws.{at-blanked, blanked-twice, key-blanked, directory-blanked, edits_blanked}
-use Rattle.edits.proofs.FitLaws.{fits-blanked}
+use Rattle.tree_edits.specs.Outlines.{blank_node, blanked, zeros}
+use Rattle.tree_edits.proofs.BlankLaws.{at-blanked, blanked-twice, key-blanked, directory-blanked, edits_blanked}
+use Rattle.tree_edits.proofs.FitLaws.{fits-blanked}
 use Rattle.model.specs.declared.acl.Cred.{Cred}
 use Rattle.model.specs.declared.limits.Limits.{Limits}
 use Rattle.model.specs.declared.node.NodeKind.{NodeKind}

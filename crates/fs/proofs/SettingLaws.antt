@@ -1,6 +1,6 @@
 -- SETATTR in each state of a COMPOUND: what it comes to by the definition, where its tests on a file system are known.
 use Rattle.std.proofs.Common.{◌≡◌, ◌+◌, ℕ, Bool, true, false, List, [], ◌∷◌, ◌++◌, Some, None, refl, ap, ap₂, ◌∙◌, not}
-use Rattle.edits.specs.declared.edit.Edit.{Edit}
+use Rattle.tree_edits.specs.declared.edit.Edit.{Edit}
 use Rattle.layout.specs.Stands.{Kept}
 use Rattle.model.specs.declared.acl.Cred.{Cred}
 use Rattle.model.specs.declared.limits.Limits.{Limits}
@@ -18,7 +18,7 @@ use Rattle.model.specs.Step.{State, Stepped, current, refused}
 use Rattle.model.specs.Tree.{Tree, Node}
 use Rattle.model.specs.declared.not_done.NotDone.{NotDone}
 use Rattle.model.specs.declared.not_done.NotDone.TheVariants as refusal
-use Rattle.settings.specs.Given.{IsRefusedBy, given_of}
+use Rattle.set_attributes.specs.Given.{IsRefusedBy, given_of}
 use Rattle.fs.specs.declared.setting.Setting.{Setting}
 use Rattle.fs.specs.FileSystem.{FileSystem}
 use Rattle.fs.specs.Operations.{IsOn, IsNotDone, does_on}

@@ -5,13 +5,13 @@ use Rattle.std.proofs.Props.{props}
 use Rattle.std.proofs.lemmas.Bool.{lt-ltb}
 use Rattle.std.specs.Option.{ForSome}
 use Rattle.std.specs.Prelude.{IsTrue, Result, option_map}
-use Rattle.draft.specs.declared.nodes.Shown.{Shown}
-use Rattle.draft.specs.Nodes.{shown_of}
-use Rattle.edits.specs.declared.edit.Edit.{Edit}
-use Rattle.edits.specs.declared.edit.Edit.TheVariants as edit
-use Rattle.edits.specs.Edits.{AreEntries, AreDoable, edits_of, size_of}
-use Rattle.edits.specs.Outlines.{blank, blank_node}
-use Rattle.edits.proofs.BlankLaws.{at-blanked, length-zeros}
+use Rattle.tree_transaction.specs.declared.nodes.Shown.{Shown}
+use Rattle.tree_transaction.specs.Nodes.{shown_of}
+use Rattle.tree_edits.specs.declared.edit.Edit.{Edit}
+use Rattle.tree_edits.specs.declared.edit.Edit.TheVariants as edit
+use Rattle.tree_edits.specs.Edits.{AreEntries, AreDoable, edits_of, size_of}
+use Rattle.tree_edits.specs.Outlines.{blank, blank_node}
+use Rattle.tree_edits.proofs.BlankLaws.{at-blanked, length-zeros}
 use Rattle.inode.specs.Fields.{Fields}
 use Rattle.layout.specs.Cards.{Card}
 use Rattle.model.specs.declared.acl.Ace.{Ace}
@@ -38,8 +38,8 @@ use Rattle.model.specs.WellFormed.{IsContent}
 use Rattle.model.proofs.KeyedLaws.{at-with_same}
 use Rattle.model.proofs.NodeChangeLaws.{altered-once}
 use Rattle.model.proofs.RefusalLaws.{none_in_front, none_in_both}
-use Rattle.settings.specs.declared.said.Settings.{Settings}
-use Rattle.settings.specs.Given.{AreSettings, AreWithin, given_of}
+use Rattle.set_attributes.specs.declared.said.Settings.{Settings}
+use Rattle.set_attributes.specs.Given.{AreSettings, AreWithin, given_of}
 use Rattle.fs.specs.declared.setting.Setting.{Setting}
 use Rattle.fs.specs.FileSystem.{FileSystem}
 use Rattle.fs.specs.Files.{verdict_refusals}

@@ -1,13 +1,13 @@
 -- The edits of a file whose size is set, as they stand in memory: they are a change that may be kept.
 use Rattle.std.proofs.Common.{◌≡◌, ◌≤◌, ◌<◌, ◌+◌, ◌^◌, ℕ, true, false, List, [], ◌∷◌, length, refl, sym, ap, ◌∙◌, arith, subst, inl, is_some}
 use Rattle.std.specs.Prelude.{IsTrue, option_map}
-use Rattle.draft.specs.declared.nodes.Shown.{Shown}
-use Rattle.draft.specs.Nodes.{shown_of}
-use Rattle.edits.specs.declared.edit.Edit.{Edit}
-use Rattle.edits.specs.declared.edit.Edit.TheVariants as edit
-use Rattle.edits.specs.Edits.{AreDoable, size_of}
-use Rattle.edits.specs.Outlines.{blank, blank_node, blanked}
-use Rattle.edits.proofs.BlankLaws.{at-blanked}
+use Rattle.tree_transaction.specs.declared.nodes.Shown.{Shown}
+use Rattle.tree_transaction.specs.Nodes.{shown_of}
+use Rattle.tree_edits.specs.declared.edit.Edit.{Edit}
+use Rattle.tree_edits.specs.declared.edit.Edit.TheVariants as edit
+use Rattle.tree_edits.specs.Edits.{AreDoable, size_of}
+use Rattle.tree_edits.specs.Outlines.{blank, blank_node, blanked}
+use Rattle.tree_edits.proofs.BlankLaws.{at-blanked}
 use Rattle.layout.specs.Cards.{Card}
 use Rattle.layout.specs.Known.{IsCard}
 use Rattle.model.specs.declared.acl.Ace.{Ace}

@@ -2,10 +2,11 @@
 use Rattle.std.proofs.Common.{◌≡◌, ◌≢◌, ◌<◌, ◌+◌, ◌&&◌, ◌⊎◌, ℕ, Bool, List, [], ◌∷◌, Some, None, length, refl, sym, ap, ap₂, ◌∙◌, arith, inl, inr, subst}
 use Rattle.std.proofs.lemmas.Bool.{cases_eq, cases_order}
 use Rattle.std.specs.Prelude.{nat_le}
-use Rattle.edits.specs.declared.edit.Edit.{Edit}
-use Rattle.edits.specs.Edits.{edit_of, edits_of, CanDo, AreDoable}
-use Rattle.edits.specs.Sizes.{charge_of_size, names_in, number_of, resized_by, size_at, size_there}
-use Rattle.edits.proofs.SizeLaws.{IsRising, behind, still_rising, charge_there, names_there}
+use Rattle.tree_edits.specs.declared.edit.Edit.{Edit}
+use Rattle.tree_edits.specs.Edits.{edit_of, edits_of, CanDo, AreDoable}
+use Rattle.tree_edits.specs.Sizes.{charge_of_size, names_in, number_of, resized_by, size_at}
+use Rattle.tree_edits.specs.Sizes.{size_there}
+use Rattle.tree_edits.proofs.SizeLaws.{IsRising, behind, still_rising, charge_there, names_there}
 use Rattle.model.specs.declared.limits.Limits.{Limits}
 use Rattle.model.specs.Charge.{charge, few_names, fits}
 use Rattle.model.specs.Edit.{done, edited}

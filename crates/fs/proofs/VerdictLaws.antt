@@ -17,7 +17,7 @@ use Rattle.model.specs.StateIdLaws.{IsOwn, Stands}
 use Rattle.model.specs.StateIds.{Found, Anonymous, Refused, Names, access_refusals, by_meaning, by_open, by_seqid, found, is_anonymous, meant, open_named, state_of, write_access, zeros}
 use Rattle.model.proofs.KeyedLaws.{at-first, at-rest, some≢none}
 use Rattle.model.proofs.StateIdLaws.{lower, newest}
-use Rattle.settings.specs.Given.{given_of}
+use Rattle.set_attributes.specs.Given.{given_of}
 use Rattle.fs.specs.FileSystem.{FileSystem}
 use Rattle.fs.specs.Operations.{IsOn}
 use Rattle.fs.specs.Verdicts.{EachIsGot, EachSettingIsMeant, EachWriteIsMeant, Gets, IsFileAt, IsPossible, IsUsed, OnlyPossible}

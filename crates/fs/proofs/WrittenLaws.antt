@@ -4,12 +4,12 @@ use Rattle.std.proofs.Common.{◌≡◌, ◌≤◌, ◌<◌, ◌+◌, ◌^◌, �
 use Rattle.std.proofs.lemmas.Bool.{lt-ltb, le-ltb}
 use Rattle.std.proofs.lemmas.List.{length-take}
 use Rattle.std.specs.Prelude.{IsTrue, Result, nat_lt, ◌==◌}
-use Rattle.draft.specs.declared.nodes.Shown.{Shown}
-use Rattle.draft.specs.Nodes.{shown_of}
-use Rattle.edits.specs.declared.edit.Edit.{Edit}
-use Rattle.edits.specs.declared.edit.Edit.TheVariants as edit
-use Rattle.edits.specs.Doing.{updates_of_all}
-use Rattle.edits.specs.Edits.{AreEntries, AreDoable, edits_of, size_of}
+use Rattle.tree_transaction.specs.declared.nodes.Shown.{Shown}
+use Rattle.tree_transaction.specs.Nodes.{shown_of}
+use Rattle.tree_edits.specs.declared.edit.Edit.{Edit}
+use Rattle.tree_edits.specs.declared.edit.Edit.TheVariants as edit
+use Rattle.tree_edits.specs.Doing.{updates_of_all}
+use Rattle.tree_edits.specs.Edits.{AreEntries, AreDoable, edits_of, size_of}
 use Rattle.layout.specs.Cards.{Card}
 use Rattle.layout.specs.Known.{IsCard}
 use Rattle.layout.specs.Stands.{Kept}

@@ -10,7 +10,7 @@ use Rattle.model.specs.Refusal.{Refusals}
 use Rattle.model.specs.State.{State}
 use Rattle.model.specs.StateIds.{state_refusals}
 use Rattle.model.specs.Tree.{Tree, is_directory_at}
-use Rattle.settings.specs.Given.{IsChecked}
+use Rattle.set_attributes.specs.Given.{IsChecked}
 
 -- The verdict on a stateid
 

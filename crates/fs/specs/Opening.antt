@@ -1,6 +1,6 @@
 -- OPEN, but for the table of opens, of which a call is told whether it is full.
 use Rattle.std.specs.Prelude.{ℕ, Bool, List, [], ◌∷◌, ◌++◌, ◌+◌, Result, Ok, Err, None, MatchOption, ◌≡◌, ◌&&◌, ◌||◌, true, false, not, if◌then◌else◌}
-use Rattle.edits.specs.declared.edit.Edit.{Edit}
+use Rattle.tree_edits.specs.declared.edit.Edit.{Edit}
 use Rattle.layout.specs.Stands.{Kept}
 use Rattle.model.specs.declared.acl.Cred.{Cred}
 use Rattle.model.specs.declared.limits.Limits.{Limits}
@@ -23,7 +23,7 @@ use Rattle.model.specs.State.{State, Stepped, current, named_refusals, answered}
 use Rattle.model.specs.StateIds.{is_table_full, new_open, opened, read_access, write_access}
 use Rattle.model.specs.Step.{alters, without_rights}
 use Rattle.model.specs.Tree.{Tree, is_directory_at}
-use Rattle.settings.specs.Given.{given_of}
+use Rattle.set_attributes.specs.Given.{given_of}
 use Rattle.fs.specs.declared.fault.FsFault.{FsFault}
 use Rattle.fs.specs.declared.opening.How.{How}
 use Rattle.fs.specs.declared.opening.How.TheVariants as how

@@ -1,6 +1,6 @@
 -- The node that a card shows, with zeros for the bytes of a file.
 use Rattle.directory.specs.Listing.{by_stamp}
-use Rattle.edits.specs.Outlines.{zeros}
+use Rattle.tree_edits.specs.Outlines.{zeros}
 use Rattle.layout.specs.Cards.{Card, node_with}
 use Rattle.model.specs.declared.node.NodeKind.{NodeKind}
 use Rattle.model.specs.declared.node.NodeKind.TheVariants as kind

@@ -1,6 +1,6 @@
 -- A change that passed its tests, before it is kept.
 use Rattle.std.specs.Prelude.{◌+◌, ◌<◌, ◌^◌, ℕ, List, IsTrue}
-use Rattle.edits.specs.declared.edit.Edit.{Edit}
+use Rattle.tree_edits.specs.declared.edit.Edit.{Edit}
 use Rattle.inode.specs.Fields.{Fields}
 use Rattle.model.specs.declared.acl.Ace.{Ace}
 use Rattle.model.specs.declared.acl.Cred.{Cred}
@@ -11,7 +11,7 @@ use Rattle.model.specs.Charge.{fits}
 use Rattle.model.specs.Edit.{Shown}
 use Rattle.model.specs.Inherit.{created_list}
 use Rattle.model.specs.Stamp.{next_stamp}
-use Rattle.settings.specs.declared.said.Settings.{Settings}
+use Rattle.set_attributes.specs.declared.said.Settings.{Settings}
 use Rattle.fs.specs.FileSystem.{FileSystem}
 use Rattle.volume.specs.Edits.{IsChange, edited_by}
 use Rattle.volume.specs.Formed.{IsFormed}

@@ -1,7 +1,7 @@
 -- RENAME.
 use Rattle.std.specs.Prelude.{ℕ, Bool, true, false, List, Option, Some, None, Result, Ok, Err}
 use Rattle.std.specs.Prelude.{MatchOption, ◌+◌, ◌==◌, ◌&&◌, ◌≡◌, bytes_eq, option_map, IsTrue, if◌then◌else◌}
-use Rattle.edits.specs.declared.edit.Edit.{Edit}
+use Rattle.tree_edits.specs.declared.edit.Edit.{Edit}
 use Rattle.layout.specs.Stands.{Kept}
 use Rattle.model.specs.declared.acl.Cred.{Cred}
 use Rattle.model.specs.Answer.{Answer}

@@ -2,8 +2,8 @@
 use Rattle.std.specs.Prelude.{ℕ, Bool, true, false, List, [], ◌∷◌, ◌++◌, Option, Some, None, Result, Ok, Err}
 use Rattle.std.specs.Prelude.{MatchOption, ◌+◌, ◌&&◌, ◌||◌, ◌≡◌, not, is_some, unwrap_or, if◌then◌else◌}
 use Rattle.std.specs.Global.{Vec}
-use Rattle.edits.specs.declared.edit.Edit.{Edit}
-use Rattle.edits.specs.declared.edit.Edit.TheVariants as edit
+use Rattle.tree_edits.specs.declared.edit.Edit.{Edit}
+use Rattle.tree_edits.specs.declared.edit.Edit.TheVariants as edit
 use Rattle.inode.specs.Fields.{Fields}
 use Rattle.layout.specs.Stands.{Kept}
 use Rattle.model.specs.declared.acl.Cred.{Cred}
@@ -21,8 +21,8 @@ use Rattle.model.specs.SetAttr.{kind_at, list_set, sets_size, was_set}
 use Rattle.model.specs.StateIds.{write_access}
 use Rattle.model.specs.Step.{State, Stepped, alters, answered}
 use Rattle.model.specs.Tree.{Tree, is_directory_at}
-use Rattle.settings.specs.declared.said.Settings.{Settings}
-use Rattle.settings.specs.Given.{given_of}
+use Rattle.set_attributes.specs.declared.said.Settings.{Settings}
+use Rattle.set_attributes.specs.Given.{given_of}
 use Rattle.fs.specs.declared.fault.FsFault.{FsFault}
 use Rattle.fs.specs.declared.setting.Setting.{Setting}
 use Rattle.fs.specs.FileSystem.{FileSystem}

@@ -11,9 +11,9 @@ use crate::fs::Fs;
 use crate::rights::grants;
 use acl_eval::{Cred, Mask, NodeKind};
 use bitflags::Flags;
-use cards::Card;
 use disk::Device;
 use model::status::Status;
+use node_table::Card;
 
 /// `ACCESS4_READ`: to read a file's bytes, or to list a directory.
 const READ: u32 = 0x01;

@@ -5,9 +5,9 @@ use crate::fs::Fs;
 use crate::rights::grants;
 use acl_eval::{Cred, Mask};
 use acl_set::mode_of;
-use cards::Card;
 use disk::Device;
 use model::status::Status;
+use node_table::Card;
 use wire_attributes::{Attribute, AttributesAnswer, NodeAttributes, is_asked};
 
 #[tactic(auto, unfolding(crate::specs::Views::fs_of))]

@@ -1,8 +1,8 @@
 //! Changes of the tree: the edits that they are made of, and keeping them.
 
 ghost use Rattle.std.specs.Prelude.{◌≡◌, ◌⊎◌, ◌+◌, ◌<◌, ◌∷◌, [], ◌++◌, false, IfOk, IfErr, OnOk, MatchOption, ◌≤◌, ◌^◌};
-ghost use Rattle.draft.specs.Nodes.{shown_of};
-ghost use Rattle.edits.specs.declared.edit.Edit.TheVariants as edit;
+ghost use Rattle.tree_transaction.specs.Nodes.{shown_of};
+ghost use Rattle.tree_edits.specs.declared.edit.Edit.TheVariants as edit;
 ghost use Rattle.fs.specs.Making.{sizing};
 ghost use Rattle.fs.specs.Planned.{shown_by};
 ghost use Rattle.fs.specs.Setting.{resizing};
@@ -10,13 +10,13 @@ ghost use Rattle.fs.specs.Setting.{resizing};
 use crate::fault::FsFault;
 use crate::fs::Fs;
 use acl_eval::{Acl, NodeKind};
-use cards::Card;
 use disk::Device;
-use draft::Shown;
-use edits::Edit;
 use model::not_done::NotDone;
 use model::status::Status;
+use node_table::Card;
 use std::alloc::{AllocError, Global};
+use tree_edits::Edit;
+use tree_transaction::Shown;
 
 /// A node whose content a change alters: what it shows then.
 pub(crate) fn touched(alloc: Global, card: &Card, stamp: u64, now: u64) -> Result<Shown, AllocError>
@@ -150,7 +150,7 @@ pub(crate) fn set_edits<'a>(
 impl<D: Device> Fs<D> {
     ghost use Rattle.fs.specs.Changes.{fs_ending};
     ghost use Rattle.fs.specs.Views.{fs_of, Alters};
-    ghost use Rattle.edits.specs.Edits.{AreDoable};
+    ghost use Rattle.tree_edits.specs.Edits.{AreDoable};
     ghost use Rattle.fs.specs.Making.{last_refusal};
     ghost use Rattle.fs.specs.Planned.{IsPlanned};
     ghost use Rattle.model.specs.Stamp.{next_stamp, is_stamp_left};

@@ -8,10 +8,10 @@ use crate::fs::Fs;
 use crate::nodes::is_directory;
 use crate::rights::grants;
 use acl_eval::{Cred, Mask};
-use cards::Card;
 use directory::{Entry, ListAfter};
 use disk::Device;
 use model::status::Status;
+use node_table::Card;
 use std::alloc::AllocError;
 use wire_attributes::{Attribute, AttributesAnswer, ListedAttributes, ListedEntry, is_asked};
 
@@ -80,7 +80,7 @@ impl<D: Device> Fs<D> {
     ghost use Rattle.model.specs.ReadDir.{entry_attributes, listed_entry, may_read_list};
     ghost use Rattle.model.specs.Step.{State};
     ghost use Rattle.model.specs.Tree.{names_at};
-    ghost use Rattle.settings.specs.Given.{IsChecked};
+    ghost use Rattle.set_attributes.specs.Given.{IsChecked};
     ghost use Rattle.wire_attributes.specs.Listed.{EntryFits, ListedFits, entry_view, listed_view};
 
     /// READDIR (RFC 8881, section 18.23): a page of a directory, as many entries after the cookie

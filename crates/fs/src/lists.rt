@@ -7,7 +7,7 @@ ghost use Rattle.model.specs.SetAttr.{list_set};
 
 use acl_eval::{Ace, Acl, NodeKind};
 use acl_set::{Given, MAX_MODE, at_creation, with_mode};
-use settings::Settings;
+use set_attributes::Settings;
 use std::alloc::{AllocError, Global};
 
 /// The list of a new node below a directory of this list (RFC 8881, section 6.4.3): the one that is

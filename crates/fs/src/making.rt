@@ -8,15 +8,15 @@ use crate::lists::list_created;
 use crate::nodes::is_directory;
 use crate::rights::grants;
 use acl_eval::{Cred, Mask, NodeKind};
-use cards::Card;
 use disk::Device;
-use draft::Shown;
-use edits::Edit;
 use model::not_done::NotDone;
 use model::status::Status;
 use names::check_name;
-use settings::{GivenAttributes, SETTABLE_AT_CREATION, Settings, check_attributes};
+use node_table::Card;
+use set_attributes::{GivenAttributes, SETTABLE_AT_CREATION, Settings, check_attributes};
 use std::alloc::AllocError;
+use tree_edits::Edit;
+use tree_transaction::Shown;
 
 /// The directory that a caller asks for.
 #[derive(Clone, Copy)]
@@ -39,15 +39,15 @@ struct Planned<'a> {
 #[tactic(auto, unfolding(crate::specs::Views::fs_of, crate::specs::Views::fs_failures))]
 impl<D: Device> Fs<D> {
     ghost use Rattle.std.specs.Prelude.{◌≡◌, ◌≤◌, ◌<◌, ◌+◌, ◌^◌, ℕ, true, false, None, length, OnOk, IfOk, IfErr, IsErrOf};
-    ghost use Rattle.draft.specs.Nodes.{shown_of};
-    ghost use Rattle.edits.specs.Edits.{AreEntries};
-    ghost use Rattle.edits.specs.Making.{first_content};
+    ghost use Rattle.tree_transaction.specs.Nodes.{shown_of};
+    ghost use Rattle.tree_edits.specs.Edits.{AreEntries};
+    ghost use Rattle.tree_edits.specs.Making.{first_content};
     ghost use Rattle.layout.specs.Known.{IsCard};
     ghost use Rattle.model.specs.Refusal.{first_refusal};
     ghost use Rattle.model.specs.Stamp.{next_stamp};
     ghost use Rattle.model.specs.Step.{State};
     ghost use Rattle.model.specs.Tree.{Node};
-    ghost use Rattle.settings.specs.Given.{given_of, AreSettings, AreWithin, IsChecked, IsCheckedInMemory};
+    ghost use Rattle.set_attributes.specs.Given.{given_of, AreSettings, AreWithin, IsChecked, IsCheckedInMemory};
     ghost use Rattle.fs.specs.OnTree.{new_directory_refusals};
     ghost use Rattle.fs.specs.Changes.{fs_ending};
     ghost use Rattle.fs.specs.Views.{fs_of, Alters};

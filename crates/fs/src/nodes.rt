@@ -10,8 +10,8 @@ ghost use Rattle.fs.specs.Views.{fs_of};
 
 use crate::fs::Fs;
 use acl_eval::NodeKind;
-use cards::Card;
 use disk::Device;
+use node_table::Card;
 
 /// Whether a node is a directory.
 pub(crate) fn is_directory(card: &Card) -> bool

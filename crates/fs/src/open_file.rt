@@ -8,13 +8,13 @@ use crate::opening::{How, OpenEffect, OpenRoom, Opened, Opening, check_share, ma
 use crate::renaming::Change;
 use crate::rights::grants;
 use acl_eval::{Cred, Mask, NodeKind};
-use cards::Card;
 use disk::Device;
-use edits::Edit;
 use model::not_done::NotDone;
 use model::status::Status;
 use names::check_name;
-use settings::{GivenAttributes, SETTABLE_AT_OPEN, Settings, check_attributes};
+use node_table::Card;
+use set_attributes::{GivenAttributes, SETTABLE_AT_OPEN, Settings, check_attributes};
+use tree_edits::Edit;
 
 /// An open that passed its tests.
 #[derive(Drop)]
@@ -38,7 +38,7 @@ impl<D: Device> Fs<D> {
     ghost use Rattle.model.specs.Refusal.{first_refusal};
     ghost use Rattle.model.specs.Stamp.{is_stamp_left};
     ghost use Rattle.model.specs.Step.{State};
-    ghost use Rattle.settings.specs.Given.{given_of, AreSettings, AreWithin, IsChecked, IsCheckedInMemory};
+    ghost use Rattle.set_attributes.specs.Given.{given_of, AreSettings, AreWithin, IsChecked, IsCheckedInMemory};
     ghost use Rattle.fs.specs.Changes.{fs_ending};
     ghost use Rattle.fs.specs.Views.{fs_of, Alters};
     ghost use Rattle.fs.specs.Making.{IsDirectoryOf, room_tests};

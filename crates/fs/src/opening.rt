@@ -4,7 +4,7 @@ ghost use Rattle.std.specs.Prelude.{◌≡◌};
 ghost use Rattle.fs.specs.Opening.{has_room_for, may_use};
 ghost use Rattle.model.specs.Open.{share_refusals};
 ghost use Rattle.model.specs.Operation.{OpenArguments};
-ghost use Rattle.settings.specs.Given.{IsChecked};
+ghost use Rattle.set_attributes.specs.Given.{IsChecked};
 
 use crate::fault::FsFault;
 use crate::fs::Fs;
@@ -12,10 +12,10 @@ use crate::nodes::is_directory;
 use crate::renaming::Change;
 use crate::rights::grants;
 use acl_eval::{Cred, Mask};
-use cards::Card;
 use disk::Device;
 use model::status::Status;
-use settings::GivenAttributes;
+use node_table::Card;
+use set_attributes::GivenAttributes;
 
 /// `OPEN4_SHARE_ACCESS_READ` and `OPEN4_SHARE_ACCESS_WRITE`.
 const READ: u32 = 1;

@@ -23,7 +23,7 @@ impl<D: Device> Fs<D> {
     ghost use Rattle.model.specs.Operation.{StateId};
     ghost use Rattle.model.specs.StateIds.{read_access};
     ghost use Rattle.model.specs.Step.{State};
-    ghost use Rattle.settings.specs.Given.{IsChecked};
+    ghost use Rattle.set_attributes.specs.Given.{IsChecked};
     ghost use Rattle.fs.specs.Files.{IsVerdict, permit_refusals};
     ghost use Rattle.fs.specs.Views.{fs_of, Alters};
     ghost use Rattle.fs.specs.Operations.{IsOn};

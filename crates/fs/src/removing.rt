@@ -5,12 +5,12 @@ use crate::fault::FsFault;
 use crate::fs::Fs;
 use crate::nodes::is_directory;
 use acl_eval::Cred;
-use cards::Card;
 use disk::Device;
-use edits::Edit;
 use model::not_done::NotDone;
 use model::status::Status;
 use names::check_name;
+use node_table::Card;
+use tree_edits::Edit;
 
 /// A name that was removed.
 #[derive(Clone, Copy, PartialEq, Eq)]
@@ -51,7 +51,7 @@ impl<D: Device> Fs<D> {
     ghost use Rattle.model.specs.Stamp.{is_stamp_left};
     ghost use Rattle.model.specs.Step.{State};
     ghost use Rattle.model.specs.Tree.{entry_of, names_at};
-    ghost use Rattle.settings.specs.Given.{IsChecked};
+    ghost use Rattle.set_attributes.specs.Given.{IsChecked};
     ghost use Rattle.fs.specs.Changes.{fs_ending};
     ghost use Rattle.fs.specs.Views.{fs_of, Alters};
     ghost use Rattle.fs.specs.Operations.{IsOn, MakesTree, IsNotDone};

@@ -10,14 +10,14 @@ use crate::fs::Fs;
 use crate::nodes::is_directory;
 use crate::rights::grants;
 use acl_eval::{Cred, Mask};
-use cards::Card;
 use disk::Device;
-use draft::Shown;
-use edits::Edit;
 use model::not_done::NotDone;
 use model::status::Status;
 use names::check_name;
+use node_table::Card;
 use std::alloc::{AllocError, Global};
+use tree_edits::Edit;
+use tree_transaction::Shown;
 
 /// The rename that a caller asks for.
 #[derive(Clone, Copy)]
@@ -138,7 +138,7 @@ impl<D: Device> Fs<D> {
     ghost use Rattle.model.specs.Refusal.{first_refusal};
     ghost use Rattle.model.specs.Step.{State};
     ghost use Rattle.model.specs.Tree.{is_directory_at};
-    ghost use Rattle.settings.specs.Given.{IsChecked};
+    ghost use Rattle.set_attributes.specs.Given.{IsChecked};
     ghost use Rattle.fs.specs.Changes.{fs_ending};
     ghost use Rattle.fs.specs.Views.{fs_of, Alters};
     ghost use Rattle.fs.specs.Making.{IsDirectoryOf};

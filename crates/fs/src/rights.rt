@@ -8,8 +8,8 @@ ghost use Rattle.fs.specs.Views.{fs_of};
 
 use crate::fs::Fs;
 use acl_eval::{Cred, Mask};
-use cards::Card;
 use disk::Device;
+use node_table::Card;
 
 /// Whether the list of a node grants a caller these rights.
 pub(crate) fn grants(card: &Card, cred: &Cred, mask: Mask) -> bool

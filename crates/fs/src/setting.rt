@@ -2,7 +2,7 @@
 
 ghost use Rattle.std.specs.Prelude.{◌≡◌};
 ghost use Rattle.model.specs.Acl.{granted};
-ghost use Rattle.settings.specs.Given.{IsChecked};
+ghost use Rattle.set_attributes.specs.Given.{IsChecked};
 ghost use Rattle.fs.specs.Setting.{may_set, sized_refusals};
 
 use crate::changing::set_edits;
@@ -12,17 +12,17 @@ use crate::lists::list_set;
 use crate::nodes::is_directory;
 use crate::rights::grants;
 use acl_eval::{Cred, Mask};
-use cards::Card;
 use disk::Device;
-use draft::Shown;
-use edits::Edit;
 use model::not_done::NotDone;
 use model::status::Status;
-use settings::{
+use node_table::Card;
+use set_attributes::{
     ACL, GivenAttributes, MODE, OWNER, OWNER_GROUP, SETTABLE_AT_SETATTR, SIZE, Settings,
     check_attributes, is_among,
 };
 use std::alloc::AllocError;
+use tree_edits::Edit;
+use tree_transaction::Shown;
 use wire_attributes::numbers_of;
 
 /// What a caller sets of a node.
@@ -69,13 +69,14 @@ fn check_sized(
 impl<D: Device> Fs<D> {
     ghost use Rattle.std.specs.Prelude.{◌≡◌, ◌≤◌, true, false, length, OnOk, IfOk, IfErr, IsErrOf};
     ghost use Rattle.std.specs.Prelude.{MatchOption};
-    ghost use Rattle.draft.specs.Nodes.{shown_of};
-    ghost use Rattle.edits.specs.Edits.{AreEntries};
+    ghost use Rattle.tree_transaction.specs.Nodes.{shown_of};
+    ghost use Rattle.tree_edits.specs.Edits.{AreEntries};
     ghost use Rattle.layout.specs.Known.{IsCard};
     ghost use Rattle.model.specs.Attribute.{is_empty};
     ghost use Rattle.model.specs.Operation.{Argument, SetAttrArguments};
     ghost use Rattle.model.specs.Step.{State};
-    ghost use Rattle.settings.specs.Given.{given_of, AreSettings, AreWithin, IsCheckedInMemory};
+    ghost use Rattle.set_attributes.specs.Given.{given_of, AreSettings, AreWithin};
+    ghost use Rattle.set_attributes.specs.Given.{IsCheckedInMemory};
     ghost use Rattle.fs.specs.Changes.{fs_ending};
     ghost use Rattle.fs.specs.Views.{fs_of, Alters};
     ghost use Rattle.fs.specs.Operations.{IsOn, IsNotDone};

@@ -5,9 +5,9 @@ use crate::fault::FsFault;
 use crate::fs::Fs;
 use acl_eval::{Cred, Mask};
 use disk::Device;
-use edits::Edit;
 use model::not_done::NotDone;
 use model::status::Status;
+use tree_edits::Edit;
 
 /// The bytes that a caller writes to a file.
 #[derive(Clone, Copy)]

@@ -9,9 +9,9 @@ ghost use Rattle.migration.specs.Plans.{FitSecond};
 use crate::commit::commit_all;
 use crate::fault::MigrationFault;
 use crate::plan::plan;
-use cards::Table;
 use disk::Device;
 use journal::Journal;
+use node_table::Table;
 use std::alloc::Global;
 
 /// Moves the nodes of a volume of version 1 to form two, from the place on that its mark tells: by

@@ -6,11 +6,11 @@ ghost use Rattle.inode.specs.declared.node.Form.TheVariants.{Two};
 ghost use Rattle.migration.specs.Plans as plans;
 ghost use Rattle.migration.specs.Plans.{FitSecond, step};
 
-use cards::{Card, Table};
 use disk::{SECTOR, Update};
 use inode::{Form, to_sector};
 use layout::places::{MARK, NODES};
 use layout::versions::mark_sector;
+use node_table::{Card, Table};
 use std::alloc::{AllocError, Global};
 
 /// How many places of the node table one transaction moves: with the mark they are the 48 sectors

@@ -3,11 +3,11 @@ use Rattle.std.proofs.Common.{◌≡◌, ◌≢◌, ◌<◌, ℕ, List, Option, 
 use Rattle.std.proofs.lemmas.Bool.{cases_eq}
 use Rattle.std.proofs.lemmas.List.{length-set, get_or-set_same, get_or-set_other}
 use Rattle.std.proofs.lemmas.Option.{same_Some}
-use Rattle.cards.specs.Tables.{number_at, HaveOwnPlaces}
-use Rattle.cards.proofs.TableLaws.{within-numbered}
+use Rattle.node_table.specs.Tables.{number_at, HaveOwnPlaces}
+use Rattle.node_table.proofs.TableLaws.{within-numbered}
 use Rattle.layout.specs.Cards.{Card}
 use Rattle.model.specs.Tree.{root}
-use Rattle.shape.specs.Trees.{IsOneTree}
+use Rattle.tree_check.specs.Trees.{IsOneTree}
 use Rattle.parents.specs.ParentLaws.{MovesName, EachMove, EachKept}
 use Rattle.parents.specs.Parents.{LeadsTo, HasName, AreParents}
 use Rattle.parents.proofs.LinkLaws.{no_root, one_name}

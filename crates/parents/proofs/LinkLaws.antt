@@ -2,7 +2,7 @@
 use Rattle.std.proofs.Common.{◌≡◌, ◌≢◌, ◌≤◌, ◌<◌, ◌+◌, ℕ, zero, suc, List, [], ◌∷◌, Option, Some, None, get_or, refl, sym, ap, ◌∙◌, arith, inl, inr, eq-eqb, ne_eqb}
 use Rattle.std.proofs.lemmas.Bool.{cases_eq}
 use Rattle.std.proofs.lemmas.Option.{same_Some}
-use Rattle.cards.specs.Tables.{number_at, number_of, HaveOwnPlaces, HasNot}
+use Rattle.node_table.specs.Tables.{number_at, number_of, HaveOwnPlaces, HasNot}
 use Rattle.layout.specs.Cards.{Card}
 use Rattle.layout.specs.Marks.{times}
 use Rattle.layout.specs.Laid.{AreNumbered}
@@ -10,9 +10,9 @@ use Rattle.layout.specs.SumLaws.{entry_numbers, other_numbers, numbers_of}
 use Rattle.layout.proofs.NumberLaws.{once-off, once-at, times-append}
 use Rattle.model.specs.Tree.{root}
 use Rattle.model.proofs.OptionLaws.{some≢none}
-use Rattle.shape.specs.Trees.{led_at, led_by, IsOneTree}
-use Rattle.shape.proofs.TreeLaws.{numbered}
-use Rattle.shape.proofs.Counting.{root-others}
+use Rattle.tree_check.specs.Trees.{led_at, led_by, IsOneTree}
+use Rattle.tree_check.proofs.TreeLaws.{numbered}
+use Rattle.tree_check.proofs.Counting.{root-others}
 use Rattle.parents.specs.Parents.{LeadsTo, HasName}
 
 -- Names at places, and all names

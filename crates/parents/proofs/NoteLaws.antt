@@ -5,15 +5,15 @@ use Rattle.std.proofs.lemmas.List.{length-set, get_or-set_same, get_or-set_other
 use Rattle.std.proofs.lemmas.Option.{same_Some}
 use Rattle.directory.specs.declared.entry.Entry.{Entry}
 use Rattle.directory.specs.Records.{Record, record_of}
-use Rattle.cards.specs.Tables.{number_at, HasNot, HaveOwnPlaces}
-use Rattle.cards.proofs.TableLaws.{within-numbered}
+use Rattle.node_table.specs.Tables.{number_at, HasNot, HaveOwnPlaces}
+use Rattle.node_table.proofs.TableLaws.{within-numbered}
 use Rattle.layout.specs.Cards.{Card}
 use Rattle.layout.specs.Marks.{once_if, times}
 use Rattle.layout.specs.SumLaws.{numbers_of}
 use Rattle.layout.proofs.NumberLaws.{times-append}
 use Rattle.model.specs.Tree.{root}
-use Rattle.shape.specs.Trees.{led_at, IsOneTree}
-use Rattle.shape.proofs.Sums.{take-one}
+use Rattle.tree_check.specs.Trees.{led_at, IsOneTree}
+use Rattle.tree_check.proofs.Sums.{take-one}
 use Rattle.parents.specs.Notes.{IsNoted}
 use Rattle.parents.specs.Parents.{LeadsTo, AreParents}
 use Rattle.parents.proofs.LinkLaws.{no_root, one_place}

@@ -10,7 +10,7 @@ use Rattle.model.specs.WellFormed.{links_from}
 use Rattle.model.proofs.KeyedLaws.{at-first, at-rest, at-above}
 use Rattle.model.proofs.OptionLaws.{some≢none}
 use Rattle.model.proofs.BooleanLaws.{if_true, if_false}
-use Rattle.cards.specs.Tables.{number_at, number_of, HasNot, count_of_all}
+use Rattle.node_table.specs.Tables.{number_at, number_of, HasNot, count_of_all}
 use Rattle.layout.specs.Cards.{Card, tree_of, node_of}
 use Rattle.layout.specs.Known.{AreCards}
 use Rattle.layout.specs.Marks.{times}
@@ -19,8 +19,8 @@ use Rattle.layout.proofs.Answering.{tree-has}
 use Rattle.layout.proofs.Changing.{tree-above, tree-lacks}
 use Rattle.layout.proofs.Knowing.{AreEach, each_above, each_card}
 use Rattle.layout.proofs.Summing.{known_sum, links-card}
-use Rattle.shape.specs.Trees.{led_at, led_by, IsOneTree}
-use Rattle.shape.proofs.TreeLaws.{find, There, Nowhere, numbered}
+use Rattle.tree_check.specs.Trees.{led_at, led_by, IsOneTree}
+use Rattle.tree_check.proofs.TreeLaws.{find, There, Nowhere, numbered}
 use Rattle.parents.specs.ParentLaws.{EachParent}
 use Rattle.parents.specs.Parents.{LeadsTo, HasName, AreParents}
 use Rattle.parents.proofs.LinkLaws.{no_root, no_other, has_name}

@@ -1,6 +1,6 @@
 -- Names of one directory after the other are noted at the places of what they lead to.
 use Rattle.std.specs.Prelude.{◌≡◌, ◌<◌, ℕ, List, Option, Some, length, slice_index_or}
-use Rattle.cards.specs.Tables.{number_at}
+use Rattle.node_table.specs.Tables.{number_at}
 use Rattle.layout.specs.Cards.{Card}
 use Rattle.layout.specs.Marks.{times}
 

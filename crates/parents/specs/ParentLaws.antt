@@ -3,10 +3,10 @@ use Rattle.std.specs.Prelude.{◌≡◌, ◌≢◌, ℕ, List, Option, Some, len
 use Rattle.std.specs.Prelude.{slice_index_or}
 use Rattle.disk.specs.Moments.{Image}
 use Rattle.model.specs.Ancestors.{parent_of}
-use Rattle.cards.specs.Tables.{number_at, HaveOwnPlaces}
+use Rattle.node_table.specs.Tables.{number_at, HaveOwnPlaces}
 use Rattle.layout.specs.Cards.{Card, tree_of}
 use Rattle.layout.specs.Known.{AreCards}
-use Rattle.shape.specs.Trees.{IsOneTree}
+use Rattle.tree_check.specs.Trees.{IsOneTree}
 use Rattle.parents.specs.Parents.{HasName, AreParents}
 
 -- of cards that are one tree, whatever the sectors hold: a node's parent stands at its place

@@ -1,10 +1,10 @@
 -- In which directory the name of each node of a table stands.
 use Rattle.std.specs.Prelude.{◌≡◌, ◌<◌, ℕ, List, Option, Some, length, slice_index_or}
 use Rattle.model.specs.Tree.{root}
-use Rattle.cards.specs.Tables.{number_at}
+use Rattle.node_table.specs.Tables.{number_at}
 use Rattle.layout.specs.Cards.{Card}
 use Rattle.layout.specs.Marks.{times}
-use Rattle.shape.specs.Trees.{led_at}
+use Rattle.tree_check.specs.Trees.{led_at}
 
 -- a name at a place leads to a number
 abbrev pub LeadsTo : List (Option Card) → (place number : ℕ) → Type 0

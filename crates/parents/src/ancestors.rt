@@ -5,12 +5,12 @@ ghost use Rattle.disk.specs.Moments.{Image};
 ghost use Rattle.model.specs.Ancestors.{parent_of, is_below};
 ghost use Rattle.layout.specs.Cards.{tree_of};
 ghost use Rattle.layout.specs.Known.{AreCards};
-ghost use Rattle.shape.specs.Trees.{IsOneTree};
+ghost use Rattle.tree_check.specs.Trees.{IsOneTree};
 ghost use Rattle.parents.specs.Parents.{AreParents};
 
 use crate::places::Parents;
-use cards::Table;
 use model::node::ROOT;
+use node_table::Table;
 
 /// The number of the directory that has a node's name: 0 of the root, and of what is no node's
 /// number.

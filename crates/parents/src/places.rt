@@ -1,15 +1,15 @@
 //! The parents of nodes by their places.
 
 ghost use Rattle.std.specs.Prelude.{◌≡◌, ◌<◌, length, map, set, slice_index_or, IfOk};
-ghost use Rattle.cards.specs.Tables.{HaveOwnPlaces};
+ghost use Rattle.node_table.specs.Tables.{HaveOwnPlaces};
 ghost use Rattle.directory.specs.Records.{record_of};
 ghost use Rattle.layout.specs.SumLaws.{numbers_of};
-ghost use Rattle.shape.specs.Trees.{IsOneTree};
+ghost use Rattle.tree_check.specs.Trees.{IsOneTree};
 ghost use Rattle.parents.specs.Notes.{IsNoted};
 ghost use Rattle.parents.specs.Parents.{AreParents};
 
-use cards::Table;
 use directory::Entry;
+use node_table::Table;
 use std::alloc::{AllocError, Global};
 use std::marker::Model;
 

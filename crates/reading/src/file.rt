@@ -8,10 +8,10 @@ ghost use Rattle.reading.specs.Files.{AreWithin, GetsMore};
 ghost use Rattle.reading.specs.Parts.{Appends, IsFront};
 
 use crate::fault::ReadingFault;
-use cards::Card;
 use disk::SECTOR;
 use extents::BlockList;
 use layout::sectors::Sectors;
+use node_table::Card;
 use std::alloc::AllocError;
 
 /// How many bytes of a file stand from `offset` on, of which `len` are wanted.

@@ -6,7 +6,7 @@ use Rattle.std.specs.Prelude.{Err}
 use Rattle.disk.specs.Cause.{IsCounted}
 use Rattle.disk.specs.declared.update.Update.{Update}
 use Rattle.disk.specs.Moments.{Image, applied}
-use Rattle.edits.proofs.BlankLaws.{each_outline}
+use Rattle.tree_edits.proofs.BlankLaws.{each_outline}
 use Rattle.journal.specs.Calls.{IsSafe, HasApplied, list_with}
 use Rattle.journal.specs.Log.{Log, IsSettled, Moved, contents, applied_all, Answers}
 use Rattle.journal.specs.Settled.{AreSame}

@@ -4,19 +4,19 @@ use Rattle.std.proofs.Math.Logic.{∥∥₁_elim, ∥∥₁_map, ∥∥₁_prop}
 use Rattle.std.proofs.lemmas.Bool.{cases_eq}
 use Rattle.std.proofs.Props.{props}
 use Rattle.std.specs.Prelude.{IsTrue}
-use Rattle.cards.specs.Overlays.{CanBecome}
-use Rattle.cards.specs.Tables.{HaveOwnPlaces}
+use Rattle.node_table.specs.Overlays.{CanBecome}
+use Rattle.node_table.specs.Tables.{HaveOwnPlaces}
 use Rattle.disk.specs.Moments.{Image, applied}
 use Rattle.disk.specs.declared.update.Update.{Update}
-use Rattle.draft.specs.Updates.{target_of, AreApart, HasNot, AreTargets}
-use Rattle.draft.specs.declared.draft.Outcome.{Outcome}
-use Rattle.draft.proofs.UpdateLaws.{applied-other}
-use Rattle.edits.specs.declared.edit.Edit.{Edit}
-use Rattle.edits.specs.Edits.{edits_of}
-use Rattle.edits.specs.Outcomes.{ComesTo, LaysEdited, cards_after}
-use Rattle.edits.specs.Outlines.{blanked, outline_of}
-use Rattle.edits.proofs.BlankLaws.{each_outline}
-use Rattle.edits.proofs.PlaceLaws.{there_at}
+use Rattle.tree_transaction.specs.Updates.{target_of, AreApart, HasNot, AreTargets}
+use Rattle.tree_transaction.specs.declared.draft.Outcome.{Outcome}
+use Rattle.tree_transaction.proofs.UpdateLaws.{applied-other}
+use Rattle.tree_edits.specs.declared.edit.Edit.{Edit}
+use Rattle.tree_edits.specs.Edits.{edits_of}
+use Rattle.tree_edits.specs.Outcomes.{ComesTo, LaysEdited, cards_after}
+use Rattle.tree_edits.specs.Outlines.{blanked, outline_of}
+use Rattle.tree_edits.proofs.BlankLaws.{each_outline}
+use Rattle.tree_edits.proofs.PlaceLaws.{there_at}
 use Rattle.journal.specs.Layout as journal
 use Rattle.journal.specs.Layout.{targets}
 use Rattle.journal.specs.Log.{Log, contents}

@@ -3,19 +3,19 @@ use Rattle.std.proofs.Common.{◌≡◌, ◌+◌, ◌≤◌, ◌<◌, ◌&&◌, 
 use Rattle.std.specs.Prelude.{is_some, nat_le, IsTrue}
 use Rattle.std.specs.List.{IsAmong}
 use Rattle.std.proofs.lemmas.Bool.{and_parts, leb-true}
-use Rattle.cards.specs.Overlays.{IsMade, CanBecome}
-use Rattle.cards.specs.Tables.{number_at, HaveOwnPlaces}
+use Rattle.node_table.specs.Overlays.{IsMade, CanBecome}
+use Rattle.node_table.specs.Tables.{number_at, HaveOwnPlaces}
 use Rattle.disk.specs.Moments.{Image}
-use Rattle.edits.specs.declared.edit.Edit.{Edit}
-use Rattle.edits.specs.Doing.{made_by, AreMade}
-use Rattle.edits.specs.Edits.{edit_of, edits_of, AreDoable, StayFew}
-use Rattle.edits.specs.Outlines.{blanked, outline_of}
-use Rattle.edits.proofs.BlankLaws.{each_outline, edits_blanked}
-use Rattle.edits.proofs.DoableLaws.{doable_alike, few_alike}
-use Rattle.edits.proofs.DoingLaws.{outline_fixed}
-use Rattle.edits.proofs.PlaceLaws.{there_at}
-use Rattle.edits.proofs.FitLaws.{fits-blanked}
-use Rattle.draft.proofs.KnownLaws.{card_at}
+use Rattle.tree_edits.specs.declared.edit.Edit.{Edit}
+use Rattle.tree_edits.specs.Doing.{made_by, AreMade}
+use Rattle.tree_edits.specs.Edits.{edit_of, edits_of, AreDoable, StayFew}
+use Rattle.tree_edits.specs.Outlines.{blanked, outline_of}
+use Rattle.tree_edits.proofs.BlankLaws.{each_outline, edits_blanked}
+use Rattle.tree_edits.proofs.DoableLaws.{doable_alike, few_alike}
+use Rattle.tree_edits.proofs.DoingLaws.{outline_fixed}
+use Rattle.tree_edits.proofs.PlaceLaws.{there_at}
+use Rattle.tree_edits.proofs.FitLaws.{fits-blanked}
+use Rattle.tree_transaction.proofs.KnownLaws.{card_at}
 use Rattle.layout.specs.Cards.{Card, tree_of}
 use Rattle.layout.specs.Known.{AreCards}
 use Rattle.layout.specs.Laid.{AreNumbered}

@@ -3,9 +3,9 @@ use Rattle.std.proofs.Common.{◌≡◌, ◌<◌, ◌≤◌, ◌+◌, ℕ, Bool,
 use Rattle.std.proofs.Math.Logic.{∥∥₁_map, ∥∥₁_elim}
 use Rattle.std.proofs.Props.{props}
 use Rattle.disk.specs.Moments.{Image}
-use Rattle.edits.specs.Outlines.{blanked, outline_of}
-use Rattle.edits.proofs.BlankLaws.{each_outline}
-use Rattle.edits.proofs.DoingLaws.{outline_fixed}
+use Rattle.tree_edits.specs.Outlines.{blanked, outline_of}
+use Rattle.tree_edits.proofs.BlankLaws.{each_outline}
+use Rattle.tree_edits.proofs.DoingLaws.{outline_fixed}
 use Rattle.journal.specs.Log.{Log}
 use Rattle.layout.specs.Cards.{Card, tree_of}
 use Rattle.layout.specs.Known.{AreCards}
@@ -15,8 +15,8 @@ use Rattle.model.specs.Stamp.{stamp}
 use Rattle.model.specs.Tree.{Tree}
 use Rattle.model.specs.WellFormed.{IsWellFormed, IsBefore}
 use Rattle.model.proofs.ChangeLaws.{was_before}
-use Rattle.shape.specs.Trees.{IsOneTree}
-use Rattle.shape.proofs.WholeLaws.{each_known_tree}
+use Rattle.tree_check.specs.Trees.{IsOneTree}
+use Rattle.tree_check.proofs.WholeLaws.{each_known_tree}
 use Rattle.volume.specs.Formed.{IsFormed, Shows}
 use Rattle.model.specs.Seats.{Seats}
 use Rattle.volume.specs.Loads.{IsLoaded}

@@ -5,7 +5,7 @@ use Rattle.std.specs.List.{IsAmong}
 use Rattle.std.specs.Prelude.{Result, Ok, Err, IfErr, IsErrOf}
 use Rattle.disk.specs.Cause.{IsCounted}
 use Rattle.disk.specs.Moments.{Image}
-use Rattle.edits.specs.Outlines.{blanked}
+use Rattle.tree_edits.specs.Outlines.{blanked}
 use Rattle.disk.proofs.MomentLemmas.{AddsOnly-join, AddsOnly-weaken}
 use Rattle.layout.specs.Stands.{Kept}
 use Rattle.layout.proofs.KeptLaws.{same_kept}

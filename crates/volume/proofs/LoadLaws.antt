@@ -5,12 +5,12 @@ use Rattle.std.proofs.Props.{props}
 use Rattle.std.proofs.lemmas.Bool.{cases_lt}
 use Rattle.std.proofs.lemmas.List.{get_or_past}
 use Rattle.std.specs.Prelude.{IsTrue, IsErrOf, Result, Ok, Err}
-use Rattle.cards.specs.Tables.{AreNumbered}
-use Rattle.cards.specs.declared.fault.TableFault.{TableFault}
-use Rattle.cards.specs.declared.fault.TableFault.TheVariants as tables
+use Rattle.node_table.specs.Tables.{AreNumbered}
+use Rattle.node_table.specs.declared.fault.TableFault.{TableFault}
+use Rattle.node_table.specs.declared.fault.TableFault.TheVariants as tables
 use Rattle.disk.specs.Moments.{Image, IsSector}
-use Rattle.draft.proofs.KnownLaws.{card_at}
-use Rattle.edits.proofs.PlaceLaws.{there_at}
+use Rattle.tree_transaction.proofs.KnownLaws.{card_at}
+use Rattle.tree_edits.proofs.PlaceLaws.{there_at}
 use Rattle.layout.specs.Cards.{Card, tree_of, cards_in}
 use Rattle.layout.specs.Laid.{AreLaid, HoldsPlace, HoldsCard, HoldsContent}
 use Rattle.layout.specs.Marks.{mark_in, mark_by}
@@ -33,13 +33,13 @@ use Rattle.model.specs.Limits.{limits_of}
 use Rattle.model.specs.Seats.{Seats, no_seats}
 use Rattle.model.specs.Stamp.{stamp}
 use Rattle.model.specs.WellFormed.{IsWellFormed, IsBefore}
-use Rattle.scan.specs.Volumes.{AreFew}
-use Rattle.scan.specs.declared.fault.ScanFault.{ScanFault}
-use Rattle.scan.specs.declared.fault.ScanFault.TheVariants as scans
-use Rattle.shape.specs.Nodes.{IsContentAllowed, IsNodeAllowed, AreNodesAllowed}
-use Rattle.shape.specs.ShapeLaws.{HoldBytes}
-use Rattle.shape.specs.WellFormed.{AreWellFormed}
-use Rattle.shape.proofs.WholeLaws.{each_tree}
+use Rattle.volume_load.specs.Volumes.{AreFew}
+use Rattle.volume_load.specs.declared.fault.ScanFault.{ScanFault}
+use Rattle.volume_load.specs.declared.fault.ScanFault.TheVariants as scans
+use Rattle.tree_check.specs.Nodes.{IsContentAllowed, IsNodeAllowed, AreNodesAllowed}
+use Rattle.tree_check.specs.ShapeLaws.{HoldBytes}
+use Rattle.tree_check.specs.WellFormed.{AreWellFormed}
+use Rattle.tree_check.proofs.WholeLaws.{each_tree}
 use Rattle.volume.specs.Refusals.{mount_fault, table_fault}
 use Rattle.volume.specs.declared.fault.MountFault.TheVariants as mounts
 use Rattle.volume.specs.Known.{IsKnown}

@@ -8,7 +8,7 @@ use Rattle.layout.specs.Cards.{Card, byte_at, bytes_in, node_of, content_of, tre
 use Rattle.layout.specs.Laid.{AreNumbered}
 use Rattle.layout.proofs.Answering.{tree-has}
 use Rattle.layout.proofs.Changing.{tree-lacks}
-use Rattle.cards.specs.Tables.{number_of, number_at, HasNot}
+use Rattle.node_table.specs.Tables.{number_of, number_at, HasNot}
 use Rattle.model.specs.declared.node.NodeKind.{NodeKind}
 use Rattle.model.specs.declared.node.NodeKind.TheVariants as kind
 use Rattle.model.specs.Keyed.{at}

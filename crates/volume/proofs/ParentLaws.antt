@@ -5,15 +5,15 @@ use Rattle.std.proofs.Math.Logic.{∥∥₁_elim}
 use Rattle.std.proofs.Props.{props}
 use Rattle.std.specs.List.{IsAmong}
 use Rattle.std.proofs.lemmas.Option.{same_Some}
-use Rattle.cards.specs.Tables.{number_of, number_at, HasNot}
+use Rattle.node_table.specs.Tables.{number_of, number_at, HasNot}
 use Rattle.disk.specs.Moments.{Image}
-use Rattle.draft.specs.Nodes.{no_content, shown_of}
-use Rattle.edits.specs.declared.edit.Edit.{Edit}
-use Rattle.edits.specs.declared.edit.Edit.TheVariants as edit
-use Rattle.edits.specs.Doing.{made_by, AreMade}
-use Rattle.edits.specs.Edits.{edit_of, edits_of, fresh_node}
-use Rattle.edits.specs.Outlines.{blanked, outline_of}
-use Rattle.edits.proofs.BlankLaws.{names-blanked}
+use Rattle.tree_transaction.specs.Nodes.{no_content, shown_of}
+use Rattle.tree_edits.specs.declared.edit.Edit.{Edit}
+use Rattle.tree_edits.specs.declared.edit.Edit.TheVariants as edit
+use Rattle.tree_edits.specs.Doing.{made_by, AreMade}
+use Rattle.tree_edits.specs.Edits.{edit_of, edits_of, fresh_node}
+use Rattle.tree_edits.specs.Outlines.{blanked, outline_of}
+use Rattle.tree_edits.proofs.BlankLaws.{names-blanked}
 use Rattle.layout.specs.Cards.{Card, tree_of}
 use Rattle.layout.specs.Known.{AreCards}
 use Rattle.layout.specs.Marks.{once_if, times}
@@ -30,8 +30,8 @@ use Rattle.parents.specs.Parents.{HasName, AreParents}
 use Rattle.parents.proofs.ChangeLaws.{each_kept, each_move}
 use Rattle.parents.proofs.LinkLaws.{own-places, no_other}
 use Rattle.parents.proofs.TreeLaws.{name_of_card, card_of_name}
-use Rattle.shape.specs.Trees.{IsOneTree}
-use Rattle.shape.proofs.TreeLaws.{find, Finds, There, Nowhere, numbered}
+use Rattle.tree_check.specs.Trees.{IsOneTree}
+use Rattle.tree_check.proofs.TreeLaws.{find, Finds, There, Nowhere, numbered}
 use Rattle.volume.specs.Edits.{edited_by, named_by, put_by, HasPut, IsChange}
 use Rattle.volume.specs.Parents.{PutsParent}
 use Rattle.volume.specs.Formed.{IsFormed}

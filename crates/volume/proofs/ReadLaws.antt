@@ -3,7 +3,7 @@ use Rattle.std.proofs.Common.{◌≡◌, ◌+◌, ℕ, Bool, List, Option, Some,
 use Rattle.std.proofs.lemmas.Bool.{cases_lt}
 use Rattle.std.specs.Prelude.{IsSome, IfSome, IfNone}
 use Rattle.disk.specs.Moments.{Image}
-use Rattle.cards.specs.Tables.{number_at, HasNot}
+use Rattle.node_table.specs.Tables.{number_at, HasNot}
 use Rattle.layout.specs.Cards.{Card, bytes_in, content_of, node_of, tree_of}
 use Rattle.layout.specs.Laid.{AreNumbered}
 use Rattle.layout.specs.Marks.{named_by}

@@ -10,7 +10,7 @@ use Rattle.disk.specs.Cause.{IsCounted}
 use Rattle.disk.specs.Moments.{Image, applied}
 use Rattle.disk.specs.declared.update.Update.{Update}
 use Rattle.disk.proofs.MomentLemmas.{AddsOnly-join, AddsOnly-weaken}
-use Rattle.edits.proofs.BlankLaws.{each_outline}
+use Rattle.tree_edits.proofs.BlankLaws.{each_outline}
 use Rattle.journal.specs.Calls.{IsSafe, HasApplied, HasFlushed, list_with}
 use Rattle.journal.specs.Log.{Log, Answers, Moved, StandsForFront, contents, applied_all}
 use Rattle.journal.specs.Settled.{AreSame, Settles}

@@ -3,9 +3,9 @@ use Rattle.std.proofs.Common.{◌≡◌, ℕ, zero, suc, List, [], ◌∷◌, Op
 use Rattle.std.specs.Prelude.{if◌then◌else◌, nat_lt, ◌==◌, option_map}
 use Rattle.std.specs.List.{list_any}
 use Rattle.std.proofs.lemmas.Option.{same_Some}
-use Rattle.edits.specs.Outlines.{blank, blank_node, blanked}
-use Rattle.edits.proofs.BlankLaws.{at-blanked, length-blanked, length-zeros}
-use Rattle.edits.proofs.FitLaws.{fits_alike}
+use Rattle.tree_edits.specs.Outlines.{blank, blank_node, blanked}
+use Rattle.tree_edits.proofs.BlankLaws.{at-blanked, length-blanked, length-zeros}
+use Rattle.tree_edits.proofs.FitLaws.{fits_alike}
 use Rattle.layout.specs.Cards.{Card}
 use Rattle.model.specs.declared.node.NodeKind.{NodeKind}
 use Rattle.model.specs.declared.node.NodeKind.TheVariants as kind

@@ -5,14 +5,14 @@ use Rattle.std.proofs.Math.Logic.{∥∥₁_map}
 use Rattle.std.proofs.lemmas.Bool.{cases_eq}
 use Rattle.std.proofs.lemmas.List.Elements.{All-nil}
 use Rattle.std.proofs.lemmas.Option.{same_Some}
-use Rattle.edits.specs.declared.edit.Edit.{Edit}
-use Rattle.edits.specs.declared.edit.Edit.TheVariants as declared
-use Rattle.edits.specs.Edits.{edits_of, fresh_node}
-use Rattle.edits.specs.Outlines.{blank, blank_node, blanked}
-use Rattle.edits.specs.Parts.{PartsAreBytes}
-use Rattle.edits.proofs.BlankLaws.{length-zeros, at-blanked, key-blanked, directory-blanked, names-blanked}
-use Rattle.edits.proofs.FitLaws.{fits-blanked}
-use Rattle.draft.specs.Nodes.{shown_of}
+use Rattle.tree_edits.specs.declared.edit.Edit.{Edit}
+use Rattle.tree_edits.specs.declared.edit.Edit.TheVariants as declared
+use Rattle.tree_edits.specs.Edits.{edits_of, fresh_node}
+use Rattle.tree_edits.specs.Outlines.{blank, blank_node, blanked}
+use Rattle.tree_edits.specs.Parts.{PartsAreBytes}
+use Rattle.tree_edits.proofs.BlankLaws.{length-zeros, at-blanked, key-blanked, directory-blanked, names-blanked}
+use Rattle.tree_edits.proofs.FitLaws.{fits-blanked}
+use Rattle.tree_transaction.specs.Nodes.{shown_of}
 use Rattle.model.specs.declared.limits.Limits.{Limits}
 use Rattle.model.specs.declared.node.NodeKind.{NodeKind}
 use Rattle.model.specs.declared.node.NodeKind.TheVariants as kind

@@ -2,10 +2,10 @@
 use Rattle.std.specs.Prelude.{◌≡◌, ◌≤◌, ◌<◌, ◌+◌, ◌⊎◌, ℕ, false, List, [], ◌∷◌}
 use Rattle.std.specs.Prelude.{Option, Some, None, IsTrue, length, take}
 use Rattle.std.specs.List.{IsAmong}
-use Rattle.edits.specs.declared.edit.Edit.{Edit}
-use Rattle.edits.specs.declared.edit.Edit.TheVariants as edit
-use Rattle.edits.specs.Doing.{made_by, updates_of_all}
-use Rattle.edits.specs.Edits.{AreDoable, edits_of}
+use Rattle.tree_edits.specs.declared.edit.Edit.{Edit}
+use Rattle.tree_edits.specs.declared.edit.Edit.TheVariants as edit
+use Rattle.tree_edits.specs.Doing.{made_by, updates_of_all}
+use Rattle.tree_edits.specs.Edits.{AreDoable, edits_of}
 use Rattle.model.specs.Charge.{fits}
 use Rattle.model.specs.Edit.{edited}
 use Rattle.model.specs.Keyed.{at, is_key}

@@ -1,6 +1,6 @@
 -- What is known of a volume's tree on any device.
 use Rattle.std.specs.Prelude.{◌≡◌, ℕ}
-use Rattle.edits.specs.Outlines.{blanked}
+use Rattle.tree_edits.specs.Outlines.{blanked}
 use Rattle.model.specs.declared.limits.Limits.{Limits}
 use Rattle.model.specs.Tree.{Tree}
 use Rattle.model.specs.WellFormed.{IsWellFormed, IsBefore}

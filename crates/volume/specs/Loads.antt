@@ -9,7 +9,7 @@ use Rattle.layout.specs.Stands.{AreKept, IsMark, Kept, MayKeep, mark_held}
 use Rattle.model.specs.Seats.{Seats}
 use Rattle.model.specs.Limits.{limits_of}
 use Rattle.model.specs.Stamp.{stamp}
-use Rattle.shape.specs.WellFormed.{AreWellFormed}
+use Rattle.tree_check.specs.WellFormed.{AreWellFormed}
 use Rattle.volume.specs.Known.{IsKnown}
 use Rattle.volume.specs.Mounts.{StandsIn}
 use Rattle.volume.specs.Superblock.{superblock}

@@ -1,6 +1,6 @@
 -- The parents of a volume's nodes, by place, after a change.
 use Rattle.std.specs.Prelude.{◌≡◌, ℕ, List, Option, Some, None, set}
-use Rattle.cards.specs.Tables.{number_at}
+use Rattle.node_table.specs.Tables.{number_at}
 use Rattle.layout.specs.Cards.{Card}
 
 -- the directory of a name that was put stands at the place of the name's number

@@ -1,14 +1,14 @@
 -- How a refusal of a layer below is answered.
-use Rattle.cards.specs.declared.fault.TableFault.{TableFault}
-use Rattle.cards.specs.declared.fault.TableFault.TheVariants as tables
-use Rattle.draft.specs.declared.fault.DraftFault.{DraftFault}
-use Rattle.draft.specs.declared.fault.DraftFault.TheVariants as drafts
+use Rattle.node_table.specs.declared.fault.TableFault.{TableFault}
+use Rattle.node_table.specs.declared.fault.TableFault.TheVariants as tables
+use Rattle.tree_transaction.specs.declared.fault.DraftFault.{DraftFault}
+use Rattle.tree_transaction.specs.declared.fault.DraftFault.TheVariants as drafts
 use Rattle.journal.specs.declared.fault.JournalFault.{JournalFault}
 use Rattle.journal.specs.declared.fault.JournalFault.TheVariants as journals
 use Rattle.migration.specs.declared.fault.MigrationFault.{MigrationFault}
 use Rattle.migration.specs.declared.fault.MigrationFault.TheVariants as migrations
-use Rattle.scan.specs.declared.fault.ScanFault.{ScanFault}
-use Rattle.scan.specs.declared.fault.ScanFault.TheVariants as scans
+use Rattle.volume_load.specs.declared.fault.ScanFault.{ScanFault}
+use Rattle.volume_load.specs.declared.fault.ScanFault.TheVariants as scans
 use Rattle.volume.specs.declared.fault.MountFault.{MountFault}
 use Rattle.volume.specs.declared.fault.MountFault.TheVariants as mounts
 use Rattle.volume.specs.declared.fault.VolumeFault.{VolumeFault}

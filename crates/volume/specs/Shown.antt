@@ -1,7 +1,7 @@
 -- What a volume shows of its tree: all but the bytes of its files. What is asked of it without its
 -- device is answered by that.
 use Rattle.std.specs.Prelude.{◌≡◌, ℕ, List, None}
-use Rattle.edits.specs.Outlines.{blanked}
+use Rattle.tree_edits.specs.Outlines.{blanked}
 use Rattle.layout.specs.Cards.{Card}
 use Rattle.model.specs.declared.limits.Limits.{Limits}
 use Rattle.model.specs.Ancestors.{is_below, parent_of}

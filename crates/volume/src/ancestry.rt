@@ -5,10 +5,10 @@ ghost use Rattle.volume.specs.Edits.{put_by, put_of};
 ghost use Rattle.volume.specs.Parents.{PutsParent};
 
 use crate::volume::Volume;
-use cards::Table;
 use disk::Device;
-use edits::Edit;
+use node_table::Table;
 use parents::{Parents, is_below, parent_of};
+use tree_edits::Edit;
 
 /// The number and the directory of the name that an edit puts.
 fn put_of(edit: &Edit<'_>) -> Option<(u64, u64)>

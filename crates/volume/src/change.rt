@@ -7,9 +7,9 @@ use crate::ancestry::{put_by, put_parent};
 use crate::fault::VolumeFault;
 use crate::volume::Volume;
 use disk::Device;
-use draft::{DraftFault, Outcome};
-use edits::{Edit, fits, has_room, outcome_of};
 use model::node::NodeKind;
+use tree_edits::{Edit, fits, has_room, outcome_of};
+use tree_transaction::{DraftFault, Outcome};
 
 impl From<DraftFault> for VolumeFault {
     ghost from_gives = { λ refusal fault. fault ≡ draft_fault refusal };
@@ -26,8 +26,8 @@ impl From<DraftFault> for VolumeFault {
 #[tactic(auto, unfolding(crate::specs::Views::held_of, crate::specs::Views::volume_failures))]
 impl<D: Device> Volume<D> {
     ghost use Rattle.std.specs.Prelude.{◌≡◌, ◌↔◌, true, false, OnOk, OnErr, IsErrOf};
-    ghost use Rattle.edits.specs.Edits.{AreDoable};
-    ghost use Rattle.edits.specs.Making.{IsMaking};
+    ghost use Rattle.tree_edits.specs.Edits.{AreDoable};
+    ghost use Rattle.tree_edits.specs.Making.{IsMaking};
     ghost use Rattle.model.specs.Charge.{fits};
     ghost use Rattle.model.specs.Edit.{edited};
     ghost use Rattle.model.specs.Tree.{is_directory_at};

@@ -2,12 +2,12 @@
 
 ghost use Rattle.std.specs.Prelude.{◌≡◌};
 
-use cards::TableFault;
 use journal::JournalFault;
 use migration::MigrationFault;
-use scan::ScanFault;
+use node_table::TableFault;
 use std::alloc::AllocError;
 use thiserror::Error;
+use volume_load::ScanFault;
 
 /// Why a device was not formatted.
 #[derive(Clone, Copy, Debug, PartialEq, Eq, Error)]

@@ -13,17 +13,17 @@ ghost use Rattle.volume.specs.Mounts.{HasSize, IsVolumeOf, IsAtRest, StandsOn};
 use crate::fault::MountFault;
 use crate::mount::Superblock;
 use crate::store::Store;
-use cards::{Card, Table};
 use disk::Device;
 use freemap::Bitmap;
 use inode::Form;
 use layout::sectors::Sectors;
 use model::limits::Limits;
 use model::seats::Seats;
+use node_table::{Card, Table};
 use parents::Parents;
-use scan::read_volume;
-use shape::are_well_formed;
 use std::alloc::{AllocError, Global};
+use tree_check::are_well_formed;
+use volume_load::read_volume;
 
 /// The nodes of a volume as they are once each has form two, the places of its data region that they
 /// name, and their parents.

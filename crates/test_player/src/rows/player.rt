@@ -7,8 +7,8 @@ use super::step::Step;
 use crate::difference::{Difference, Differs};
 use disk::MemDevice;
 use server::FormatFault;
-use server_drivers as drivers;
 use std::alloc::Global;
+use test_drivers as drivers;
 
 /// The volume in memory.
 const SECTORS: u32 = 256;

@@ -4,8 +4,8 @@ use super::player::Patience;
 use crate::difference::{Answer, Difference};
 use disk::MemDevice;
 use server::{MountFault, Server, ServerFault};
-use server_drivers as drivers;
 use std::alloc::Global;
+use test_drivers as drivers;
 
 /// A server of a volume in memory.
 #[derive(Drop)]

@@ -1,5 +1,5 @@
 use Rattle.std.proofs.Common.{ℕ, Vec, Global, ap, arith}
-use Rattle.cards.proofs.TableLaws.{within-numbered}
+use Rattle.node_table.proofs.TableLaws.{within-numbered}
 use Rattle.parents.proofs.NoteLaws.{next-found, next-none}
 use Rattle.parents.proofs.places.note_names.Goals as goal
 use Rattle.parents.proofs.places.note_names.Goals.{in-Some, in_default}

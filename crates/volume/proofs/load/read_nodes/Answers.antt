@@ -1,6 +1,6 @@
 use Rattle.std.proofs.Common.{◌≡◌, ◌<◌, ◌+◌, ◌*◌, ◌∙◌, ℕ, List, Option, sym, ap, subst, arith, true≢false}
 use Rattle.std.specs.Prelude.{Err}
-use Rattle.cards.specs.Tables.{AreNumbered, HaveOwnPlaces}
+use Rattle.node_table.specs.Tables.{AreNumbered, HaveOwnPlaces}
 use Rattle.disk.specs.Moments.{Image}
 use Rattle.layout.specs.Cards.{Card, cards_in}
 use Rattle.layout.specs.Marks.{mark_by}
@@ -9,7 +9,7 @@ use Rattle.layout.proofs.SeatLaws.{version_spare}
 use Rattle.model.specs.SeatViews.{seats_view}
 use Rattle.model.specs.Limits.{limits_of}
 use Rattle.model.specs.Stamp.{stamp}
-use Rattle.shape.specs.WellFormed.{AreWellFormed}
+use Rattle.tree_check.specs.WellFormed.{AreWellFormed}
 use Rattle.volume.specs.Refusals.{mount_fault, table_fault}
 use Rattle.volume.specs.declared.fault.MountFault.TheVariants as mounts
 use Rattle.volume.proofs.LoadLaws.{asked, err_is, found_stands, known_second, laid_told, none_stands, only_damaged, only_same, second_numbered, stands_few}

@@ -10,7 +10,7 @@ use Rattle.model.specs.Attribute.{attribute_refusals, settable_at_creation}
 use Rattle.model.specs.Name.{name_refusals}
 use Rattle.model.specs.Refusal.{first_refusal}
 use Rattle.model.specs.Tree.{is_directory, names_of, entry_of}
-use Rattle.settings.specs.Given.{given_of}
+use Rattle.set_attributes.specs.Given.{given_of}
 use Rattle.fs.specs.OnTree.{new_directory_refusals}
 use Rattle.fs.proofs.Creating as creating
 use Rattle.fs.specs.Views.{fs_of}

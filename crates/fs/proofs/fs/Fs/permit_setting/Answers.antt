@@ -11,7 +11,7 @@ use Rattle.model.specs.Need.{granted_on}
 use Rattle.model.specs.Refusal.{first_refusal}
 use Rattle.model.specs.SetAttr.{kind_at, sets_size}
 use Rattle.model.specs.Tree.{Node, is_directory_at}
-use Rattle.settings.specs.Given.{given_of}
+use Rattle.set_attributes.specs.Given.{given_of}
 use Rattle.fs.specs.Views.{fs_of}
 use Rattle.fs.specs.Setting.{may_set, setting_tests, sized_refusals}
 use Rattle.fs.proofs.CardViews.{is_directory_told}

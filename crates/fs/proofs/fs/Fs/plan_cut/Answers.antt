@@ -1,12 +1,12 @@
 use Rattle.std.proofs.Common.{◌≡◌, ◌+◌, ◌^◌, ◌∙◌, Some, ap, sym, subst, arith}
 use Rattle.std.proofs.lemmas.Bool.{lt-ltb}
-use Rattle.edits.specs.Edits.{AreDoable}
+use Rattle.tree_edits.specs.Edits.{AreDoable}
 use Rattle.model.specs.declared.not_done.NotDone.{NotDone}
 use Rattle.model.specs.Changes.{touched}
 use Rattle.model.specs.Charge.{fits}
 use Rattle.model.specs.Keyed.{at}
 use Rattle.model.specs.Stamp.{next_stamp}
-use Rattle.settings.specs.Given.{IsRefusedBy}
+use Rattle.set_attributes.specs.Given.{IsRefusedBy}
 use Rattle.fs.specs.Views.{fs_of}
 use Rattle.fs.specs.Making.{room_tests}
 use Rattle.fs.specs.Opening.{tree_cut}

@@ -3,11 +3,11 @@ use Rattle.std.proofs.lemmas.Result.{err_from_is_err_and}
 use Rattle.layout.specs.Cards.{Card}
 use Rattle.model.specs.declared.not_done.NotDone.{NotDone}
 use Rattle.model.specs.declared.not_done.NotDone.TheVariants as refusal
-use Rattle.settings.specs.Given.{given_of, IsRefusedBy}
+use Rattle.set_attributes.specs.Given.{given_of, IsRefusedBy}
 use Rattle.fs.specs.OnTree.{new_directory_refusals}
 use Rattle.fs.proofs.Creating.{early_refusal}
 use Rattle.fs.specs.Views.{fs_of}
-use Rattle.draft.specs.Nodes.{shown_of}
+use Rattle.tree_transaction.specs.Nodes.{shown_of}
 use Rattle.model.specs.declared.node.NodeKind.TheVariants as kind
 use Rattle.model.specs.Stamp.{next_stamp}
 use Rattle.model.specs.Tree.{Tree}

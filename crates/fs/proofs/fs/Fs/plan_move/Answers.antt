@@ -2,7 +2,7 @@ use Rattle.std.proofs.Common.{◌≡◌, ◌+◌, ◌^◌, ◌∙◌, ◌⊎◌,
 use Rattle.std.proofs.lemmas.Bool.{le-ltb, lt-ltb}
 use Rattle.std.proofs.lemmas.Result.{err_from_is_err_and}
 use Rattle.std.specs.Prelude.{unwrap_or}
-use Rattle.edits.specs.Edits.{AreDoable}
+use Rattle.tree_edits.specs.Edits.{AreDoable}
 use Rattle.layout.specs.Cards.{Card}
 use Rattle.model.specs.Charge.{fits}
 use Rattle.model.specs.Stamp.{next_stamp}

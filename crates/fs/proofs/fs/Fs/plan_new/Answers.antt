@@ -1,7 +1,7 @@
 use Rattle.std.proofs.Common.{◌≡◌, ◌+◌, ◌∙◌, refl, ap, sym, rules}
 use Rattle.std.proofs.lemmas.Result.{err_from_is_err_and}
 use Rattle.std.specs.Prelude.{unwrap_or}
-use Rattle.draft.specs.Nodes.{shown_of}
+use Rattle.tree_transaction.specs.Nodes.{shown_of}
 use Rattle.layout.specs.Cards.{Card}
 use Rattle.model.specs.declared.node.NodeKind.TheVariants as kind
 use Rattle.model.specs.Open.{given_by}
@@ -10,7 +10,7 @@ use Rattle.model.specs.Stamp.{next_stamp}
 use Rattle.model.specs.Tree.{Tree}
 use Rattle.model.specs.declared.not_done.NotDone.{NotDone}
 use Rattle.model.specs.declared.not_done.NotDone.TheVariants as refusal
-use Rattle.settings.specs.Given.{IsRefusedBy}
+use Rattle.set_attributes.specs.Given.{IsRefusedBy}
 use Rattle.fs.specs.declared.opening.OpenEffect.TheVariants as effect
 use Rattle.fs.specs.Views.{fs_of}
 use Rattle.fs.specs.Making.{first_node}

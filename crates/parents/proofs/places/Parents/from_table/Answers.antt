@@ -1,9 +1,9 @@
 use Rattle.std.proofs.Common.{◌+◌, ℕ, Some, Vec, Global, map, sym, ap, subst, ◌∙◌, arith}
-use Rattle.cards.specs.Tables.{number_of}
+use Rattle.node_table.specs.Tables.{number_of}
 use Rattle.directory.specs.Records.{record_of}
 use Rattle.layout.specs.Cards.{Card}
 use Rattle.layout.specs.SumLaws.{numbers_of}
-use Rattle.shape.specs.Trees.{led_by}
+use Rattle.tree_check.specs.Trees.{led_by}
 use Rattle.parents.specs.Notes.{IsNoted}
 use Rattle.parents.proofs.NoteLaws.{AreNoted, all-noted, directory-noted, free-place}
 use Rattle.parents.proofs.places.Parents.from_table.Goals as goal

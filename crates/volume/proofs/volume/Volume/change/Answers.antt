@@ -1,8 +1,8 @@
 use Rattle.std.proofs.Common.{◌≡◌, ◌≤◌, ◌+◌, ◌∙◌, ℕ, false, List, Option, length, refl, sym, ap, subst, arith}
 use Rattle.std.specs.Prelude.{IsTrue, Err}
-use Rattle.edits.specs.declared.edit.Edit.{Edit}
-use Rattle.edits.specs.Outcomes.{cards_after}
-use Rattle.edits.proofs.BlankLaws.{each_outline}
+use Rattle.tree_edits.specs.declared.edit.Edit.{Edit}
+use Rattle.tree_edits.specs.Outcomes.{cards_after}
+use Rattle.tree_edits.proofs.BlankLaws.{each_outline}
 use Rattle.journal.specs.Calls.{IsSafe, HasApplied}
 use Rattle.journal.specs.Journal.{log_of, failures_of}
 use Rattle.journal.specs.Layout.{AreTargets, targets}
@@ -25,7 +25,7 @@ use Rattle.volume.proofs.ChangeLaws.{behind_serving, formed_after, journal_targe
 use Rattle.volume.proofs.EditLaws.{front_room, outline_doable, outline_few}
 use Rattle.volume.proofs.ServeLaws.{told_err}
 use Rattle.model.specs.Stamp.{stamp}
-use Rattle.edits.specs.Outlines.{outline_of}
+use Rattle.tree_edits.specs.Outlines.{outline_of}
 use Rattle.volume.proofs.volume.Volume.change.Goals as goal
 
 pub outcome_of-requires-clause-can : goal.outcome_of-requires-clause-can

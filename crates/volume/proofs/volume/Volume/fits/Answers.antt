@@ -1,6 +1,6 @@
 use Rattle.std.proofs.Common.{◌∙◌, []}
-use Rattle.edits.specs.Edits.{edits_of}
-use Rattle.edits.proofs.DoableLaws.{doable_alike}
+use Rattle.tree_edits.specs.Edits.{edits_of}
+use Rattle.tree_edits.proofs.DoableLaws.{doable_alike}
 use Rattle.journal.specs.Journal.{log_of}
 use Rattle.journal.specs.Log.{Log, contents}
 use Rattle.layout.specs.Cards.{tree_of}

@@ -1,5 +1,5 @@
 use Rattle.std.proofs.Common.{◌∙◌, []}
-use Rattle.edits.proofs.DoableLaws.{directory_alike, making_alike}
+use Rattle.tree_edits.proofs.DoableLaws.{directory_alike, making_alike}
 use Rattle.journal.specs.Journal.{log_of}
 use Rattle.journal.specs.Log.{Log, contents}
 use Rattle.layout.specs.Cards.{tree_of}

@@ -1,7 +1,7 @@
 use Rattle.std.proofs.Common.{◌≡◌, ◌≤◌, ◌+◌, ℕ, length, ap, arith}
 use Rattle.journal.specs.Journal.{log_of}
 use Rattle.journal.specs.Log.{contents}
-use Rattle.draft.proofs.KnownLaws.{card_at}
+use Rattle.tree_transaction.proofs.KnownLaws.{card_at}
 use Rattle.inode.specs.Fields.{most_entries}
 use Rattle.layout.specs.Cards.{Card}
 use Rattle.layout.specs.Known.{IsCard}

@@ -1,6 +1,6 @@
 use Rattle.std.proofs.Common.{◌≡◌, ◌≤◌, ◌+◌, ◌∙◌, ℕ, false, List, Option, length, refl, sym, ap, subst, arith}
 use Rattle.std.specs.Prelude.{IsTrue, Err}
-use Rattle.edits.proofs.BlankLaws.{each_outline}
+use Rattle.tree_edits.proofs.BlankLaws.{each_outline}
 use Rattle.journal.specs.Calls.{HasApplied, IsSafe}
 use Rattle.journal.specs.Journal.{log_of, failures_of}
 use Rattle.journal.specs.Layout.{targets}

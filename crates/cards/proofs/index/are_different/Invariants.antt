@@ -1,6 +1,0 @@
-use Rattle.std.proofs.Common.{◌≢◌, ◌<◌, ◌+◌, ℕ}
-use Rattle.cards.specs.Index.{key_at}
-use Rattle.cards.proofs.index.are_different.Given as goal
-
-abbrev pub invariant-loop-i : goal.invariant-loop-i
-invariant-loop-i l = (k : ℕ) → k + 1 < l.i → key_at l.index k ≢ key_at l.index (k + 1)

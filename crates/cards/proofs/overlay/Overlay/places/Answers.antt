@@ -1,7 +1,0 @@
-use Rattle.std.proofs.Common.{length, sym, ap, ◌∙◌}
-use Rattle.cards.specs.Overlays.{Overlaid}
-use Rattle.cards.proofs.OverlayLaws.{changed-length}
-use Rattle.cards.proofs.overlay.Overlay.places.Goals as goal
-
-pub returns : goal.returns
-returns c = c.places.ensures.places ∙ sym (changed-length c.self.inside.table.now c.self.inside.changes.items) ∙ ap (λ (overlay : Overlaid). length overlay.cards) c.self.view_is

@@ -1,0 +1,322 @@
+-- What a table keeps beside its cards, after each change.
+use Rattle.std.proofs.Common.{◌≡◌, ◌≢◌, ◌≤◌, ◌<◌, ◌+◌, ◌*◌, ℕ, zero, suc, List, [], ◌∷◌, ◌++◌, Option, Some, None, length, get_or, set, replicate, inl, inr, refl, sym, ap, ◌∙◌, subst, arith, eqb, eq-eqb, ne_eqb}
+use Rattle.std.specs.List.{remove}
+use Rattle.std.proofs.lemmas.Bool.{cases_eq, cases_lt}
+use Rattle.std.proofs.lemmas.List.{length-append, length-set, get_or-set_same, get_or-set_other, get_or_past, length-replicate}
+use Rattle.std.proofs.lemmas.Option.{slice_get_within, get_or_from_slice_get, same_Some}
+use Rattle.std.specs.Prelude.{IfSome, slice_get}
+use Rattle.std.proofs.lemmas.List.Edits.{length-remove}
+use Rattle.model.specs.Keyed.{Keyed, at, with, without, IsAbove}
+use Rattle.model.proofs.KeyedLaws.{at-with_same, at-with_other, at-without_same, at-without_other, IsAbove-with, IsAbove-without}
+use Rattle.model.proofs.OptionLaws.{some≢none}
+use Rattle.layout.specs.Cards.{Card}
+use Rattle.layout.specs.Marks.{once_if, times}
+use Rattle.layout.specs.SumLaws.{sum_over}
+use Rattle.layout.proofs.Formatted.{nones-at}
+use Rattle.node_table.specs.Index.{key_at}
+use Rattle.node_table.specs.Tables.{number_of, number_at, HaveOwnPlaces, AreBelow, IsFree, charge_of, charge_there, charge_of_all, count_of_all, vacancy, vacant, IsKept}
+use Rattle.node_table.proofs.IndexLaws.{with-last, without-entry}
+
+-- ---- sums
+
+abbrev worth_there : (Card → ℕ) → Option Card → ℕ
+worth_there worth None = 0
+worth_there worth (Some card) = worth card
+
+sum-set : (worth : Card → ℕ) (cards : List (Option Card)) (place : ℕ) (card : Option Card) → place < length cards
+    → sum_over worth (set cards place card) + worth_there worth (get_or cards place None) ≡ sum_over worth cards + worth_there worth card
+sum-set worth [] place card h = absurd (omega arith)
+sum-set worth (None ∷ cards) zero None h = refl
+sum-set worth (None ∷ cards) zero (Some card) h = omega arith
+sum-set worth (Some one ∷ cards) zero None h = omega arith
+sum-set worth (Some one ∷ cards) zero (Some card) h = omega arith
+sum-set worth (None ∷ cards) (suc place) card h = sum-set worth cards place card (omega arith)
+sum-set worth (Some one ∷ cards) (suc place) card h = omega (arith, sum-set worth cards place card (omega arith))
+
+charge-there : (card : Option Card) → worth_there charge_of card ≡ charge_there card
+charge-there None = refl
+charge-there (Some card) = refl
+
+pub charge-set : (cards : List (Option Card)) (place : ℕ) (card : Option Card) → place < length cards
+    → charge_of_all (set cards place card) + charge_there (get_or cards place None) ≡ charge_of_all cards + charge_there card
+charge-set cards place card h = omega (arith, sum-set charge_of cards place card h, charge-there (get_or cards place None), charge-there card)
+
+pub charge-most : (card : Card) → length card.blocks ≤ 4096 → charge_of card ≤ 4105
+charge-most card few = omega arith
+
+pub charges-most : (cards : List (Option Card)) → ((place : ℕ) (card : Card) → get_or cards place None ≡ Some card → length card.blocks ≤ 4096) → charge_of_all cards ≤ 4105 * length cards
+charges-most [] each = omega arith
+charges-most (None ∷ cards) each = omega (arith, charges-most cards (λ place card is. each (suc place) card is))
+charges-most (Some one ∷ cards) each = omega (arith, charge-most one (each 0 one refl), charges-most cards (λ place card is. each (suc place) card is))
+
+-- what is there is part of the sum
+pub charge-within : (cards : List (Option Card)) (place : ℕ) → charge_there (get_or cards place None) ≤ charge_of_all cards
+charge-within [] place = omega arith
+charge-within (None ∷ cards) zero = omega arith
+charge-within (Some one ∷ cards) zero = omega arith
+charge-within (None ∷ cards) (suc place) = charge-within cards place
+charge-within (Some one ∷ cards) (suc place) = omega (arith, charge-within cards place)
+
+-- ---- free places
+
+vacant-here : (cards : List (Option Card)) (place : ℕ) (card : Option Card) → place < length cards → vacant place (set cards place card) ≡ vacancy card
+vacant-here [] place card h = absurd (omega arith)
+vacant-here (one ∷ cards) zero card h = refl
+vacant-here (one ∷ cards) (suc place) card h = vacant-here cards place card (omega arith)
+
+vacant-elsewhere : (cards : List (Option Card)) (place : ℕ) (card : Option Card) (n : ℕ) → n ≢ place → vacant n (set cards place card) ≡ vacant n cards
+vacant-elsewhere [] place card n off = refl
+vacant-elsewhere (one ∷ cards) zero card zero off = absurd (off refl)
+vacant-elsewhere (one ∷ cards) zero card (suc n) off = refl
+vacant-elsewhere (one ∷ cards) (suc place) card zero off = refl
+vacant-elsewhere (one ∷ cards) (suc place) card (suc n) off = vacant-elsewhere cards place card n (omega arith)
+
+pub times-remove : (n : ℕ) (numbers : List ℕ) (i d : ℕ) → i < length numbers → times n (remove numbers i) + once_if (eqb n (get_or numbers i d)) ≡ times n numbers
+times-remove n [] i d h = absurd (omega arith)
+times-remove n (one ∷ numbers) zero d h = omega arith
+times-remove n (one ∷ numbers) (suc i) d h = omega (arith, times-remove n numbers i d (omega arith))
+
+pub times-push : (n : ℕ) (numbers : List ℕ) (one : ℕ) → times n (numbers ++ one ∷ []) ≡ times n numbers + once_if (eqb n one)
+times-push n [] one = omega arith
+times-push n (x ∷ numbers) one = omega (arith, times-push n numbers one)
+
+pub vacant-free : (cards : List (Option Card)) (place : ℕ) → IsFree cards place → vacant place cards ≡ 1
+vacant-free [] place free = absurd (omega (arith, free.within))
+vacant-free (one ∷ cards) zero free = ap vacancy free.free
+vacant-free (one ∷ cards) (suc place) free = vacant-free cards place (record { within = omega (arith, free.within); free = free.free })
+
+pub free-vacant : (cards : List (Option Card)) (place : ℕ) → 0 < vacant place cards → IsFree cards place
+free-vacant [] place some = absurd (omega arith)
+free-vacant (None ∷ cards) zero some = record { within = omega arith; free = refl }
+free-vacant (Some one ∷ cards) zero some = absurd (omega arith)
+free-vacant (one ∷ cards) (suc place) some = let rest = free-vacant cards place some in record { within = omega (arith, rest.within); free = rest.free }
+
+vacant-taken : (cards : List (Option Card)) (place number : ℕ) → number_at cards place ≡ Some number → vacant place cards ≡ 0
+vacant-taken [] place number is = refl
+vacant-taken (None ∷ cards) zero number is = absurd (some≢none number (sym is))
+vacant-taken (Some one ∷ cards) zero number is = refl
+vacant-taken (one ∷ cards) (suc place) number is = vacant-taken cards place number is
+
+-- ---- numbers
+
+pub within-numbered : (cards : List (Option Card)) (place number : ℕ) → number_at cards place ≡ Some number → place < length cards
+within-numbered cards place number is = elim (cases_lt place (length cards)) [
+  | inl low ↦ low
+  | inr high ↦ absurd (some≢none number (sym is ∙ ap number_of (get_or_past cards place None high)))
+]
+
+number-here : (cards : List (Option Card)) (place : ℕ) (card : Option Card) → place < length cards → number_at (set cards place card) place ≡ number_of card
+number-here cards place card h = ap number_of (get_or-set_same cards place card None h)
+
+number-elsewhere : (cards : List (Option Card)) (place : ℕ) (card : Option Card) (n : ℕ) → n ≢ place → number_at (set cards place card) n ≡ number_at cards n
+number-elsewhere cards place card n off = ap number_of (get_or-set_other cards place n card None off)
+
+each-set : (cards : List (Option Card)) (place : ℕ) (card : Option Card) → place < length cards → ((one : Card) → card ≡ Some one → length one.blocks ≤ 4096)
+    → ((p : ℕ) (one : Card) → get_or cards p None ≡ Some one → length one.blocks ≤ 4096) → (p : ℕ) (one : Card) → get_or (set cards place card) p None ≡ Some one → length one.blocks ≤ 4096
+each-set cards place card h few each p one is = elim (cases_eq p place) [
+  | inl here ↦ few one (sym (get_or-set_same cards place card None h) ∙ ap (λ (n : ℕ). get_or (set cards place card) n None) (sym here) ∙ is)
+  | inr off ↦ each p one (sym (get_or-set_other cards place p card None off) ∙ is)
+]
+
+counts : (cards : List (Option Card)) (place : ℕ) (card : Option Card) → place < length cards
+    → count_of_all (set cards place card) + worth_there (λ c. 1) (get_or cards place None) ≡ count_of_all cards + worth_there (λ c. 1) card
+counts = sum-set (λ c. 1)
+
+count-there : (card : Option Card) (number : ℕ) → number_of card ≡ Some number → worth_there (λ c. 1) card ≡ 1
+count-there None number is = absurd (some≢none number (sym is))
+count-there (Some card) number is = refl
+
+-- ---- a node is made
+
+module _ (cards : List (Option Card)) (index : Keyed ℕ) (free : List ℕ) (charge place : ℕ) (card : Card) (kept : IsKept cards index free charge) (is_free : IsFree cards place) (some : 0 < card.fields.number) (below : AreBelow cards card.fields.number) where
+  number_of_none : number_at cards place ≡ None
+  number_of_none = ap number_of is_free.free
+
+  fresh : (n : ℕ) → at card.fields.number index ≡ Some n → ⊥
+  fresh n is = let under : card.fields.number < card.fields.number = below n card.fields.number (kept.found card.fields.number n is) in omega arith
+
+  pushed : with index card.fields.number place ≡ index ++ (card.fields.number, place) ∷ []
+  pushed = with-last index 0 card.fields.number place kept.rising (λ k v is. below v k (kept.found k v is))
+
+  found_made : (number n : ℕ) → at number (with index card.fields.number place) ≡ Some n → number_at (set cards place (Some card)) n ≡ Some number
+  found_made number n is = elim (cases_eq number card.fields.number) [
+    | inl one ↦
+        let here : place ≡ n = same_Some place n (sym (at-with_same index card.fields.number place) ∙ ap (λ (k : ℕ). at k (with index card.fields.number place)) (sym one) ∙ is) in
+        ap (number_at (set cards place (Some card))) (sym here) ∙ number-here cards place (Some card) is_free.within ∙ ap (λ (k : ℕ). Some k) (sym one)
+    | inr off ↦
+        let there : number_at cards n ≡ Some number = kept.found number n (sym (at-with_other index card.fields.number number place off) ∙ is) in
+        number-elsewhere cards place (Some card) n (λ e. some≢none number (sym there ∙ ap (number_at cards) e ∙ number_of_none)) ∙ there
+  ]
+
+  indexed_made : (number n : ℕ) → number_at (set cards place (Some card)) n ≡ Some number → at number (with index card.fields.number place) ≡ Some n
+  indexed_made number n is = elim (cases_eq n place) [
+    | inl here ↦
+        let one : card.fields.number ≡ number = same_Some card.fields.number number (sym (number-here cards place (Some card) is_free.within) ∙ ap (number_at (set cards place (Some card))) (sym here) ∙ is) in
+        ap (λ (k : ℕ). at k (with index card.fields.number place)) (sym one) ∙ at-with_same index card.fields.number place ∙ ap (λ (k : ℕ). Some k) (sym here)
+    | inr off ↦
+        let there : at number index ≡ Some n = kept.indexed number n (sym (number-elsewhere cards place (Some card) n off) ∙ is) in
+        at-with_other index card.fields.number number place (λ e. fresh n (ap (λ (k : ℕ). at k index) (sym e) ∙ there)) ∙ there
+  ]
+
+  pub made : (left : List ℕ) (charged : ℕ) → length card.blocks ≤ 4096 → ((n : ℕ) → times n left + times n (place ∷ []) ≡ times n free) → length left + 1 ≡ length free → charged ≡ charge + charge_of card
+      → IsKept (set cards place (Some card)) (index ++ (card.fields.number, place) ∷ []) left charged
+  made left charged few taken len charged_is =
+      let none : get_or cards place None ≡ None = is_free.free in
+      let no_charge : charge_there (get_or cards place None) ≡ 0 = ap charge_there none in
+      let no_count : worth_there (λ c. 1) (get_or cards place None) ≡ 0 = ap (worth_there (λ c. 1)) none in
+      let longer = length-append index ((card.fields.number, place) ∷ []) in
+      record {
+        few = omega (arith, length-set cards place (Some card), kept.few);
+        each = each-set cards place (Some card) is_free.within (λ one is. subst (λ (c : Card). length c.blocks ≤ 4096) (same_Some card one is) few) kept.each;
+        rising = subst (IsAbove 0) pushed (IsAbove-with index card.fields.number 0 place kept.rising some);
+        found = λ number n is. found_made number n (ap (at number) pushed ∙ is);
+        indexed = λ number n is. ap (at number) (sym pushed) ∙ indexed_made number n is;
+        places = λ n. elim (cases_eq n place) [
+          | inl e ↦ omega (arith, taken n, kept.places n, vacant-here cards place (Some card) is_free.within, vacant-free cards place is_free, ap (λ (k : ℕ). vacant k cards) e, ap (λ (k : ℕ). vacant k (set cards place (Some card))) e, ap once_if (eq-eqb n place e))
+          | inr off ↦ omega (arith, taken n, kept.places n, vacant-elsewhere cards place (Some card) n off, ap once_if (ne_eqb n place off))
+        ];
+        whole = omega (arith, kept.whole, length-set cards place (Some card));
+        count_is = omega (arith, kept.count_is, counts cards place (Some card) is_free.within);
+        charge_is = omega (arith, kept.charge_is, charge-set cards place (Some card) is_free.within);
+      }
+
+-- ---- a node is replaced
+
+pub replaced : (cards : List (Option Card)) (index : Keyed ℕ) (free : List ℕ) (charge place charged : ℕ) (card : Card) → IsKept cards index free charge → number_at cards place ≡ Some card.fields.number
+    → length card.blocks ≤ 4096 → charged + charge_there (get_or cards place None) ≡ charge + charge_of card → IsKept (set cards place (Some card)) index free charged
+replaced cards index free charge place charged card kept there few charged_is =
+    let within = within-numbered cards place card.fields.number there in
+    let same : (n : ℕ) → number_at (set cards place (Some card)) n ≡ number_at cards n = λ n. elim (cases_eq n place) [
+      | inl here ↦ ap (number_at (set cards place (Some card))) here ∙ number-here cards place (Some card) within ∙ sym there ∙ ap (number_at cards) (sym here)
+      | inr off ↦ number-elsewhere cards place (Some card) n off
+    ] in
+    record {
+      few = omega (arith, length-set cards place (Some card), kept.few);
+      each = each-set cards place (Some card) within (λ one is. subst (λ (c : Card). length c.blocks ≤ 4096) (same_Some card one is) few) kept.each;
+      rising = kept.rising;
+      found = λ number n is. same n ∙ kept.found number n is;
+      indexed = λ number n is. kept.indexed number n (sym (same n) ∙ is);
+      places = λ n. kept.places n ∙ elim (cases_eq n place) [
+        | inl e ↦ ap (λ (k : ℕ). vacant k cards) e ∙ vacant-taken cards place card.fields.number there ∙ sym (vacant-here cards place (Some card) within) ∙ ap (λ (k : ℕ). vacant k (set cards place (Some card))) (sym e)
+        | inr off ↦ sym (vacant-elsewhere cards place (Some card) n off)
+      ];
+      whole = omega (arith, kept.whole, length-set cards place (Some card));
+      count_is = omega (arith, kept.count_is, counts cards place (Some card) within, count-there (get_or cards place None) card.fields.number there);
+      charge_is = omega (arith, kept.charge_is, charge-set cards place (Some card) within);
+    }
+
+-- ---- a node is removed
+
+module _ (cards : List (Option Card)) (index : Keyed ℕ) (free : List ℕ) (charge place number : ℕ) (kept : IsKept cards index free charge) (there : number_at cards place ≡ Some number) where
+  within : place < length cards
+  within = within-numbered cards place number there
+
+  gone : number_at (set cards place None) place ≡ None
+  gone = number-here cards place None within
+
+  found_removed : (other n : ℕ) → at other (without index number) ≡ Some n → number_at (set cards place None) n ≡ Some other
+  found_removed other n is = elim (cases_eq other number) [
+    | inl one ↦ absurd (some≢none n (sym is ∙ ap (λ (k : ℕ). at k (without index number)) one ∙ at-without_same index number))
+    | inr off ↦
+        let found : number_at cards n ≡ Some other = kept.found other n (sym (at-without_other index number other off) ∙ is) in
+        number-elsewhere cards place None n (λ e. off (same_Some other number (sym found ∙ ap (number_at cards) e ∙ there))) ∙ found
+  ]
+
+  indexed_removed : (other n : ℕ) → number_at (set cards place None) n ≡ Some other → at other (without index number) ≡ Some n
+  indexed_removed other n is = elim (cases_eq n place) [
+    | inl here ↦ absurd (some≢none other (sym is ∙ ap (number_at (set cards place None)) here ∙ gone))
+    | inr off ↦
+        let at_n : at other index ≡ Some n = kept.indexed other n (sym (number-elsewhere cards place None n off) ∙ is) in
+        at-without_other index number other (λ e. off (same_Some n place (sym at_n ∙ ap (λ (k : ℕ). at k index) e ∙ kept.indexed number place there))) ∙ at_n
+  ]
+
+  pub removed : (i charged : ℕ) → i < length index → key_at index i ≡ number → charged + charge_there (get_or cards place None) ≡ charge
+      → IsKept (set cards place None) (remove index i) (free ++ place ∷ []) charged
+  removed i charged h is charged_is =
+      let left : without index number ≡ remove index i = ap (without index) (sym is) ∙ without-entry index 0 i kept.rising h in
+      let longer = length-append free (place ∷ []) in
+      record {
+        few = omega (arith, length-set cards place None, kept.few);
+        each = each-set cards place None within (λ one e. absurd (some≢none one (sym e))) kept.each;
+        rising = subst (IsAbove 0) left (IsAbove-without index number 0 kept.rising);
+        found = λ other n e. found_removed other n (ap (at other) left ∙ e);
+        indexed = λ other n e. ap (at other) (sym left) ∙ indexed_removed other n e;
+        places = λ n. elim (cases_eq n place) [
+          | inl e ↦ omega (arith, times-push n free place, kept.places n, vacant-here cards place None within, vacant-taken cards place number there, ap (λ (k : ℕ). vacant k cards) e, ap (λ (k : ℕ). vacant k (set cards place None)) e, ap once_if (eq-eqb n place e))
+          | inr off ↦ omega (arith, times-push n free place, kept.places n, vacant-elsewhere cards place None n off, ap once_if (ne_eqb n place off))
+        ];
+        whole = omega (arith, kept.whole, length-set cards place None, length-remove index i h);
+        count_is = omega (arith, kept.count_is, counts cards place None within, count-there (get_or cards place None) number there, length-remove index i h);
+        charge_is = omega (arith, kept.charge_is, charge-set cards place None within);
+      }
+
+-- ---- a table of free places
+
+pub times-off : (n : ℕ) (numbers : List ℕ) → ((i : ℕ) → i < length numbers → get_or numbers i 0 ≢ n) → times n numbers ≡ 0
+times-off n [] off = refl
+times-off n (one ∷ numbers) off = omega (arith, ap once_if (ne_eqb n one (λ e. off 0 (omega arith) (sym e))), times-off n numbers (λ i h. off (suc i) (omega arith)))
+
+pub times-some : (n : ℕ) (numbers : List ℕ) (i d : ℕ) → i < length numbers → get_or numbers i d ≡ n → 0 < times n numbers
+times-some n [] i d h is = absurd (omega arith)
+times-some n (one ∷ numbers) zero d h is = omega (arith, ap once_if (eq-eqb n one (sym is)))
+times-some n (one ∷ numbers) (suc i) d h is = omega (arith, times-some n numbers i d (omega arith) is)
+
+-- the first free places
+abbrev pub AreFirst : (done : ℕ) → List ℕ → Type 0
+AreFirst done free = (n : ℕ) → times n free ≡ vacant n (replicate done None)
+
+vacant-end : (done : ℕ) → vacant done (replicate done None) ≡ 0
+vacant-end zero = refl
+vacant-end (suc done) = vacant-end done
+
+vacant-last : (done : ℕ) → vacant done (replicate (suc done) None) ≡ 1
+vacant-last zero = refl
+vacant-last (suc done) = vacant-last done
+
+vacant-off : (done n : ℕ) → n ≢ done → vacant n (replicate (suc done) None) ≡ vacant n (replicate done None)
+vacant-off zero zero off = absurd (off refl)
+vacant-off zero (suc n) off = refl
+vacant-off (suc done) zero off = refl
+vacant-off (suc done) (suc n) off = vacant-off done n (omega arith)
+
+pub first-more : (done : ℕ) (free : List ℕ) → AreFirst done free → AreFirst (done + 1) (free ++ done ∷ [])
+first-more done free are n =
+    let next : done + 1 ≡ suc done = omega arith in
+    let named : vacant n (replicate (done + 1) None) ≡ vacant n (replicate (suc done) None) = ap (λ (k : ℕ). vacant n (replicate k None)) next in
+    elim (cases_eq n done) [
+      | inl e ↦ omega (arith, times-push n free done, are n, named, ap once_if (eq-eqb n done e), ap (λ (k : ℕ). vacant k (replicate done None)) e, ap (λ (k : ℕ). vacant k (replicate (suc done) None)) e, vacant-end done, vacant-last done)
+      | inr off ↦ omega (arith, times-push n free done, are n, named, ap once_if (ne_eqb n done off), vacant-off done n off)
+    ]
+
+pub nones-more : (count : ℕ) → replicate {A = Option Card} count None ++ None ∷ [] ≡ replicate (count + 1) None
+nones-more zero = refl
+nones-more (suc count) = let next : suc count + 1 ≡ suc (count + 1) = omega arith in ap (λ (l : List (Option Card)). None ∷ l) (nones-more count) ∙ ap (λ (n : ℕ). replicate n None) (sym next)
+
+-- the last free place, if there is one
+pub free_found : (cards : List (Option Card)) (index : Keyed ℕ) (free : List ℕ) (charge i : ℕ) (found : Option ℕ) → IsKept cards index free charge → found ≡ slice_get free i → IfSome found (IsFree cards)
+free_found cards index free charge i None kept is = tt
+free_found cards index free charge i (Some place) kept is =
+    let there = times-some place free i 0 (slice_get_within free i place (sym is)) (get_or_from_slice_get free i place 0 (sym is)) in
+    free-vacant cards place (omega (arith, kept.places place))
+
+none-worth : (worth : Card → ℕ) (count : ℕ) → sum_over worth (replicate count None) ≡ 0
+none-worth worth zero = refl
+none-worth worth (suc count) = none-worth worth count
+
+pub kept_none : (count : ℕ) (free : List ℕ) → count ≤ 16384 → AreFirst count free → length free ≡ count → IsKept (replicate count None) [] free 0
+kept_none count free few are len = record {
+  few = omega (arith, length-replicate {A = Option Card} count None);
+  each = λ place card is. absurd (some≢none card (sym is ∙ nones-at count place));
+  rising = tt;
+  found = λ number place is. absurd (some≢none place (sym is));
+  indexed = λ number place is. absurd (some≢none number (sym is ∙ ap number_of (nones-at count place)));
+  places = are;
+  whole = omega (arith, length-replicate {A = Option Card} count None);
+  count_is = sym (none-worth (λ c. 1) count);
+  charge_is = sym (none-worth charge_of count);
+}
+
+-- each number has one place, also among the cards by their other name
+pub own-places : (cards : List (Option Card)) (index : Keyed ℕ) (free : List ℕ) (charge : ℕ) (seen : List (Option Card)) → IsKept cards index free charge → cards ≡ seen → HaveOwnPlaces seen
+own-places cards index free charge seen kept is =
+    subst HaveOwnPlaces is (λ place other number here there. same_Some place other (sym (kept.indexed number place here) ∙ kept.indexed number other there))

@@ -1,0 +1,36 @@
+use Rattle.std.proofs.Common.{◌≡◌, ◌≤◌, ◌+◌, List, Option, Some, length, ap, sym, subst, ◌∙◌, arith}
+use Rattle.std.proofs.lemmas.List.{length-set}
+use Rattle.layout.specs.Cards.{Card}
+use Rattle.node_table.specs.Tables.{AreBelow, IsFree, charge_of}
+use Rattle.node_table.proofs.TableLaws.{charges-most, vacant-free, made}
+use Rattle.node_table.proofs.table.Table.make.Goals as goal
+
+pub take_free-requires : goal.take_free-requires
+take_free-requires c =
+    let kept = c.self.invariant.0 in
+    let is_free : IsFree c.self.inside.cards.items c.args.place = subst (λ (l : List (Option Card)). IsFree l c.args.place) (sym c.self.view_is) c.requires.free in
+    omega (arith, kept.places c.args.place, vacant-free c.self.inside.cards.items c.args.place is_free)
+
+pub overflow_add-self : goal.overflow_add-self
+overflow_add-self c =
+    let kept = c.self.invariant.0 in
+    let few = ap (λ (card : Card). length card.blocks) c.card.view_is in
+    omega (arith, kept.charge_is, kept.few, charges-most c.self.inside.cards.items kept.each, c.blocks_charge.ensures.charge, few, c.blocks_charge.ensures.few)
+
+pub invariant_of-self : goal.invariant_of-self
+invariant_of-self c =
+    let kept = c.self.invariant.0 in
+    let cards : List (Option Card) = c.self.inside.cards.items in
+    let is_free : IsFree cards c.args.place = subst (λ (l : List (Option Card)). IsFree l c.args.place) (sym c.self.view_is) c.requires.free in
+    let below : AreBelow cards c.args.card.fields.number = subst (λ (l : List (Option Card)). AreBelow l c.args.card.fields.number) (sym c.self.view_is) c.requires.above in
+    let number : c.card.inside.inode.number ≡ c.args.card.fields.number = ap (λ (card : Card). card.fields.number) c.card.view_is in
+    let is : c.blocks_charge.result ≡ charge_of c.args.card = c.blocks_charge.ensures.charge ∙ ap charge_of c.card.view_is in
+    let sum : c.self.inside.charge + c.blocks_charge.result ≡ c.self.inside.charge + charge_of c.args.card = omega (arith, is) in
+    let few : length c.args.card.blocks ≤ 4096 = subst (λ (card : Card). length card.blocks ≤ 4096) c.card.view_is c.blocks_charge.ensures.few in
+    let long = length-set cards c.args.place (Some c.args.card) in
+    let room = c.self.invariant.1 in
+    rw (c.put_card.ensures, c.push_reserved.ensures.items, number) (
+      made cards c.self.inside.index.items c.self.inside.free.items c.self.inside.charge c.args.place c.args.card kept is_free c.requires.some below c.take_free.new.free.items (c.self.inside.charge + c.blocks_charge.result)
+          few c.take_free.ensures.times c.take_free.ensures.len sum,
+      record { index = omega (arith, long, room.index, c.push_reserved.ensures.capacity); free = omega (arith, long, room.free, c.take_free.ensures.room) },
+    )

@@ -1,0 +1,45 @@
+//! What memory keeps of a node.
+
+ghost use Rattle.std.specs.Prelude.{◌≡◌, IfOk};
+
+use directory::Names;
+use extents::{BlockList, Run};
+use inode::{Form, Inode};
+use std::alloc::{AllocError, Global};
+use std::marker::Model;
+
+/// A node in memory, apart from a file's bytes. Contracts see the layout's card of it.
+#[derive(Drop)]
+pub struct Card {
+    pub form: Form,
+    pub inode: Inode,
+    /// The runs of its blocks, as its run sectors have them.
+    pub runs: Vec<Run>,
+    pub blocks: BlockList,
+    /// None, where the node is a file.
+    pub names: Names,
+}
+
+impl Model for Card {
+    ghost use Rattle.layout.specs.Cards as layout;
+    ghost use Rattle.node_table.specs.Seen.{seen};
+
+    ghost Value = { layout.Card };
+
+    ghost view = { λ card. seen card.form card.inode card.runs.items card.blocks card.names };
+}
+
+impl Card {
+    /// The same card once more, in memory of its own.
+    pub fn try_clone(&self, alloc: Global) -> Result<Card, AllocError>
+        ensures { IfOk result (λ card. card ≡ self.now) }
+    {
+        Ok(Card {
+            form: self.form,
+            inode: self.inode.try_clone(alloc)?,
+            runs: Vec::from_slice(alloc, &self.runs)?,
+            blocks: self.blocks.try_clone()?,
+            names: self.names.try_clone()?,
+        })
+    }
+}

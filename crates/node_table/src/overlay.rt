@@ -1,0 +1,203 @@
+//! Cards in place of some of a table's, for the time of a change.
+
+ghost use Rattle.std.specs.Prelude.{◌≡◌, ◌≢◌, ◌<◌, ℕ, Some, None, length, set, slice_index_or, IfOk, IfSome, IfNone, OnOk, OnErr, IsOk};
+ghost use Rattle.node_table.specs.Overlays.{changed, change_at};
+ghost use Rattle.node_table.specs.Tables.{number_of, number_at, HasNot, IsFree, AreTaken};
+
+use crate::card::Card;
+use crate::changes::Changes;
+use crate::table::Table;
+use std::alloc::{AllocError, Global};
+use std::marker::Model;
+
+/// A table with other cards, or none, at some of its places. The table itself stays as it is.
+///
+/// Contracts see the table's cards, and those that stand now. Each call takes a step for each
+/// changed place, of which there are few.
+#[derive(Drop)]
+pub struct Overlay<'a> {
+    alloc: Global,
+    table: &'a Table,
+    changes: Vec<(u32, Option<Card>)>,
+}
+
+impl<'a> Model for Overlay<'a> {
+    ghost use Rattle.std.specs.Prelude.{length};
+    ghost use Rattle.node_table.specs.Overlays.{Overlaid, changed, HaveOwnPlace, AreWithin};
+
+    ghost Value = { Overlaid };
+
+    ghost view = { λ overlay. record {
+      table = overlay.table.now;
+      cards = changed overlay.table.now overlay.changes.items;
+    } };
+
+    ghost invariant = { λ overlay. HaveOwnPlace overlay.changes.items
+        × AreWithin (length overlay.table.now) overlay.changes.items };
+}
+
+impl<'a> Overlay<'a> {
+    /// The places for which there is room from the start.
+    const ROOM: usize = 8;
+
+    /// A table's cards, none of them changed.
+    pub fn new(alloc: Global, table: &'a Table) -> Result<Overlay<'a>, AllocError>
+        ensures table { IfOk result (λ overlay. overlay.table ≡ table.now) }
+        ensures cards { IfOk result (λ overlay. overlay.cards ≡ table.now) }
+    {
+        let changes = Vec::with_capacity(alloc, Overlay::ROOM)?;
+        Ok(Overlay {
+            alloc,
+            table,
+            changes,
+        })
+    }
+
+    /// How many places there are.
+    pub fn places(&self) -> u32
+        ensures { result ≡ length self.now.cards }
+    {
+        self.table.places()
+    }
+
+    /// The card at a place.
+    pub fn card(&self, place: u32) -> Option<&Card>
+        ensures some { IfSome result (λ card.
+            slice_index_or self.now.cards place None ≡ Some card.now) }
+        ensures none { IfNone result (slice_index_or self.now.cards place None ≡ None) }
+    {
+        match change_of(&self.changes, place) {
+            Some(i) => self.changes[i].1.as_ref(),
+            None => self.table.card(place),
+        }
+    }
+
+    /// The place of a node of a number.
+    pub fn find(&self, number: u64) -> Option<u32>
+        ensures some { IfSome result (λ place. number_at self.now.cards place ≡ Some number) }
+        ensures none { IfNone result (HasNot self.now.cards number) }
+    {
+        if let Some(i) = change_to(&self.changes, number) {
+            return Some(self.changes[i].0);
+        }
+        let place = self.table.find(number)?;
+        match change_of(&self.changes, place) {
+            Some(_) => None,
+            None => Some(place),
+        }
+    }
+
+    /// A free place, if there is one. It stays free. The places are gone through only where the
+    /// next free one of the table is taken.
+    pub fn free_place(&self) -> Option<u32>
+        ensures some { IfSome result (λ place. IsFree self.now.cards place) }
+        ensures none { IfNone result (AreTaken self.now.cards) }
+    {
+        match self.table.free_place() {
+            Some(place) if self.card(place).is_none() => Some(place),
+            _ => self.first_free(),
+        }
+    }
+
+    /// The lowest free place.
+    fn first_free(&self) -> Option<u32>
+        ensures some { IfSome result (λ place. IsFree self.now.cards place) }
+        ensures none { IfNone result (AreTaken self.now.cards) }
+    {
+        for place in 0..self.places() {
+            if self.card(place).is_none() {
+                return Some(place);
+            }
+        }
+        None
+    }
+
+    /// Takes the card of a place out: none stands there then. It is a copy where it was the
+    /// table's. An `Err` changes nothing.
+    pub fn take(&mut self, place: u32) -> Result<Option<Card>, AllocError>
+        ensures card { IfOk result (λ card. card ≡ slice_index_or self.old.cards place None) }
+        ensures cards { OnOk result (self.new.cards ≡ set self.old.cards place None) }
+        ensures table { self.new.table ≡ self.old.table }
+        ensures err { OnErr result (self.new.cards ≡ self.old.cards) }
+    {
+        if let Some(i) = change_of(&self.changes, place) {
+            return Ok(take_from(&mut self.changes, i));
+        }
+        let Some(card) = self.table.card(place) else {
+            return Ok(None);
+        };
+        let card = card.try_clone(self.alloc)?;
+        self.changes.push((place, None))?;
+        Ok(Some(card))
+    }
+
+    /// Puts a card, or none, into a place. An `Err` changes nothing.
+    ///
+    /// # Errors
+    ///
+    /// `AllocError`, never where another card than the table's stands there, or none in its place.
+    pub fn put(&mut self, place: u32, card: Option<Card>) -> Result<(), AllocError>
+        requires { place < length self.old.cards }
+        ensures cards { OnOk result (self.new.cards ≡ set self.old.cards place card) }
+        ensures table { self.new.table ≡ self.old.table }
+        ensures err { OnErr result (self.new.cards ≡ self.old.cards) }
+        ensures again { slice_index_or self.old.cards place None
+            ≢ slice_index_or self.old.table place None → IsOk result }
+    {
+        match change_of(&self.changes, place) {
+            Some(i) => put_into(&mut self.changes, i, card),
+            None => self.changes.push((place, card))?,
+        }
+        Ok(())
+    }
+
+    /// What is to be done to the table, which is borrowed no longer.
+    pub fn into_changes(self) -> Changes
+        ensures { changed self.entry.table result ≡ self.entry.cards }
+    {
+        let Overlay { changes, .. } = self;
+        Changes::new(changes)
+    }
+}
+
+/// Where the change of a place stands.
+fn change_of(changes: &[(u32, Option<Card>)], place: u32) -> Option<usize>
+    ensures within { IfSome result (λ i. i < length changes.now) }
+    ensures some { IfSome result (λ i. (change_at changes.now i).0 ≡ place) }
+    ensures none { IfNone result ((i : ℕ)
+        → i < length changes.now → (change_at changes.now i).0 ≢ place) }
+{
+    changes.iter().position(|change| change.0 == place)
+}
+
+/// Where a change stands that puts a node of this number.
+fn change_to(changes: &[(u32, Option<Card>)], number: u64) -> Option<usize>
+    ensures within { IfSome result (λ i. i < length changes.now) }
+    ensures some { IfSome result (λ i. number_of (change_at changes.now i).1 ≡ Some number) }
+    ensures none { IfNone result ((i : ℕ)
+        → i < length changes.now → number_of (change_at changes.now i).1 ≢ Some number) }
+{
+    changes.iter().position(|change| change
+        .1
+        .as_ref()
+        .is_some_and(|card| card.inode.number == number))
+}
+
+/// Takes the card out of a change.
+fn take_from(changes: &mut Vec<(u32, Option<Card>)>, i: usize) -> Option<Card>
+    requires { i < length changes.old.items }
+    ensures card { result ≡ (change_at changes.old.items i).1 }
+    ensures changes { changes.new.items
+        ≡ set changes.old.items i ((change_at changes.old.items i).0, None) }
+{
+    changes[i].1.take()
+}
+
+/// Puts a card, or none, into a change.
+fn put_into(changes: &mut Vec<(u32, Option<Card>)>, i: usize, card: Option<Card>)
+    requires { i < length changes.old.items }
+    ensures { changes.new.items
+        ≡ set changes.old.items i ((change_at changes.old.items i).0, card) }
+{
+    changes[i].1 = card;
+}

@@ -1,0 +1,272 @@
+//! The cards of a volume by their places.
+
+ghost use Rattle.std.specs.Prelude.{◌≡◌, ◌≤◌, ◌<◌, ◌+◌, ℕ, List, [], ◌∷◌, Some, None, length, vec_capacity, replicate, set, slice_index_or, IfOk, IfSome, IfNone, OnOk, IsErrOf};
+ghost use Rattle.layout.specs.Marks.{times};
+ghost use Rattle.node_table.specs.Tables.{number_at, HasNot, HaveOwnPlaces, AreNumbered, AreBelow, IsFree, AreFew, charge_there, charge_of_all, count_of_all, vacant};
+ghost use Rattle.model.specs.Charge.{charge_of_blocks};
+
+use crate::card::Card;
+use crate::fault::TableFault;
+use crate::index::{self, entry_of};
+use extents::BlockList;
+use std::alloc::{AllocError, Global};
+use std::marker::Model;
+
+/// A card, or none, at each place of a volume's node table. Contracts see their list.
+///
+/// Finding a number takes one step for each doubling of the table. A node that is made or replaced
+/// changes one place of each list; of the numbers after one that is removed each moves.
+#[derive(Drop)]
+pub struct Table {
+    cards: Vec<Option<Card>>,
+    /// The numbers of the nodes and their places, by rising number.
+    index: Vec<(u64, u32)>,
+    /// The free places; the last one is the next to be taken.
+    free: Vec<u32>,
+    /// What the nodes take of the data region.
+    charge: u64,
+}
+
+impl Model for Table {
+    ghost use Rattle.std.specs.Prelude.{List, Option, vec_capacity};
+    ghost use Rattle.layout.specs.Cards as layout;
+    ghost use Rattle.node_table.specs.Tables.{IsKept, HasCapacity};
+
+    ghost Value = { List (Option layout.Card) };
+
+    ghost view = { λ table. table.cards.items };
+
+    ghost invariant = { λ table.
+        IsKept table.cards.items table.index.items table.free.items table.charge
+        × HasCapacity table.cards.items (vec_capacity table.index) (vec_capacity table.free) };
+}
+
+impl Table {
+    /// The most nodes of a table, each at a place of its own.
+    pub const MAX_NODES: u32 = 16384;
+
+    /// A table of so many places, all free.
+    pub fn new(alloc: Global, places: u32) -> Result<Table, AllocError>
+        requires { places ≤ Table.MAX_NODES }
+        ensures { IfOk result (λ table. table ≡ replicate places None) }
+    {
+        let index = Vec::with_capacity(alloc, places as usize)?;
+        let mut free = Vec::with_capacity(alloc, places as usize)?;
+        let mut cards = Vec::with_capacity(alloc, places as usize)?;
+        for place in 0..places {
+            free.push_reserved(place);
+            cards.push_reserved(None);
+        }
+        Ok(Table {
+            cards,
+            index,
+            free,
+            charge: 0,
+        })
+    }
+
+    /// A table of the cards of all places, in their order. Sorting them by number takes as many
+    /// steps as there are places, times 14 at most.
+    ///
+    /// # Errors
+    ///
+    /// [`TableFault::SameNumber`] exactly where two cards have one number; [`TableFault::Memory`].
+    pub fn from_cards(alloc: Global, cards: Vec<Option<Card>>) -> Result<Table, TableFault>
+        requires few { length cards.items ≤ Table.MAX_NODES }
+        requires numbered { AreNumbered cards.items }
+        ensures table { IfOk result (λ table. table ≡ cards.items) }
+        ensures apart { OnOk result (HaveOwnPlaces cards.items) }
+        ensures same { IsErrOf result TableFault.SameNumber → ¬ HaveOwnPlaces cards.items }
+    {
+        let mut index = index::entries(alloc, &cards)?;
+        index::sort(&mut index);
+        if !index::are_different(&index) {
+            return Err(TableFault::SameNumber);
+        }
+        let free = free_places(alloc, &cards)?;
+        let charge = charge_of_cards(&cards);
+        Ok(Table {
+            cards,
+            index,
+            free,
+            charge,
+        })
+    }
+
+    /// How many places there are.
+    pub fn places(&self) -> u32
+        ensures places { result ≡ length self.now }
+        ensures few { result ≤ Table.MAX_NODES }
+    {
+        self.cards.len() as u32
+    }
+
+    /// The card at a place.
+    pub fn card(&self, place: u32) -> Option<&Card>
+        ensures some { IfSome result (λ card. slice_index_or self.now place None ≡ Some card.now) }
+        ensures none { IfNone result (slice_index_or self.now place None ≡ None) }
+    {
+        match self.cards.get(place as usize) {
+            Some(Some(card)) => Some(card),
+            _ => None,
+        }
+    }
+
+    /// The place of the node of a number.
+    pub fn find(&self, number: u64) -> Option<u32>
+        ensures some { IfSome result (λ place. number_at self.now place ≡ Some number) }
+        ensures only { HaveOwnPlaces self.now }
+        ensures none { IfNone result (HasNot self.now number) }
+    {
+        let i = entry_of(&self.index, number)?;
+        Some(self.index[i].1)
+    }
+
+    /// A free place, if there is one. It stays free.
+    pub fn free_place(&self) -> Option<u32>
+        ensures some { IfSome result (λ place. IsFree self.now place) }
+        ensures none { IfNone result (count_of_all self.now ≡ length self.now) }
+    {
+        self.free.last().copied()
+    }
+
+    /// How many nodes there are. Each number has one place.
+    pub fn count(&self) -> u32
+        ensures count { result ≡ count_of_all self.now }
+        ensures apart { HaveOwnPlaces self.now }
+    {
+        self.index.len() as u32
+    }
+
+    /// What the nodes take of the data region, in sectors.
+    pub fn charge(&self) -> u64
+        ensures { result ≡ charge_of_all self.now }
+    {
+        self.charge
+    }
+
+    /// Puts a node whose number is above all others into a free place.
+    pub fn make(&mut self, place: u32, card: Card)
+        requires free { IsFree self.old place }
+        requires some { 0 < card.fields.number }
+        requires above { AreBelow self.old card.fields.number }
+        ensures { self.new ≡ set self.old place (Some card) }
+    {
+        take_free(&mut self.free, place);
+        self.index.push_reserved((card.inode.number, place));
+        self.charge += blocks_charge(&card.blocks);
+        put_card(&mut self.cards, place, Some(card));
+    }
+
+    /// Puts a card into the place of the one of its number.
+    pub fn replace(&mut self, place: u32, card: Card)
+        requires { number_at self.old place ≡ Some card.fields.number }
+        ensures { self.new ≡ set self.old place (Some card) }
+    {
+        self.charge -= charge_at(&self.cards, place);
+        self.charge += blocks_charge(&card.blocks);
+        put_card(&mut self.cards, place, Some(card));
+    }
+
+    /// Removes the node of a number from its place.
+    pub fn remove(&mut self, place: u32, number: u64)
+        requires there { number_at self.old place ≡ Some number }
+        ensures { self.new ≡ set self.old place None }
+    {
+        let Some(i) = entry_of(&self.index, number) else {
+            return;
+        };
+        self.index.remove(i);
+        self.free.push_reserved(place);
+        self.charge -= charge_at(&self.cards, place);
+        put_card(&mut self.cards, place, None);
+    }
+}
+
+/// The places without a card, with room for all places.
+fn free_places(alloc: Global, cards: &[Option<Card>]) -> Result<Vec<u32>, AllocError>
+    requires { length cards.now ≤ Table.MAX_NODES }
+    ensures times { IfOk result (λ free. (n : ℕ) → times n free.items ≡ vacant n cards.now) }
+    ensures count { IfOk result (λ free.
+        length free.items + count_of_all cards.now ≡ length cards.now) }
+    ensures room { IfOk result (λ free. vec_capacity free ≡ length cards.now) }
+{
+    let mut free = Vec::with_capacity(alloc, cards.len())?;
+    for (place, card) in cards.iter().enumerate() {
+        if card.is_none() {
+            free.push_reserved(place as u32);
+        }
+    }
+    Ok(free)
+}
+
+/// What cards take of the data region.
+fn charge_of_cards(cards: &[Option<Card>]) -> u64
+    requires { length cards.now ≤ Table.MAX_NODES }
+    ensures charge { result ≡ charge_of_all cards.now }
+    ensures few { AreFew cards.now }
+{
+    let mut charge = 0;
+    for card in cards {
+        if let Some(card) = card {
+            charge += blocks_charge(&card.blocks);
+        }
+    }
+    charge
+}
+
+/// Where a place stands among the free ones: the last is looked at first.
+fn entry_of_free(free: &[u32], place: u32) -> Option<usize>
+    ensures some { IfSome result (λ i.
+        (i < length free.now) × (slice_index_or free.now i 0 ≡ place)) }
+    ensures none { IfNone result (times place free.now ≡ 0) }
+{
+    let mut i = free.len();
+    while i > 0 {
+        i -= 1;
+        if free[i] == place {
+            return Some(i);
+        }
+    }
+    None
+}
+
+/// Takes a place out of the free ones.
+fn take_free(free: &mut Vec<u32>, place: u32)
+    requires { 0 < times place free.old.items }
+    ensures times { (n : ℕ)
+        → times n free.new.items + times n (place ∷ []) ≡ times n free.old.items }
+    ensures len { length free.new.items + 1 ≡ length free.old.items }
+    ensures room { vec_capacity free.new ≡ vec_capacity free.old }
+{
+    if let Some(i) = entry_of_free(free, place) {
+        free.remove(i);
+    }
+}
+
+/// What blocks take of the data region.
+fn blocks_charge(blocks: &BlockList) -> u64
+    ensures charge { result ≡ charge_of_blocks (length blocks.now) }
+    ensures few { length blocks.now ≤ BlockList.MAX_BLOCKS }
+{
+    let count = u64::from(blocks.count());
+    count + (count + 499) / 500
+}
+
+/// What the card at a place takes of the data region.
+fn charge_at(cards: &[Option<Card>], place: u32) -> u64
+    ensures { result ≡ charge_there (slice_index_or cards.now place None) }
+{
+    match cards.get(place as usize) {
+        Some(Some(card)) => blocks_charge(&card.blocks),
+        _ => 0,
+    }
+}
+
+/// Puts a card, or none, into a place.
+fn put_card(cards: &mut Vec<Option<Card>>, place: u32, card: Option<Card>)
+    requires { place < length cards.old.items }
+    ensures { cards.new.items ≡ set cards.old.items place card }
+{
+    cards[place as usize] = card;
+}

@@ -1,7 +1,0 @@
-use Rattle.std.proofs.Common.{take}
-use Rattle.layout.specs.Marks.{times}
-use Rattle.scan.specs.Marking.{AreMarked}
-use Rattle.scan.proofs.marks.mark_sectors.Given as goal
-
-abbrev pub invariant-loop-sector : goal.invariant-loop-sector
-invariant-loop-sector l = AreMarked l.first l.fn.places l.places (λ n. times n (take l.sector-index l.sectors))

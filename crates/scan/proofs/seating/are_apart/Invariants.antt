@@ -1,7 +1,0 @@
-use Rattle.std.proofs.Common.{drop, map}
-use Rattle.model.specs.Seats.{AreApart}
-use Rattle.model.specs.SeatViews.{place_view}
-use Rattle.scan.proofs.seating.are_apart.Given as goal
-
-abbrev pub invariant-loop-i : goal.invariant-loop-i
-invariant-loop-i l = AreApart (drop l.i (map place_view l.places)) → AreApart (map place_view l.places)

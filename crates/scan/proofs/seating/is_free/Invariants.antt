@@ -1,6 +1,0 @@
-use Rattle.std.proofs.Common.{◌≡◌, ◌<◌, ℕ, None, get_or, map}
-use Rattle.model.specs.SeatViews.{place_view}
-use Rattle.scan.proofs.seating.is_free.Given as goal
-
-abbrev pub invariant-loop-place : goal.invariant-loop-place
-invariant-loop-place l = (k : ℕ) → k < l.place-index → get_or (map place_view l.place-items) k None ≡ None

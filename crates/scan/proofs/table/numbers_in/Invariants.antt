@@ -1,6 +1,0 @@
-use Rattle.std.proofs.Common.{◌≡◌, take}
-use Rattle.scan.specs.Cards.{numbers_of}
-use Rattle.scan.proofs.table.numbers_in.Given as goal
-
-abbrev pub invariant-loop-card : goal.invariant-loop-card
-invariant-loop-card l = l.numbers.items ≡ numbers_of (take l.card-index l.cards)

@@ -1,7 +1,0 @@
-use Rattle.std.proofs.Common.{◌≡◌, ◌<◌, ◌+◌, ℕ, Some, None, get_or}
-use Rattle.layout.specs.Cards.{Card}
-use Rattle.shape.specs.Ages.{IsCardBefore}
-use Rattle.shape.proofs.ages.are_before.Given as goal
-
-abbrev pub invariant-loop-place : goal.invariant-loop-place
-invariant-loop-place l = (place : ℕ) (card : Card) → place < l.place → get_or l.table place None ≡ Some card → IsCardBefore (l.last + 1) card

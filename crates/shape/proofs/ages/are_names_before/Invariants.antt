@@ -1,7 +1,0 @@
-use Rattle.std.proofs.Common.{map, take, ◌+◌}
-use Rattle.directory.specs.Records.{record_of}
-use Rattle.shape.specs.Ages.{AreNamesBefore}
-use Rattle.shape.proofs.ages.are_names_before.Given as goal
-
-abbrev pub invariant-loop-entry : goal.invariant-loop-entry
-invariant-loop-entry l = AreNamesBefore (l.last + 1) (map record_of (take l.entry-index l.entries))

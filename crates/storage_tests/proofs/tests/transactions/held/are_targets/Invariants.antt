@@ -1,6 +1,0 @@
-use Rattle.std.proofs.Common.{take}
-use Rattle.journal.specs.Layout.{AreTargets}
-use Rattle.storage_tests.proofs.tests.transactions.held.are_targets.Given as goal
-
-abbrev pub invariant-loop-i : goal.invariant-loop-i
-invariant-loop-i l = AreTargets 256 (take l.i l.to)

@@ -1,0 +1,75 @@
+-- Whether a tree fits is told by the sums over the cards.
+use Rattle.std.proofs.Common.{◌≡◌, ◌≤◌, ◌&&◌, ℕ, Bool, true, false, List, [], ◌∷◌, Option, Some, length, refl, sym, ap, ap₂, ◌∙◌, arith}
+use Rattle.std.proofs.lemmas.Bool.{le-leb}
+use Rattle.std.specs.Prelude.{nat_le}
+use Rattle.node_table.specs.Tables.{charge_of_all, count_of_all}
+use Rattle.disk.specs.Moments.{Image}
+use Rattle.model.specs.declared.limits.Limits.{Limits}
+use Rattle.model.specs.declared.node.NodeKind.{NodeKind}
+use Rattle.model.specs.declared.node.NodeKind.TheVariants as kind
+use Rattle.model.specs.Charge.{fits, few_names}
+use Rattle.model.specs.Keyed.{at, IsAbove}
+use Rattle.model.specs.Tree.{Tree, Node, names_of}
+use Rattle.model.proofs.KeyedLaws.{at-above, at-first, at-rest}
+use Rattle.model.proofs.OpensLaws.{total-ones}
+use Rattle.directory.specs.Listing.{by_stamp}
+use Rattle.layout.specs.Cards.{Card, tree_of, node_of, content_of}
+use Rattle.layout.specs.Known.{HasContent, AreCards}
+use Rattle.layout.proofs.Answering.{tree_answers}
+use Rattle.layout.proofs.Changing.{tree-above}
+use Rattle.layout.proofs.Knowing.{each_above, laid_are_cards}
+use Rattle.layout.proofs.Summing.{known_sum, names_total}
+use Rattle.tree_check.specs.ShapeLaws.{EachFit}
+use Rattle.tree_check.proofs.AgeLaws.{node-is, none-node}
+use Rattle.tree_check.proofs.TreeLaws.{There, Nowhere, find, is_card}
+
+-- no directory has too many names where no node of the tree is one with too many
+pub few-from : (most least : ℕ) (entries : Tree) → IsAbove least entries → ((n : ℕ) (node : Node) → at n entries ≡ Some node → length (names_of node.content) ≤ most) → few_names most entries ≡ true
+few-from most least [] above each = refl
+few-from most least (entry ∷ rest) above each =
+    let here = each entry.0 entry.1 (at-first entry.0 entry.0 entry.1 rest refl) in
+    ap₂ (λ a b. a && b) (le-leb (length (names_of entry.1.content)) most here)
+    (few-from most entry.0 rest above.1 (λ n node e.
+    let behind = at-above rest entry.0 n node above.1 e in
+    each n node (at-rest entry.0 n entry.1 rest (λ same. omega arith) ∙ e)))
+
+and-true : (a b c : Bool) → c ≡ true → (a && (b && c)) ≡ (a && b)
+and-true true true c is = is
+and-true true false c is = refl
+and-true false b c is = refl
+
+module _ (nodes : ℕ) (image : Image) (mark : ℕ → ℕ) (cards : List (Option Card)) (known : AreCards nodes mark cards) where
+  few-names : (kind : NodeKind) (card : Card) → HasContent kind card → length (names_of (content_of image kind card)) ≤ 1024
+  few-names kind.File card has = omega arith
+  few-names kind.Directory card has =
+      let same : length (by_stamp card.names) ≡ length card.names =
+      sym (total-ones (by_stamp card.names)) ∙ (names_total (λ entry. 1) card.names has.stamped ∙ total-ones card.names) in
+      let few = has.names.few in
+      omega arith
+
+  few-node : (card : Card) → HasContent card.fields.kind card → length (names_of (node_of image card).content) ≤ 1024
+  unfolding node_of
+  few-node card has = few-names card.fields.kind card has
+
+  few : (limits : Limits) → 1024 ≤ limits.names → few_names limits.names (tree_of image cards) ≡ true
+  few limits most =
+      few-from limits.names 0 (tree_of image cards)
+      (tree-above image cards (each_above cards (is_card nodes image mark cards known)))
+      (λ n node e. elim (find cards n) [
+        | There place card there is ↦
+            let low = few-node card (is_card nodes image mark cards known place card there).content in
+            let same = ap (λ (node : Node). length (names_of node.content)) (node-is nodes image mark cards known 0 n node place card e there is) in
+            omega arith
+        | Nowhere none ↦ absurd (none-node nodes image mark cards known 0 n node e ((tree_answers image cards known.apart n).none none))
+      ])
+
+  pub known_fit : (limits : Limits) → 1024 ≤ limits.names
+      → fits limits (tree_of image cards) ≡ (nat_le (charge_of_all cards) limits.data_sectors && nat_le (count_of_all cards) limits.nodes)
+  unfolding fits
+  known_fit limits most =
+      let sums = known_sum nodes mark cards known image in
+      and-true _ _ _ (few limits most)
+      ∙ ap₂ (λ charge count. nat_le charge limits.data_sectors && nat_le count limits.nodes) sums.charges sums.nodes
+
+pub each_fit : EachFit
+each_fit nodes image mark cards laid = known_fit nodes image mark cards (laid_are_cards nodes image mark cards laid)

@@ -1,0 +1,39 @@
+-- Sorted stamps are apart exactly where no two neighbours are the same.
+use Rattle.std.proofs.Common.{◌≡◌, ◌<◌, ◌+◌, ◌++◌, ℕ, zero, suc, List, [], ◌∷◌, Option, None, length, map, take, get_or, refl, sym, ap, ◌∙◌, arith, eqb, eq-eqb}
+use Rattle.std.proofs.lemmas.List.{append_assoc, append-nil}
+use Rattle.std.specs.List.Sorted.{IsPermutation, IsNonDecreasing}
+use Rattle.directory.specs.declared.entry.Entry.{Entry}
+use Rattle.directory.specs.Records.{record_of}
+use Rattle.layout.specs.Cards.{Card}
+use Rattle.layout.specs.Marks.{once_if, times}
+use Rattle.layout.proofs.NumberLaws.{times-moved, rising, once-each, once-here, times-append}
+use Rattle.tree_check.specs.Stamps.{stamps_of, stamped_by, entry_stamps, AreDifferent}
+use Rattle.tree_check.specs.Stamps.{AreStampsApart}
+use Rattle.tree_check.proofs.Sums.{times-split, take-one}
+
+pub apart_sorted : (cards : List (Option Card)) (sorted : List ℕ) → IsPermutation (entry_stamps cards) sorted → IsNonDecreasing sorted → AreDifferent sorted → AreStampsApart cards
+apart_sorted cards sorted moved up differ stamp =
+    omega (arith, times-moved stamp (entry_stamps cards) sorted moved, once-each stamp sorted (rising sorted up differ))
+
+pub sorted_apart : (cards : List (Option Card)) (sorted : List ℕ) → IsPermutation (entry_stamps cards) sorted → AreStampsApart cards → AreDifferent sorted
+sorted_apart cards sorted moved apart i h same =
+    let n = get_or sorted (i + 1) 0 in
+    let second = times-split n sorted (i + 1) 0 h in
+    let e : i + 1 ≡ suc i = omega arith in
+    let front : take (i + 1) sorted ≡ take i sorted ++ get_or sorted i 0 ∷ [] = ap (λ k. take k sorted) e ∙ take-one sorted i 0 (omega arith) in
+    let first : times n (take (i + 1) sorted) ≡ times n (take i sorted) + (once_if (eqb n (get_or sorted i 0)) + 0) = ap (times n) front ∙ times-append n (take i sorted) (get_or sorted i 0 ∷ []) in
+    let one : once_if (eqb n (get_or sorted i 0)) ≡ 1 = rw (eq-eqb n (get_or sorted i 0) (sym same)) refl in
+    omega (arith, second, first, one, once-here n, apart n, times-moved n (entry_stamps cards) sorted moved)
+
+-- The stamps of the first places
+
+pub stamps-take : (cards : List (Option Card)) (p : ℕ) → p < length cards → entry_stamps (take (suc p) cards) ≡ entry_stamps (take p cards) ++ stamped_by (get_or cards p None)
+stamps-take [] p h = absurd (omega arith)
+stamps-take (card ∷ cards) zero h = append-nil (stamped_by card)
+stamps-take (card ∷ cards) (suc p) h =
+    ap (λ rest. stamped_by card ++ rest) (stamps-take cards p (omega arith)) ∙ sym (append_assoc (stamped_by card) (entry_stamps (take p cards)) (stamped_by (get_or cards p None)))
+
+-- those of a directory are its entries'
+pub stamps-seen : (entries : List Entry) → stamps_of (map record_of entries) ≡ map (λ (entry : Entry). entry.stamp) entries
+stamps-seen [] = refl
+stamps-seen (entry ∷ entries) = ap (λ rest. entry.stamp ∷ rest) (stamps-seen entries)

@@ -1,0 +1,252 @@
+-- What is decided of cards holds of the tree that they are.
+use Rattle.std.proofs.Common.{◌≡◌, ◌≢◌, ◌≤◌, ◌<◌, ◌↔◌, ℕ, zero, suc, List, [], ◌∷◌, Option, Some, None, length, get_or, refl, sym, ap, subst, ◌∙◌, arith, inl, inr, eqb, eq-eqb, ne_eqb, IsTrue, true≢false}
+use Rattle.std.proofs.lemmas.Bool.{cases_eq}
+use Rattle.std.proofs.lemmas.List.{get_or-map, length-map}
+use Rattle.std.specs.Prelude.{is_some}
+use Rattle.std.proofs.lemmas.Option.{same_Some, none-some}
+use Rattle.disk.specs.Moments.{Image}
+use Rattle.model.specs.declared.node.NodeKind.{NodeKind}
+use Rattle.model.specs.declared.node.NodeKind.TheVariants as kind
+use Rattle.model.specs.Keyed.{at, here_or, is_key}
+use Rattle.model.specs.Tree.{Tree, Node, DirEntry, root, names_of, names_of_node, names_at}
+use Rattle.model.specs.WellFormed.{one_if, is_stamped, stamped_in, IsFrom, Start, Named}
+use Rattle.directory.specs.Records.{Record, AreStamped}
+use Rattle.directory.proofs.ByStamp.{at-by_stamp}
+use Rattle.node_table.specs.Tables.{number_of, number_at}
+use Rattle.layout.specs.Cards.{Card, tree_of, node_of, content_of}
+use Rattle.layout.specs.CardLaws.{Answers}
+use Rattle.layout.specs.Known.{HasContent, IsCard, AreCards}
+use Rattle.layout.specs.Marks.{once_if, times}
+use Rattle.layout.specs.SumLaws.{sum_over}
+use Rattle.layout.proofs.Answering.{tree_answers}
+use Rattle.layout.proofs.ChargeLaws.{stamped-rest}
+use Rattle.layout.proofs.Knowing.{AreEach, each_card, laid_are_cards}
+use Rattle.layout.proofs.Linking.{known_link}
+use Rattle.layout.proofs.Summing.{known_sum}
+use Rattle.layout.proofs.NumberLaws.{place-of, times-append}
+use Rattle.tree_check.specs.ShapeLaws.{IsLinked, EachWalk, EachStamp}
+use Rattle.tree_check.specs.Stamps.{stamps_of, entry_stamps, AreStampsApart}
+use Rattle.tree_check.specs.Trees.{led_at, led_by, IsOneTree, IsReached}
+use Rattle.tree_check.specs.Trees as shape
+
+-- Names of one directory by their stamps
+
+-- the entry at an index
+at-index : (names : List Record) (key : ℕ) (entry : DirEntry) → at key names ≡ Some entry → (i : ℕ) × ((i < length names) × ((d : Record) → (get_or names i d).1 ≡ entry))
+at-index [] key entry e = absurd (none-some entry e)
+  where
+    none-some : (entry : DirEntry) → (let none : Option DirEntry = None in none ≡ Some entry) → ⊥
+    none-some entry e = cc
+at-index (x ∷ names) key entry e = elim (cases_eq key x.0) [
+  | inl same ↦
+      let here : at key (x ∷ names) ≡ Some x.1 = ap (λ b. here_or b x.1 (at key names)) (eq-eqb key x.0 same) in
+      (0, (omega arith, λ d. some-one x.1 entry (sym here ∙ e)))
+  | inr off ↦
+      let rest : at key (x ∷ names) ≡ at key names = ap (λ b. here_or b x.1 (at key names)) (ne_eqb key x.0 off) in
+      let found = at-index names key entry (sym rest ∙ e) in
+      (suc found.0, (omega (arith, found.1.0), found.1.1))
+]
+  where
+    some-one : (a b : DirEntry) → (let one : Option DirEntry = Some a in one ≡ Some b) → a ≡ b
+    some-one a b e = cc
+
+-- each entry stands at its stamp
+pub at-stamp : (names : List Record) → AreStamped names → (i : ℕ) (d : Record) → i < length names → at (get_or names i d).0 names ≡ Some (get_or names i d).1
+at-stamp [] stamped i d h = absurd (omega arith)
+at-stamp (x ∷ names) stamped zero d h = ap (λ b. here_or b x.1 (at x.0 names)) (eq-eqb x.0 x.0 refl)
+at-stamp (x ∷ names) stamped (suc i) d h =
+    ap (λ b. here_or b x.1 (at (get_or names i d).0 names)) (ne_eqb (get_or names i d).0 x.0 (λ same. stamped.apart 0 (suc i) d (omega arith) h (sym same)))
+    ∙ at-stamp names (stamped-rest x names stamped) i d (omega arith)
+
+key-times : (key : ℕ) (names : List Record) → AreStamped names → one_if (is_some (at key names)) ≡ times key (stamps_of names)
+key-times key [] stamped = refl
+key-times key (x ∷ names) stamped = elim (cases_eq key x.0) [
+  | inl same ↦
+      let here : at key (x ∷ names) ≡ Some x.1 = ap (λ b. here_or b x.1 (at key names)) (eq-eqb key x.0 same) in
+      let one : once_if (eqb key x.0) ≡ 1 = rw (eq-eqb key x.0 same) refl in
+      let is : one_if (is_some (at key (x ∷ names))) ≡ 1 = ap (λ o. one_if (is_some o)) here in
+      elim (cases_eq (times key (stamps_of names)) 0) [
+        | inl none ↦ omega (arith, is)
+        | inr some ↦
+            let found = place-of key (stamps_of names) (omega arith) in
+            let inside : found.0 < length names = rw (← length-map names (λ (entry : Record). entry.0)) found.1.0 in
+            let there : (get_or names found.0 x).0 ≡ key = sym (get_or-map (λ (entry : Record). entry.0) names found.0 x 0 inside) ∙ found.1.1 in
+            absurd (stamped.apart 0 (suc found.0) x (omega arith) (omega arith) (sym same ∙ sym there))
+      ]
+  | inr off ↦
+      let rest : at key (x ∷ names) ≡ at key names = ap (λ b. here_or b x.1 (at key names)) (ne_eqb key x.0 off) in
+      let none : once_if (eqb key x.0) ≡ 0 = rw (ne_eqb key x.0 off) refl in
+      let is : one_if (is_some (at key (x ∷ names))) ≡ one_if (is_some (at key names)) = ap (λ o. one_if (is_some o)) rest in
+      omega (arith, is, key-times key names (stamped-rest x names stamped))
+]
+
+-- Cards by their numbers
+
+pub data Finds (cards : List (Option Card)) (number : ℕ) : Type 0 where
+  There : (place : ℕ) (card : Card) → get_or cards place None ≡ Some card → card.fields.number ≡ number → Finds cards number
+  Nowhere : ((place : ℕ) (card : Card) → get_or cards place None ≡ Some card → card.fields.number ≢ number) → Finds cards number
+
+abbrev HaveNone : List (Option Card) → ℕ → Type 0
+HaveNone cards number = (place : ℕ) (card : Card) → get_or cards place None ≡ Some card → card.fields.number ≢ number
+
+none-front : (cards : List (Option Card)) (number : ℕ) → HaveNone cards number → HaveNone (None ∷ cards) number
+none-front cards number none zero card e = absurd (none-some card e)
+none-front cards number none (suc place) card e = none place card e
+
+some-front : (one : Card) (cards : List (Option Card)) (number : ℕ) → one.fields.number ≢ number → HaveNone cards number → HaveNone (Some one ∷ cards) number
+some-front one cards number off none zero card e = λ same. off (ap (λ (c : Card). c.fields.number) (same_Some one card e) ∙ same)
+some-front one cards number off none (suc place) card e = none place card e
+
+pub find : (cards : List (Option Card)) (number : ℕ) → Finds cards number
+find [] number = Nowhere (λ place card e. absurd (none-some card e))
+find (None ∷ cards) number = elim (find cards number) [
+  | There place card e is ↦ There (suc place) card e is
+  | Nowhere none ↦ Nowhere (none-front cards number none)
+]
+find (Some one ∷ cards) number = elim (cases_eq one.fields.number number) [
+  | inl same ↦ There 0 one refl same
+  | inr off ↦ elim (find cards number) [
+    | There place card e is ↦ There (suc place) card e is
+    | Nowhere none ↦ Nowhere (some-front one cards number off none)
+  ]
+]
+
+pub numbered : (cards : List (Option Card)) (place number : ℕ) → number_at cards place ≡ Some number → (card : Card) × ((get_or cards place None ≡ Some card) × (card.fields.number ≡ number))
+numbered cards place number is = from (get_or cards place None) refl is
+  where
+    number_is : (a b : ℕ) → (let one : Option ℕ = Some a in one ≡ Some b) → a ≡ b
+    number_is a b e = cc
+
+    from : (found : Option Card) → get_or cards place None ≡ found → number_of found ≡ Some number → (card : Card) × ((get_or cards place None ≡ Some card) × (card.fields.number ≡ number))
+    from None e is = absurd (none_number number is)
+      where
+        none_number : (n : ℕ) → (let none : Option ℕ = None in none ≡ Some n) → ⊥
+        none_number n e = cc
+    from (Some card) e is = (card, (e, number_is card.fields.number number is))
+
+module _ (nodes : ℕ) (image : Image) (mark : ℕ → ℕ) (cards : List (Option Card)) (known : AreCards nodes mark cards) where
+  abbrev tree : Tree
+  tree = tree_of image cards
+
+  answers : (number : ℕ) → Answers image cards number
+  answers = tree_answers image cards known.apart
+
+  pub is_card : AreEach cards
+  is_card = each_card nodes mark cards known
+
+  pub node-names : (kind : NodeKind) (card : Card) → HasContent kind card → (key : ℕ) → at key (names_of (content_of image kind card)) ≡ at key card.names
+  node-names kind.File card has key = sym (ap (at key) has)
+  node-names kind.Directory card has key = at-by_stamp key card.names
+
+  names-there : (place : ℕ) (card : Card) → get_or cards place None ≡ Some card → (key : ℕ) → at key (names_at tree card.fields.number) ≡ at key card.names
+  unfolding node_of
+  names-there place card there key =
+      let is = is_card place card there in
+      ap (λ (node : Option Node). at key (names_of_node node)) ((answers card.fields.number).found place card there refl)
+      ∙ node-names card.fields.kind card is.content key
+
+  pub stamped-content : (kind : NodeKind) (card : Card) → HasContent kind card → AreStamped card.names
+  stamped-content kind.File card has = subst AreStamped (sym has) (record { above = tt; apart = λ i j d low h. absurd (omega arith) })
+  stamped-content kind.Directory card has = has.stamped
+
+  led-index : (place : ℕ) (card : Card) → get_or cards place None ≡ Some card → (i : ℕ) (d : Record) → i < length card.names → get_or (led_at cards place) i 0 ≡ (get_or card.names i d).1.number
+  led-index place card there i d h =
+      ap (λ (found : Option Card). get_or (led_by found) i 0) there ∙ get_or-map (λ (entry : Record). entry.1.number) card.names i d 0 h
+
+  led-length : (place : ℕ) (card : Card) → get_or cards place None ≡ Some card → length (led_at cards place) ≡ length card.names
+  led-length place card there = ap (λ (found : Option Card). length (led_by found)) there ∙ length-map card.names (λ (entry : Record). entry.1.number)
+
+  nameless : Record
+  nameless = (0, record { name = []; number = 0 })
+
+  -- what a walk reaches is reached in the tree
+  from-walk : (number : ℕ) → IsReached cards number → IsFrom tree root number
+  from-walk number shape.Root = Start
+  from-walk number (shape.Named place directory i there reached within) =
+      let at_place = numbered cards place directory there in
+      let card = at_place.0 in
+      let is = is_card place card at_place.1.0 in
+      let inside : i < length card.names = rw (← led-length place card at_place.1.0) within in
+      let entry = get_or card.names i nameless in
+      let has : at entry.0 (names_at tree directory) ≡ Some entry.1 =
+      ap (λ n. at entry.0 (names_at tree n)) (sym at_place.1.1)
+      ∙ (names-there place card at_place.1.0 entry.0 ∙ at-stamp card.names (stamped-content card.fields.kind card is.content) i nameless inside) in
+      subst (IsFrom tree root) (sym (led-index place card at_place.1.0 i nameless inside)) (Named directory entry.0 entry.1 (from-walk directory reached) has)
+
+  none-there : (number key : ℕ) (entry : DirEntry) → at number tree ≡ None → at key (names_at tree number) ≡ Some entry → ⊥
+  none-there number key entry none has = none-some entry (sym (ap (λ (node : Option Node). at key (names_of_node node)) none) ∙ has)
+    where
+      none-some : (entry : DirEntry) → (let none : Option DirEntry = None in none ≡ Some entry) → ⊥
+      none-some entry e = cc
+
+  -- and the other way
+  to-walk : (number : ℕ) → IsFrom tree root number → IsReached cards number
+  to-walk number Start = shape.Root
+  to-walk number (Named directory stamp entry reached has) = elim (find cards directory) [
+    | There place card there is ↦
+        let here : at stamp card.names ≡ Some entry = sym (names-there place card there stamp) ∙ (ap (λ n. at stamp (names_at tree n)) is ∙ has) in
+        let found = at-index card.names stamp entry here in
+        let led : get_or (led_at cards place) found.0 0 ≡ entry.number = led-index place card there found.0 nameless found.1.0 ∙ ap (λ (e : DirEntry). e.number) (found.1.1 nameless) in
+        subst (IsReached cards) led
+        (shape.Named place directory found.0 (ap number_of there ∙ ap Some is) (to-walk directory reached) (rw (led-length place card there) found.1.0))
+    | Nowhere none ↦ absurd (none-there directory stamp entry ((answers directory).none none) has)
+  ]
+
+  is-key : (place : ℕ) (card : Card) → get_or cards place None ≡ Some card → IsTrue (is_key card.fields.number tree)
+  is-key place card there = subst IsTrue (sym (ap is_some ((answers card.fields.number).found place card there refl))) refl
+
+  key-place : (number : ℕ) → IsTrue (is_key number tree) → (place : ℕ) × (number_at cards place ≡ Some number)
+  key-place number key = elim (find cards number) [
+    | There place card there is ↦ (place, ap number_of there ∙ ap Some is)
+    | Nowhere none ↦ absurd (true≢false (sym (subst IsTrue (ap is_some ((answers number).none none)) key)))
+  ]
+
+  linked-tree : IsOneTree cards → IsLinked tree
+  linked-tree one = record {
+    rooted = (let at_root = numbered cards one.rooted.0 root one.rooted.1 in subst (λ n. IsTrue (is_key n tree)) at_root.1.1 (is-key one.rooted.0 at_root.0 at_root.1.0));
+    linked = λ number. (let link = known_link nodes mark cards known image number in link.to ∙ (one.linked number ∙ sym link.owed));
+    reached = λ number key. (let there = key-place number key in from-walk number (one.reached there.0 number there.1));
+  }
+
+  tree-linked : IsLinked tree → IsOneTree cards
+  tree-linked linked = record {
+    rooted = key-place root linked.rooted;
+    linked = λ number. (let link = known_link nodes mark cards known image number in sym link.to ∙ (linked.linked number ∙ link.owed));
+    reached = λ place number there. (let at_place = numbered cards place number there in to-walk number (linked.reached number (subst (λ n. IsTrue (is_key n tree)) at_place.1.1 (is-key place at_place.0 at_place.1.0))));
+  }
+
+  -- Stamps
+
+  stamped-card : (stamp : ℕ) (kind : NodeKind) (card : Card) → HasContent kind card → one_if (is_key stamp (names_of (content_of image kind card))) ≡ times stamp (stamps_of card.names)
+  stamped-card stamp kind card has =
+      ap (λ (found : Option DirEntry). one_if (is_some found)) (node-names kind card has stamp) ∙ key-times stamp card.names (stamped-content kind card has)
+
+  stamped-node : (stamp : ℕ) (card : Card) → IsCard card → is_stamped stamp (node_of image card) ≡ times stamp (stamps_of card.names)
+  unfolding node_of
+  stamped-node stamp card is = stamped-card stamp card.fields.kind card is.content
+
+  stamps-sum : (stamp : ℕ) → stamped_in tree stamp ≡ times stamp (entry_stamps cards)
+  stamps-sum stamp = (known_sum nodes mark cards known image).any (is_stamped stamp) ∙ from cards is_card
+    where
+      from : (cards : List (Option Card)) → AreEach cards → sum_over (λ card. is_stamped stamp (node_of image card)) cards ≡ times stamp (entry_stamps cards)
+      from [] each = refl
+      from (None ∷ cards) each = from cards (λ place card e. each (suc place) card e)
+      from (Some card ∷ cards) each =
+          omega (
+            arith,
+            stamped-node stamp card (each 0 card refl),
+            times-append stamp (stamps_of card.names) (entry_stamps cards),
+            from cards (λ place card e. each (suc place) card e),
+          )
+
+  pub known_walk : IsOneTree cards ↔ IsLinked tree
+  known_walk = (linked-tree, tree-linked)
+
+  pub known_stamp : AreStampsApart cards ↔ ((stamp : ℕ) → stamped_in tree stamp ≤ 1)
+  known_stamp = (λ apart stamp. omega (arith, stamps-sum stamp, apart stamp), λ few stamp. omega (arith, stamps-sum stamp, few stamp))
+
+pub each_walk : EachWalk
+each_walk nodes image mark cards laid = known_walk nodes image mark cards (laid_are_cards nodes image mark cards laid)
+
+pub each_stamp : EachStamp
+each_stamp nodes image mark cards laid = known_stamp nodes image mark cards (laid_are_cards nodes image mark cards laid)

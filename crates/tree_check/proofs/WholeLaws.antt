@@ -1,0 +1,67 @@
+-- All that is decided of the cards makes a well-formed tree.
+use Rattle.std.proofs.Common.{◌≡◌, ◌≤◌, ◌↔◌, ◌&&◌, ℕ, true, List, [], Option, Some, None, true≢false, refl, sym, ap₂, ◌∙◌, arith}
+use Rattle.std.proofs.lemmas.Bool.{and_parts, le-leb, leb-true}
+use Rattle.std.specs.Prelude.{is_some, nat_le}
+use Rattle.disk.specs.Moments.{Image}
+use Rattle.model.specs.declared.limits.Limits.{Limits}
+use Rattle.model.specs.Keyed.{at}
+use Rattle.model.specs.Tree.{Node, root, is_directory_node}
+use Rattle.model.specs.WellFormed.{IsBefore, IsWellFormed}
+use Rattle.node_table.specs.Tables.{charge_of_all, count_of_all}
+use Rattle.layout.specs.Cards.{Card, tree_of}
+use Rattle.layout.specs.Known.{AreCards}
+use Rattle.layout.proofs.Changing.{tree-above}
+use Rattle.layout.proofs.Knowing.{each_above, each_card, laid_are_cards}
+use Rattle.tree_check.specs.ShapeLaws.{HoldBytes, EachTree, EachKnownTree}
+use Rattle.tree_check.specs.WellFormed.{AreWellFormed}
+use Rattle.tree_check.proofs.AgeLaws.{known_age}
+use Rattle.tree_check.proofs.AllowedLaws.{known_node}
+use Rattle.tree_check.proofs.FitLaws.{known_fit}
+use Rattle.tree_check.proofs.TreeLaws.{known_stamp, known_walk}
+
+-- a directory is there
+there : (node : Option Node) → is_directory_node node ≡ true → is_some node ≡ true
+there None is = absurd (true≢false (sym is))
+there (Some node) is = refl
+
+known_bytes : (nodes : ℕ) (image : Image) (mark : ℕ → ℕ) (cards : List (Option Card)) → AreCards nodes mark cards → HoldBytes image mark
+    → (limits : Limits) → 1024 ≤ limits.names → (stamp : ℕ)
+    → AreWellFormed limits stamp cards ↔ (IsWellFormed limits (tree_of image cards) × IsBefore stamp (tree_of image cards))
+known_bytes nodes image mark cards known bytes limits most stamp =
+    let walk = known_walk nodes image mark cards known in
+    let stamps = known_stamp nodes image mark cards known in
+    let allowed = known_node nodes image mark cards known bytes limits in
+    let fit = known_fit nodes image mark cards known limits most in
+    let age = known_age nodes image mark cards known stamp in (
+      λ are.
+          let linked = walk.0 are.tree in
+          let has = allowed.0 are.nodes in (
+            record {
+              numbered = tree-above image cards (each_above cards (each_card nodes mark cards known));
+              rooted = has.rooted;
+              linked = linked.linked;
+              reached = linked.reached;
+              stamped = stamps.0 are.stamps;
+              nodes = has.nodes;
+              fitting = fit ∙ ap₂ (λ a b. a && b) (le-leb (charge_of_all cards) limits.data_sectors are.fitting.charge) (le-leb (count_of_all cards) limits.nodes are.fitting.count);
+            },
+            age.0 are.before,
+          ),
+      λ tree.
+          let well = tree.0 in
+          let both = and_parts (nat_le (charge_of_all cards) limits.data_sectors) (nat_le (count_of_all cards) limits.nodes) (sym fit ∙ well.fitting) in
+          record {
+            tree = walk.1 (record { rooted = there (at root (tree_of image cards)) well.rooted; linked = well.linked; reached = well.reached });
+            stamps = stamps.1 well.stamped;
+            nodes = allowed.1 (record { nodes = well.nodes; rooted = well.rooted });
+            fitting = record { charge = leb-true (charge_of_all cards) limits.data_sectors both.0; count = leb-true (count_of_all cards) limits.nodes both.1 };
+            before = age.1 tree.1;
+          },
+    )
+
+pub each_tree : EachTree
+each_tree nodes image mark cards laid = known_bytes nodes image mark cards (laid_are_cards nodes image mark cards laid)
+
+-- sectors without content hold bytes
+pub each_known_tree : EachKnownTree
+each_known_tree nodes mark cards known = known_bytes nodes (λ n. []) mark cards known (λ n some k d h. absurd (omega (arith, h)))

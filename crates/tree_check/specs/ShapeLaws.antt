@@ -1,0 +1,85 @@
+-- What is decided of cards, said of the tree that they are.
+use Rattle.std.specs.Prelude.{◌≡◌, ◌≤◌, ◌↔◌, ◌<◌, ◌&&◌, nat_le, ℕ, List, [], Option, Some, All, IsTrue}
+use Rattle.disk.specs.Moments.{Image}
+use Rattle.node_table.specs.Tables.{charge_of_all, count_of_all}
+use Rattle.model.specs.declared.limits.Limits.{Limits}
+use Rattle.model.specs.Charge.{fits}
+use Rattle.model.specs.Keyed.{at, is_key}
+use Rattle.model.specs.Tree.{Tree, Node, root, is_directory_at}
+use Rattle.model.specs.WellFormed.{links_to, links_owed, stamped_in, IsBefore, IsFrom, IsNode, IsWellFormed}
+use Rattle.layout.specs.Cards.{Card, tree_of}
+use Rattle.layout.specs.Known.{AreCards}
+use Rattle.layout.specs.Laid.{AreLaid}
+use Rattle.tree_check.specs.Ages.{AreBefore}
+use Rattle.tree_check.specs.Nodes.{AreNodesAllowed}
+use Rattle.tree_check.specs.Stamps.{AreStampsApart}
+use Rattle.tree_check.specs.Trees.{IsOneTree}
+use Rattle.tree_check.specs.WellFormed.{AreWellFormed}
+
+-- three clauses of a well-formed tree: there is a root, each other node has one name, and each is
+-- reached
+pub record IsLinked (tree : Tree) : Type 0 where
+  pub rooted : IsTrue (is_key root tree)
+  pub linked : (number : ℕ) → links_to tree number ≡ links_owed tree number
+  pub reached : (number : ℕ) → IsTrue (is_key number tree) → IsFrom tree root number
+
+abbrev pub EachWalk : Type 0
+EachWalk =
+    (nodes : ℕ) (image : Image) (mark : ℕ → ℕ) (cards : List (Option Card))
+    → AreLaid nodes image mark cards
+    → IsOneTree cards ↔ IsLinked (tree_of image cards)
+
+-- and one more: no stamp is in two directories
+abbrev pub EachStamp : Type 0
+EachStamp =
+    (nodes : ℕ) (image : Image) (mark : ℕ → ℕ) (cards : List (Option Card))
+    → AreLaid nodes image mark cards
+    → AreStampsApart cards ↔ ((stamp : ℕ) → stamped_in (tree_of image cards) stamp ≤ 1)
+
+-- and all of its stamps are from before one exactly where those of the nodes are
+abbrev pub EachAge : Type 0
+EachAge =
+    (nodes : ℕ) (image : Image) (mark : ℕ → ℕ) (cards : List (Option Card))
+    → AreLaid nodes image mark cards
+    → (stamp : ℕ) → AreBefore stamp cards ↔ IsBefore stamp (tree_of image cards)
+
+-- The tree fits exactly where the nodes' charges and their count do: no directory has more than
+-- 1,024 names
+abbrev pub EachFit : Type 0
+EachFit =
+    (nodes : ℕ) (image : Image) (mark : ℕ → ℕ) (cards : List (Option Card))
+    → AreLaid nodes image mark cards
+    → (limits : Limits) → 1024 ≤ limits.names
+    → fits limits (tree_of image cards)
+    ≡ (nat_le (charge_of_all cards) limits.data_sectors && nat_le (count_of_all cards) limits.nodes)
+
+-- where the sectors that nodes name hold bytes, two more: each node is one that the limits allow,
+-- and the root is a directory
+
+abbrev pub HoldBytes : Image → (mark : ℕ → ℕ) → Type 0
+HoldBytes image mark = (n : ℕ) → 0 < mark n → All (λ byte. byte < 256) (image n)
+
+pub record HasAllowedNodes (limits : Limits) (tree : Tree) : Type 0 where
+  pub nodes : (number : ℕ) (node : Node) → at number tree ≡ Some node → IsNode limits node
+  pub rooted : IsTrue (is_directory_at tree root)
+
+abbrev pub EachNode : Type 0
+EachNode = (nodes : ℕ) (image : Image) (mark : ℕ → ℕ) (cards : List (Option Card))
+    → AreLaid nodes image mark cards → HoldBytes image mark → (limits : Limits)
+    → AreNodesAllowed limits cards ↔ HasAllowedNodes limits (tree_of image cards)
+
+-- So all of it together decides whether the tree is well formed, and from before a stamp
+abbrev pub EachTree : Type 0
+EachTree = (nodes : ℕ) (image : Image) (mark : ℕ → ℕ) (cards : List (Option Card))
+    → AreLaid nodes image mark cards → HoldBytes image mark
+    → (limits : Limits) → 1024 ≤ limits.names → (stamp : ℕ)
+    → AreWellFormed limits stamp cards
+    ↔ (IsWellFormed limits (tree_of image cards) × IsBefore stamp (tree_of image cards))
+
+-- And it decides it of cards that are known whatever the sectors hold: then it is the tree with
+-- zeros for the bytes of files, as sectors without content are
+abbrev pub EachKnownTree : Type 0
+EachKnownTree = (nodes : ℕ) (mark : ℕ → ℕ) (cards : List (Option Card)) → AreCards nodes mark cards
+    → (limits : Limits) → 1024 ≤ limits.names → (stamp : ℕ)
+    → AreWellFormed limits stamp cards
+    ↔ (IsWellFormed limits (tree_of (λ n. []) cards) × IsBefore stamp (tree_of (λ n. []) cards))

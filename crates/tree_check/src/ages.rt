@@ -1,0 +1,42 @@
+//! Whether no stamp of a volume is past a last one.
+
+ghost use Rattle.std.specs.Prelude.{◌+◌, ◌↔◌, IsTrue, map};
+ghost use Rattle.directory.specs.Records.{record_of};
+ghost use Rattle.tree_check.specs.Ages.{AreBefore, AreNamesBefore, IsCardBefore};
+
+use directory::Entry;
+use node_table::{Card, Table};
+
+fn are_names_before(entries: &[Entry], last: u64) -> bool
+    ensures { IsTrue result ↔ AreNamesBefore (last + 1) (map record_of entries.now) }
+{
+    for entry in entries {
+        if entry.stamp > last {
+            return false;
+        }
+    }
+    true
+}
+
+fn is_card_before(card: &Card, last: u64) -> bool
+    ensures { IsTrue result ↔ IsCardBefore (last + 1) card.now }
+{
+    card.inode.number <= last
+        && card.inode.change <= last
+        && are_names_before(card.names.entries(), last)
+}
+
+/// Whether nothing that a volume's nodes have of stamps is past this last one: numbers, change
+/// values and stamps of names.
+pub(crate) fn are_before(table: &Table, last: u64) -> bool
+    ensures { IsTrue result ↔ AreBefore (last + 1) table.now }
+{
+    for place in 0..table.places() {
+        if let Some(card) = table.card(place) {
+            if !is_card_before(card, last) {
+                return false;
+            }
+        }
+    }
+    true
+}

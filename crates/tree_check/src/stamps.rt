@@ -1,0 +1,56 @@
+//! The stamps of names, which are cookies: none stands twice in a volume.
+
+ghost use Rattle.std.specs.Prelude.{◌≡◌, ◌++◌, ◌↔◌, IsTrue, IfOk, OnOk, map};
+ghost use Rattle.tree_check.specs.Stamps.{entry_stamps, AreDifferent, AreStampsApart};
+
+use directory::Entry;
+use node_table::Table;
+use std::alloc::{AllocError, Global};
+
+fn push_stamps(stamps: &mut Vec<u64>, entries: &[Entry]) -> Result<(), AllocError>
+    ensures { OnOk result (stamps.new.items
+        ≡ stamps.old.items ++ map (λ entry. entry.stamp) entries.now) }
+{
+    for entry in entries {
+        stamps.push(entry.stamp)?;
+    }
+    Ok(())
+}
+
+/// The stamps of all names, directory by directory.
+fn stamps_of(alloc: Global, table: &Table) -> Result<Vec<u64>, AllocError>
+    ensures { IfOk result (λ stamps. stamps.items ≡ entry_stamps table.now) }
+{
+    let mut stamps = Vec::new(alloc);
+    for place in 0..table.places() {
+        if let Some(card) = table.card(place) {
+            push_stamps(&mut stamps, card.names.entries())?;
+        }
+    }
+    Ok(stamps)
+}
+
+/// Whether no two neighbours are the same.
+fn are_different(stamps: &[u64]) -> bool
+    ensures { IsTrue result ↔ AreDifferent stamps.now }
+{
+    for i in 1..stamps.len() {
+        if stamps[i - 1] == stamps[i] {
+            return false;
+        }
+    }
+    true
+}
+
+/// Whether no stamp stands at two names of a volume, in one directory or in two.
+///
+/// # Errors
+///
+/// `AllocError` where there is no memory for a stamp a name.
+pub(crate) fn are_stamps_apart(alloc: Global, table: &Table) -> Result<bool, AllocError>
+    ensures { IfOk result (λ are. IsTrue are ↔ AreStampsApart table.now) }
+{
+    let mut stamps = stamps_of(alloc, table)?;
+    stamps.sort()?;
+    Ok(are_different(&stamps))
+}

@@ -1,0 +1,99 @@
+-- What can be done to a tree can be done to each that is blanked alike.
+use Rattle.std.proofs.Common.{◌≡◌, ℕ, false, List, [], ◌∷◌, Option, Some, None, refl, sym, ap, ◌∙◌, arith, subst}
+use Rattle.std.specs.Prelude.{is_some, IsTrue, IsFalse}
+use Rattle.tree_edits.specs.declared.edit.Edit.{Edit}
+use Rattle.tree_edits.specs.declared.edit.Edit.TheVariants as declared
+use Rattle.tree_edits.specs.Edits.{edit_of, size_of, CanDo, DoableAlike, FewAlike}
+use Rattle.tree_edits.specs.Making.{IsMaking}
+use Rattle.tree_edits.specs.Outlines.{blanked}
+use Rattle.tree_edits.proofs.BlankLaws.{key-blanked, directory-blanked, names-blanked, size-blanked, few-blanked, done-blanked}
+use Rattle.model.specs.Charge.{few_names}
+use Rattle.model.specs.declared.node.NodeKind.{NodeKind}
+use Rattle.model.specs.Edit.{done}
+use Rattle.model.specs.Edit as model
+use Rattle.model.specs.Keyed.{at, is_key}
+use Rattle.model.specs.Tree.{Tree, Node, names_at, is_directory_at, entry_of}
+
+module _ (tree other : Tree) (alike : blanked other ≡ blanked tree) where
+  key_alike : (number : ℕ) → is_key number other ≡ is_key number tree
+  key_alike number = sym (key-blanked other number) ∙ ap (is_key number) alike ∙ key-blanked tree number
+
+  pub directory_alike : (number : ℕ) → is_directory_at other number ≡ is_directory_at tree number
+  directory_alike number = sym (directory-blanked other number) ∙ ap (λ (t : Tree). is_directory_at t number) alike ∙ directory-blanked tree number
+
+  names_alike : (number : ℕ) → names_at other number ≡ names_at tree number
+  names_alike number = sym (names-blanked other number) ∙ ap (λ (t : Tree). names_at t number) alike ∙ names-blanked tree number
+
+  size_alike : (number : ℕ) → size_of (at number other) ≡ size_of (at number tree)
+  size_alike number = sym (size-blanked other number) ∙ ap (λ (t : Tree). size_of (at number t)) alike ∙ size-blanked tree number
+
+  none : (there : Option Node) → is_some there ≡ false → there ≡ None
+  none None e = refl
+  none (Some node) e = absurd cc
+
+  fresh_alike : (number : ℕ) → at number tree ≡ None → at number other ≡ None
+  fresh_alike number fresh = none (at number other) (key_alike number ∙ ap is_some fresh)
+
+  pub can_alike : (edit : Edit) → CanDo tree edit → CanDo other edit
+  can_alike (declared.PutNode number kind shown) can = record { some = can.some; fresh = fresh_alike number can.fresh; entries = can.entries }
+  can_alike (declared.DropNode number) can = subst IsTrue (sym (key_alike number)) can
+  can_alike (declared.Show number shown) can = record { there = subst IsTrue (sym (key_alike number)) can.there; entries = can.entries }
+  can_alike (declared.PutName directory stamp name number) can =
+      let names = sym (names_alike directory) in
+      record {
+        there = subst IsTrue (sym (directory_alike directory)) can.there;
+        new_name = ap (entry_of name.now) (sym names) ∙ can.new_name;
+        new_stamp = ap (at stamp) (sym names) ∙ can.new_stamp;
+        some = can.some;
+        short = can.short;
+        above = can.above;
+      }
+  can_alike (declared.DropName directory stamp name) can = record {
+    there = subst IsTrue (sym (directory_alike directory)) can.there;
+    number = can.number;
+    named = ap (entry_of name.now) (names_alike directory) ∙ can.named;
+  }
+  can_alike (declared.PutBytes file offset bytes) can = record {
+    there = subst IsTrue (sym (key_alike file)) can.there;
+    is_file = subst IsFalse (sym (directory_alike file)) can.is_file;
+    small = omega (arith, size_alike file, can.small);
+    low = can.low;
+  }
+  can_alike (declared.SetSize file size) can = record {
+    there = subst IsTrue (sym (key_alike file)) can.there;
+    is_file = subst IsFalse (sym (directory_alike file)) can.is_file;
+    small = omega (arith, size_alike file, can.small);
+    low = can.low;
+  }
+
+  -- and a node more can be made
+  pub making_alike : (directory : ℕ) (of : NodeKind) (size : ℕ) (edits : List model.Edit) → IsMaking tree directory of size edits → IsMaking other directory of size edits
+  making_alike directory of size edits is = record {
+    number = is.number;
+    stamp = is.stamp;
+    node = is.node;
+    entry = is.entry;
+    shown = is.shown;
+    is = is.is;
+    content = is.content;
+    some = is.some;
+    fresh = fresh_alike is.number is.fresh;
+    new_stamp = ap (at is.stamp) (names_alike directory) ∙ is.new_stamp;
+  }
+
+pub doable_alike : DoableAlike
+doable_alike tree other [] alike can = tt
+doable_alike tree other (edit ∷ edits) alike can = (
+  can_alike tree other alike edit can.0,
+  doable_alike (done (edit_of edit) tree) (done (edit_of edit) other) edits
+      (sym (done-blanked (edit_of edit) other) ∙ ap (λ (t : Tree). blanked (done (edit_of edit) t)) alike ∙ done-blanked (edit_of edit) tree) can.1,
+)
+
+pub few_alike : FewAlike
+few_alike tree other [] alike few = tt
+few_alike tree other (edit ∷ edits) alike few =
+    let next : blanked (done (edit_of edit) other) ≡ blanked (done (edit_of edit) tree) =
+    sym (done-blanked (edit_of edit) other) ∙ ap (λ (t : Tree). blanked (done (edit_of edit) t)) alike ∙ done-blanked (edit_of edit) tree in (
+      subst IsTrue (sym (few-blanked 1024 (done (edit_of edit) tree)) ∙ ap (few_names 1024) (sym next) ∙ few-blanked 1024 (done (edit_of edit) other)) few.0,
+      few_alike (done (edit_of edit) tree) (done (edit_of edit) other) edits next few.1,
+    )

@@ -1,0 +1,46 @@
+-- Files of the outline and files of cards.
+use Rattle.std.proofs.Common.{◌≡◌, ◌≤◌, ◌+◌, ℕ, List, [], Option, length, ap, ◌∙◌, arith}
+use Rattle.tree_transaction.specs.Grown.{CanWrite, CanGrow, CanCut, blocks_to}
+use Rattle.tree_edits.specs.Edits.{IsFileTo, size_of}
+use Rattle.tree_edits.specs.Outlines.{outline_of}
+use Rattle.tree_edits.proofs.BlankLaws.{overwritten-length}
+use Rattle.tree_edits.proofs.PlaceLaws.{IsThere, there_is, file_there}
+use Rattle.layout.specs.Cards.{Card, bytes_in, content_of, node_of}
+use Rattle.layout.specs.Known.{AreCards}
+use Rattle.layout.proofs.StepLaws.{length-bytes_in}
+use Rattle.model.specs.declared.node.NodeKind.{NodeKind}
+use Rattle.model.specs.declared.node.NodeKind.TheVariants as kind
+use Rattle.model.specs.Charge.{charge, charge_of_blocks, blocks_of}
+use Rattle.model.specs.Edit.{with_content, overwritten}
+use Rattle.model.specs.Keyed.{at}
+use Rattle.model.specs.Tree.{File, bytes_of}
+
+module _ (cards : List (Option Card)) (nodes : ℕ) (mark : ℕ → ℕ) (known : AreCards nodes mark cards) (place number end : ℕ) (it : IsThere cards place number) (file : IsFileTo (outline_of cards) number end) where
+  pub is_file : it.card.fields.kind ≡ kind.File
+  is_file = file_there cards known.apart place number it file.is_file
+
+  size_is : size_of (at number (outline_of cards)) ≡ it.card.fields.size
+  unfolding node_of
+  size_is = ap size_of (there_is cards known.apart place number it)
+      ∙ ap (λ (k : NodeKind). length (bytes_of (content_of (λ n. []) k it.card))) is_file
+      ∙ length-bytes_in (λ n. []) it.card.blocks it.card.fields.size
+
+  small_there : it.card.fields.size ≤ 16777216
+  small_there = omega (arith, size_is, file.small)
+
+  pub can_write : CanWrite cards place end
+  can_write = record { card = it.card; there = it.there; file = is_file; few = small_there; low = file.low }
+
+  pub can_grow : it.card.fields.size ≤ end → CanGrow cards place end
+  can_grow longer = record { card = it.card; there = it.there; file = is_file; longer = longer; few = file.low }
+
+  pub can_cut : end ≤ it.card.fields.size → CanCut cards place end
+  can_cut shorter = record { card = it.card; there = it.there; file = is_file; shorter = shorter; few = small_there }
+
+-- a file that was written over is charged for the blocks that it reaches
+pub written_charge : (card : Card) (offset : ℕ) (part : List ℕ) → card.fields.kind ≡ kind.File
+    → charge (with_content (node_of (λ n. []) card) (File (overwritten (bytes_of (node_of (λ n. []) card).content) offset part))) ≡ charge_of_blocks (blocks_to (offset + length part) card)
+unfolding node_of
+written_charge card offset part is = ap (λ (n : ℕ). charge_of_blocks (blocks_of kind.File n))
+    (ap (λ (k : NodeKind). length (overwritten (bytes_of (content_of (λ n. []) k card)) offset part)) is
+    ∙ omega (arith, overwritten-length (bytes_in (λ n. []) card.blocks card.fields.size) part offset, length-bytes_in (λ n. []) card.blocks card.fields.size))

@@ -1,0 +1,216 @@
+-- The trees after each front of a list of edits, from the outline of cards on.
+use Rattle.std.proofs.Common.{◌≡◌, ◌≢◌, ◌≤◌, ◌<◌, ◌+◌, ◌⊎◌, ℕ, zero, suc, List, [], ◌∷◌, Option, Some, None, length, take, get_or, refl, sym, ap, ◌∙◌, arith, inl, inr, subst}
+use Rattle.std.proofs.lemmas.Bool.{cases_eq}
+use Rattle.std.proofs.Math.Seq.{take-length}
+use Rattle.node_table.specs.Tables.{HasNot}
+use Rattle.tree_transaction.proofs.KnownLaws.{card_at}
+use Rattle.tree_edits.specs.declared.edit.Edit.{Edit}
+use Rattle.tree_edits.specs.declared.room.Size.{Size}
+use Rattle.tree_edits.specs.Edits.{edit_of, edits_of, CanDo, AreDoable}
+use Rattle.tree_edits.specs.Outlines.{outline_of}
+use Rattle.tree_edits.specs.Sizes.{size_of_content, size_there, size_at, charge_of_size, nodes_in, IsBelow, number_of, resized_by}
+use Rattle.tree_edits.proofs.PlaceLaws.{IsThere, there_is, no_number}
+use Rattle.tree_edits.proofs.SizeLaws.{IsRising, behind, still_rising, charge_behind, nodes_behind}
+use Rattle.layout.specs.Cards.{Card, node_of, content_of}
+use Rattle.layout.specs.Known.{AreCards, HasContent}
+use Rattle.layout.proofs.Changing.{tree-above}
+use Rattle.layout.proofs.ChargeLaws.{length-by_stamp, above_by_stamp}
+use Rattle.layout.proofs.StepLaws.{length-bytes_in}
+use Rattle.model.specs.declared.node.NodeKind.{NodeKind}
+use Rattle.model.specs.declared.node.NodeKind.TheVariants as kind
+use Rattle.model.specs.Charge.{charge}
+use Rattle.model.specs.Edit.{done, edited}
+use Rattle.model.specs.Keyed.{at, with, total, IsAbove}
+use Rattle.model.specs.Tree.{Tree, Node, names_of, names_at, names_of_node}
+use Rattle.model.proofs.KeyedLaws.{at-with_same, at-with_other}
+
+-- the tree after so many of the edits
+abbrev pub behind_front : Tree → List Edit → ℕ → Tree
+behind_front tree edits count = edited (edits_of (take count edits)) tree
+
+-- the edit after a front can be done, and makes the next tree
+pub record IsNext (tree : Tree) (edits : List Edit) (count : ℕ) (edit : Edit) : Type 0 where
+  pub can : CanDo (behind_front tree edits count) edit
+  pub next : behind_front tree edits (suc count) ≡ done (edit_of edit) (behind_front tree edits count)
+
+take_none : (edits : List Edit) → take 0 edits ≡ []
+take_none [] = refl
+take_none (edit ∷ edits) = refl
+
+pub is_next : (tree : Tree) (edits : List Edit) (count : ℕ) (edit : Edit) → AreDoable tree edits → count < length edits → edit ≡ get_or edits count edit → IsNext tree edits count edit
+is_next tree [] count edit can within is = absurd (omega (arith, within))
+is_next tree (first ∷ edits) zero edit can within is = record {
+  can = subst (CanDo tree) (sym is) can.0;
+  next = ap (λ (rest : List Edit). edited (edits_of rest) (done (edit_of first) tree)) (take_none edits) ∙ ap (λ (e : Edit). done (edit_of e) tree) (sym is);
+}
+is_next tree (first ∷ edits) (suc count) edit can within is =
+    let it = is_next (done (edit_of first) tree) edits count edit can.1 (omega (arith, within)) is in
+    record { can = it.can; next = it.next }
+
+-- the first edits are such as can be done one after the other
+pub doable_front : (tree : Tree) (edits : List Edit) (count : ℕ) → AreDoable tree edits → AreDoable tree (take count edits)
+doable_front tree [] zero can = tt
+doable_front tree [] (suc count) can = tt
+doable_front tree (edit ∷ edits) zero can = tt
+doable_front tree (edit ∷ edits) (suc count) can = (can.0, doable_front (done (edit_of edit) tree) edits count can.1)
+
+pub rising_behind : (tree : Tree) (edits : List Edit) → AreDoable tree edits → IsRising tree → IsRising (edited (edits_of edits) tree)
+rising_behind tree [] can rising = rising
+rising_behind tree (edit ∷ edits) can rising = rising_behind (done (edit_of edit) tree) edits can.1 (still_rising tree edit can.0 rising)
+
+pub below_more : (most more : ℕ) (size : Option Size) → most ≤ more → IsBelow most size → IsBelow more size
+below_more most more None low below = tt
+below_more most more (Some size) low below = omega (arith, low, below)
+
+-- all of them are the last front
+pub behind_all : (tree : Tree) (edits : List Edit) (count : ℕ) → count ≡ length edits → behind_front tree edits count ≡ edited (edits_of edits) tree
+behind_all tree edits count all = ap (behind_front tree edits) all ∙ ap (λ (front : List Edit). edited (edits_of front) tree) (take-length edits)
+
+-- One edit more
+
+module _ (tree : Tree) (edits : List Edit) (can : AreDoable tree edits) (rising : IsRising tree) (count : ℕ) (edit : Edit) (within : count < length edits) (is : edit ≡ get_or edits count edit) where
+  front : Tree
+  front = behind_front tree edits count
+
+  next : IsNext tree edits count edit
+  next = is_next tree edits count edit can within is
+
+  rising_front : IsRising (behind_front tree edits count)
+  rising_front = rising_behind tree (take count edits) (doable_front tree edits count can) rising
+
+  next_tree : behind_front tree edits (count + 1) ≡ done (edit_of edit) (behind_front tree edits count)
+  next_tree = ap (behind_front tree edits) (let e : count + 1 ≡ suc count = omega arith in e) ∙ next.next
+
+  pub size_same : (number : ℕ) → number_of edit ≡ number → size_at (behind_front tree edits (count + 1)) number ≡ resized_by edit (size_at (behind_front tree edits count) number)
+  size_same number same =
+      let it = behind (behind_front tree edits count) edit next.can rising_front in
+      ap (λ (t : Tree). size_at t number) next_tree
+      ∙ subst (λ (n : ℕ). size_at (done (edit_of edit) (behind_front tree edits count)) n ≡ resized_by edit (size_at (behind_front tree edits count) n)) same it.size
+
+  pub size_other : (number : ℕ) → number_of edit ≢ number → size_at (behind_front tree edits (count + 1)) number ≡ size_at (behind_front tree edits count) number
+  size_other number off =
+      let it = behind (behind_front tree edits count) edit next.can rising_front in
+      ap (λ (t : Tree). size_at t number) next_tree ∙ ap size_there (it.one.other number (λ e. off (sym e)))
+
+  module _ (number : ℕ) (before after : Option Size) (same : number ≡ number_of edit) (was : before ≡ size_at (behind_front tree edits count) number) (now : after ≡ resized_by edit before) where
+    before_is : before ≡ size_at (behind_front tree edits count) (number_of edit)
+    before_is = was ∙ ap (size_at (behind_front tree edits count)) same
+
+    pub charge_next : total charge (behind_front tree edits (count + 1)) + charge_of_size before ≡ total charge (behind_front tree edits count) + charge_of_size after
+    charge_next = omega (
+      arith,
+      charge_behind (behind_front tree edits count) edit next.can rising_front,
+      ap (total charge) next_tree,
+      ap charge_of_size before_is,
+      ap charge_of_size (now ∙ ap (resized_by edit) before_is),
+    )
+
+    pub nodes_next : length (behind_front tree edits (count + 1)) + nodes_in before ≡ length (behind_front tree edits count) + nodes_in after
+    nodes_next = omega (
+      arith,
+      nodes_behind (behind_front tree edits count) edit next.can rising_front,
+      ap (λ (t : Tree). length t) next_tree,
+      ap nodes_in before_is,
+      ap nodes_in (now ∙ ap (resized_by edit) before_is),
+    )
+
+-- where a number is that of one of the edits
+pub record IsTouched (edits : List Edit) (number : ℕ) : Type 0 where
+  pub place : ℕ
+  pub within : place < length edits
+  pub edit : Edit
+  pub same : number_of (get_or edits place edit) ≡ number
+
+-- what no edit changes stays
+pub touched : (tree : Tree) (edits : List Edit) (number : ℕ) → AreDoable tree edits → IsRising tree → IsTouched edits number ⊎ (at number (edited (edits_of edits) tree) ≡ at number tree)
+touched tree [] number can rising = inr refl
+touched tree (edit ∷ edits) number can rising =
+    by_first (touched (done (edit_of edit) tree) edits number can.1 (still_rising tree edit can.0 rising)) (cases_eq number (number_of edit))
+  where
+    by_first : IsTouched edits number ⊎ (at number (edited (edits_of edits) (done (edit_of edit) tree)) ≡ at number (done (edit_of edit) tree))
+        → (number ≡ number_of edit) ⊎ (number ≢ number_of edit) → IsTouched (edit ∷ edits) number ⊎ (at number (edited (edits_of edits) (done (edit_of edit) tree)) ≡ at number tree)
+    by_first (inl it) same = inl (record { place = suc it.place; within = omega (arith, it.within); edit = it.edit; same = it.same })
+    by_first (inr stays) (inl same) = inl (record { place = 0; within = omega arith; edit = edit; same = sym same })
+    by_first (inr stays) (inr off) = (let it = behind tree edit can.0 rising in inr (stays ∙ it.one.other number off))
+
+-- so each directory has few names where those have that an edit changes
+pub few_numbers : (tree : Tree) (edits : List Edit) (most : ℕ) → AreDoable tree edits → IsRising tree → ((number : ℕ) → length (names_at tree number) ≤ most)
+    → ((place : ℕ) (edit : Edit) → place < length edits → length (names_at (edited (edits_of edits) tree) (number_of (get_or edits place edit))) ≤ most)
+    → (number : ℕ) → length (names_at (edited (edits_of edits) tree) number) ≤ most
+few_numbers tree edits most can rising low each number = by_edit (touched tree edits number can rising)
+  where
+    by_edit : IsTouched edits number ⊎ (at number (edited (edits_of edits) tree) ≡ at number tree) → length (names_at (edited (edits_of edits) tree) number) ≤ most
+    by_edit (inl it) = subst (λ (n : ℕ). length (names_at (edited (edits_of edits) tree) n) ≤ most) it.same (each it.place it.edit it.within)
+    by_edit (inr stays) = omega (arith, low number, ap (λ (found : Option Node). length (names_of_node found)) stays)
+
+-- The outline of cards
+
+module _ (nodes : ℕ) (mark : ℕ → ℕ) (cards : List (Option Card)) (known : AreCards nodes mark cards) where
+  content_size : (of : NodeKind) (card : Card) → HasContent of card → size_of_content (content_of (λ n. []) of card) ≡ record { kind = of; count = card.fields.size }
+  content_size kind.File card has = ap (λ (n : ℕ). let size : Size = record { kind = kind.File; count = n } in size) (length-bytes_in (λ n. []) card.blocks card.fields.size)
+  content_size kind.Directory card has =
+      ap (λ (n : ℕ). let size : Size = record { kind = kind.Directory; count = n } in size) (length-by_stamp card.names has.stamped ∙ has.count)
+
+  -- a node there has what its card says
+  pub size_there_is : (place number : ℕ) (it : IsThere cards place number) → size_at (outline_of cards) number ≡ Some (record { kind = it.card.fields.kind; count = it.card.fields.size })
+  unfolding node_of
+  size_there_is place number it =
+      let is = card_at nodes mark cards place it.card known it.there in
+      ap size_there (there_is cards known.apart place number it)
+      ∙ ap (λ (size : Size). Some size) (content_size it.card.fields.kind it.card is.content)
+
+  pub size_nowhere : (number : ℕ) → HasNot cards number → size_at (outline_of cards) number ≡ None
+  size_nowhere number has_not = ap size_there (no_number cards number has_not)
+
+-- what holds of the node of each card holds of each node
+each_node : (P : Node → Type 0) (cards : List (Option Card)) → ((place : ℕ) (card : Card) → get_or cards place None ≡ Some card → P (node_of (λ n. []) card))
+    → (number : ℕ) (node : Node) → at number (outline_of cards) ≡ Some node → P node
+each_node P [] each number node is = absurd cc
+each_node P (None ∷ cards) each number node is = each_node P cards (λ place card there. each (suc place) card there) number node is
+each_node P (Some card ∷ cards) each number node is =
+    by_number (each_node P cards (λ place card there. each (suc place) card there) number node) (cases_eq number card.fields.number)
+  where
+    some_is : {x y : Node} → (let one : Option Node = Some x in one ≡ Some y) → x ≡ y
+    some_is e = cc
+
+    by_number : (at number (outline_of cards) ≡ Some node → P node) → (number ≡ card.fields.number) ⊎ (number ≢ card.fields.number) → P node
+    by_number others (inl same) = subst P (some_is (sym (at-with_same (outline_of cards) card.fields.number (node_of (λ n. []) card))
+        ∙ ap (λ (n : ℕ). at n (with (outline_of cards) card.fields.number (node_of (λ n. []) card))) (sym same) ∙ is)) (each 0 card refl)
+    by_number others (inr off) = others (sym (at-with_other (outline_of cards) card.fields.number number (node_of (λ n. []) card) off) ∙ is)
+
+-- a directory's names rise, and are 1,024 at most
+record HasFewNames (node : Node) : Type 0 where
+  rising : IsAbove 0 (names_of node.content)
+  few : length (names_of node.content) ≤ 1024
+
+module _ (nodes : ℕ) (mark : ℕ → ℕ) (cards : List (Option Card)) (known : AreCards nodes mark cards) where
+  content_rising : (of : NodeKind) (card : Card) → HasContent of card → IsAbove 0 (names_of (content_of (λ n. []) of card))
+  content_rising kind.File card has = tt
+  content_rising kind.Directory card has = above_by_stamp card.names has.stamped
+
+  content_few : (of : NodeKind) (card : Card) → HasContent of card → length (names_of (content_of (λ n. []) of card)) ≤ 1024
+  content_few kind.File card has = omega arith
+  content_few kind.Directory card has = (let names = has.names in omega (arith, length-by_stamp card.names has.stamped, names.few))
+
+  card_few : (place : ℕ) (card : Card) → get_or cards place None ≡ Some card → HasFewNames (node_of (λ n. []) card)
+  unfolding node_of
+  card_few place card there =
+      let is = card_at nodes mark cards place card known there in
+      record { rising = content_rising card.fields.kind card is.content; few = content_few card.fields.kind card is.content }
+
+  pub rising_outline : IsRising (outline_of cards)
+  rising_outline = record {
+    above = tree-above (λ n. []) cards (λ place card there. let is = card_at nodes mark cards place card known there in is.number);
+    names = λ number. by_node number (at number (outline_of cards)) refl;
+  }
+    where
+      by_node : (number : ℕ) (found : Option Node) → at number (outline_of cards) ≡ found → IsAbove 0 (names_of_node found)
+      by_node number None is = tt
+      by_node number (Some node) is = (let it = each_node HasFewNames cards card_few number node is in it.rising)
+
+  pub few_outline : (number : ℕ) → length (names_at (outline_of cards) number) ≤ 1024
+  few_outline number = by_node (at number (outline_of cards)) refl
+    where
+      by_node : (found : Option Node) → at number (outline_of cards) ≡ found → length (names_of_node found) ≤ 1024
+      by_node None is = omega arith
+      by_node (Some node) is = (let it = each_node HasFewNames cards card_few number node is in it.few)

@@ -1,0 +1,131 @@
+-- Edits one after the other.
+use Rattle.std.proofs.Common.{◌≡◌, ◌≤◌, ◌<◌, ℕ, zero, suc, List, [], ◌∷◌, Some, length, get_or, take, refl, sym, ap, ◌∙◌, arith, inl, inr, ⊎_elim}
+use Rattle.std.specs.List.{IsAmong}
+use Rattle.disk.specs.Moments.{Image}
+use Rattle.node_table.specs.Tables.{number_at}
+use Rattle.tree_transaction.specs.declared.draft.Draft.{Draft}
+use Rattle.tree_transaction.specs.Drafts.{cards_of, IsKnown}
+use Rattle.tree_edits.specs.declared.edit.Edit.{Edit}
+use Rattle.tree_edits.specs.declared.edit.Edit.TheVariants as declared
+use Rattle.tree_edits.specs.Doing.{Does, DoesAnywhere, made_by, FitsOn, Overfills}
+use Rattle.tree_edits.specs.Edits.{edit_of, edits_of, AreDoable, StayFew}
+use Rattle.tree_edits.specs.Outlines.{blanked, outline_of}
+use Rattle.tree_edits.proofs.BlankLaws.{edits_blanked, charge-blanked, length-blanked}
+use Rattle.tree_edits.proofs.DoableLaws.{doable_alike, few_alike}
+use Rattle.tree_edits.proofs.DoingLaws.{outline_fixed}
+use Rattle.model.specs.Charge.{charge}
+use Rattle.model.specs.Edit.{done, edited}
+use Rattle.model.specs.Edit as model
+use Rattle.model.specs.Keyed.{total}
+use Rattle.model.specs.Tree.{Tree}
+
+-- Numbers of nodes that are made
+
+later : (first : ℕ) (numbers : List ℕ) (number : ℕ) → IsAmong numbers number → IsAmong (first ∷ numbers) number
+later first numbers number among = (suc among.0, (omega (arith, among.1.0), among.1.1))
+
+made_first : (edit : Edit) (edits : List Edit) (number : ℕ) → IsAmong (made_by (edit ∷ [])) number → IsAmong (made_by (edit ∷ edits)) number
+made_first (declared.PutNode made kind shown) edits number among = first among.0 among.1.0 among.1.1
+  where
+    first : (place : ℕ) → place < 1 → number ≡ get_or (made ∷ []) place number → IsAmong (made ∷ made_by edits) number
+    first zero less is = (0, (omega arith, is))
+    first (suc place) less is = absurd (omega (arith, less))
+made_first (declared.DropNode made) edits number among = absurd (omega (arith, among.1.0))
+made_first (declared.Show made shown) edits number among = absurd (omega (arith, among.1.0))
+made_first (declared.PutName directory stamp name made) edits number among = absurd (omega (arith, among.1.0))
+made_first (declared.DropName directory stamp name) edits number among = absurd (omega (arith, among.1.0))
+made_first (declared.PutBytes file offset bytes) edits number among = absurd (omega (arith, among.1.0))
+made_first (declared.SetSize file size) edits number among = absurd (omega (arith, among.1.0))
+
+made_later : (edit : Edit) (edits : List Edit) (number : ℕ) → IsAmong (made_by edits) number → IsAmong (made_by (edit ∷ edits)) number
+made_later (declared.PutNode made kind shown) edits number among = later made (made_by edits) number among
+made_later (declared.DropNode made) edits number among = among
+made_later (declared.Show made shown) edits number among = among
+made_later (declared.PutName directory stamp name made) edits number among = among
+made_later (declared.DropName directory stamp name) edits number among = among
+made_later (declared.PutBytes file offset bytes) edits number among = among
+made_later (declared.SetSize file size) edits number among = among
+
+-- What is charged does not depend on what stands in files
+
+same_charge : (tree other : Tree) (edits : List model.Edit) → blanked other ≡ blanked tree → total charge (edited edits other) ≡ total charge (edited edits tree)
+same_charge tree other edits alike =
+    sym (charge-blanked (edited edits other)) ∙ ap (total charge) (sym (edits_blanked edits other))
+    ∙ ap (λ (t : Tree). total charge (blanked (edited edits t))) alike
+    ∙ ap (total charge) (edits_blanked edits tree) ∙ charge-blanked (edited edits tree)
+
+same_length : (tree other : Tree) (edits : List model.Edit) → blanked other ≡ blanked tree → length (edited edits other) ≡ length (edited edits tree)
+same_length tree other edits alike =
+    sym (length-blanked (edited edits other)) ∙ ap (λ (t : Tree). length t) (sym (edits_blanked edits other))
+    ∙ ap (λ (t : Tree). length (blanked (edited edits t))) alike
+    ∙ ap (λ (t : Tree). length t) (edits_blanked edits tree) ∙ length-blanked (edited edits tree)
+
+-- Edits that were done, and none
+
+pub does_nothing : (word : Type 0) (base : Image) (size : ℕ) (draft : Draft) → IsKnown draft → Does word base size draft draft []
+does_nothing word base size draft known = record {
+  known = record { known = known; nodes = refl; places = refl };
+  outline = sym (outline_fixed (cards_of draft));
+  forms = λ forms. forms;
+  made = λ place number is. inl is;
+  tree = λ k laid. (laid, refl);
+  count = omega arith;
+}
+
+pub anywhere : (word : Type 0) (base : Image) (size : ℕ) (old new : Draft) (edit : Edit) → DoesAnywhere old new edit → Does word base size old new (edit ∷ [])
+anywhere word base size old new edit does =
+    let it = does base size in
+    record { known = it.known; outline = it.outline; forms = it.forms; made = it.made; tree = λ k. it.tree tt; count = it.count }
+
+module _ (word : Type 0) (base : Image) (size : ℕ) (old mid : Draft) (edit : Edit) (first : Does word base size old mid (edit ∷ [])) where
+  -- what memory tells of the tree in between
+  alike : blanked (outline_of (cards_of mid)) ≡ blanked (done (edit_of edit) (outline_of (cards_of old)))
+  alike = outline_fixed (cards_of mid) ∙ first.outline
+
+  pub goes_on : (new : Draft) (edits : List Edit) → Does word base size mid new edits → Does word base size old new (edit ∷ edits)
+  goes_on new edits rest = record {
+    known = record {
+      known = rest.known.known;
+      nodes = rest.known.nodes ∙ first.known.nodes;
+      places = rest.known.places ∙ first.known.places;
+    };
+    outline = rest.outline
+        ∙ sym (edits_blanked (edits_of edits) (outline_of (cards_of mid)))
+        ∙ ap (λ (t : Tree). blanked (edited (edits_of edits) t)) alike
+        ∙ edits_blanked (edits_of edits) (done (edit_of edit) (outline_of (cards_of old)));
+    forms = λ forms. rest.forms (first.forms forms);
+    made = λ place number is. ⊎_elim
+        (λ (stood : number_at (cards_of mid) place ≡ Some number). ⊎_elim
+        (λ (before : number_at (cards_of old) place ≡ Some number). inl before)
+        (λ (among : IsAmong (made_by (edit ∷ [])) number). inr (made_first edit edits number among)) (first.made place number stood))
+        (λ (among : IsAmong (made_by edits) number). inr (made_later edit edits number among)) (rest.made place number is);
+    tree = λ k laid.
+        let one = first.tree k laid in
+        let all = rest.tree k one.0 in
+        (all.0, all.1 ∙ ap (edited (edits_of edits)) one.1);
+    count = omega (arith, first.count, rest.count);
+  }
+
+  pub still_doable : (edits : List Edit) → AreDoable (outline_of (cards_of old)) (edit ∷ edits) → AreDoable (outline_of (cards_of mid)) edits
+  still_doable edits can = doable_alike (done (edit_of edit) (outline_of (cards_of old))) (outline_of (cards_of mid)) edits alike can.1
+
+  pub still_few : (edits : List Edit) → StayFew (outline_of (cards_of old)) (edit ∷ edits) → StayFew (outline_of (cards_of mid)) edits
+  still_few edits few = few_alike (done (edit_of edit) (outline_of (cards_of old))) (outline_of (cards_of mid)) edits alike few.1
+
+  pub overfills_later : (edits : List Edit) → Overfills mid edits → Overfills old (edit ∷ edits)
+  overfills_later edits over = record {
+    count = suc over.count;
+    within = omega (arith, over.within);
+    full = λ room. over.full (record {
+      charge = (let fits = room.charge in omega (arith, fits, first.known.places, same_charge (done (edit_of edit) (outline_of (cards_of old))) (outline_of (cards_of mid)) (take over.count (edits_of edits)) alike));
+      nodes = (let fits = room.nodes in omega (arith, fits, first.known.nodes, same_length (done (edit_of edit) (outline_of (cards_of old))) (outline_of (cards_of mid)) (take over.count (edits_of edits)) alike));
+    });
+  }
+
+pub overfills_first : (draft : Draft) (edit : Edit) (edits : List Edit) → Overfills draft (edit ∷ []) → Overfills draft (edit ∷ edits)
+overfills_first draft edit edits over = by_count over.count over.within over.full
+  where
+    by_count : (count : ℕ) → count ≤ 1 → (FitsOn (length draft.places) draft.nodes (edited (take count (edit_of edit ∷ [])) (outline_of (cards_of draft))) → ⊥) → Overfills draft (edit ∷ edits)
+    by_count zero within full = record { count = 0; within = omega arith; full = full }
+    by_count (suc zero) within full = record { count = 1; within = omega arith; full = full }
+    by_count (suc (suc count)) within full = absurd (omega (arith, within))

@@ -1,0 +1,90 @@
+-- What outlines are charged for.
+use Rattle.std.proofs.Common.{◌≡◌, ◌+◌, ℕ, suc, List, [], ◌∷◌, Option, Some, None, length, refl, ap, arith}
+use Rattle.node_table.specs.Tables.{AreTaken, charge_of, charge_of_all, count_of_all}
+use Rattle.tree_transaction.specs.declared.draft.Draft.{Draft}
+use Rattle.tree_transaction.specs.Drafts.{cards_of, IsKnown, IsOvercharged}
+use Rattle.tree_edits.specs.Doing.{FitsOn, Overfills}
+use Rattle.tree_edits.specs.declared.edit.Edit.TheVariants as declared
+use Rattle.tree_edits.specs.Edits.{fresh_node}
+use Rattle.tree_transaction.specs.declared.nodes.Shown.{Shown}
+use Rattle.tree_transaction.specs.Nodes.{shown_of}
+use Rattle.tree_edits.specs.Outlines.{outline_of}
+use Rattle.tree_edits.proofs.PlaceLaws.{IsThere, there_is}
+use Rattle.layout.specs.Cards.{Card, node_of}
+use Rattle.layout.specs.Known.{AreCards, IsCard}
+use Rattle.layout.specs.Marks.{mark_by}
+use Rattle.layout.specs.SumLaws.{Sums}
+use Rattle.layout.proofs.Changing.{AreAbove, tree-above}
+use Rattle.layout.proofs.ChargeLaws.{charge_is, length-with}
+use Rattle.layout.proofs.Knowing.{AreEach, each_above, each_card}
+use Rattle.layout.proofs.Summing.{known_sum}
+use Rattle.model.specs.declared.node.NodeKind.{NodeKind}
+use Rattle.model.specs.Charge.{charge, charge_of_blocks}
+use Rattle.model.specs.Edit.{altered, altered_at}
+use Rattle.model.specs.Keyed.{at, total, worth_at}
+use Rattle.model.specs.Tree.{Node}
+use Rattle.model.proofs.KeyedLaws.{total-with}
+
+pub charge_card : (card : Card) → IsCard card → charge (node_of (λ n. []) card) ≡ charge_of card
+charge_card = charge_is (λ n. [])
+
+module _ (nodes : ℕ) (mark : ℕ → ℕ) (cards : List (Option Card)) (known : AreCards nodes mark cards) where
+  each : AreEach cards
+  each = each_card nodes mark cards known
+
+  above : AreAbove cards
+  above = each_above cards each
+
+  sums : Sums (λ n. []) cards
+  sums = known_sum nodes mark cards known (λ n. [])
+
+  pub charge_all : total charge (outline_of cards) ≡ charge_of_all cards
+  charge_all = sums.charges
+
+  pub count_all : length (outline_of cards) ≡ count_of_all cards
+  count_all = sums.nodes
+
+  -- a node is another one
+  pub charge_altered : (place number : ℕ) (it : IsThere cards place number) (alter : Node → Node)
+      → total charge (altered alter (outline_of cards) number) + charge_of it.card ≡ charge_of_all cards + charge (alter (node_of (λ n. []) it.card))
+  charge_altered place number it alter =
+      let there = there_is cards known.apart place number it in
+      let node = node_of (λ n. []) it.card in
+      let sum = total-with charge (outline_of cards) number 0 (alter node) (tree-above (λ n. []) cards above) in
+      omega (
+        arith,
+        sum,
+        ap (λ (found : Option Node). total charge (altered_at alter (outline_of cards) number found)) there,
+        ap (worth_at charge) there,
+        charge_card it.card (each place it.card it.there),
+        charge_all,
+      )
+
+-- a node that would be charged for so many blocks leaves no room
+pub no_room : (draft : Draft) (known : IsKnown draft) (place number : ℕ) (it : IsThere (cards_of draft) place number) (alter : Node → Node) (blocks : Card → ℕ)
+    → IsOvercharged draft place blocks → charge (alter (node_of (λ n. []) it.card)) ≡ charge_of_blocks (blocks it.card)
+    → FitsOn (length draft.places) draft.nodes (altered alter (outline_of (cards_of draft)) number) → ⊥
+no_room draft known place number it alter blocks over charged room =
+    let sum = charge_altered draft.nodes (mark_by (148 + draft.nodes) draft.places) (cards_of draft) known.cards place number it alter in
+    let more = over it.card it.there in
+    let fits = room.charge in
+    omega (arith, sum, more, fits, charged)
+
+-- and where no place is free there is room for no node more
+
+taken_count : (cards : List (Option Card)) → AreTaken cards → count_of_all cards ≡ length cards
+taken_count [] taken = refl
+taken_count (None ∷ cards) taken = absurd (taken 0 (omega arith) refl)
+taken_count (Some card ∷ cards) taken = omega (arith, taken_count cards (λ place within. taken (suc place) (omega (arith, within))))
+
+pub no_place : (draft : Draft) → IsKnown draft → (of : NodeKind) (number : ℕ) (shown : Shown) → at number (outline_of (cards_of draft)) ≡ None
+    → AreTaken (cards_of draft) → Overfills draft (declared.PutNode number of shown ∷ [])
+no_place draft known of number shown fresh taken = record {
+  count = 1;
+  within = omega arith;
+  full = λ room.
+      let fits = room.nodes in
+      let mark = mark_by (148 + draft.nodes) draft.places in
+      let more = length-with (outline_of (cards_of draft)) number 0 (fresh_node of (shown_of shown)) (tree-above (λ n. []) (cards_of draft) (above draft.nodes mark (cards_of draft) known.cards)) fresh in
+      omega (arith, fits, more, count_all draft.nodes mark (cards_of draft) known.cards, taken_count (cards_of draft) taken, known.cards.count);
+}

@@ -1,0 +1,274 @@
+//! Whether there is room for the tree after edits.
+
+ghost use Rattle.std.specs.Prelude.{◌≡◌, ◌≤◌, ◌<◌, ◌+◌, ◌^◌, ℕ, true, length};
+ghost use Rattle.tree_edits.specs.Edits.{AreDoable, edits_of};
+ghost use Rattle.tree_edits.specs.Making.{IsMaking, size_of_new};
+ghost use Rattle.tree_edits.specs.Outlines.{outline_of};
+ghost use Rattle.tree_edits.specs.Sizes.{size_at, charge_of_size, nodes_in, names_in, IsBelow};
+ghost use Rattle.tree_edits.specs.Sizes.{number_of, resized_by};
+ghost use Rattle.layout.specs.Known.{AreCards};
+ghost use Rattle.model.specs.Charge.{charge, few_names, fits};
+ghost use Rattle.model.specs.Edit.{edited};
+ghost use Rattle.model.specs.Keyed.{total};
+ghost use Rattle.model.specs.Tree.{is_directory_at};
+
+use crate::edit::Edit;
+use directory::Names;
+use model::limits::Limits;
+use model::node::NodeKind;
+use node_table::Table;
+
+/// How many bytes or names a node has. Numbers here have 128 bits, so that no sum of them is too
+/// large, however many edits there are.
+#[derive(Clone, Copy)]
+struct Size {
+    kind: NodeKind,
+    count: u128,
+}
+
+/// What the nodes of a tree take.
+#[derive(Clone, Copy)]
+struct Taken {
+    /// Sectors of the data region.
+    charge: u128,
+    nodes: u128,
+}
+
+/// What a node of the table has.
+fn size_in(table: &Table, number: u64) -> Option<Size>
+    requires { (nodes : ℕ) × (mark : ℕ → ℕ) × AreCards nodes mark table.now }
+    ensures size { result ≡ size_at (outline_of table.now) number }
+    ensures small { IsBelow (2 ^ 65) result }
+{
+    let Some(place) = table.find(number) else {
+        return None;
+    };
+    let inode = &table.card(place).unwrap().inode;
+    Some(Size {
+        kind: inode.kind,
+        count: u128::from(inode.size),
+    })
+}
+
+/// The number of the node that an edit changes.
+fn number_of(edit: &Edit<'_>) -> u64
+    ensures { result ≡ number_of edit.now }
+{
+    match edit {
+        Edit::PutNode { number, .. } => *number,
+        Edit::DropNode { number } => *number,
+        Edit::Show { number, .. } => *number,
+        Edit::PutName { directory, .. } => *directory,
+        Edit::DropName { directory, .. } => *directory,
+        Edit::PutBytes { file, .. } => *file,
+        Edit::SetSize { file, .. } => *file,
+    }
+}
+
+/// A directory of so many names.
+fn directory(count: u128) -> Option<Size>
+    ensures { result ≡ Some (record { kind = NodeKind.Directory; count = count }) }
+{
+    Some(Size {
+        kind: NodeKind::Directory,
+        count,
+    })
+}
+
+/// A file of so many bytes.
+fn file(count: u128) -> Option<Size>
+    ensures { result ≡ Some (record { kind = NodeKind.File; count = count }) }
+{
+    Some(Size {
+        kind: NodeKind::File,
+        count,
+    })
+}
+
+/// What the node that an edit changes has after it.
+fn resized(size: Option<Size>, edit: &Edit<'_>) -> Option<Size>
+    requires { IsBelow (2 ^ 66) size }
+    ensures size { result ≡ resized_by edit.now size }
+    ensures small { (most : ℕ) → 2 ^ 65 ≤ most → IsBelow most size → IsBelow (most + 1) result }
+{
+    match edit {
+        Edit::PutNode { kind, .. } => Some(Size {
+            kind: *kind,
+            count: 0,
+        }),
+        Edit::DropNode { .. } => None,
+        Edit::Show { .. } => size,
+        Edit::PutName { .. } => directory(size?.count + 1),
+        Edit::DropName { .. } => directory(size?.count.saturating_sub(1)),
+        Edit::PutBytes { offset, bytes, .. } => file(
+            size?.count.max(*offset as u128 + bytes.len() as u128),
+        ),
+        Edit::SetSize { size: end, .. } => {
+            size?;
+            file(u128::from(*end))
+        }
+    }
+}
+
+/// What a node has in the tree after edits: each of them that changes it is gone through.
+fn size_after(table: &Table, edits: &[Edit<'_>], number: u64) -> Option<Size>
+    requires cards { (nodes : ℕ) × (mark : ℕ → ℕ) × AreCards nodes mark table.now }
+    requires can { AreDoable (outline_of table.now) edits.now }
+    ensures size { result ≡ size_at (edited (edits_of edits.now) (outline_of table.now)) number }
+    ensures small { IsBelow (2 ^ 65 + length edits.now) result }
+{
+    let mut size = size_in(table, number);
+    for edit in edits {
+        if number_of(edit) == number {
+            size = resized(size, edit);
+        }
+    }
+    size
+}
+
+/// What a node is charged that has so much.
+fn charge_of(size: Option<Size>) -> u128
+    requires { IsBelow (2 ^ 66) size }
+    ensures charge { result ≡ charge_of_size size }
+    ensures small { result < 2 ^ 63 }
+{
+    let Some(size) = size else {
+        return 0;
+    };
+    let blocks = match size.kind {
+        NodeKind::File => (size.count + 4095) / 4096,
+        NodeKind::Directory => (size.count + 14) / 15,
+    };
+    blocks + (blocks + 499) / 500
+}
+
+/// One, or none.
+fn nodes_in(size: Option<Size>) -> u128
+    ensures nodes { result ≡ nodes_in size }
+    ensures small { result ≤ 1 }
+{
+    match size {
+        Some(_) => 1,
+        None => 0,
+    }
+}
+
+/// How many names a node has.
+fn names_in(size: Option<Size>) -> u128
+    ensures { result ≡ names_in size }
+{
+    match size {
+        Some(size) => match size.kind {
+            NodeKind::File => 0,
+            NodeKind::Directory => size.count,
+        },
+        None => 0,
+    }
+}
+
+/// What the nodes of the tree after edits take: each edit changes what one of them does.
+fn taken_after(table: &Table, edits: &[Edit<'_>]) -> Taken
+    requires cards { (nodes : ℕ) × (mark : ℕ → ℕ) × AreCards nodes mark table.now }
+    requires can { AreDoable (outline_of table.now) edits.now }
+    ensures charge { result.charge
+        ≡ total charge (edited (edits_of edits.now) (outline_of table.now)) }
+    ensures nodes { result.nodes ≡ length (edited (edits_of edits.now) (outline_of table.now)) }
+{
+    let mut charge = u128::from(table.charge());
+    let mut nodes = u128::from(table.count());
+    for (i, edit) in edits.iter().enumerate() {
+        let before = size_after(table, &edits[..i], number_of(edit));
+        let after = resized(before, edit);
+        charge = charge + charge_of(after) - charge_of(before);
+        nodes = nodes + nodes_in(after) - nodes_in(before);
+    }
+    Taken { charge, nodes }
+}
+
+/// Whether no directory has more names than so many after edits. Those that no edit changes have
+/// 1,024 at most.
+fn have_few_names(table: &Table, edits: &[Edit<'_>], most: usize) -> bool
+    requires cards { (nodes : ℕ) × (mark : ℕ → ℕ) × AreCards nodes mark table.now }
+    requires can { AreDoable (outline_of table.now) edits.now }
+    requires most { Names.MAX_NAMES ≤ most }
+    ensures { result
+        ≡ few_names most (edited (edits_of edits.now) (outline_of table.now)) }
+{
+    for edit in edits {
+        if names_in(size_after(table, edits, number_of(edit))) > most as u128 {
+            return false;
+        }
+    }
+    true
+}
+
+/// Whether the tree after edits has room: its charges come to the data region at most, its nodes
+/// to their limit, and no directory has too many names. Each edit must be one that can be done in
+/// the tree that those before it give. Takes no memory, and steps as the square of the edits, of
+/// which there are few, with two searches by number for each of them.
+pub fn fits(table: &Table, limits: &Limits, edits: &[Edit<'_>]) -> bool
+    requires cards { (nodes : ℕ) × (mark : ℕ → ℕ) × AreCards nodes mark table.now }
+    requires can { AreDoable (outline_of table.now) edits.now }
+    requires names { Names.MAX_NAMES ≤ limits.now.names }
+    ensures { result ≡ fits limits.now (edited (edits_of edits.now) (outline_of table.now)) }
+{
+    let taken = taken_after(table, edits);
+    if taken.charge > limits.data_sectors as u128 {
+        return false;
+    }
+    if taken.nodes > limits.nodes as u128 {
+        return false;
+    }
+    have_few_names(table, edits, limits.names)
+}
+
+/// What a node takes that is made with no names, or as a file of so many bytes.
+fn new_size(kind: NodeKind, size: u64) -> Option<Size>
+    ensures size { result ≡ Some (size_of_new kind size) }
+    ensures small { IsBelow (2 ^ 65) result }
+{
+    match kind {
+        NodeKind::File => file(u128::from(size)),
+        NodeKind::Directory => directory(0),
+    }
+}
+
+/// What the nodes of the tree take with one more of the size `child`, which has a name in a
+/// directory that had the size `parent` before.
+fn taken_with(table: &Table, parent: Option<Size>, child: Option<Size>) -> Taken
+    requires cards { (nodes : ℕ) × (mark : ℕ → ℕ) × AreCards nodes mark table.now }
+    requires parent { (number : ℕ) × (parent ≡ size_at (outline_of table.now) number) }
+    requires small { IsBelow (2 ^ 65) parent × IsBelow (2 ^ 65) child }
+    ensures charge { result.charge + charge_of_size parent
+        ≡ total charge (outline_of table.now) + charge_of_size child + charge_of_size
+        (Some (record { kind = NodeKind.Directory; count = names_in parent + 1 })) }
+    ensures nodes { result.nodes ≡ length (outline_of table.now) + 1 }
+{
+    let grown = directory(names_in(parent) + 1);
+    let charge = u128::from(table.charge()) + charge_of(child) + charge_of(grown);
+    Taken {
+        charge: charge - charge_of(parent),
+        nodes: u128::from(table.count()) + 1,
+    }
+}
+
+/// Whether the tree has room for one node more, of this kind, and for its name in a directory. Of a
+/// file the size counts, in bytes. Which number and which stamp it gets does not matter. Takes no
+/// memory, and one search by number.
+pub fn has_room(table: &Table, limits: &Limits, parent: u64, kind: NodeKind, size: u64) -> bool
+    requires cards { (nodes : ℕ) × (mark : ℕ → ℕ) × AreCards nodes mark table.now }
+    requires there { is_directory_at (outline_of table.now) parent ≡ true }
+    requires names { Names.MAX_NAMES ≤ limits.now.names }
+    ensures { (edits : _) → IsMaking (outline_of table.now) parent kind size edits
+        → result ≡ fits limits.now (edited edits (outline_of table.now)) }
+{
+    let own = size_in(table, parent);
+    let taken = taken_with(table, own, new_size(kind, size));
+    if taken.charge > limits.data_sectors as u128 {
+        return false;
+    }
+    if taken.nodes > limits.nodes as u128 {
+        return false;
+    }
+    names_in(own) < limits.names as u128
+}

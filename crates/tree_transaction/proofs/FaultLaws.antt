@@ -1,0 +1,16 @@
+-- Which fault an answer told.
+use Rattle.std.proofs.Common.{◌≡◌, sym, ◌∙◌}
+use Rattle.std.specs.Prelude.{Result, Ok, Err}
+use Rattle.std.specs.Result.{IsErrAnd}
+use Rattle.tree_transaction.specs.declared.fault.DraftFault.TheVariants as fault
+use Rattle.tree_transaction.specs.declared.fault.SpaceFault.{SpaceFault}
+use Rattle.tree_transaction.specs.declared.fault.SpaceFault.TheVariants as space
+use Rattle.tree_transaction.specs.Faults.{fault_of}
+
+pub told : {A E : Type 0} (r : Result A E) (f e : E) → IsErrAnd r (λ x. x ≡ f) → r ≡ Err e → f ≡ e
+told (Ok x) f e is at = absurd is
+told (Err x) f e is at = let same : x ≡ e = cc in sym is ∙ same
+
+pub full_of : (cause : SpaceFault) → fault_of cause ≡ fault.Full → cause ≡ space.Full
+full_of space.Memory e = absurd (cc)
+full_of space.Full e = let same : space.Full ≡ space.Full = cc in same

@@ -1,0 +1,67 @@
+-- Nodes that are made, and what nodes show.
+use Rattle.std.specs.Prelude.{◌≡◌, ◌<◌, ℕ, List, [], Option, Some, None, slice_index_or}
+use Rattle.inode.specs.declared.node.Form.{Form}
+use Rattle.inode.specs.Fields.{Fields, IsInode}
+use Rattle.model.specs.declared.node.NodeKind.{NodeKind}
+use Rattle.model.specs.declared.node.NodeKind.TheVariants as kind
+use Rattle.model.specs.Edit.{Shown}
+use Rattle.model.specs.Tree.{Node, Content, File, Directory}
+use Rattle.layout.specs.Cards.{Card, node_with}
+use Rattle.tree_transaction.specs.declared.nodes.Shown as declared
+
+-- a node without bytes or names
+
+abbrev pub new_card : Form → Fields → Card
+new_card form fields = record {
+  form = form;
+  fields = record fields { size = 0; runs = 0; run_sectors = [] };
+  runs = [];
+  blocks = [];
+  names = [];
+}
+
+pub record IsNewCard (card : Card) : Type 0 where
+  pub is : card ≡ new_card card.form card.fields
+  pub number : 0 < card.fields.number
+  pub fits : IsInode card.form card.fields
+
+abbrev pub no_content : NodeKind → Content
+no_content kind.File = File []
+no_content kind.Directory = Directory []
+
+abbrev pub new_node : Card → Node
+new_node card = node_with card.fields (no_content card.fields.kind)
+
+-- what a node shows beside its content
+
+abbrev pub shown_of : declared.Shown → Shown
+shown_of shown = record {
+  owner = shown.owner;
+  group = shown.group;
+  acl = shown.acl;
+  change = shown.change;
+  time_modify = shown.time_modify;
+}
+
+abbrev pub fields_showing : Fields → Shown → Fields
+fields_showing fields shown = record fields {
+  owner = shown.owner;
+  group = shown.group;
+  acl = shown.acl;
+  change = shown.change;
+  time_modify = shown.time_modify;
+}
+
+abbrev pub showing : Shown → Card → Card
+showing shown card = record card { fields = fields_showing card.fields shown }
+
+-- a node stands at a place, and one that can show this
+
+pub record HasNode (cards : List (Option Card)) (place : ℕ) : Type 0 where
+  pub card : Card
+  pub there : slice_index_or cards place None ≡ Some card
+
+pub record CanShow (cards : List (Option Card)) (place : ℕ) (shown : Shown) : Type 0 where
+  pub card : Card
+  pub there : slice_index_or cards place None ≡ Some card
+  pub fits : IsInode card.form (fields_showing card.fields shown)

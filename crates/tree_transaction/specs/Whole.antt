@@ -1,0 +1,37 @@
+-- A draft whose marks are written: what it leaves of a volume.
+use Rattle.std.specs.Prelude.{◌≡◌, ◌≢◌, ◌≤◌, ◌<◌, ◌+◌, ◌*◌, ◌⊎◌, ℕ, Bool, List, length}
+use Rattle.disk.specs.Moments.{Image}
+use Rattle.freemap.specs.Places.{Shows, HaveSamePart, mark_of, bit_in}
+use Rattle.layout.specs.Stands.{Version, HaveForms, IsLaid}
+use Rattle.tree_transaction.specs.declared.draft.Draft.{Draft}
+use Rattle.tree_transaction.specs.Drafts.{cards_of, image_of, tree_of, IsDraft}
+
+-- the bitmap sectors show these places and nothing past them, however long these sectors are
+pub record IsMarked (base : Image) (places : List Bool) : Type 0 where
+  pub few : length places ≤ 65536
+  pub bits : (i : ℕ) → bit_in (base 98) (base 99) i ≡ mark_of places i
+
+-- bitmap sector 0 or 1 shows the places from its first on, or is as it was, where there they are as
+-- before; and no other sector has changed
+pub record ShowsPart (old new : Image) (before places : List Bool) (part : ℕ) : Type 0 where
+  pub shows : Shows (new (98 + part)) places (32768 * part)
+      ⊎ (new (98 + part) ≡ old (98 + part)) × HaveSamePart places before (32768 * part)
+  pub others : (n : ℕ) → n ≢ 98 + part → new n ≡ old n
+
+-- the draft is one of a volume of this version: its places are the whole data region, and the spare
+-- sectors are as they are to be
+pub record IsWhole (version : Version) (base : Image) (size : ℕ) (draft : Draft) : Type 0 where
+  pub size_is : size ≡ 148 + draft.nodes + length draft.places
+  pub few : size ≤ 65536
+  pub forms : HaveForms version (cards_of draft)
+  pub spare : (n : ℕ) → 100 ≤ n → n < 148 → base n ≡ version.spare n
+
+-- Then, over sectors that are marked by the places as they were before, the sectors hold its cards,
+-- marks included, and the tree is the same
+pub record LeavesLaid (version : Version) (base : Image) (size : ℕ) (old new : Draft) : Type 0 where
+  pub laid : IsLaid version size old.nodes (image_of base new) (cards_of old)
+  pub tree_is : tree_of base new ≡ tree_of base old
+
+abbrev pub Finishes : (before : List Bool) → (old new : Draft) → Type 0
+Finishes before old new = (version : Version) (base : Image) (size : ℕ) → IsDraft base size old
+    → IsWhole version base size old → IsMarked base before → LeavesLaid version base size old new

@@ -1,0 +1,134 @@
+//! Writing a node's sectors.
+
+ghost use Rattle.std.specs.Prelude.{◌≡◌, ◌≤◌, ◌<◌, ◌+◌, ◌*◌, ◌/◌, length, OnOk, IsErrOf};
+ghost use Rattle.disk.specs.Moments.{Image, applied};
+ghost use Rattle.freemap.specs.Kept.{free_places};
+ghost use Rattle.inode.specs.Fields.{IsInode};
+ghost use Rattle.layout.specs.Marks.{times};
+ghost use Rattle.tree_transaction.specs.Blocks.{set_blocks};
+ghost use Rattle.tree_transaction.specs.Laying.{AreOnce, LaysFront, LaysNode, LaysCard, CanBeLaid, AreRunsFor, HasEnough, sectors_for};
+
+use crate::fault::SpaceFault;
+use crate::numbers::{give_numbers, take_numbers};
+use crate::updates::Updates;
+use disk::SECTOR;
+use extents::{MAX_SECTOR_RUNS, Run, write_run_sector};
+use freemap::Bitmap;
+use inode::to_sector;
+use layout::places::NODES;
+use node_table::Card;
+use std::alloc::{AllocError, Global};
+
+/// Writes runs, 500 a sector.
+fn lay_runs(updates: &mut Updates, numbers: &[u32], runs: &[Run]) -> Result<(), AllocError>
+    // The sectors, and as many runs as they have room for
+    requires once { AreOnce numbers.now }
+    requires few { length numbers.now ≤ 9 }
+    requires room { length runs.now ≤ MAX_SECTOR_RUNS * length numbers.now }
+    requires last { MAX_SECTOR_RUNS * length numbers.now < length runs.now + MAX_SECTOR_RUNS }
+    // Written
+    ensures lays { OnOk result ((image : Image) → LaysFront (applied updates.old image)
+        (applied updates.new image) numbers.now runs.now (length numbers.now)) }
+    ensures count { length updates.new ≤ length updates.old + length numbers.now }
+{
+    for i in 0..numbers.len() {
+        let from = MAX_SECTOR_RUNS * i;
+        let to = runs.len().min(from + MAX_SECTOR_RUNS);
+        let mut content = [0; SECTOR];
+        write_run_sector(&runs[from..to], &mut content);
+        updates.put(numbers[i], &content)?;
+    }
+    Ok(())
+}
+
+/// Writes a node's sector and its run sectors.
+fn lay_node(updates: &mut Updates, sector: u32, card: &Card) -> Result<(), AllocError>
+    // A card that has a spelling, in sectors that are apart
+    requires fits { IsInode card.now.form card.now.fields }
+    requires count { length card.now.runs ≡ card.now.fields.runs }
+    requires once { AreOnce card.now.fields.run_sectors }
+    requires apart { times sector card.now.fields.run_sectors ≡ 0 }
+    // Written
+    ensures lays { OnOk result ((image : Image)
+        → LaysNode (applied updates.old image) (applied updates.new image) sector card.now) }
+    ensures count { length updates.new
+        ≤ length updates.old + 1 + length card.now.fields.run_sectors }
+{
+    lay_runs(updates, &card.inode.run_sectors, &card.runs)?;
+    let mut content = [0; SECTOR];
+    to_sector(&card.inode, card.form, &mut content);
+    updates.put(sector, &content)?;
+    Ok(())
+}
+
+/// Puts runs into a card that has enough run sectors for them, gives the others back, and writes
+/// its node.
+fn lay_card(
+    updates: &mut Updates,
+    places: &mut Bitmap,
+    nodes: u32,
+    place: u32,
+    card: &mut Card,
+    runs: Vec<Run>,
+) -> Result<(), AllocError>
+    requires can { CanBeLaid nodes place places.old card.old }
+    requires runs { AreRunsFor runs.items card.old }
+    requires enough { sectors_for (length runs.items) ≤ length card.old.fields.run_sectors }
+    ensures laid { OnOk result
+        (LaysCard nodes place places.old places.new updates.old updates.new card.old card.new) }
+    ensures count { length updates.new
+        ≤ length updates.old + 1 + sectors_for (length runs.items) }
+{
+    let wanted = (runs.len() + 499) / MAX_SECTOR_RUNS;
+    give_numbers(places, NODES + nodes, &mut card.inode.run_sectors, wanted);
+    card.inode.runs = runs.len() as u16;
+    card.runs = runs;
+    lay_node(updates, NODES + place, card)?;
+    Ok(())
+}
+
+/// Puts a card's blocks into runs again, and writes its node.
+pub(crate) fn rerun(
+    alloc: Global,
+    updates: &mut Updates,
+    places: &mut Bitmap,
+    nodes: u32,
+    place: u32,
+    card: &mut Card,
+) -> Result<(), SpaceFault>
+    requires { CanBeLaid nodes place places.old card.old }
+    ensures laid { OnOk result
+        (LaysCard nodes place places.old places.new updates.old updates.new card.old card.new) }
+    ensures count { length updates.new
+        ≤ length updates.old + 1 + sectors_for (set_blocks card.old.blocks) }
+    ensures full { IsErrOf result SpaceFault.Full
+        → free_places places.old + length card.old.fields.run_sectors
+        < sectors_for (set_blocks card.old.blocks) }
+{
+    let runs = card.blocks.to_runs(alloc)?;
+    let wanted = (runs.len() + 499) / MAX_SECTOR_RUNS;
+    take_numbers(places, NODES + nodes, &mut card.inode.run_sectors, wanted)?;
+    lay_card(updates, places, nodes, place, card, runs)?;
+    Ok(())
+}
+
+/// The same of a card whose run sectors are enough.
+pub(crate) fn rerun_fewer(
+    alloc: Global,
+    updates: &mut Updates,
+    places: &mut Bitmap,
+    nodes: u32,
+    place: u32,
+    card: &mut Card,
+) -> Result<(), AllocError>
+    requires can { CanBeLaid nodes place places.old card.old }
+    requires enough { HasEnough card.old }
+    ensures laid { OnOk result
+        (LaysCard nodes place places.old places.new updates.old updates.new card.old card.new) }
+    ensures count { length updates.new
+        ≤ length updates.old + 1 + sectors_for (set_blocks card.old.blocks) }
+{
+    let runs = card.blocks.to_runs(alloc)?;
+    lay_card(updates, places, nodes, place, card, runs)?;
+    Ok(())
+}

@@ -1,0 +1,44 @@
+//! Nodes that are made, and what they show.
+
+ghost use Rattle.std.specs.Prelude.{◌≤◌, ◌<◌, ◌+◌, ◌^◌, length, OnOk};
+ghost use Rattle.disk.specs.Moments.{Image, applied};
+ghost use Rattle.inode.specs.Fields.{IsInode};
+ghost use Rattle.inode.specs.Spelling.{inode_sector};
+ghost use Rattle.tree_transaction.specs.Blocks.{IsPut};
+ghost use Rattle.tree_transaction.specs.Ranges.{IsInRange};
+
+use crate::updates::Updates;
+use disk::SECTOR;
+use inode::to_sector;
+use layout::places::NODES;
+use model::acl::Acl;
+use node_table::Card;
+use std::alloc::AllocError;
+
+/// What a node shows beside its content.
+#[derive(Drop)]
+pub struct Shown {
+    pub owner: u32,
+    pub group: u32,
+    pub acl: Acl,
+    /// The change value (RFC 8881, section 5.8.1.4).
+    pub change: u64,
+    /// When it was modified last, in nanoseconds since 1970.
+    pub time_modify: u64,
+    // What a proof knows so of the numbers without a read.
+    ghost in_range: { IsInRange owner group change time_modify },
+}
+
+/// Writes a node's sector.
+pub(crate) fn put_node(updates: &mut Updates, place: u32, card: &Card) -> Result<(), AllocError>
+    requires fits { IsInode card.now.form card.now.fields }
+    requires small { NODES + place < 2 ^ 32 }
+    ensures image { OnOk result ((image : Image) → IsPut (applied updates.old image)
+        (applied updates.new image) (NODES + place) (inode_sector card.now.form card.now.fields)) }
+    ensures count { length updates.new ≤ length updates.old + 1 }
+{
+    let mut content = [0; SECTOR];
+    to_sector(&card.inode, card.form, &mut content);
+    updates.put(NODES + place, &content)?;
+    Ok(())
+}

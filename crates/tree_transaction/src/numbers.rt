@@ -1,0 +1,68 @@
+//! The run sectors of a node.
+
+ghost use Rattle.std.specs.Prelude.{◌≡◌, ◌≤◌, ◌<◌, ◌+◌, ◌^◌, ℕ, length, take, OnOk, IsErrOf};
+ghost use Rattle.freemap.specs.Kept.{free_places};
+ghost use Rattle.tree_transaction.specs.Blocks.{HaveMarks};
+ghost use Rattle.tree_transaction.specs.Laying.{Follow, AreMarked};
+ghost use Rattle.layout.specs.Marks.{times_set, mark_by};
+
+use crate::fault::SpaceFault;
+use extents::BlockList;
+use freemap::Bitmap;
+
+/// Takes sectors until there are so many.
+pub(crate) fn take_numbers(
+    places: &mut Bitmap,
+    first: u32,
+    numbers: &mut Vec<u32>,
+    wanted: usize,
+) -> Result<(), SpaceFault>
+    requires { first + length places.old ≤ 2 ^ 32 }
+    // How many there are then
+    ensures least { OnOk result (wanted ≤ length numbers.new.items) }
+    ensures most { length numbers.old.items ≤ wanted → length numbers.new.items ≤ wanted }
+    // What it takes
+    ensures marks { OnOk result (Follow first places.old places.new
+        numbers.old.items numbers.new.items) }
+    ensures len { length places.new ≡ length places.old }
+    // Refused
+    ensures full { IsErrOf result SpaceFault.Full
+        → free_places places.old + length numbers.old.items < wanted }
+{
+    while numbers.len() < wanted {
+        let place = places.take()?;
+        numbers.push(first + place)?;
+    }
+    Ok(())
+}
+
+/// Gives sectors back until there are no more than so many.
+pub(crate) fn give_numbers(places: &mut Bitmap, first: u32, numbers: &mut Vec<u32>, wanted: usize)
+    requires { AreMarked first places.old numbers.old.items }
+    // How many are left
+    ensures most { length numbers.new.items ≤ wanted }
+    ensures least { wanted ≤ length numbers.old.items → wanted ≤ length numbers.new.items }
+    // What it gives back
+    ensures marks { Follow first places.old places.new numbers.old.items numbers.new.items }
+    ensures len { length places.new ≡ length places.old }
+{
+    while numbers.len() > wanted {
+        if let Some(number) = numbers.pop() {
+            places.give(number - first);
+        }
+    }
+}
+
+/// Gives the sectors of the blocks from one on back.
+pub(crate) fn give_blocks(places: &mut Bitmap, first: u32, blocks: &BlockList, from: u32)
+    requires { HaveMarks first places.old blocks.now }
+    ensures marks { (n : ℕ) → mark_by first places.new n + times_set n blocks.now
+        ≡ mark_by first places.old n + times_set n (take from blocks.now) }
+    ensures len { length places.new ≡ length places.old }
+{
+    for block in from..blocks.count() {
+        if let Some(sector) = blocks.at(block) {
+            places.give(sector - first);
+        }
+    }
+}

@@ -1,0 +1,129 @@
+//! The updates so far.
+
+ghost use Rattle.std.specs.Prelude.{◌≡◌, ◌≤◌, ◌<◌, ◌+◌, ◌++◌, ◌∷◌, List, [], Option, Some, None, length, IfOk, IfSome, IfNone, OnOk, OnErr, IsTrue, is_err};
+ghost use Rattle.disk.specs.Moments.{Image, put, applied};
+ghost use Rattle.disk.specs.declared.update.Update.{Update};
+ghost use Rattle.layout.specs.Health.{Reads};
+ghost use Rattle.tree_transaction.specs.Updates.{AreApart, updated, IsFirst, HasNot};
+
+use disk::{SECTOR, Update};
+use layout::sectors::{ReadFault, Sectors};
+use std::alloc::{AllocError, Global};
+use std::marker::Model;
+
+/// For so many updates there is room from the first one on: a WRITE of whole blocks has three.
+const ROOM: usize = 8;
+
+/// Updates of different sectors. Contracts see their list.
+#[derive(Drop)]
+pub struct Updates {
+    list: Vec<Update>,
+}
+
+impl Model for Updates {
+    ghost use Rattle.std.specs.Prelude.{List};
+    ghost use Rattle.disk.specs.declared.update.Update.{Update};
+    ghost use Rattle.tree_transaction.specs.Updates.{AreApart};
+
+    ghost Value = { List Update };
+
+    ghost view = { λ updates. updates.list.items };
+
+    ghost invariant = { λ updates. AreApart updates.list.items };
+}
+
+impl Updates {
+    /// No updates.
+    pub fn new(alloc: Global) -> Updates
+        ensures { result ≡ [] }
+    {
+        Updates {
+            list: Vec::new(alloc),
+        }
+    }
+
+    /// Tells that no two of them are of one sector.
+    pub(crate) fn tell_apart(&self)
+        ensures { AreApart self.now }
+    {
+        let _ = &self.list;
+    }
+
+    /// Sector `n` after the updates.
+    pub fn read<S: Sectors>(&self, base: &mut S, n: u32) -> Result<[u8; SECTOR], ReadFault>
+        requires { n < S.size (S.kept base.old) }
+        ensures content { S.keeps_word
+            → IfOk result (λ content. content ≡ applied self.now (S.image (S.kept base.old)) n) }
+        // It only reads
+        ensures kept { S.kept base.new ≡ S.kept base.old }
+        ensures health { Reads (S.health base.old) (S.health base.new) (IsTrue (is_err result)) }
+    {
+        match place_of(&self.list, n) {
+            Some(place) => Ok(self.list[place].content),
+            None => base.read(n),
+        }
+    }
+
+    /// One update more, in place of the one of its sector. An `Err` changes nothing.
+    pub fn put(&mut self, target: u32, content: &[u8; SECTOR]) -> Result<(), AllocError>
+        ensures list { OnOk result (self.new
+            ≡ updated self.old (record { target = target; content = content.now })) }
+        ensures image { OnOk result ((image : Image) → applied self.new image
+            ≡ put (applied self.old image) (record { target = target; content = content.now })) }
+        // In any case
+        ensures apart { AreApart self.new }
+        ensures count { length self.new ≤ length self.old + 1 }
+        // Refused
+        ensures err { OnErr result (self.new ≡ self.old) }
+    {
+        match place_of(&self.list, target) {
+            Some(place) => {
+                self.list[place] = Update {
+                    target,
+                    content: *content,
+                };
+            }
+            None => {
+                let update = Update {
+                    target,
+                    content: *content,
+                };
+                push(&mut self.list, update)?;
+            }
+        }
+        Ok(())
+    }
+
+    /// The updates, for whoever writes them.
+    pub fn into_vec(self) -> Vec<Update>
+        ensures { result.items ≡ self }
+    {
+        let Updates { list } = self;
+        list
+    }
+}
+
+/// Puts an update after the others. The first one takes room for most transactions.
+fn push(list: &mut Vec<Update>, update: Update) -> Result<(), AllocError>
+    ensures items { OnOk result (list.new.items ≡ list.old.items ++ update ∷ []) }
+    ensures err { OnErr result (list.new.items ≡ list.old.items) }
+{
+    if list.is_empty() {
+        list.reserve(ROOM)?;
+    }
+    list.push(update)?;
+    Ok(())
+}
+
+/// Where the update of a sector stands.
+fn place_of(updates: &[Update], target: u32) -> Option<usize>
+    ensures some { IfSome result (λ place. IsFirst updates.now target place) }
+    ensures none { IfNone result (HasNot target updates.now) }
+{
+    for (i, update) in updates.iter().enumerate() {
+        if update.target == target {
+            return Some(i);
+        }
+    }
+    None
+}

@@ -1,0 +1,43 @@
+-- A well-formed tree has no file of more than 16,777,216 bytes, so no node has more than 4,096 blocks.
+use Rattle.std.proofs.Common.{◌≡◌, ◌≤◌, ℕ, None, length, refl, sym, ap, subst, ◌∙◌, arith, inl, inr}
+use Rattle.std.proofs.Props.{props}
+use Rattle.std.proofs.Math.Logic.{∥∥₁_elim}
+use Rattle.std.proofs.lemmas.Bool.{cases_lt}
+use Rattle.std.proofs.lemmas.List.{get_or_past}
+use Rattle.std.proofs.lemmas.Option.{none-some}
+use Rattle.disk.specs.Moments.{Image}
+use Rattle.model.specs.declared.node.NodeKind.{NodeKind}
+use Rattle.model.specs.declared.node.NodeKind.TheVariants as kind
+use Rattle.model.specs.Charge.{blocks_of}
+use Rattle.model.specs.Keyed.{at}
+use Rattle.model.specs.Limits.{limits_of}
+use Rattle.model.specs.WellFormed.{IsContent, IsNode}
+use Rattle.layout.specs.Cards.{Card, cards_in, content_of, node_of}
+use Rattle.layout.specs.Laid.{HoldsPlace, HoldsContent, HoldsCard}
+use Rattle.layout.specs.Marks.{mark_in}
+use Rattle.layout.proofs.Answering.{each_answer}
+use Rattle.layout.proofs.StepLaws.{length-bytes_in}
+use Rattle.volume_load.specs.Volumes.{StandsIsFew}
+
+content-is : (image : Image) (card : Card) → (node_of image card).content ≡ content_of image card.fields.kind card
+unfolding node_of
+content-is image card = refl
+
+few_blocks : (size nodes : ℕ) (image : Image) (kind : NodeKind) (card : Card) → IsContent (limits_of size nodes) (content_of image kind card) → HoldsContent image kind card → blocks_of kind card.fields.size ≤ 4096
+few_blocks size nodes image kind.File card is holds = let long = length-bytes_in image card.blocks card.fields.size in let few = is.1 in omega arith
+few_blocks size nodes image kind.Directory card is holds = omega (arith, holds.count, holds.names.few)
+
+few_at : (size nodes : ℕ) (image : Image) (place : ℕ) (card : Card) → IsNode (limits_of size nodes) (node_of image card) → HoldsCard image place card → length card.blocks ≤ 4096
+few_at size nodes image place card is holds =
+    omega (arith, holds.node.blocks, few_blocks size nodes image card.fields.kind card (subst (IsContent (limits_of size nodes)) (content-is image card) is.content) holds.content)
+
+pub stands_few : StandsIsFew
+stands_few version size nodes image run tree stands place card there = ∥∥₁_elim stands.well_formed (Prim.hlevel props) (λ formed.
+    elim (cases_lt place nodes) [
+      | inl h ↦
+          let laid = stands.laid.laid in
+          let answers = each_answer nodes image (mark_in nodes image) (cards_in nodes image) laid card.fields.number in
+          let node = formed.nodes card.fields.number (node_of image card) (ap (at card.fields.number) stands.tree_is ∙ answers.found place card there refl) in
+          few_at size nodes image place card node (subst (HoldsPlace image place) there (laid.held place h))
+      | inr past ↦ absurd (none-some card (sym (get_or_past (cards_in nodes image) place None (omega (arith, stands.laid.laid.count))) ∙ there))
+    ])

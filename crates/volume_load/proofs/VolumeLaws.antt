@@ -1,0 +1,157 @@
+-- A whole volume.
+use Rattle.std.proofs.Common.{◌≡◌, ◌≤◌, ◌<◌, ◌+◌, ◌-◌, ◌*◌, ◌^◌, ℕ, zero, suc, Bool, List, Option, Some, None, get_or, refl, sym, ap, subst, ◌∙◌, arith, inl, inr, lt-ltb, le-ltb}
+use Rattle.std.proofs.lemmas.Bool.{cases_lt}
+use Rattle.std.proofs.lemmas.List.{ext_get_or, get_or_past}
+use Rattle.disk.specs.Moments.{Image}
+use Rattle.freemap.specs.Places.{Shows, mark_of, bit_of, bit_in}
+use Rattle.inode.specs.declared.node.Form.{Form}
+use Rattle.layout.specs.Cards.{Card}
+use Rattle.layout.specs.Known.{AreCards}
+use Rattle.layout.specs.Laid.{AreLaid, AreNumbered}
+use Rattle.layout.specs.Marks.{named, mark_in, mark_by}
+use Rattle.layout.specs.Stands.{HoldSeats, Version, AreKept, HaveForms, IsLaid, IsMark, MayKeep, mark_held, version_by}
+use Rattle.layout.specs.declared.versions.VersionNumber.{VersionNumber}
+use Rattle.model.specs.Seats.{Seats, no_seats}
+use Rattle.layout.proofs.CardLaws.{cards-back}
+use Rattle.layout.proofs.MarkProofs.{mark-back, each_mark, marks_laid}
+use Rattle.volume_load.specs.Cards.{FindsPlace, IsFound, CanHold}
+use Rattle.volume_load.specs.Sectors.{AreBits, AreSpare}
+use Rattle.volume_load.specs.Volumes.{AreFew, IsRead}
+use Rattle.volume_load.proofs.MarkingLaws.{most-in}
+use Rattle.volume_load.proofs.MigrationLaws.{mark_fits, one_mark, mark_there, same-form}
+use Rattle.volume_load.proofs.MigrationLaws.{spare_there}
+use Rattle.volume_load.proofs.TableLaws.{place_held, place_known, place_found, one_place}
+
+-- Cards that are laid can be held
+
+pub laid_can : (word : Type 0) (number : VersionNumber) (mark : Option ℕ) (seats : Seats) (image : Image) (size nodes count : ℕ) (cards : List (Option Card)) → size ≡ 148 + nodes + count → IsLaid (version_by number mark seats) size nodes image cards → AreFew cards
+    → CanHold word (version_by number mark no_seats).form image nodes count cards
+laid_can word number mark seats image size nodes count cards sized laid few = record {
+  many = laid.laid.count;
+  each = λ place h. place_found word ((version_by number mark no_seats).form place) image place (get_or cards place None) (λ card is. laid.forms place card is ∙ ap (λ (f : ℕ → Form). f place) (same-form number mark seats no_seats)) (λ card is. few place card is)
+      (laid.laid.held place h);
+  once = λ n. elim (cases_lt 0 (mark_in nodes image n)) [
+    | inl some ↦
+        let low = laid.laid.behind n some in
+        elim (cases_lt n size) [
+          | inl high ↦ omega (arith, laid.laid.marks n, laid.laid.once n, most-in (148 + nodes) count n low (omega arith))
+          | inr past ↦ absurd (let none = laid.within n past in omega arith)
+        ]
+    | inr none ↦ omega (arith, laid.laid.marks n)
+  ];
+}
+
+-- by the one mark that stands there
+pub record LaidHere (number : VersionNumber) (mark : Option ℕ) (seats : Seats) (image : Image) (size nodes : ℕ) (cards : List (Option Card)) : Type 0 where
+  pub may : MayKeep number mark seats
+  pub laid : IsLaid (version_by number mark seats) size nodes image cards
+
+pub laid_here : (number : VersionNumber) (mark other : Option ℕ) (seats : Seats) (image : Image) (size nodes : ℕ) (cards : List (Option Card)) → nodes < 2 ^ 32 → IsMark number nodes mark → image 147 ≡ mark_held mark → IsMark number nodes other → MayKeep number other seats
+    → IsLaid (version_by number other seats) size nodes image cards → LaidHere number mark seats image size nodes cards
+laid_here number mark other seats image size nodes cards small is there one may laid =
+    let same : other ≡ mark = one_mark other mark (mark_fits number nodes other small one) (mark_fits number nodes mark small is) (sym (mark_there number other seats image may laid.spare) ∙ there) in
+    record {
+      may = subst (λ (m : Option ℕ). MayKeep number m seats) same may;
+      laid = subst (λ (m : Option ℕ). IsLaid (version_by number m seats) size nodes image cards) same laid;
+    }
+
+-- and are those that were found
+pub one_table : (word : Type 0) (form : ℕ → Form) (image : Image) (nodes count : ℕ) (cards others : List (Option Card)) (places : List Bool) → word → IsFound word form image nodes count cards places → CanHold word form image nodes count others → cards ≡ others
+one_table word form image nodes count cards others places w found can =
+    ext_get_or None cards others (found.many ∙ sym can.many) (λ p h. one_place word (form p) image p (get_or cards p None) (get_or others p None) w (found.each p (omega (arith, found.many))) (can.each p (omega (arith, found.many))))
+
+-- The marks of the bitmap
+
+module _ (nodes : ℕ) (image : Image) (places : List Bool) (marks : (n : ℕ) → mark_in nodes image n ≡ mark_by (148 + nodes) places n) where
+  bits : (k : ℕ) → bit_in (image 98) (image 99) k ≡ mark_of places k
+  unfolding mark_in
+  bits k =
+      let first = 148 + nodes in
+      let far : first ≤ first + k = omega arith in
+      let at : first + k - first ≡ k = omega arith in
+      let one : mark_in nodes image (first + k) ≡ bit_in (image 98) (image 99) (first + k - first) = rw (le-ltb (first + k) first far) refl in
+      ap (bit_in (image 98) (image 99)) (sym at) ∙ sym one ∙ marks (first + k) ∙ mark-back first places (first + k) far ∙ ap (mark_of places) at
+
+  low_bits : AreBits (image 98) places 0
+  low_bits i h = (rw (lt-ltb i 32768 h) at (bits i)) ∙ ap (mark_of places) (let e : i ≡ 0 + i = omega arith in e)
+
+  high_bits : AreBits (image 99) places 32768
+  high_bits i h =
+      let far : 32768 ≤ 32768 + i = omega arith in
+      let e : 32768 + i - 32768 ≡ i = omega arith in
+      ap (bit_of (image 99)) (sym e) ∙ (rw (le-ltb (32768 + i) 32768 far) at (bits (32768 + i)))
+
+  pub part_bits : (part : ℕ) → part < 2 → AreBits (image (98 + part)) places (32768 * part)
+  part_bits zero h = low_bits
+  part_bits (suc zero) h = high_bits
+  part_bits (suc (suc part)) h = absurd (omega arith)
+
+-- of cards that are laid the marks that were made are those of the bitmap
+pub same_marks : (word : Type 0) (version : Version) (form : ℕ → Form) (image : Image) (size nodes count : ℕ) (cards others : List (Option Card)) (places : List Bool) → word → IsFound word form image nodes count cards places → CanHold word form image nodes count others → IsLaid version size nodes image others
+    → (n : ℕ) → mark_in nodes image n ≡ mark_by (148 + nodes) places n
+same_marks word version form image size nodes count cards others places w found can laid n =
+    sym (laid.laid.marks n) ∙ ap (named n) (sym (one_table word form image nodes count cards others places w found can)) ∙ sym (found.marks n)
+
+-- What is found of all is read
+
+module _ (word : Type 0) (number : VersionNumber) (run : ℕ) (mark : Option ℕ) (seats : Seats) (image : Image) (size nodes count : ℕ) (cards : List (Option Card)) (places : List Bool) (sized : size ≡ 148 + nodes + count) (small : count ≤ 65536) (marked : IsMark number nodes mark) (may : MayKeep number mark seats) (keeps : AreKept run seats)
+    (found : IsFound word (version_by number mark no_seats).form image nodes count cards places) (apart : AreNumbered cards) (low : word → Shows (image 98) places 0) (high : word → Shows (image 99) places 32768) (there : word → image 147 ≡ mark_held mark) (holds : word → HoldSeats image seats) (spare : word → AreSpare image) where
+  known : AreCards nodes (mark_by (148 + nodes) places) cards
+  known =
+      let each = each_mark (148 + nodes) places 0 in
+      record {
+        count = found.many;
+        each = λ place h. place_known word ((version_by number mark no_seats).form place) image place (get_or cards place None) (found.each place h);
+        apart = apart;
+        marks = λ n. sym (found.marks n);
+        behind = each.behind;
+        once = each.once;
+      }
+
+  same : word → (n : ℕ) → mark_in nodes image n ≡ mark_by (148 + nodes) places n
+  same w = marks_laid nodes count image places small (record { count_is = found.len; low_shows = low w; high_shows = high w })
+
+  laid : word → AreLaid nodes image (mark_in nodes image) cards
+  laid w =
+      let each = each_mark (148 + nodes) places 0 in
+      record {
+        count = found.many;
+        held = λ place h. place_held word ((version_by number mark no_seats).form place) image place (get_or cards place None) w (found.each place h);
+        apart = apart;
+        marks = λ n. sym (found.marks n) ∙ sym (same w n);
+        behind = λ n some. each.behind n (omega (arith, same w n));
+        once = λ n. omega (arith, same w n, each.once n);
+      }
+
+  found_at : (place : ℕ) (card : Card) → get_or cards place None ≡ Some card → FindsPlace word ((version_by number mark no_seats).form place) image place (Some card)
+  found_at place card is = elim (cases_lt place nodes) [
+    | inl h ↦ subst (FindsPlace word ((version_by number mark no_seats).form place) image place) is (found.each place h)
+    | inr past ↦ absurd (none_some card (sym (get_or_past cards place None (omega (arith, found.many))) ∙ is))
+  ]
+    where
+      none_some : (card : Card) → (let none : Option Card = None in none ≡ Some card) → ⊥
+      none_some card e = cc
+
+  few : AreFew cards
+  few place card is = let at = found_at place card is in let rest = at.rest in let blocks = rest.in_blocks in blocks.few
+
+  forms : HaveForms (version_by number mark seats) cards
+  forms place card is = let at = found_at place card is in at.form ∙ ap (λ (f : ℕ → Form). f place) (same-form number mark no_seats seats)
+
+  pub is_read : IsRead word size nodes number run mark seats image cards places
+  is_read = record {
+    marked = marked;
+    may = may;
+    keeps = keeps;
+    known = known;
+    forms = forms;
+    few = few;
+    size_is = sized ∙ ap (λ (n : ℕ). 148 + nodes + n) (sym found.len);
+    laid = λ w. record {
+      laid = laid w;
+      forms = forms;
+      within = λ n h. same w n ∙ (let each = each_mark (148 + nodes) places 0 in each.within n (omega (arith, found.len)));
+      spare = spare_there number mark seats image may keeps.places.five (there w) (holds w) (spare w);
+    };
+    read = λ w. let all = laid w in sym (cards-back image nodes cards found.many all.held);
+  }

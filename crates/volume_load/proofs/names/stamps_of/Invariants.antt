@@ -1,0 +1,6 @@
+use Rattle.std.proofs.Common.{◌≡◌, map, take}
+use Rattle.directory.specs.declared.entry.Entry.{Entry}
+use Rattle.volume_load.proofs.names.stamps_of.Given as goal
+
+abbrev pub invariant-loop-entry : goal.invariant-loop-entry
+invariant-loop-entry l = l.stamps.items ≡ map (λ (entry : Entry). entry.stamp) (take l.entry-index l.entries)

@@ -1,0 +1,7 @@
+use Rattle.std.proofs.Common.{drop, map}
+use Rattle.model.specs.Seats.{AreApart}
+use Rattle.model.specs.SeatViews.{place_view}
+use Rattle.volume_load.proofs.seating.are_apart.Given as goal
+
+abbrev pub invariant-loop-i : goal.invariant-loop-i
+invariant-loop-i l = AreApart (drop l.i (map place_view l.places)) → AreApart (map place_view l.places)

@@ -1,0 +1,33 @@
+use Rattle.std.proofs.Common.{Option, option_map, sym, ap, subst}
+use Rattle.std.specs.Prelude.{Err}
+use Rattle.inode.specs.declared.node.Inode.{Inode}
+use Rattle.inode.specs.Fields.{fields_of}
+use Rattle.layout.specs.Cards.{node_sector}
+use Rattle.volume_load.specs.Places.{FindsFields}
+use Rattle.volume_load.specs.Cards.{FindsRest}
+use Rattle.volume_load.specs.declared.fault.ScanFault.{ScanFault}
+use Rattle.volume_load.proofs.CardLaws.{fields_there, found_there, none_there, marked_card}
+use Rattle.volume_load.proofs.CardLaws.{marked_free}
+use Rattle.volume_load.proofs.SectorLaws.{same_fault}
+use Rattle.volume_load.proofs.table.read_place.Goals as goal
+
+pub returns-in_err-inode-clause-damaged : goal.returns-in_err-inode-clause-damaged
+returns-in_err-inode-clause-damaged g c = λ word is card found can.
+    let image = g.S.Sectors.image (g.S.Sectors.kept c.args.sectors.now) in
+    c.in_err-inode.ensures.damaged word (ap (λ (e : ScanFault). Err e) (same_fault c.from_residual.result c.in_err-inode.field-0.0 c.from_residual.ensures.1 is)) (fields_there card)
+    (found_there g.S.Sectors.keeps_word c.args.form image c.args.place card found)
+
+pub returns-in_default-clause-marked : goal.returns-in_default-clause-marked
+returns-in_default-clause-marked g c = marked_free c.args.first c.args.places.now
+
+pub returns-in_err-card-clause-damaged : goal.returns-in_err-card-clause-damaged
+returns-in_err-card-clause-damaged g c = λ word is card found can.
+    let image = g.S.Sectors.image (g.S.Sectors.kept c.args.sectors.now) in
+    let inode = c.in-Some.inode in
+    let node = subst (λ (o : Option Inode). FindsFields g.S.Sectors.keeps_word c.args.form (image (node_sector c.args.place)) (option_map fields_of o)) c.in-Some.is c.in_ok-inode.ensures.found in
+    none_there g.S.Sectors.keeps_word c.args.form image c.args.place c.args.first c.args.places.now (fields_of inode) word node (λ one same rest marks.
+    c.in_err-card.ensures.damaged word (ap (λ (e : ScanFault). Err e) (same_fault c.from_residual-in_err-card.result c.in_err-card.field-0.0 c.from_residual-in_err-card.ensures.1 is)) one same
+    (subst (λ kept. FindsRest g.S.Sectors.keeps_word (g.S.Sectors.image kept) one) (sym c.in_ok-inode.ensures.kept) rest) marks) card found can
+
+pub returns-clause-marked : goal.returns-clause-marked
+returns-clause-marked g c = marked_card c.args.first c.args.places.now c.read_card.new.places c.in_ok-card.card c.in_ok-card.ensures.marked

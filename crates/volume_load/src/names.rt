@@ -1,0 +1,211 @@
+//! What the blocks of a node hold: a directory's names, and the zeros after a file's last byte.
+
+ghost use Rattle.std.specs.Prelude.{◌≡◌, ◌↔◌, ◌<◌, ◌≤◌, ◌+◌, ◌/◌, List, length, map, IfOk, OnOk};
+ghost use Rattle.std.specs.Prelude.{IsErrOf, IsTrue};
+ghost use Rattle.std.specs.List.{AllByRecursion};
+ghost use Rattle.model.specs.Charge.{blocks_of};
+ghost use Rattle.model.specs.declared.node.NodeKind.TheVariants as kind;
+ghost use Rattle.directory.specs.Records.{Record, record_of, IsDirectory, AreStamped};
+ghost use Rattle.layout.specs.Health.{Reads};
+ghost use Rattle.volume_load.specs.Names.{AreSetWithin, FindsPart, FindsRecords, FindsContent};
+ghost use Rattle.volume_load.specs.Names.{HasTail};
+
+use crate::fault::ScanFault;
+use crate::numbers::are_apart;
+use crate::sectors::{fetch, is_zero_from};
+use directory::{Entry, Names, RECORDS, read_records};
+use extents::BlockList;
+use layout::sectors::Sectors;
+use model::node::NodeKind;
+use std::alloc::{AllocError, Global};
+
+/// The records of a sector that is to have so many.
+fn read_part<S: Sectors>(
+    alloc: Global,
+    sectors: &mut S,
+    sector: u32,
+    count: usize,
+) -> Result<Vec<Entry>, ScanFault>
+    requires within { sector < S.size (S.kept sectors.old) }
+    requires few { count ≤ RECORDS }
+    ensures found { IfOk result (λ entries. FindsPart S.keeps_word
+        (S.image (S.kept sectors.old) sector) count (map record_of entries.items)) }
+    // Refused
+    ensures damaged { S.keeps_word → IsErrOf result ScanFault.Damaged → (names : List Record)
+        → ¬ FindsPart S.keeps_word (S.image (S.kept sectors.old) sector) count names }
+    // It only reads
+    ensures kept { S.kept sectors.new ≡ S.kept sectors.old }
+    ensures health { Reads (S.health sectors.old) (S.health sectors.new)
+        (IsErrOf result ScanFault.Device) }
+{
+    let content = fetch(sectors, sector)?;
+    let entries = read_records(alloc, count, &content)?;
+    Ok(entries)
+}
+
+/// So many records, of these blocks, all but the last of which are full.
+fn read_entries<S: Sectors>(
+    alloc: Global,
+    sectors: &mut S,
+    blocks: &BlockList,
+    count: usize,
+) -> Result<Vec<Entry>, ScanFault>
+    requires within { AreSetWithin (S.size (S.kept sectors.old)) blocks.now }
+    requires enough { length blocks.now ≡ (count + 14) / 15 }
+    ensures found { IfOk result (λ entries. FindsRecords S.keeps_word
+        (S.image (S.kept sectors.old)) blocks.now count (map record_of entries.items)) }
+    // Refused
+    ensures damaged { S.keeps_word → IsErrOf result ScanFault.Damaged → (names : List Record)
+        → ¬ FindsRecords S.keeps_word (S.image (S.kept sectors.old)) blocks.now count names }
+    // It only reads
+    ensures kept { S.kept sectors.new ≡ S.kept sectors.old }
+    ensures health { Reads (S.health sectors.old) (S.health sectors.new)
+        (IsErrOf result ScanFault.Device) }
+{
+    let mut entries = Vec::new(alloc);
+    for block in 0..blocks.count() {
+        let Some(sector) = blocks.at(block) else {
+            return Err(ScanFault::Damaged);
+        };
+        let left = count - entries.len();
+        let mut part = read_part(alloc, sectors, sector, left.min(RECORDS))?;
+        entries.append(&mut part)?;
+    }
+    Ok(entries)
+}
+
+/// Whether all stamps are above 0.
+fn are_above(entries: &[Entry]) -> bool
+    ensures { IsTrue result ↔ AllByRecursion (λ entry. 0 < entry.0) (map record_of entries.now) }
+{
+    for entry in entries {
+        if entry.stamp == 0 {
+            return false;
+        }
+    }
+    true
+}
+
+fn stamps_of(alloc: Global, entries: &[Entry]) -> Result<Vec<u64>, AllocError>
+    ensures { IfOk result (λ stamps. stamps.items ≡ map (λ entry. entry.stamp) entries.now) }
+{
+    let mut stamps = Vec::with_capacity(alloc, entries.len())?;
+    for entry in entries {
+        stamps.push(entry.stamp)?;
+    }
+    Ok(stamps)
+}
+
+/// Whether stamps are above 0, and none stands twice.
+fn are_stamped(alloc: Global, entries: &[Entry]) -> Result<bool, AllocError>
+    ensures { IfOk result (λ are. IsTrue are ↔ AreStamped (map record_of entries.now)) }
+{
+    if !are_above(entries) {
+        return Ok(false);
+    }
+    let stamps = stamps_of(alloc, entries)?;
+    let apart = are_apart(stamps)?;
+    Ok(apart)
+}
+
+/// The directory of these records.
+fn names_from(alloc: Global, entries: Vec<Entry>) -> Result<Names, ScanFault>
+    ensures found { IfOk result (λ names. names ≡ map record_of entries.items) }
+    ensures names { IfOk result IsDirectory }
+    ensures stamped { IfOk result AreStamped }
+    // Refused
+    ensures damaged { IsErrOf result ScanFault.Damaged
+        → IsDirectory (map record_of entries.items) → ¬ AreStamped (map record_of entries.items) }
+    ensures device { ¬ IsErrOf result ScanFault.Device }
+{
+    if !are_stamped(alloc, &entries)? {
+        return Err(ScanFault::Damaged);
+    }
+    match Names::from_entries(alloc, entries)? {
+        Some(names) => Ok(names),
+        None => Err(ScanFault::Damaged),
+    }
+}
+
+/// The names of a directory of this size.
+fn read_names<S: Sectors>(
+    alloc: Global,
+    sectors: &mut S,
+    size: u64,
+    blocks: &BlockList,
+) -> Result<Names, ScanFault>
+    requires within { AreSetWithin (S.size (S.kept sectors.old)) blocks.now }
+    requires enough { length blocks.now ≡ blocks_of kind.Directory size }
+    ensures found { IfOk result (λ names. FindsContent S.keeps_word
+        (S.image (S.kept sectors.old)) kind.Directory size blocks.now names) }
+    // Refused
+    ensures damaged { S.keeps_word → IsErrOf result ScanFault.Damaged → (names : List Record)
+        → ¬ FindsContent S.keeps_word (S.image (S.kept sectors.old)) kind.Directory size blocks.now
+        names }
+    // It only reads
+    ensures kept { S.kept sectors.new ≡ S.kept sectors.old }
+    ensures health { Reads (S.health sectors.old) (S.health sectors.new)
+        (IsErrOf result ScanFault.Device) }
+{
+    if size > Names::MAX_NAMES as u64 {
+        return Err(ScanFault::Damaged);
+    }
+    let entries = read_entries(alloc, sectors, blocks, size as usize)?;
+    names_from(alloc, entries)
+}
+
+/// Sees that the bytes of a file's last block past its size are zero.
+fn check_tail<S: Sectors>(sectors: &mut S, size: u64, blocks: &BlockList) -> Result<(), ScanFault>
+    requires within { AreSetWithin (S.size (S.kept sectors.old)) blocks.now }
+    requires enough { length blocks.now ≡ blocks_of kind.File size }
+    requires few { length blocks.now ≤ BlockList.MAX_BLOCKS }
+    ensures found { OnOk result (S.keeps_word
+        → HasTail (S.image (S.kept sectors.old)) blocks.now size) }
+    // Refused
+    ensures damaged { S.keeps_word → IsErrOf result ScanFault.Damaged
+        → ¬ HasTail (S.image (S.kept sectors.old)) blocks.now size }
+    // It only reads
+    ensures kept { S.kept sectors.new ≡ S.kept sectors.old }
+    ensures health { Reads (S.health sectors.old) (S.health sectors.new)
+        (IsErrOf result ScanFault.Device) }
+{
+    let Some(sector) = blocks.at((size / 4096) as u32) else {
+        return Ok(());
+    };
+    let content = fetch(sectors, sector)?;
+    if !is_zero_from(&content, (size % 4096) as usize) {
+        return Err(ScanFault::Damaged);
+    }
+    Ok(())
+}
+
+/// The names of a node of this size, whose blocks these are: none of a file, whose last block is
+/// looked at.
+pub(crate) fn read_content<S: Sectors>(
+    alloc: Global,
+    sectors: &mut S,
+    kind: NodeKind,
+    size: u64,
+    blocks: &BlockList,
+) -> Result<Names, ScanFault>
+    requires within { AreSetWithin (S.size (S.kept sectors.old)) blocks.now }
+    requires enough { length blocks.now ≡ blocks_of kind size }
+    requires few { length blocks.now ≤ BlockList.MAX_BLOCKS }
+    ensures found { IfOk result (λ names. FindsContent S.keeps_word
+        (S.image (S.kept sectors.old)) kind size blocks.now names) }
+    // Refused
+    ensures damaged { S.keeps_word → IsErrOf result ScanFault.Damaged → (names : List Record)
+        → ¬ FindsContent S.keeps_word (S.image (S.kept sectors.old)) kind size blocks.now names }
+    // It only reads
+    ensures kept { S.kept sectors.new ≡ S.kept sectors.old }
+    ensures health { Reads (S.health sectors.old) (S.health sectors.new)
+        (IsErrOf result ScanFault.Device) }
+{
+    match kind {
+        NodeKind::File => {
+            check_tail(sectors, size, blocks)?;
+            Ok(Names::new(alloc))
+        }
+        NodeKind::Directory => read_names(alloc, sectors, size, blocks),
+    }
+}

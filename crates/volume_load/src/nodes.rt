@@ -1,0 +1,57 @@
+//! The sector of a place of the node table.
+
+ghost use Rattle.std.specs.Prelude.{◌≡◌, ◌<◌, ◌+◌, ◌^◌, Option, option_map, IfOk, IsErrOf};
+ghost use Rattle.inode.specs.Fields.{Fields, fields_of};
+ghost use Rattle.volume_load.specs.Places.{FindsFields};
+ghost use Rattle.layout.specs.Cards.{node_sector};
+ghost use Rattle.layout.specs.Health.{Reads};
+
+use crate::fault::ScanFault;
+use crate::sectors::{fetch, is_zero_from};
+use disk::SECTOR;
+use inode::{Form, Inode};
+use layout::places::NODES;
+use layout::sectors::Sectors;
+use std::alloc::Global;
+
+/// The node whose sector this is, in its place's form; none where it is a free place's.
+fn node_in(alloc: Global, form: Form, content: &[u8; SECTOR]) -> Result<Option<Inode>, ScanFault>
+    ensures found { IfOk result
+        (λ node. FindsFields (Unit {0}) form content.now (option_map fields_of node)) }
+    ensures damaged { IsErrOf result ScanFault.Damaged
+        → (fields : Option Fields) → ¬ FindsFields (Unit {0}) form content.now fields }
+    ensures device { ¬ IsErrOf result ScanFault.Device }
+{
+    if is_zero_from(content, 0) {
+        return Ok(None);
+    }
+    let inode = inode::from_sector(alloc, form, content)?;
+    if inode.number == 0 {
+        return Err(ScanFault::Damaged);
+    }
+    Ok(Some(inode))
+}
+
+/// The node at a place, in this form; none where the place is free.
+pub(crate) fn read_node<S: Sectors>(
+    alloc: Global,
+    sectors: &mut S,
+    place: u32,
+    form: Form,
+) -> Result<Option<Inode>, ScanFault>
+    requires within { NODES + place < S.size (S.kept sectors.old) }
+    requires small { NODES + place < 2 ^ 32 }
+    ensures found { IfOk result (λ node. FindsFields S.keeps_word form
+        (S.image (S.kept sectors.old) (node_sector place)) (option_map fields_of node)) }
+    // Refused
+    ensures damaged { S.keeps_word → IsErrOf result ScanFault.Damaged → (fields : Option Fields)
+        → ¬ FindsFields S.keeps_word form (S.image (S.kept sectors.old) (node_sector place))
+        fields }
+    // It only reads
+    ensures kept { S.kept sectors.new ≡ S.kept sectors.old }
+    ensures health { Reads (S.health sectors.old) (S.health sectors.new)
+        (IsErrOf result ScanFault.Device) }
+{
+    let content = fetch(sectors, NODES + place)?;
+    node_in(alloc, form, &content)
+}

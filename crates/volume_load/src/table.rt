@@ -1,0 +1,202 @@
+//! The card of a place, and those of a table.
+
+ghost use Rattle.std.specs.Prelude.{◌≡◌, ◌<◌, ◌+◌, ◌/◌, ◌^◌, ℕ, List, Option, Some, length};
+ghost use Rattle.std.specs.Prelude.{replicate, false, IfOk, IsErrOf, None, IsTrue, ◌↔◌};
+ghost use Rattle.extents.specs.declared.run.Run.{Run};
+ghost use Rattle.inode.specs.Fields.{fields_of, IsInode};
+ghost use Rattle.layout.specs.Cards as layout;
+ghost use Rattle.layout.specs.Health.{Reads};
+ghost use Rattle.layout.specs.Laid.{AreNumbered};
+ghost use Rattle.layout.specs.Marks.{named_by};
+ghost use Rattle.layout.specs.Stands.{version_by};
+ghost use Rattle.model.specs.Seats.{no_seats};
+ghost use Rattle.volume_load.specs.Names.{AreSetWithin};
+ghost use Rattle.volume_load.specs.Marking.{CanMark, AreMarked};
+ghost use Rattle.volume_load.specs.Cards.{uses, FindsBlocks, FindsRest, FindsPlace, IsFound};
+ghost use Rattle.volume_load.specs.Cards.{CanHold};
+ghost use Rattle.volume_load.specs.Cards.{numbers_of};
+
+use crate::fault::ScanFault;
+use crate::marks::{mark_blocks, mark_sectors};
+use crate::names::read_content;
+use crate::nodes::read_node;
+use crate::numbers::are_apart;
+use crate::runs::{blocks_from, read_runs};
+use extents::{BlockList, Run};
+use freemap::Bitmap;
+use inode::{Form, Inode};
+use layout::places::NODES;
+use layout::sectors::Sectors;
+use layout::versions::{VersionNumber, form_at};
+use node_table::Card;
+use std::alloc::{AllocError, Global};
+
+/// The runs and the blocks of a node.
+#[derive(Drop)]
+struct Laid {
+    runs: Vec<Run>,
+    blocks: BlockList,
+}
+
+/// The runs and the blocks of a node, whose sectors are marked before they are read.
+fn read_blocks<S: Sectors>(
+    alloc: Global,
+    sectors: &mut S,
+    places: &mut Bitmap,
+    first: u32,
+    inode: &Inode,
+) -> Result<Laid, ScanFault>
+    requires enough { length inode.now.run_sectors.items ≡ (inode.now.runs + 499) / 500 }
+    requires size { first + length places.old ≡ S.size (S.kept sectors.old) }
+    ensures found { IfOk result (λ laid. FindsBlocks S.keeps_word (S.image (S.kept sectors.old))
+        (fields_of inode.now) laid.runs.items laid.blocks) }
+    ensures within { IfOk result
+        (λ laid. AreSetWithin (S.size (S.kept sectors.old)) laid.blocks) }
+    ensures marked { IfOk result (λ laid. AreMarked first places.old places.new
+        (uses (fields_of inode.now) laid.blocks)) }
+    // Refused
+    ensures damaged { S.keeps_word → IsErrOf result ScanFault.Damaged
+        → (runs : List Run) (blocks : List (Option ℕ))
+        → FindsBlocks S.keeps_word (S.image (S.kept sectors.old)) (fields_of inode.now) runs blocks
+        → ¬ CanMark first places.old (uses (fields_of inode.now) blocks) }
+    // It only reads
+    ensures kept { S.kept sectors.new ≡ S.kept sectors.old }
+    ensures health { Reads (S.health sectors.old) (S.health sectors.new)
+        (IsErrOf result ScanFault.Device) }
+{
+    if !mark_sectors(places, first, &inode.run_sectors) {
+        return Err(ScanFault::Damaged);
+    }
+    let runs = read_runs(alloc, sectors, &inode.run_sectors, usize::from(inode.runs))?;
+    let blocks = blocks_from(alloc, inode.kind, inode.size, &runs)?;
+    if !mark_blocks(places, first, &blocks) {
+        return Err(ScanFault::Damaged);
+    }
+    Ok(Laid { runs, blocks })
+}
+
+/// The card of a node: what the sectors hold that it names, which are marked.
+fn read_card<S: Sectors>(
+    alloc: Global,
+    sectors: &mut S,
+    places: &mut Bitmap,
+    first: u32,
+    form: Form,
+    inode: Inode,
+) -> Result<Card, ScanFault>
+    requires fits { IsInode form (fields_of inode) }
+    requires size { first + length places.old ≡ S.size (S.kept sectors.old) }
+    ensures fields { IfOk result (λ card. card.fields ≡ fields_of inode) }
+    ensures form { IfOk result (λ card. card.form ≡ form) }
+    ensures found { IfOk result (FindsRest S.keeps_word (S.image (S.kept sectors.old))) }
+    ensures marked { IfOk result (λ card. AreMarked first places.old places.new
+        (uses card.fields card.blocks)) }
+    // Refused
+    ensures damaged { S.keeps_word → IsErrOf result ScanFault.Damaged → (card : layout.Card)
+        → card.fields ≡ fields_of inode
+        → FindsRest S.keeps_word (S.image (S.kept sectors.old)) card
+        → ¬ CanMark first places.old (uses card.fields card.blocks) }
+    // It only reads
+    ensures kept { S.kept sectors.new ≡ S.kept sectors.old }
+    ensures health { Reads (S.health sectors.old) (S.health sectors.new)
+        (IsErrOf result ScanFault.Device) }
+{
+    let laid = read_blocks(alloc, sectors, places, first, &inode)?;
+    let names = read_content(alloc, sectors, inode.kind, inode.size, &laid.blocks)?;
+    Ok(Card {
+        form,
+        inode,
+        runs: laid.runs,
+        blocks: laid.blocks,
+        names,
+    })
+}
+
+/// The card of a place, whose node is to have this form; none where it is free.
+fn read_place<S: Sectors>(
+    alloc: Global,
+    sectors: &mut S,
+    places: &mut Bitmap,
+    first: u32,
+    place: u32,
+    form: Form,
+) -> Result<Option<Card>, ScanFault>
+    requires place { NODES + place < first }
+    requires size { first + length places.old ≡ S.size (S.kept sectors.old) }
+    ensures found { IfOk result
+        (FindsPlace S.keeps_word form (S.image (S.kept sectors.old)) place) }
+    ensures marked { IfOk result (λ card. AreMarked first places.old places.new
+        (λ n. named_by n card)) }
+    // Refused
+    ensures damaged { S.keeps_word → IsErrOf result ScanFault.Damaged
+        → (card : Option layout.Card)
+        → FindsPlace S.keeps_word form (S.image (S.kept sectors.old)) place card
+        → ¬ CanMark first places.old (λ n. named_by n card) }
+    // It only reads
+    ensures kept { S.kept sectors.new ≡ S.kept sectors.old }
+    ensures health { Reads (S.health sectors.old) (S.health sectors.new)
+        (IsErrOf result ScanFault.Device) }
+{
+    let Some(inode) = read_node(alloc, sectors, place, form)? else {
+        return Ok(None);
+    };
+    let card = read_card(alloc, sectors, places, first, form, inode)?;
+    Ok(Some(card))
+}
+
+/// The cards of so many places, in the forms of the version and its mark, and the marks of what
+/// they name.
+pub(crate) fn read_table<S: Sectors>(
+    alloc: Global,
+    sectors: &mut S,
+    places: &mut Bitmap,
+    nodes: u32,
+    number: VersionNumber,
+    mark: Option<u32>,
+) -> Result<Vec<Option<Card>>, ScanFault>
+    requires few { NODES + nodes < 2 ^ 32 }
+    requires size { NODES + nodes + length places.old ≡ S.size (S.kept sectors.old) }
+    requires free { places.old ≡ replicate (length places.old) false }
+    ensures found { IfOk result (λ cards. IsFound S.keeps_word
+        (version_by number mark no_seats).form (S.image (S.kept sectors.old)) nodes
+        (length places.old) cards.items places.new) }
+    // Refused
+    ensures damaged { S.keeps_word → IsErrOf result ScanFault.Damaged
+        → (cards : List (Option layout.Card))
+        → ¬ CanHold S.keeps_word (version_by number mark no_seats).form
+        (S.image (S.kept sectors.old)) nodes (length places.old) cards }
+    // It only reads
+    ensures kept { S.kept sectors.new ≡ S.kept sectors.old }
+    ensures health { Reads (S.health sectors.old) (S.health sectors.new)
+        (IsErrOf result ScanFault.Device) }
+{
+    let mut cards = Vec::with_capacity(alloc, nodes as usize)?;
+    for place in 0..nodes {
+        let form = form_at(number, mark, place);
+        let card = read_place(alloc, sectors, places, NODES + nodes, place, form)?;
+        cards.push(card)?;
+    }
+    Ok(cards)
+}
+
+/// The numbers of the nodes.
+fn numbers_in(alloc: Global, cards: &[Option<Card>]) -> Result<Vec<u64>, AllocError>
+    ensures { IfOk result (λ numbers. numbers.items ≡ numbers_of cards.now) }
+{
+    let mut numbers = Vec::with_capacity(alloc, cards.len())?;
+    for card in cards {
+        if let Some(card) = card {
+            numbers.push(card.inode.number)?;
+        }
+    }
+    Ok(numbers)
+}
+
+/// Whether no two nodes have one number.
+pub(crate) fn are_numbered(alloc: Global, cards: &[Option<Card>]) -> Result<bool, AllocError>
+    ensures { IfOk result (λ are. IsTrue are ↔ AreNumbered cards.now) }
+{
+    let numbers = numbers_in(alloc, cards)?;
+    let apart = are_apart(numbers)?;
+    Ok(apart)
+}

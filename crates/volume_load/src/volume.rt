@@ -1,0 +1,135 @@
+//! A whole volume.
+
+ghost use Rattle.std.specs.Prelude.{◌≡◌, ◌≤◌, ◌<◌, ◌+◌, ◌*◌, ℕ, List, Option, IfOk, OnOk, IsErrOf};
+ghost use Rattle.std.specs.Prelude.{IsTrue};
+ghost use Rattle.freemap.specs.Places.{Shows};
+ghost use Rattle.layout.specs.Cards as layout;
+ghost use Rattle.layout.specs.Health.{Reads};
+ghost use Rattle.layout.specs.Stands.{AreKept, IsLaid, IsMark, MayKeep, version_by};
+ghost use Rattle.layout.specs.Superblock.{is_size};
+ghost use Rattle.model.specs.Seats as model;
+ghost use Rattle.model.specs.SeatViews.{seats_view};
+ghost use Rattle.volume_load.specs.Sectors.{AreBits, AreSpare};
+ghost use Rattle.volume_load.specs.Volumes.{IsRead, AreFew};
+
+use crate::fault::ScanFault;
+use crate::migration::read_mark;
+use crate::seating::{may_keep, read_seats};
+use crate::sectors::{are_same, fetch, is_zero_from};
+use crate::table::{are_numbered, read_table};
+use disk::SECTOR;
+use freemap::{Bitmap, SECTOR_PLACES};
+use layout::places::{BEHIND_SEATS, BITMAP, MARK, NODES};
+use layout::sectors::Sectors;
+use layout::versions::VersionNumber;
+use model::seats::Seats;
+use node_table::Card;
+use std::alloc::Global;
+
+/// What a volume holds: the cards of its nodes by their places, and which places of its data region
+/// they use.
+#[derive(Drop)]
+pub struct Contents {
+    pub cards: Vec<Option<Card>>,
+    pub places: Bitmap,
+    /// How far a migration came, as its mark tells.
+    pub mark: Option<u32>,
+    /// The seats of persistent sessions.
+    pub seats: Seats,
+}
+
+/// Sees that sector `part` of the bitmap shows these places and nothing else.
+fn check_marks<S: Sectors>(sectors: &mut S, places: &Bitmap, part: u32) -> Result<(), ScanFault>
+    requires part { part < 2 }
+    requires within { BITMAP + part < S.size (S.kept sectors.old) }
+    ensures found { OnOk result (S.keeps_word
+        → Shows (S.image (S.kept sectors.old) (BITMAP + part)) places.now (SECTOR_PLACES * part)) }
+    // Refused
+    ensures damaged { S.keeps_word → IsErrOf result ScanFault.Damaged
+        → ¬ AreBits (S.image (S.kept sectors.old) (BITMAP + part)) places.now
+        (SECTOR_PLACES * part) }
+    // It only reads
+    ensures kept { S.kept sectors.new ≡ S.kept sectors.old }
+    ensures health { Reads (S.health sectors.old) (S.health sectors.new)
+        (IsErrOf result ScanFault.Device) }
+{
+    let content = fetch(sectors, BITMAP + part)?;
+    let mut shown = [0; SECTOR];
+    places.to_sector(part, &mut shown);
+    if !are_same(&content, &shown) {
+        return Err(ScanFault::Damaged);
+    }
+    Ok(())
+}
+
+/// Sees that the sectors between the seats and the mark are zero.
+fn check_spare<S: Sectors>(sectors: &mut S) -> Result<(), ScanFault>
+    requires within { MARK ≤ S.size (S.kept sectors.old) }
+    ensures found { OnOk result (S.keeps_word → AreSpare (S.image (S.kept sectors.old))) }
+    // Refused
+    ensures damaged { S.keeps_word → IsErrOf result ScanFault.Damaged
+        → ¬ AreSpare (S.image (S.kept sectors.old)) }
+    // It only reads
+    ensures kept { S.kept sectors.new ≡ S.kept sectors.old }
+    ensures health { Reads (S.health sectors.old) (S.health sectors.new)
+        (IsErrOf result ScanFault.Device) }
+{
+    for n in BEHIND_SEATS..MARK {
+        let content = fetch(sectors, n)?;
+        if !is_zero_from(&content, 0) {
+            return Err(ScanFault::Damaged);
+        }
+    }
+    Ok(())
+}
+
+/// Reads a volume of so many sectors and nodes, of this version and mounted so often, as its
+/// superblock tells them: the mark of its migration, the seats that it keeps, the cards that its
+/// sectors hold, each in the form of its place, and the places of the data region that these use.
+///
+/// # Errors
+///
+/// [`ScanFault::Damaged`] exactly where the sectors hold no mark with seats that it may keep and
+/// cards of nodes that have 4,096 blocks at most; [`ScanFault::Device`] where the device failed,
+/// and [`ScanFault::Memory`].
+pub fn read_volume<S: Sectors>(
+    alloc: Global,
+    sectors: &mut S,
+    size: u32,
+    nodes: u32,
+    number: VersionNumber,
+    run: u32,
+) -> Result<Contents, ScanFault>
+    requires sized { IsTrue (is_size size nodes) }
+    requires size { S.size (S.kept sectors.old) ≡ size }
+    ensures found { IfOk result (λ contents. IsRead S.keeps_word size nodes number run contents.mark
+        (seats_view contents.seats) (S.image (S.kept sectors.old)) contents.cards.items
+        contents.places) }
+    // Refused
+    ensures damaged { S.keeps_word → IsErrOf result ScanFault.Damaged
+        → (mark : Option ℕ) (seats : model.Seats) (cards : List (Option layout.Card))
+        → IsMark number nodes mark → MayKeep number mark seats → AreKept run seats
+        → IsLaid (version_by number mark seats) size nodes (S.image (S.kept sectors.old)) cards
+        → ¬ AreFew cards }
+    // It only reads
+    ensures kept { S.kept sectors.new ≡ S.kept sectors.old }
+    ensures health { Reads (S.health sectors.old) (S.health sectors.new)
+        (IsErrOf result ScanFault.Device) }
+{
+    let mark = read_mark(sectors, number, nodes)?;
+    let mut places = Bitmap::new(alloc, size - NODES - nodes)?;
+    let cards = read_table(alloc, sectors, &mut places, nodes, number, mark)?;
+    if !are_numbered(alloc, &cards)? {
+        return Err(ScanFault::Damaged);
+    }
+    check_marks(sectors, &places, 0)?;
+    check_marks(sectors, &places, 1)?;
+    check_spare(sectors)?;
+    let seats = read_seats(alloc, sectors, run, may_keep(number, mark))?;
+    Ok(Contents {
+        cards,
+        places,
+        mark,
+        seats,
+    })
+}
