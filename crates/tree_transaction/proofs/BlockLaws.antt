@@ -90,7 +90,7 @@ pub zeros-are : replicate 4096 0 ≡ zero_sector
 unfolding zero_sector
 zeros-are = refl
 
-length-zero : length zero_sector ≡ 4096
+pub length-zero : length zero_sector ≡ 4096
 unfolding zero_sector
 length-zero = length-replicate {A = ℕ} 4096 0
 

@@ -75,6 +75,11 @@ fn write_new(
         (placed zero_sector from bytes.now)) }
     ensures count { length updates.new ≤ length updates.old + 1 }
 {
+    // Bytes of a whole sector are not laid over zeros.
+    if let Some(whole) = bytes.first_chunk::<SECTOR>() {
+        updates.put(sector, whole)?;
+        return Ok(());
+    }
     let mut content = [0; SECTOR];
     put_bytes(&mut content, from, bytes);
     updates.put(sector, &content)?;
