@@ -34,9 +34,11 @@ folder=$(mktemp -d)
 cd "$folder"
 
 end() {
-    [ -z "$server" ] || kill -9 "$server" || true
-    [ -z "$building" ] || kill "$building" || true
-    wait 2> /dev/null
+    {
+        [ -z "$server" ] || kill -9 "$server" || true
+        [ -z "$building" ] || kill "$building" || true
+        wait || true
+    } 2> /dev/null
     cd /
     rm -r "$folder"
 }
