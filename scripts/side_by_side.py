@@ -4,7 +4,8 @@ and their ratio.
 
     scripts/side_by_side.py [ROUNDS] [SECONDS]      after `rt run` in crates/nfs41, as root
 
-Needs rustc, and nfs-ganesha with its VFS module. Both servers keep their files in memory
+Needs rustc, and nfs-ganesha with its VFS module. NFS41 in the environment names another program
+than the one that `rt run` leaves. Both servers keep their files in memory
 (/dev/shm), are asked over one connection, one request at a time (scripts/nfsload.rs), and take
 turns, so that what else runs on the machine takes from both.
 """
@@ -19,9 +20,11 @@ import sys
 import tempfile
 import time
 
-OPERATIONS = "null getattr lookup read readdir write_unstable write_sync mkdir_rmdir".split()
+OPERATIONS = """null getattr lookup read readdir write_unstable long_write_unstable write_sync
+    long_write_sync mkdir_rmdir full_mkdir_rmdir create_remove full_create_remove rename
+    full_rename""".split()
 TOP = pathlib.Path(__file__).resolve().parent.parent
-PROGRAM = TOP / "crates/nfs41/out/nfs41"
+PROGRAM = os.environ.get("NFS41") or TOP / "crates/nfs41/out/nfs41"
 CONFIGURATION = """
 NFS_CORE_PARAM {{ NFS_Port = {port}; Bind_addr = 127.0.0.1; Protocols = 4;
     Enable_NLM = false; Enable_RQUOTA = false; mount_path_pseudo = true; }}
