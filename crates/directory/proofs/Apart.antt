@@ -1,10 +1,11 @@
 -- Names that stand apart.
-use Rattle.std.proofs.Common.{ℕ, zero, suc, Bool, true, false, List, [], ◌∷◌, ◌≡◌, ◌≢◌, ◌<◌, ◌≤◌, ◌+◌, ◌∙◌, cond, bytes_eq, length, get_or, refl, sym, ap, arith}
+use Rattle.std.proofs.Common.{ℕ, zero, suc, Bool, true, false, List, [], ◌∷◌, ◌≡◌, ◌≢◌, ◌<◌, ◌≤◌, ◌+◌, ◌∙◌, inl, inr, cond, bytes_eq, length, get_or, refl, sym, ap, arith}
+use Rattle.std.proofs.lemmas.Bool.{cases_lt}
 use Rattle.directory.specs.Records.{Record, is_named, place_of, AreApart}
-use Rattle.directory.proofs.Places.{named_there, bytes_eq-same}
+use Rattle.directory.proofs.Places.{named_there, bytes_eq-same, place_of-le}
 
 -- a name stands where a record has it, or before
-place_of-before : (name : List ℕ) (xs : List Record) (i : ℕ) (d : Record) → i < length xs → (get_or xs i d).1.name ≡ name → place_of name xs ≤ i
+pub place_of-before : (name : List ℕ) (xs : List Record) (i : ℕ) (d : Record) → i < length xs → (get_or xs i d).1.name ≡ name → place_of name xs ≤ i
 place_of-before name [] i d within named = absurd (omega arith)
 place_of-before name (x ∷ xs) zero d within named =
     let hit : is_named name x ≡ true = ap (bytes_eq name) named ∙ bytes_eq-same name in
@@ -28,3 +29,20 @@ not_apart xs i d within elsewhere apart =
     let low : place_of name xs ≤ i = place_of-before name xs i d within refl in
     let before : place_of name xs < i = omega (arith, elsewhere) in
     apart (place_of name xs) i d before within (named_there name xs d (omega arith))
+
+-- where the first that has a name stands, and where none has it
+pub place_of-first : (name : List ℕ) (xs : List Record) (i : ℕ) (d : Record) → i < length xs → (get_or xs i d).1.name ≡ name
+    → ((j : ℕ) (e : Record) → j < i → (get_or xs j e).1.name ≢ name) → i ≡ place_of name xs
+place_of-first name xs i d within named before =
+    let low : place_of name xs ≤ i = place_of-before name xs i d within named in
+    elim (cases_lt (place_of name xs) i) [
+      | inl less ↦ absurd (before (place_of name xs) d less (named_there name xs d (omega arith)))
+      | inr no_less ↦ omega arith
+    ]
+
+pub place_of-none : (name : List ℕ) (xs : List Record) (d : Record) → ((j : ℕ) (e : Record) → j < length xs → (get_or xs j e).1.name ≢ name) → length xs ≡ place_of name xs
+place_of-none name xs d none =
+    elim (cases_lt (place_of name xs) (length xs)) [
+      | inl less ↦ absurd (none (place_of name xs) d less (named_there name xs d less))
+      | inr no_less ↦ let most : place_of name xs ≤ length xs = place_of-le name xs in omega arith
+    ]

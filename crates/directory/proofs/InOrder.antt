@@ -1,14 +1,13 @@
 -- The order of records after a change of these, and what a search in it finds.
-use Rattle.std.proofs.Common.{ℕ, zero, suc, true, false, List, [], ◌∷◌, ◌++◌, ◌≡◌, ◌≢◌, ◌<◌, ◌≤◌, ◌+◌, ◌-◌, ◌∙◌, Some, None, inl, inr, length, map, get_or, set, take, leb, leb-true, leb-false, refl, sym, ap, subst, arith}
+use Rattle.std.proofs.Common.{ℕ, zero, suc, true, false, List, [], ◌∷◌, ◌++◌, ◌≡◌, ◌≢◌, ◌<◌, ◌≤◌, ◌+◌, ◌-◌, ◌∙◌, Some, None, inl, inr, length, get_or, set, take, leb, leb-true, leb-false, refl, sym, ap, subst, arith}
 use Rattle.std.specs.List.{Contains}
 use Rattle.std.specs.List.Sorted.{IsPartitionPoint}
 use Rattle.std.proofs.lemmas.Bool.{cases_eq, cases_lt}
-use Rattle.std.proofs.lemmas.List.{take_more, length-map, get_or-map, length-set, length-take, length_push, get_or-set_same, get_or-set_other, get_or_default, get_or_append_left, get_or_push}
+use Rattle.std.proofs.lemmas.List.{take_more, length-set, length-take, length_push, get_or-set_same, get_or-set_other, get_or_default, get_or_append_left, get_or_push}
 use Rattle.model.specs.Keyed.{at}
 use Rattle.model.proofs.KeyedLaws.{at-first, at-rest}
-use Rattle.directory.specs.declared.entry.Entry.{Entry}
 use Rattle.directory.specs.declared.order.Placed.{Placed}
-use Rattle.directory.specs.Records.{Record, record_of, record_from, stamp_of, without_place}
+use Rattle.directory.specs.Records.{Record, record_from, stamp_of, without_place}
 use Rattle.directory.specs.Least.{IsLeast}
 use Rattle.directory.specs.Order.{is_before, IsOf, IsOrder, IsInserted, IsTakenOut}
 use Rattle.directory.proofs.Kept.{moved_at, moved_here}
@@ -30,13 +29,6 @@ no_records = record {
 
 pub stands : (xs : List Record) (one : Placed) (d : Record) → one.place < length xs → one.stamp ≡ stamp_of (get_or xs one.place d) → IsOf xs one
 stands xs one d within is = (within, λ e. ap stamp_of (get_or_default xs one.place e d within) ∙ sym is)
-
--- an entry has its place
-pub entry_stands : (entries : List Entry) (place : ℕ) (d : Entry) → place < length entries
-    → IsOf (map record_of entries) (record { stamp = (get_or entries place d).stamp; place = place })
-entry_stands entries place d within =
-    stands (map record_of entries) (record { stamp = (get_or entries place d).stamp; place = place }) (record_of d) (omega (arith, length-map entries record_of))
-    (sym (ap stamp_of (get_or-map record_of entries place d (record_of d) within)))
 
 -- A record after the last
 

@@ -12,3 +12,4 @@ pub mod NamedByStamp
 pub mod ReadBack
 pub mod Rising
 pub mod InOrder
+pub mod Blocks

@@ -96,6 +96,14 @@ directory_sector-written names entries new end count is place few rest len front
     sym whole ∙ front ∙ ap (λ (bytes : List ℕ). bytes ++ replicate count 0) (flat_map-records entries) ∙ ap (λ (k : ℕ). flat_map record_bytes (map record_of entries) ++ replicate k 0) zeros
     ∙ ap (λ (rs : List Record). flat_map record_bytes rs ++ replicate (4096 - 272 * length rs) 0) (sym is)
 
+pub sector_written : (names : List Record) (new : List ℕ) (end count : ℕ) → end ≡ 272 * length names → length names ≤ 15 → count ≡ 4096 - end → length new ≡ 4096
+    → take (end + count) new ≡ flat_map record_bytes names ++ replicate count 0 → new ≡ directory_sector names
+unfolding directory_sector
+sector_written names new end count place few rest len front =
+    let whole : take (end + count) new ≡ new = take_all (end + count) new (omega arith) in
+    let zeros : count ≡ 4096 - 272 * length names = omega arith in
+    sym whole ∙ front ∙ ap (λ (k : ℕ). flat_map record_bytes names ++ replicate k 0) zeros
+
 pub records_there : (others : List Record) (sector : List ℕ) → sector ≡ directory_sector others → drop 0 sector ≡ flat_map record_bytes others ++ replicate (4096 - 272 * length others) 0
 unfolding directory_sector
 records_there others sector e = e

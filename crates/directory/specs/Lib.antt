@@ -7,3 +7,4 @@ pub mod Readings
 pub mod Records
 pub mod Rest
 pub mod Spelling
+pub mod Blocks

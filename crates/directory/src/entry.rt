@@ -8,8 +8,7 @@ use std::rc::RcSlice;
 /// A name, with its stamp and its node.
 #[derive(Drop)]
 pub struct Entry {
-    /// 1 to 255 bytes, which copies of the entry share: each change of a directory copies its
-    /// names.
+    /// 1 to 255 bytes, which copies of the entry share: a change of a record copies its block.
     pub name: RcSlice<u8>,
     /// The stamp of the change that put the name, its cookie.
     pub stamp: u64,

@@ -8,6 +8,7 @@ mod listing;
 mod names;
 mod order;
 mod paging;
+mod records;
 mod sectors;
 
 pub use entry::Entry;

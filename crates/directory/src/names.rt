@@ -1,10 +1,10 @@
 //! The names of a directory.
 
-ghost use Rattle.std.specs.Prelude.{◌≡◌, ◌≢◌, ◌<◌, ◌≤◌, ◌+◌, ℕ, List, [], ◌∷◌, Option, Some, None, length, map, take, drop, option_map, IsErrOf, IsTrue, ◌↔◌, IfOk, IfSome, IfNone, OnOk, OnErr, MatchOption};
+ghost use Rattle.std.specs.Prelude.{◌≡◌, ◌≢◌, ◌<◌, ◌≤◌, ◌+◌, ◌++◌, ℕ, List, [], ◌∷◌, Option, Some, None, length, map, take, drop, option_map, slice_index_or, slice_set, IsErrOf, IsTrue, ◌↔◌, IfOk, IfSome, IfNone, OnOk, OnErr, MatchOption};
 ghost use Rattle.std.specs.List.{AllByRecursion};
 ghost use Rattle.model.specs.Tree.{entry_of};
 ghost use Rattle.directory.specs.Spelling.{directory_sector};
-ghost use Rattle.directory.specs.Records.{record_of, record_from, place_of, with_record, without_place, AreApart, AreStamped, IsRecord, IsDirectory};
+ghost use Rattle.directory.specs.Records.{record_of, record_from, name_of, place_of, with_record, without_place, AreApart, AreStamped, Record, IsRecord, IsDirectory};
 ghost use Rattle.directory.specs.Listing.{by_stamp, after, PutsByStamp, RemovesByStamp};
 ghost use Rattle.model.specs.Keyed.{at};
 ghost use Rattle.directory.specs.Rest.{rest_of};
@@ -13,6 +13,7 @@ use crate::entry::Entry;
 use crate::fault::DirectoryFault;
 use crate::listing::ListAfter;
 use crate::order::{self, Placed};
+use crate::records::Records;
 use crate::sectors::{self, MAX_NAME_BYTES, RECORDS};
 use sector::SIZE;
 use std::alloc::{AllocError, Global};
@@ -24,22 +25,21 @@ use std::marker::Model;
 #[derive(Drop)]
 pub struct Names {
     alloc: Global,
-    entries: Vec<Entry>,
+    records: Records,
     order: Vec<Placed>,
 }
 
 impl Model for Names {
-    ghost use Rattle.std.specs.Prelude.{ℕ, List, map};
+    ghost use Rattle.std.specs.Prelude.{ℕ, List};
     ghost use Rattle.model.specs.Tree.{DirEntry};
 
     ghost Value = { List (ℕ × DirEntry) };
 
-    ghost use Rattle.directory.specs.Records.{record_of};
     ghost use Rattle.directory.specs.Order.{AreKept};
 
-    ghost view = { λ names. map record_of names.entries.items };
+    ghost view = { λ names. names.records };
 
-    ghost invariant = { λ names. AreKept (map record_of names.entries.items) names.order.items };
+    ghost invariant = { λ names. AreKept names.records names.order.items };
 }
 
 impl Names {
@@ -52,7 +52,7 @@ impl Names {
     {
         Names {
             alloc,
-            entries: Vec::new(alloc),
+            records: Records::new(alloc),
             order: Vec::new(alloc),
         }
     }
@@ -67,13 +67,17 @@ impl Names {
         ensures none { IfOk result (λ names.
             IfNone names (¬ IsDirectory (map record_of entries.items))) }
     {
-        if entries.len() > Names::MAX_NAMES || !are_records(&entries) || !are_apart(&entries) {
+        if entries.len() > Names::MAX_NAMES || !are_records(&entries) {
             return Ok(None);
         }
-        let order = order::order_of(alloc, &entries)?;
+        let records = Records::from_entries(alloc, &entries)?;
+        if !are_apart(&records) {
+            return Ok(None);
+        }
+        let order = order::order_of(alloc, &records)?;
         Ok(Some(Names {
             alloc,
-            entries,
+            records,
             order,
         }))
     }
@@ -84,7 +88,7 @@ impl Names {
     {
         Ok(Names {
             alloc: self.alloc,
-            entries: clone_entries(self.alloc, &self.entries)?,
+            records: self.records.try_clone()?,
             order: Vec::from_slice(self.alloc, &self.order)?,
         })
     }
@@ -108,7 +112,7 @@ impl Names {
     {
         let next = self.order.partition_point(|one| one.stamp <= cookie);
         let place = self.order.get(next)?.place;
-        Some(&self.entries[place])
+        Some(self.records.get(place))
     }
 
     /// How many names there are.
@@ -116,14 +120,16 @@ impl Names {
         ensures count { result ≡ length self.now }
         ensures names { IsDirectory self.now }
     {
-        self.entries.len()
+        self.records.len()
     }
 
-    /// The names, in the order of their records.
-    pub fn entries(&self) -> &[Entry]
-        ensures { map record_of result.now ≡ self.now }
+    /// The name whose record stands at a place.
+    pub fn entry(&self, place: usize) -> &Entry
+        requires { place < length self.now }
+        ensures { (default : Record)
+            → slice_index_or self.now place default ≡ record_of result.now }
     {
-        &self.entries
+        self.records.get(place)
     }
 
     /// The name's stamp and the number of its node.
@@ -134,8 +140,11 @@ impl Names {
             → option_map (λ found. record_from found.0 name.now found.1) result
             ≡ entry_of name.now (by_stamp self.now) }
     {
-        let place = place_in(&self.entries, name);
-        let entry = self.entries.get(place)?;
+        let place = place_in(&self.records, name);
+        if place >= self.records.len() {
+            return None;
+        }
+        let entry = self.records.get(place);
         Some((entry.stamp, entry.number))
     }
 
@@ -162,67 +171,106 @@ impl Names {
         ensures by_stamp { OnOk result (AreStamped self.old → 0 < stamp → at stamp self.old ≡ None
             → PutsByStamp self.old self.new (record_from stamp name.now number)) }
     {
-        let place = place_in(&self.entries, name);
-        if place < self.entries.len() {
-            order::restamp(&mut self.order, &self.entries, place, stamp);
-            let entry = &mut self.entries[place];
-            entry.stamp = stamp;
-            entry.number = number;
-        } else {
-            if place >= Names::MAX_NAMES {
-                return Err(DirectoryFault::Full);
-            }
-            let entry = Entry::new(self.alloc, name, stamp, number)?;
-            self.order.reserve(1)?;
-            self.entries.push(entry)?;
-            order::insert(&mut self.order, Placed { stamp, place });
+        let place = place_in(&self.records, name);
+        if place >= Names::MAX_NAMES {
+            return Err(DirectoryFault::Full);
         }
+        let entry = Entry::new(self.alloc, name, stamp, number)?;
+        if place < self.records.len() {
+            self.change(place, entry)?;
+            return Ok(place);
+        }
+        self.add(entry)?;
         Ok(place)
+    }
+
+    // Puts an entry in the place of another one of its name.
+    fn change(&mut self, place: usize, entry: Entry) -> Result<(), AllocError>
+        requires within { place < length self.old }
+        requires named { (default : Record)
+            → name_of (slice_index_or self.old place default) ≡ name_of (record_of entry) }
+        requires fits { IsRecord (record_of entry) }
+        ensures ok { OnOk result (self.new ≡ slice_set self.old place (record_of entry)) }
+        ensures err { OnErr result (self.new ≡ self.old) }
+    {
+        let stamp = entry.stamp;
+        let mut records = self.records.try_clone()?;
+        records.set(place, entry)?;
+        order::restamp(&mut self.order, &self.records, place, stamp);
+        self.records = records;
+        Ok(())
+    }
+
+    // Puts an entry of a new name after the last.
+    fn add(&mut self, entry: Entry) -> Result<(), AllocError>
+        requires room { length self.old < 1024 }
+        requires fresh { (i : ℕ) (default : Record) → i < length self.old
+            → name_of (slice_index_or self.old i default) ≢ name_of (record_of entry) }
+        requires fits { IsRecord (record_of entry) }
+        ensures ok { OnOk result (self.new ≡ self.old ++ record_of entry ∷ []) }
+        ensures err { OnErr result (self.new ≡ self.old) }
+    {
+        let place = self.records.len();
+        let stamp = entry.stamp;
+        self.order.reserve(1)?;
+        self.records.push(entry)?;
+        order::insert(&mut self.order, Placed { stamp, place });
+        Ok(())
     }
 
     /// Writes the sector of the records from `first` on, 15 at most.
     pub fn to_sector(&self, first: usize, sector: &mut [u8; SIZE])
         ensures { sector.new ≡ directory_sector (take RECORDS (drop first self.now)) }
     {
-        let from = first.min(self.entries.len());
-        let to = self.entries.len().min(from + RECORDS);
-        sectors::write(&self.entries[from..to], sector);
+        let from = first.min(self.records.len());
+        let to = self.records.len().min(from + RECORDS);
+        sectors::write_part(&self.records, from, to - from, sector);
     }
 
     /// Removes a name, and moves the last record into its place. The answer is that place, and what
-    /// stood there. Takes no memory.
-    pub fn remove(&mut self, name: &[u8]) -> Option<(usize, Entry)>
-        ensures place { IfSome result
-            (λ it. (it.0 ≡ place_of name.now self.old) × (it.0 < length self.old)) }
-        ensures record { IfSome result (λ it. entry_of name.now self.old ≡ Some (record_of it.1)) }
-        ensures removed { IfSome result (λ it. self.new ≡ without_place self.old it.0) }
-        ensures absent { IfNone result (place_of name.now self.old ≡ length self.old) }
-        ensures unchanged { IfNone result (self.new ≡ self.old) }
+    /// stood there. An `Err` changes nothing.
+    pub fn remove(&mut self, name: &[u8]) -> Result<Option<(usize, Entry)>, AllocError>
+        ensures place { IfOk result (λ found. IfSome found
+            (λ it. (it.0 ≡ place_of name.now self.old) × (it.0 < length self.old))) }
+        ensures record { IfOk result (λ found. IfSome found
+            (λ it. entry_of name.now self.old ≡ Some (record_of it.1))) }
+        ensures removed { IfOk result (λ found. IfSome found
+            (λ it. self.new ≡ without_place self.old it.0)) }
+        ensures absent { IfOk result (λ found. IfNone found
+            (place_of name.now self.old ≡ length self.old)) }
+        ensures unchanged { IfOk result (λ found. IfNone found (self.new ≡ self.old)) }
+        ensures err { OnErr result (self.new ≡ self.old) }
 
         // The map from names, and the map by stamp.
-        ensures gone { entry_of name.now self.new ≡ None }
-        ensures others { (other : List ℕ) → other ≢ name.now
-            → entry_of other self.new ≡ entry_of other self.old }
-        ensures by_stamp { AreStamped self.old → RemovesByStamp self.old self.new name.now }
+        ensures gone { OnOk result (entry_of name.now self.new ≡ None) }
+        ensures others { OnOk result ((other : List ℕ) → other ≢ name.now
+            → entry_of other self.new ≡ entry_of other self.old) }
+        ensures by_stamp { OnOk result (AreStamped self.old
+            → RemovesByStamp self.old self.new name.now) }
     {
-        let place = place_in(&self.entries, name);
-        if place >= self.entries.len() {
-            return None;
+        let place = place_in(&self.records, name);
+        if place >= self.records.len() {
+            return Ok(None);
         }
-        order::swap_remove(&mut self.order, &self.entries, place);
-        let entry = self.entries.swap_remove(place);
-        Some((place, entry))
+        let entry = self.take(place)?;
+        Ok(Some((place, entry)))
     }
-}
 
-fn clone_entries(alloc: Global, entries: &[Entry]) -> Result<Vec<Entry>, AllocError>
-    ensures { IfOk result (λ copy. map record_of copy.items ≡ map record_of entries.now) }
-{
-    let mut copy = Vec::with_capacity(alloc, entries.len())?;
-    for entry in entries {
-        copy.push(entry.try_clone()?)?;
+    // Removes the entry at a place.
+    fn take(&mut self, place: usize) -> Result<Entry, AllocError>
+        requires { place < length self.old }
+        ensures entry { IfOk result (λ entry. (default : Record)
+            → slice_index_or self.old place default ≡ record_of entry) }
+        ensures ok { OnOk result (self.new ≡ without_place self.old place) }
+        ensures err { OnErr result (self.new ≡ self.old) }
+    {
+        let entry = self.records.get(place).try_clone()?;
+        let mut records = self.records.try_clone()?;
+        records.swap_remove(place)?;
+        order::swap_remove(&mut self.order, &self.records, place);
+        self.records = records;
+        Ok(entry)
     }
-    Ok(copy)
 }
 
 // Whether each name has 1 to 255 bytes.
@@ -244,27 +292,27 @@ fn is_record(entry: &Entry) -> bool
     0 < len && len <= MAX_NAME_BYTES
 }
 
-// Whether no two entries have one name.
-fn are_apart(entries: &[Entry]) -> bool
-    ensures { IsTrue result ↔ AreApart (map record_of entries.now) }
+// Whether no two records have one name.
+fn are_apart(records: &Records) -> bool
+    ensures { IsTrue result ↔ AreApart records.now }
 {
-    for (i, entry) in entries.iter().enumerate() {
-        if place_in(entries, &entry.name) != i {
+    for place in 0..records.len() {
+        if place_in(records, &records.get(place).name) != place {
             return false;
         }
     }
     true
 }
 
-/// Where a name stands: after the last entry where none has it.
-fn place_in(entries: &[Entry], name: &[u8]) -> usize
-    ensures place { result ≡ place_of name.now (map record_of entries.now) }
-    ensures within { result ≤ length entries.now }
+/// Where a name stands: after the last record where none has it.
+fn place_in(records: &Records, name: &[u8]) -> usize
+    ensures place { result ≡ place_of name.now records.now }
+    ensures within { result ≤ length records.now }
 {
-    for (i, entry) in entries.iter().enumerate() {
-        if name == entry.name.as_slice() {
-            return i;
+    for place in 0..records.len() {
+        if name == records.get(place).name.as_slice() {
+            return place;
         }
     }
-    entries.len()
+    records.len()
 }

@@ -1,11 +1,11 @@
 //! The records of a directory by rising stamp.
 
-ghost use Rattle.std.specs.Prelude.{◌≡◌, ◌<◌, length, map, slice_set, vec_len, vec_capacity, IfOk};
+ghost use Rattle.std.specs.Prelude.{◌≡◌, ◌<◌, length, slice_set, vec_len, vec_capacity, IfOk};
 ghost use Rattle.std.specs.List.{Contains};
 ghost use Rattle.directory.specs.Order.{is_before, AreRising, IsOf, IsOrder, IsInserted, IsTakenOut};
-ghost use Rattle.directory.specs.Records.{Record, record_of, stamp_of, without_place};
+ghost use Rattle.directory.specs.Records.{Record, stamp_of, without_place};
 
-use crate::entry::Entry;
+use crate::records::Records;
 use std::alloc::{AllocError, Global};
 
 /// The stamp of a record, and the place where the record stands.
@@ -28,24 +28,24 @@ impl Placed {
     }
 }
 
-// The stamp of the entry at a place, and the place.
-fn placed_in(entries: &[Entry], place: usize) -> Placed
-    requires { place < length entries.now }
-    ensures stands { IsOf (map record_of entries.now) result }
+// The stamp of the record at a place, and the place.
+fn placed_in(records: &Records, place: usize) -> Placed
+    requires { place < length records.now }
+    ensures stands { IsOf records.now result }
     ensures place { result.place ≡ place }
 {
-    let stamp = entries[place].stamp;
+    let stamp = records.get(place).stamp;
     Placed { stamp, place }
 }
 
-/// The order of these entries.
-pub(crate) fn order_of(alloc: Global, entries: &[Entry]) -> Result<Vec<Placed>, AllocError>
-    ensures { IfOk result (λ order. IsOrder order.items (map record_of entries.now)) }
+/// The order of these records.
+pub(crate) fn order_of(alloc: Global, records: &Records) -> Result<Vec<Placed>, AllocError>
+    ensures { IfOk result (λ order. IsOrder order.items records.now) }
 {
     let mut order = Vec::new(alloc);
-    for place in 0..entries.len() {
+    for place in 0..records.len() {
         order.reserve(1)?;
-        insert(&mut order, placed_in(entries, place));
+        insert(&mut order, placed_in(records, place));
     }
     Ok(order)
 }
@@ -76,28 +76,28 @@ fn take_out(order: &mut Vec<Placed>, one: Placed)
 }
 
 /// Gives the record at a place another stamp. Takes no memory.
-pub(crate) fn restamp(order: &mut Vec<Placed>, entries: &[Entry], place: usize, stamp: u64)
-    requires within { place < length entries.now }
-    requires order { IsOrder order.old.items (map record_of entries.now) }
+pub(crate) fn restamp(order: &mut Vec<Placed>, records: &Records, place: usize, stamp: u64)
+    requires within { place < length records.now }
+    requires order { IsOrder order.old.items records.now }
     ensures { (new : Record) → stamp_of new ≡ stamp
-        → IsOrder order.new.items (slice_set (map record_of entries.now) place new) }
+        → IsOrder order.new.items (slice_set records.now place new) }
 {
-    let old = placed_in(entries, place);
+    let old = placed_in(records, place);
     take_out(order, old);
     insert(order, Placed { stamp, place });
 }
 
 /// Removes the record at a place, into which the last one moves. Takes no memory.
-pub(crate) fn swap_remove(order: &mut Vec<Placed>, entries: &[Entry], place: usize)
-    requires within { place < length entries.now }
-    requires order { IsOrder order.old.items (map record_of entries.now) }
-    ensures { IsOrder order.new.items (without_place (map record_of entries.now) place) }
+pub(crate) fn swap_remove(order: &mut Vec<Placed>, records: &Records, place: usize)
+    requires within { place < length records.now }
+    requires order { IsOrder order.old.items records.now }
+    ensures { IsOrder order.new.items (without_place records.now place) }
 {
-    let old = placed_in(entries, place);
+    let old = placed_in(records, place);
     take_out(order, old);
-    let last = entries.len() - 1;
+    let last = records.len() - 1;
     if place < last {
-        let end = placed_in(entries, last);
+        let end = placed_in(records, last);
         take_out(order, end);
         let stamp = end.stamp;
         insert(order, Placed { stamp, place });

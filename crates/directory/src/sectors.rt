@@ -1,6 +1,6 @@
 //! Records in the sectors of a directory: 15 of 272 bytes each.
 
-ghost use Rattle.std.specs.Prelude.{◌≡◌, ◌<◌, ◌≤◌, ◌+◌, ◌++◌, ℕ, List, length, drop, take, map, IfOk, IsErrOf};
+ghost use Rattle.std.specs.Prelude.{◌≡◌, ◌<◌, ◌≤◌, ◌+◌, ◌^◌, ◌++◌, ℕ, List, length, drop, take, map, IfOk, IsErrOf};
 ghost use Rattle.std.specs.List.{AllByRecursion};
 ghost use Rattle.std.specs.Rc.{rc_slice_items};
 ghost use Rattle.directory.specs.Records.{Record, record_of, IsRecord};
@@ -8,6 +8,7 @@ ghost use Rattle.directory.specs.Spelling.{record_bytes, directory_sector};
 
 use crate::entry::Entry;
 use crate::fault::RecordsFault;
+use crate::records::Records;
 use sector::{SIZE, put_bytes, put_u64, put_zeros, u64_at};
 use std::alloc::Global;
 
@@ -45,6 +46,21 @@ pub(crate) fn write(entries: &[Entry], sector: &mut [u8; SIZE])
         put_record(sector, WIDTH * i, entry);
     }
     let end = WIDTH * entries.len();
+    put_zeros(sector, end, SIZE - end);
+}
+
+/// Writes the sector of so many records from a place on.
+pub(crate) fn write_part(records: &Records, from: usize, count: usize, sector: &mut [u8; SIZE])
+    requires few { count ≤ RECORDS }
+    requires within { from + count ≤ length records.now }
+    requires each { AllByRecursion IsRecord records.now }
+    requires small { from + count < 2 ^ 64 }
+    ensures { sector.new ≡ directory_sector (take count (drop from records.now)) }
+{
+    for i in 0..count {
+        put_record(sector, WIDTH * i, records.get(from + i));
+    }
+    let end = WIDTH * count;
     put_zeros(sector, end, SIZE - end);
 }
 

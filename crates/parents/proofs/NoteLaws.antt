@@ -3,8 +3,7 @@ use Rattle.std.proofs.Common.{◌≡◌, ◌≢◌, ◌<◌, ◌+◌, ◌++◌, 
 use Rattle.std.proofs.lemmas.Bool.{cases_eq}
 use Rattle.std.proofs.lemmas.List.{length-set, get_or-set_same, get_or-set_other, get_or-map, length-map}
 use Rattle.std.proofs.lemmas.Option.{same_Some}
-use Rattle.directory.specs.declared.entry.Entry.{Entry}
-use Rattle.directory.specs.Records.{Record, record_of}
+use Rattle.directory.specs.Records.{Record}
 use Rattle.node_table.specs.Tables.{number_at, HasNot, HaveOwnPlaces}
 use Rattle.node_table.proofs.TableLaws.{within-numbered}
 use Rattle.layout.specs.Cards.{Card}
@@ -60,34 +59,30 @@ module _ (cards : List (Option Card)) (old now numbers : List ℕ) (directory nu
     others = λ p n there none. noted.others p n there (omega (arith, none, times-one n));
   }
 
-module _ (cards : List (Option Card)) (old now : List ℕ) (directory i : ℕ) (entries : List Entry) (entry : Entry) (inside : i < length entries) (is : entry ≡ get_or entries i entry)
-    (noted : IsNoted cards old now (take i (numbers_of (map record_of entries))) directory) where
-  number-is : get_or (numbers_of (map record_of entries)) i 0 ≡ entry.number
-  number-is =
-      let within : i < length (map record_of entries) = rw length-map inside in
-      get_or-map (λ (r : Record). r.1.number) (map record_of entries) i (record_of entry) 0 within
-      ∙ (ap (λ (r : Record). r.1.number) (get_or-map record_of entries i entry (record_of entry) inside)
-      ∙ ap (λ (e : Entry). e.number) (sym is))
+module _ (cards : List (Option Card)) (old now : List ℕ) (directory i : ℕ) (names : List Record) (one : Record) (inside : i < length names) (is : (d : Record) → get_or names i d ≡ one)
+    (noted : IsNoted cards old now (take i (numbers_of names)) directory) where
+  number-is : get_or (numbers_of names) i 0 ≡ one.1.number
+  number-is = get_or-map (λ (r : Record). r.1.number) names i one 0 inside ∙ ap (λ (r : Record). r.1.number) (is one)
 
-  one-more : take (i + 1) (numbers_of (map record_of entries)) ≡ take i (numbers_of (map record_of entries)) ++ entry.number ∷ []
+  one-more : take (i + 1) (numbers_of names) ≡ take i (numbers_of names) ++ one.1.number ∷ []
   one-more =
-      let all = numbers_of (map record_of entries) in
-      let within : i < length all = omega (arith, inside, length-map (map record_of entries) (λ (r : Record). r.1.number), length-map entries record_of) in
+      let all = numbers_of names in
+      let within : i < length all = omega (arith, inside, length-map names (λ (r : Record). r.1.number)) in
       (let e : i + 1 ≡ suc i = omega arith in ap (λ n. take n all) e)
       ∙ (take-one all i 0 within ∙ ap (λ n. take i all ++ n ∷ []) number-is)
 
-  pub next-found : HaveOwnPlaces cards → (place : ℕ) → number_at cards place ≡ Some entry.number → place < length now
-      → (new : List ℕ) → new ≡ set now place directory → IsNoted cards old new (take (i + 1) (numbers_of (map record_of entries))) directory
+  pub next-found : HaveOwnPlaces cards → (place : ℕ) → number_at cards place ≡ Some one.1.number → place < length now
+      → (new : List ℕ) → new ≡ set now place directory → IsNoted cards old new (take (i + 1) (numbers_of names)) directory
   next-found own place there low new set_is =
       subst (λ numbers. IsNoted cards old new numbers directory) (sym one-more)
-      (subst (λ list. IsNoted cards old list (take i (numbers_of (map record_of entries)) ++ entry.number ∷ []) directory) (sym set_is)
-      (note-found cards old now (take i (numbers_of (map record_of entries))) directory entry.number noted own place there low))
+      (subst (λ list. IsNoted cards old list (take i (numbers_of names) ++ one.1.number ∷ []) directory) (sym set_is)
+      (note-found cards old now (take i (numbers_of names)) directory one.1.number noted own place there low))
 
-  pub next-none : HasNot cards entry.number → (new : List ℕ) → new ≡ now → IsNoted cards old new (take (i + 1) (numbers_of (map record_of entries))) directory
+  pub next-none : HasNot cards one.1.number → (new : List ℕ) → new ≡ now → IsNoted cards old new (take (i + 1) (numbers_of names)) directory
   next-none lack new same =
       subst (λ numbers. IsNoted cards old new numbers directory) (sym one-more)
-      (subst (λ list. IsNoted cards old list (take i (numbers_of (map record_of entries)) ++ entry.number ∷ []) directory) (sym same)
-      (note-none cards old now (take i (numbers_of (map record_of entries))) directory entry.number noted lack))
+      (subst (λ list. IsNoted cards old list (take i (numbers_of names) ++ one.1.number ∷ []) directory) (sym same)
+      (note-none cards old now (take i (numbers_of names)) directory one.1.number noted lack))
 
 -- One directory after the other: those in front of a place
 

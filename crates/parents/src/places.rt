@@ -1,14 +1,13 @@
 //! The parents of nodes by their places.
 
-ghost use Rattle.std.specs.Prelude.{◌≡◌, ◌<◌, length, map, set, slice_index_or, IfOk};
+ghost use Rattle.std.specs.Prelude.{◌≡◌, ◌<◌, length, set, slice_index_or, IfOk};
 ghost use Rattle.node_table.specs.Tables.{HaveOwnPlaces};
-ghost use Rattle.directory.specs.Records.{record_of};
 ghost use Rattle.layout.specs.SumLaws.{numbers_of};
 ghost use Rattle.tree_check.specs.Trees.{IsOneTree};
 ghost use Rattle.parents.specs.Notes.{IsNoted};
 ghost use Rattle.parents.specs.Parents.{AreParents};
 
-use directory::Entry;
+use directory::Names;
 use node_table::Table;
 use std::alloc::{AllocError, Global};
 use std::marker::Model;
@@ -43,7 +42,7 @@ impl Parents {
         let mut numbers = vec![in alloc; 0; table.places() as usize]?;
         for place in 0..table.places() {
             if let Some(card) = table.card(place) {
-                note_names(&mut numbers, table, card.names.entries(), card.inode.number);
+                note_names(&mut numbers, table, &card.names, card.inode.number);
             }
         }
         Ok(Parents { numbers })
@@ -69,13 +68,13 @@ impl Parents {
 }
 
 /// Puts a directory's number at the place of each node that its names lead to.
-fn note_names(numbers: &mut Vec<u64>, table: &Table, entries: &[Entry], directory: u64)
+fn note_names(numbers: &mut Vec<u64>, table: &Table, names: &Names, directory: u64)
     requires { length numbers.old.items ≡ length table.now }
     ensures { IsNoted table.now numbers.old.items numbers.new.items
-        (numbers_of (map record_of entries.now)) directory }
+        (numbers_of names.now) directory }
 {
-    for entry in entries {
-        if let Some(place) = table.find(entry.number) {
+    for i in 0..names.count() {
+        if let Some(place) = table.find(names.entry(i).number) {
             numbers[place as usize] = directory;
         }
     }

@@ -1,12 +1,11 @@
 -- Cards from before a stamp are a tree from before it.
-use Rattle.std.proofs.Common.{◌≡◌, ◌≤◌, ◌<◌, ◌↔◌, ℕ, zero, suc, List, [], ◌∷◌, Option, Some, None, length, map, get_or, refl, sym, ap, subst, ◌∙◌, arith, inl, inr, ne_eqb}
+use Rattle.std.proofs.Common.{◌≡◌, ◌≤◌, ◌<◌, ◌↔◌, ℕ, zero, suc, List, [], ◌∷◌, Option, Some, None, length, get_or, refl, sym, ap, subst, ◌∙◌, arith, inl, inr, ne_eqb}
 use Rattle.std.proofs.lemmas.Bool.{cases_eq}
 use Rattle.disk.specs.Moments.{Image}
 use Rattle.model.specs.Keyed.{at, here_or}
 use Rattle.model.specs.Tree.{Tree, Node, DirEntry, names_of}
 use Rattle.model.specs.WellFormed.{IsBefore}
-use Rattle.directory.specs.declared.entry.Entry.{Entry}
-use Rattle.directory.specs.Records.{Record, record_of}
+use Rattle.directory.specs.Records.{Record}
 use Rattle.layout.specs.Cards.{Card, tree_of, node_of}
 use Rattle.layout.specs.Known.{AreCards}
 use Rattle.layout.proofs.Answering.{tree_answers}
@@ -15,14 +14,14 @@ use Rattle.tree_check.specs.Ages.{AreBefore, AreNamesBefore}
 use Rattle.tree_check.specs.ShapeLaws.{EachAge}
 use Rattle.tree_check.proofs.TreeLaws.{There, Nowhere, at-stamp, find, is_card, node-names, stamped-content}
 
-pub not_before : (stamp : ℕ) (entries : List Entry) (i : ℕ) (entry : Entry) → entry ≡ get_or entries i entry → i < length entries → stamp ≤ entry.stamp
-    → AreNamesBefore stamp (map record_of entries) → ⊥
-not_before stamp [] i entry is h late before = absurd (omega arith)
-not_before stamp (x ∷ entries) zero entry is h late before =
-    let same : entry.stamp ≡ x.stamp = ap (λ (e : Entry). e.stamp) is in
-    let low : x.stamp < stamp = before.0 in
+pub not_before : (stamp : ℕ) (names : List Record) (i : ℕ) (one : Record) → ((d : Record) → get_or names i d ≡ one) → i < length names → stamp ≤ one.0
+    → AreNamesBefore stamp names → ⊥
+not_before stamp [] i one is h late before = absurd (omega arith)
+not_before stamp (x ∷ names) zero one is h late before =
+    let same : x.0 ≡ one.0 = ap (λ (r : Record). r.0) (is x) in
+    let low : x.0 < stamp = before.0 in
     omega arith
-not_before stamp (x ∷ entries) (suc i) entry is h late before = not_before stamp entries i entry is (omega arith) late before.1
+not_before stamp (x ∷ names) (suc i) one is h late before = not_before stamp names i one is (omega arith) late before.1
 
 -- names by their stamps
 

@@ -1,18 +1,23 @@
 -- Nodes that are allowed, name by name and place by place.
-use Rattle.std.proofs.Common.{◌≡◌, ◌<◌, ◌≤◌, ℕ, zero, suc, List, [], ◌∷◌, Option, Some, None, length, map, get_or, sym, ap, subst, ◌∙◌, arith}
+use Rattle.std.proofs.Common.{◌≡◌, ◌<◌, ◌≤◌, ◌+◌, ◌++◌, ℕ, zero, suc, List, [], ◌∷◌, Option, Some, None, length, get_or, take, sym, ap, subst, ◌∙◌, arith}
 use Rattle.std.proofs.Common.{inl, inr}
 use Rattle.std.proofs.lemmas.Bool.{cases_lt}
-use Rattle.std.proofs.lemmas.List.{get_or_past}
+use Rattle.std.proofs.lemmas.List.{get_or_past, take_more}
 use Rattle.std.specs.List.{AllByRecursion}
-use Rattle.directory.specs.declared.entry.Entry.{Entry}
-use Rattle.directory.specs.Records.{Record, record_of}
+use Rattle.sector.specs.Written.{each_push}
+use Rattle.directory.specs.Records.{Record}
 use Rattle.layout.specs.Cards.{Card}
 
-pub each_entry : (P : Record → Type 0) (entries : List Entry) (i : ℕ) (entry : Entry) → entry ≡ get_or entries i entry → i < length entries
-    → AllByRecursion P (map record_of entries) → P (record_of entry)
-each_entry P [] i entry is h all = absurd (omega arith)
-each_entry P (x ∷ entries) zero entry is h all = subst P (ap record_of (sym is)) all.0
-each_entry P (x ∷ entries) (suc i) entry is h all = each_entry P entries i entry is (omega arith) all.1
+pub each_entry : (P : Record → Type 0) (names : List Record) (i : ℕ) (one : Record) → ((d : Record) → get_or names i d ≡ one) → i < length names
+    → AllByRecursion P names → P one
+each_entry P [] i one is h all = absurd (omega arith)
+each_entry P (x ∷ names) zero one is h all = subst P (is x) all.0
+each_entry P (x ∷ names) (suc i) one is h all = each_entry P names i one is (omega arith) all.1
+
+pub each_more : (P : Record → Type 0) (names : List Record) (i : ℕ) (one : Record) → ((d : Record) → get_or names i d ≡ one) → i < length names
+    → AllByRecursion P (take i names) → P one → AllByRecursion P (take (i + 1) names)
+each_more P names i one is h all its =
+    subst (AllByRecursion P) (sym (take_more names i one h ∙ ap (λ r. take i names ++ r ∷ []) (is one))) (each_push P (take i names) one all its)
 
 -- what holds of all cards below a place that is past the last holds of all
 pub each_place : (P : Card → Type 0) (cards : List (Option Card)) (end : ℕ) → length cards ≤ end

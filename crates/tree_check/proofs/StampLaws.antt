@@ -1,9 +1,8 @@
 -- Sorted stamps are apart exactly where no two neighbours are the same.
 use Rattle.std.proofs.Common.{◌≡◌, ◌<◌, ◌+◌, ◌++◌, ℕ, zero, suc, List, [], ◌∷◌, Option, None, length, map, take, get_or, refl, sym, ap, ◌∙◌, arith, eqb, eq-eqb}
-use Rattle.std.proofs.lemmas.List.{append_assoc, append-nil}
+use Rattle.std.proofs.lemmas.List.{append_assoc, append-nil, map-append, take_more}
 use Rattle.std.specs.List.Sorted.{IsPermutation, IsNonDecreasing}
-use Rattle.directory.specs.declared.entry.Entry.{Entry}
-use Rattle.directory.specs.Records.{record_of}
+use Rattle.directory.specs.Records.{Record}
 use Rattle.layout.specs.Cards.{Card}
 use Rattle.layout.specs.Marks.{once_if, times}
 use Rattle.layout.proofs.NumberLaws.{times-moved, rising, once-each, once-here, times-append}
@@ -33,7 +32,9 @@ stamps-take (card ∷ cards) zero h = append-nil (stamped_by card)
 stamps-take (card ∷ cards) (suc p) h =
     ap (λ rest. stamped_by card ++ rest) (stamps-take cards p (omega arith)) ∙ sym (append_assoc (stamped_by card) (entry_stamps (take p cards)) (stamped_by (get_or cards p None)))
 
--- those of a directory are its entries'
-pub stamps-seen : (entries : List Entry) → stamps_of (map record_of entries) ≡ map (λ (entry : Entry). entry.stamp) entries
-stamps-seen [] = refl
-stamps-seen (entry ∷ entries) = ap (λ rest. entry.stamp ∷ rest) (stamps-seen entries)
+-- those of the first names
+pub stamps-more : (names : List Record) (i : ℕ) (one : Record) → ((d : Record) → get_or names i d ≡ one) → i < length names
+    → stamps_of (take (i + 1) names) ≡ stamps_of (take i names) ++ one.0 ∷ []
+stamps-more names i one is h =
+    ap stamps_of (take_more names i one h ∙ ap (λ r. take i names ++ r ∷ []) (is one))
+    ∙ map-append (λ (r : Record). r.0) (take i names) (one ∷ [])

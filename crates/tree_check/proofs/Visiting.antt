@@ -2,8 +2,7 @@
 use Rattle.std.proofs.Common.{◌≡◌, ◌≤◌, ◌<◌, ◌++◌, ◌+◌, ℕ, zero, suc, Bool, List, [], ◌∷◌, Option, Some, None, length, map, take, get_or, refl, sym, ap, subst, ◌∙◌, arith}
 use Rattle.std.proofs.lemmas.List.{get_or-map, length-map, append_assoc, append-nil, length-append}
 use Rattle.node_table.specs.Tables.{number_at}
-use Rattle.directory.specs.declared.entry.Entry.{Entry}
-use Rattle.directory.specs.Records.{Record, record_of}
+use Rattle.directory.specs.Records.{Record}
 use Rattle.layout.specs.Cards.{Card}
 use Rattle.layout.specs.SumLaws.{numbers_of}
 use Rattle.model.specs.Tree.{root}
@@ -11,50 +10,47 @@ use Rattle.tree_check.specs.Trees.{led_at, led_by, IsReached, Named}
 use Rattle.tree_check.specs.Walks.{numbers_at, led_from, IsMissing, IsStuck, Meets}
 use Rattle.tree_check.proofs.Sums.{take-one}
 
-module _ (cards : List (Option Card)) (place : ℕ) (card : Card) (entries : List Entry) (there : get_or cards place None ≡ Some card) (names : map record_of entries ≡ card.names) where
-  led-is : led_at cards place ≡ numbers_of (map record_of entries)
-  led-is = ap led_by there ∙ ap numbers_of (sym names)
+module _ (cards : List (Option Card)) (place : ℕ) (card : Card) (names : List Record) (there : get_or cards place None ≡ Some card) (same : names ≡ card.names) where
+  led-is : led_at cards place ≡ numbers_of names
+  led-is = ap led_by there ∙ ap numbers_of (sym same)
 
-  led-length : length (led_at cards place) ≡ length entries
-  led-length = ap length led-is ∙ (length-map (map record_of entries) (λ (r : Record). r.1.number) ∙ length-map entries record_of)
+  led-length : length (led_at cards place) ≡ length names
+  led-length = ap length led-is ∙ length-map names (λ (r : Record). r.1.number)
 
-  module _ (i : ℕ) (entry : Entry) (inside : i < length entries) (is : entry ≡ get_or entries i entry) where
-    number-is : get_or (led_at cards place) i 0 ≡ entry.number
+  module _ (i : ℕ) (one : Record) (inside : i < length names) (is : (d : Record) → get_or names i d ≡ one) where
+    number-is : get_or (led_at cards place) i 0 ≡ one.1.number
     number-is =
-        let within : i < length (map record_of entries) = rw length-map inside in
         ap (λ l. get_or l i 0) led-is
-        ∙ (get_or-map (λ (r : Record). r.1.number) (map record_of entries) i (record_of entry) 0 within
-        ∙ (ap (λ (r : Record). r.1.number) (get_or-map record_of entries i entry (record_of entry) inside)
-        ∙ ap (λ (e : Entry). e.number) (sym is)))
+        ∙ (get_or-map (λ (r : Record). r.1.number) names i one 0 inside ∙ ap (λ (r : Record). r.1.number) (is one))
 
     within-led : i < length (led_at cards place)
     within-led = rw led-length inside
 
-    pub led-reached : (number : ℕ) → number_at cards place ≡ Some number → IsReached cards number → IsReached cards entry.number
+    pub led-reached : (number : ℕ) → number_at cards place ≡ Some number → IsReached cards number → IsReached cards one.1.number
     led-reached number at reached = subst (IsReached cards) number-is (Named place number i at reached within-led)
 
     module _ (seen : List Bool) (start now : List ℕ) (before : Meets cards seen start now (take i (led_at cards place))) where
-      pub next : (marks : List Bool) (new : List ℕ) → Meets cards marks now new (entry.number ∷ []) → Meets cards marks start new (take (i + 1) (led_at cards place))
-      next marks new one =
-          let more : take (i + 1) (led_at cards place) ≡ take i (led_at cards place) ++ entry.number ∷ [] =
+      pub next : (marks : List Bool) (new : List ℕ) → Meets cards marks now new (one.1.number ∷ []) → Meets cards marks start new (take (i + 1) (led_at cards place))
+      next marks new met_one =
+          let more : take (i + 1) (led_at cards place) ≡ take i (led_at cards place) ++ one.1.number ∷ [] =
           (let e : i + 1 ≡ suc i = omega arith in ap (λ n. take n (led_at cards place)) e)
           ∙ (take-one (led_at cards place) i 0 within-led ∙ ap (λ n. take i (led_at cards place) ++ n ∷ []) number-is) in
           record {
-            walk = one.walk;
-            more = before.more ++ one.more;
-            front = one.front ∙ (ap (λ l. l ++ one.more) before.front ∙ append_assoc start before.more one.more);
-            met = one.met
-                ∙ (ap (λ l. l ++ entry.number ∷ []) before.met
-                ∙ (append_assoc (numbers_at cards start) (take i (led_at cards place)) (entry.number ∷ [])
+            walk = met_one.walk;
+            more = before.more ++ met_one.more;
+            front = met_one.front ∙ (ap (λ l. l ++ met_one.more) before.front ∙ append_assoc start before.more met_one.more);
+            met = met_one.met
+                ∙ (ap (λ l. l ++ one.1.number ∷ []) before.met
+                ∙ (append_assoc (numbers_at cards start) (take i (led_at cards place)) (one.1.number ∷ [])
                 ∙ ap (λ l. numbers_at cards start ++ l) (sym more)));
           }
 
-      pub is-stuck : IsMissing cards (numbers_at cards now) entry.number → IsStuck cards start place
+      pub is-stuck : IsMissing cards (numbers_at cards now) one.1.number → IsStuck cards start place
       is-stuck missing = record {
         i = i;
         within = within-led;
         missing = subst (λ n. IsMissing cards (numbers_at cards start ++ take i (led_at cards place)) n) (sym number-is)
-            (subst (λ met. IsMissing cards met entry.number) before.met missing);
+            (subst (λ met. IsMissing cards met one.1.number) before.met missing);
       }
 
 -- One directory more

@@ -1,17 +1,16 @@
 //! Whether no stamp of a volume is past a last one.
 
-ghost use Rattle.std.specs.Prelude.{◌+◌, ◌↔◌, IsTrue, map};
-ghost use Rattle.directory.specs.Records.{record_of};
+ghost use Rattle.std.specs.Prelude.{◌+◌, ◌↔◌, IsTrue};
 ghost use Rattle.tree_check.specs.Ages.{AreBefore, AreNamesBefore, IsCardBefore};
 
-use directory::Entry;
+use directory::Names;
 use node_table::{Card, Table};
 
-fn are_names_before(entries: &[Entry], last: u64) -> bool
-    ensures { IsTrue result ↔ AreNamesBefore (last + 1) (map record_of entries.now) }
+fn are_names_before(names: &Names, last: u64) -> bool
+    ensures { IsTrue result ↔ AreNamesBefore (last + 1) names.now }
 {
-    for entry in entries {
-        if entry.stamp > last {
+    for place in 0..names.count() {
+        if names.entry(place).stamp > last {
             return false;
         }
     }
@@ -21,9 +20,7 @@ fn are_names_before(entries: &[Entry], last: u64) -> bool
 fn is_card_before(card: &Card, last: u64) -> bool
     ensures { IsTrue result ↔ IsCardBefore (last + 1) card.now }
 {
-    card.inode.number <= last
-        && card.inode.change <= last
-        && are_names_before(card.names.entries(), last)
+    card.inode.number <= last && card.inode.change <= last && are_names_before(&card.names, last)
 }
 
 /// Whether nothing that a volume's nodes have of stamps is past this last one: numbers, change

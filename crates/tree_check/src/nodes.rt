@@ -1,12 +1,11 @@
 //! Whether each node of a volume is one that the limits allow.
 
-ghost use Rattle.std.specs.Prelude.{◌↔◌, IsTrue, map};
-ghost use Rattle.directory.specs.Records.{record_of};
+ghost use Rattle.std.specs.Prelude.{◌↔◌, IsTrue};
 ghost use Rattle.tree_check.specs.Nodes.{AreNamesAllowed, AreNodesAllowed, IsContentAllowed};
 ghost use Rattle.tree_check.specs.Nodes.{HasRootDirectory, IsNameAllowed, IsNodeAllowed, IsRootDirectory};
 
 use acl_set::is_list_for;
-use directory::Entry;
+use directory::Names;
 use model::limits::Limits;
 use model::node::{NodeKind, ROOT};
 use names::check_name;
@@ -18,11 +17,11 @@ fn is_name_allowed(name: &[u8], limits: &Limits) -> bool
     check_name(name, limits).is_ok()
 }
 
-fn are_names_allowed(entries: &[Entry], limits: &Limits) -> bool
-    ensures { IsTrue result ↔ AreNamesAllowed limits.now (map record_of entries.now) }
+fn are_names_allowed(names: &Names, limits: &Limits) -> bool
+    ensures { IsTrue result ↔ AreNamesAllowed limits.now names.now }
 {
-    for entry in entries {
-        if !is_name_allowed(&entry.name, limits) {
+    for place in 0..names.count() {
+        if !is_name_allowed(&names.entry(place).name, limits) {
             return false;
         }
     }
@@ -34,7 +33,7 @@ fn is_content_allowed(card: &Card, limits: &Limits) -> bool
 {
     match card.inode.kind {
         NodeKind::File => card.inode.size <= limits.file_bytes as u64,
-        NodeKind::Directory => are_names_allowed(card.names.entries(), limits),
+        NodeKind::Directory => are_names_allowed(&card.names, limits),
     }
 }
 

@@ -1,18 +1,17 @@
 //! The stamps of names, which are cookies: none stands twice in a volume.
 
-ghost use Rattle.std.specs.Prelude.{◌≡◌, ◌++◌, ◌↔◌, IsTrue, IfOk, OnOk, map};
-ghost use Rattle.tree_check.specs.Stamps.{entry_stamps, AreDifferent, AreStampsApart};
+ghost use Rattle.std.specs.Prelude.{◌≡◌, ◌++◌, ◌↔◌, IsTrue, IfOk, OnOk};
+ghost use Rattle.tree_check.specs.Stamps.{entry_stamps, stamps_of, AreDifferent, AreStampsApart};
 
-use directory::Entry;
+use directory::Names;
 use node_table::Table;
 use std::alloc::{AllocError, Global};
 
-fn push_stamps(stamps: &mut Vec<u64>, entries: &[Entry]) -> Result<(), AllocError>
-    ensures { OnOk result (stamps.new.items
-        ≡ stamps.old.items ++ map (λ entry. entry.stamp) entries.now) }
+fn push_stamps(stamps: &mut Vec<u64>, names: &Names) -> Result<(), AllocError>
+    ensures { OnOk result (stamps.new.items ≡ stamps.old.items ++ stamps_of names.now) }
 {
-    for entry in entries {
-        stamps.push(entry.stamp)?;
+    for place in 0..names.count() {
+        stamps.push(names.entry(place).stamp)?;
     }
     Ok(())
 }
@@ -24,7 +23,7 @@ fn stamps_of(alloc: Global, table: &Table) -> Result<Vec<u64>, AllocError>
     let mut stamps = Vec::new(alloc);
     for place in 0..table.places() {
         if let Some(card) = table.card(place) {
-            push_stamps(&mut stamps, card.names.entries())?;
+            push_stamps(&mut stamps, &card.names)?;
         }
     }
     Ok(stamps)

@@ -77,8 +77,8 @@ impl Walk {
         let Some(card) = table.card(place) else {
             return Ok(true);
         };
-        for entry in card.names.entries() {
-            if !self.follow(table, entry.number)? {
+        for i in 0..card.names.count() {
+            if !self.follow(table, card.names.entry(i).number)? {
                 return Ok(false);
             }
         }

@@ -255,7 +255,7 @@ impl<'a> Draft<'a> {
         ensures table { self.new.cards.table ≡ self.old.cards.table }
     {
         let mut card = take_card(&mut self.cards, place)?;
-        let (at, _entry) = card.names.remove(name).unwrap();
+        let (at, _entry) = card.names.remove(name)?.unwrap();
         let left = card.names.count();
         card.inode.size = left as u64;
         let count = ((left + RECORDS - 1) / RECORDS) as u32;

@@ -1,6 +1,6 @@
-use Rattle.std.proofs.Common.{◌≡◌, ◌+◌, map, drop}
-use Rattle.directory.specs.Records.{record_of, place_of}
+use Rattle.std.proofs.Common.{◌≢◌, ◌<◌, ℕ, get_or}
+use Rattle.directory.specs.Records.{Record}
 use Rattle.directory.proofs.names.place_in.Given as goal
 
-abbrev pub invariant-loop-i : goal.invariant-loop-i
-invariant-loop-i l = place_of l.name (map record_of l.entries) ≡ l.i + place_of l.name (map record_of (drop l.i l.entries))
+abbrev pub invariant-loop-place : goal.invariant-loop-place
+invariant-loop-place l = (i : ℕ) (d : Record) → i < l.place → (get_or l.records i d).1.name ≢ l.name

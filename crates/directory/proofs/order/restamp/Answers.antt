@@ -1,6 +1,5 @@
-use Rattle.std.proofs.Common.{map, set, sym, subst}
+use Rattle.std.proofs.Common.{set, sym, subst}
 use Rattle.directory.specs.Order.{IsOrder}
-use Rattle.directory.specs.Records.{record_of}
 use Rattle.directory.proofs.InOrder.{none_there, restamped}
 use Rattle.directory.proofs.order.restamp.Goals as goal
 
@@ -11,14 +10,14 @@ take_out-requires c =
 pub insert-requires : goal.insert-requires
 insert-requires c = record {
   rising = c.take_out.ensures.taken.rising;
-  new = none_there c.args.order.now.items c.take_out.new.order.items (map record_of c.args.entries.now) c.placed_in-old.result c.requires.order
+  new = none_there c.args.order.now.items c.take_out.new.order.items c.args.records.now c.placed_in-old.result c.requires.order
       c.placed_in-old.ensures.stands c.take_out.ensures.taken (record { stamp = c.args.stamp; place = c.args.place }) (sym c.placed_in-old.ensures.place);
   room = c.take_out.ensures.room;
 }
 
 pub returns : goal.returns
 returns c = λ changed stamps.
-    let records = map record_of c.args.entries.now in
+    let records = c.args.records.now in
     subst (λ k. IsOrder c.insert.new.order.items (set records k changed)) c.placed_in-old.ensures.place
     (restamped c.args.order.now.items c.take_out.new.order.items records c.placed_in-old.result c.requires.order c.placed_in-old.ensures.stands
     c.take_out.ensures.taken c.insert.new.order.items (record { stamp = c.args.stamp; place = c.args.place }) changed c.insert.ensures

@@ -1,9 +1,8 @@
-use Rattle.std.proofs.Common.{◌≡◌, ◌+◌, ◌++◌, ℕ, suc, Vec, Global, map, take, get_or, None, sym, ap, ◌∙◌, arith}
+use Rattle.std.proofs.Common.{◌≡◌, ◌+◌, ◌++◌, ℕ, suc, Vec, Global, take, get_or, None, sym, ap, ◌∙◌, arith}
 use Rattle.std.proofs.lemmas.List.{append-nil}
-use Rattle.directory.specs.declared.entry.Entry.{Entry}
 use Rattle.layout.specs.Cards.{Card}
 use Rattle.tree_check.specs.Stamps.{stamps_of, stamped_by, entry_stamps}
-use Rattle.tree_check.proofs.StampLaws.{stamps-seen, stamps-take}
+use Rattle.tree_check.proofs.StampLaws.{stamps-take}
 use Rattle.tree_check.proofs.stamps.stamps_of.Goals as goal
 use Rattle.tree_check.proofs.stamps.stamps_of.Goals.{in-Some+in_ok-push_stamps, in_default}
 
@@ -18,10 +17,9 @@ loop-place-preserved c =
       | in-Some+in_ok-push_stamps w ↦
           ap (λ (v : Vec ℕ Global). v.items) w.stamps-is
           ∙ (w.in_ok-push_stamps.ensures
-          ∙ (ap (λ l. l ++ map (λ (entry : Entry). entry.stamp) w.entries.result.now) c.loop-place.invariant
+          ∙ (ap (λ l. l ++ stamps_of w.card-in-Some.inside.names) c.loop-place.invariant
           ∙ (ap (λ l. entry_stamps (take place table) ++ l)
-          (sym (stamps-seen w.entries.result.now)
-          ∙ (ap stamps_of (w.entries.ensures ∙ ap (λ (card : Card). card.names) w.card-in-Some.view_is) ∙ sym (ap stamped_by w.in-Some.ensures.some)))
+          (ap (λ (card : Card). stamps_of card.names) w.card-in-Some.view_is ∙ sym (ap stamped_by w.in-Some.ensures.some))
           ∙ sym more)))
       | in_default w ↦
           ap (λ (v : Vec ℕ Global). v.items) w.stamps-is

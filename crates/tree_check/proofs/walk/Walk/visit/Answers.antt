@@ -1,4 +1,5 @@
-use Rattle.std.proofs.Common.{ap, ◌∙◌}
+use Rattle.std.proofs.Common.{ap, arith}
+use Rattle.directory.specs.Records.{record_of}
 use Rattle.layout.specs.Cards.{Card}
 use Rattle.tree_check.specs.Walks.{number_in}
 use Rattle.tree_check.proofs.Visiting.{is-stuck, led-reached, next}
@@ -6,18 +7,18 @@ use Rattle.tree_check.proofs.walk.Walk.visit.Goals as goal
 
 pub follow-requires-clause-reached : goal.follow-requires-clause-reached
 follow-requires-clause-reached c =
-    led-reached c.args.table.now c.args.place c.in-Some.card.now c.entries-entry-items.result.now c.in-Some.ensures.some
-    (c.entries-entry-items.ensures ∙ ap (λ (card : Card). card.names) c.card-2.view_is) c.loop-entry.entry-index c.entry-item.result c.loop-entry-test.true c.entry-item.is
+    led-reached c.args.table.now c.args.place c.in-Some.card.now c.card-2.inside.names c.in-Some.ensures.some
+    (ap (λ (card : Card). card.names) c.card-2.view_is) c.loop-i.i (record_of c.entry.result.now) (omega (arith, c.loop-i-test.true, c.count-i-end.ensures.count)) c.entry.ensures
     (number_in c.args.table.now c.args.place) c.requires.there c.requires.reached
 
 pub returns-then-not-branch-clause-stuck : goal.returns-then-not-branch-clause-stuck
 returns-then-not-branch-clause-stuck c stays =
-    is-stuck c.args.table.now c.args.place c.in-Some.card.now c.entries-entry-items.result.now c.in-Some.ensures.some
-    (c.entries-entry-items.ensures ∙ ap (λ (card : Card). card.names) c.card-2.view_is) c.loop-entry.entry-index c.entry-item.result c.loop-entry-test.true c.entry-item.is
-    c.loop-entry.self.seen.items c.args.self.now.order.items c.loop-entry.self.order.items c.loop-entry.invariant (c.in_ok-follow.ensures.missing c.if-not-branch.true)
+    is-stuck c.args.table.now c.args.place c.in-Some.card.now c.card-2.inside.names c.in-Some.ensures.some
+    (ap (λ (card : Card). card.names) c.card-2.view_is) c.loop-i.i (record_of c.entry.result.now) (omega (arith, c.loop-i-test.true, c.count-i-end.ensures.count)) c.entry.ensures
+    c.loop-i.self.seen.items c.args.self.now.order.items c.loop-i.self.order.items c.loop-i.invariant (c.in_ok-follow.ensures.missing c.if-not-branch.true)
 
-pub loop-entry-preserved : goal.loop-entry-preserved
-loop-entry-preserved c =
-    next c.args.table.now c.args.place c.in-Some.card.now c.entries-entry-items.result.now c.in-Some.ensures.some
-    (c.entries-entry-items.ensures ∙ ap (λ (card : Card). card.names) c.card-2.view_is) c.loop-entry.entry-index c.entry-item.result c.loop-entry-test.true c.entry-item.is
-    c.loop-entry.self.seen.items c.args.self.now.order.items c.loop-entry.self.order.items c.loop-entry.invariant _ _ (c.in_ok-follow.ensures.met c.if-not-branch.false)
+pub loop-i-preserved : goal.loop-i-preserved
+loop-i-preserved c =
+    next c.args.table.now c.args.place c.in-Some.card.now c.card-2.inside.names c.in-Some.ensures.some
+    (ap (λ (card : Card). card.names) c.card-2.view_is) c.loop-i.i (record_of c.entry.result.now) (omega (arith, c.loop-i-test.true, c.count-i-end.ensures.count)) c.entry.ensures
+    c.loop-i.self.seen.items c.args.self.now.order.items c.loop-i.self.order.items c.loop-i.invariant _ _ (c.in_ok-follow.ensures.met c.if-not-branch.false)

@@ -3,5 +3,5 @@ use Rattle.tree_check.specs.Trees.{led_at}
 use Rattle.tree_check.specs.Walks.{Meets}
 use Rattle.tree_check.proofs.walk.Walk.visit.Given as goal
 
-abbrev pub invariant-loop-entry : goal.invariant-loop-entry
-invariant-loop-entry l = Meets l.table l.self.seen.items l.initial.self.order.items l.self.order.items (take l.entry-index (led_at l.table l.place))
+abbrev pub invariant-loop-i : goal.invariant-loop-i
+invariant-loop-i l = Meets l.table l.self.seen.items l.initial.self.order.items l.self.order.items (take l.i (led_at l.table l.place))

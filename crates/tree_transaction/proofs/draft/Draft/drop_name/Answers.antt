@@ -75,8 +75,8 @@ module _ (c : goal.After-lay_back_fewer-arg-1) where
   card = seen c.card.inside.form c.card.inside.inode c.card.inside.runs.items c.card.inside.blocks c.card.inside.names
 
   left_can : IsLeft c.in_ok-card.card card c.args.name.now c.remove.new.self c.unwrap-at.result.0 c.count-left.result c.cut.new.self
-  left_can = is_left c.in_ok-card.card _ c.card.view_is c.args.name.now c.remove.new.self c.unwrap-at.result.0 c.count-left.result c.cut.new.self (of_some _ c.remove.result c.unwrap-at.result c.unwrap-at.ensures c.remove.ensures.place).0
-      (of_some _ c.remove.result c.unwrap-at.result c.unwrap-at.ensures c.remove.ensures.removed) c.count-left.ensures.count c.cut.ensures
+  left_can = is_left c.in_ok-card.card _ c.card.view_is c.args.name.now c.remove.new.self c.unwrap-at.result.0 c.count-left.result c.cut.new.self (of_some _ c.in_ok-remove.field-0 c.unwrap-at.result c.unwrap-at.ensures c.in_ok-remove.ensures.place).0
+      (of_some _ c.in_ok-remove.field-0 c.unwrap-at.result c.unwrap-at.ensures c.in_ok-remove.ensures.removed) c.count-left.ensures.count c.cut.ensures
 
   marks_can : (n : ℕ) → mark_by (148 + c.args.self.now.nodes) c.give_blocks.new.places n + times_set n c.in_ok-card.card.blocks
       ≡ mark_by (148 + c.args.self.now.nodes) c.args.self.now.places n + times_set n (take (blocks_of kind.Directory (length c.remove.new.self)) c.in_ok-card.card.blocks)
@@ -96,8 +96,8 @@ lay_back_fewer-requires-clause-enough c =
 
 pub returns-in_err-lay_back_fewer-clause-count : goal.returns-in_err-lay_back_fewer-clause-count
 returns-in_err-lay_back_fewer-clause-count c =
-    let it = is_left c.in_ok-card.card _ c.card.view_is c.args.name.now c.remove.new.self c.unwrap-at.result.0 c.count-left.result c.cut.new.self (of_some _ c.remove.result c.unwrap-at.result c.unwrap-at.ensures c.remove.ensures.place).0
-    (of_some _ c.remove.result c.unwrap-at.result c.unwrap-at.ensures c.remove.ensures.removed) c.count-left.ensures.count c.cut.ensures in
+    let it = is_left c.in_ok-card.card _ c.card.view_is c.args.name.now c.remove.new.self c.unwrap-at.result.0 c.count-left.result c.cut.new.self (of_some _ c.in_ok-remove.field-0 c.unwrap-at.result c.unwrap-at.ensures c.in_ok-remove.ensures.place).0
+    (of_some _ c.in_ok-remove.field-0 c.unwrap-at.result c.unwrap-at.ensures c.in_ok-remove.ensures.removed) c.count-left.ensures.count c.cut.ensures in
     let few = drop_few c.args.self.now c.args.place c.in_ok-card.card c.args.name.now c.requires.known c.in_ok-card.ensures.card c.requires.names c.remove.new.self it.are in
     let cut = ap (λ (b : List (Option ℕ)). set_blocks b) it.cut_is in
     omega (arith, few, cut, c.rewrite_names.ensures.count, c.rewrite_names-2.ensures.count, c.lay_back_fewer.ensures.count)
@@ -126,8 +126,8 @@ module _ (c : goal.After-drop-entry-2) where
   blocks = take (blocks_of kind.Directory (length names)) was.blocks
 
   it : IsLeft was mid_card name names c.unwrap-at.result.0 c.count-left.result c.cut.new.self
-  it = is_left c.in_ok-card.card _ c.card.view_is c.args.name.now c.remove.new.self c.unwrap-at.result.0 c.count-left.result c.cut.new.self (of_some _ c.remove.result c.unwrap-at.result c.unwrap-at.ensures c.remove.ensures.place).0
-      (of_some _ c.remove.result c.unwrap-at.result c.unwrap-at.ensures c.remove.ensures.removed) c.count-left.ensures.count c.cut.ensures
+  it = is_left c.in_ok-card.card _ c.card.view_is c.args.name.now c.remove.new.self c.unwrap-at.result.0 c.count-left.result c.cut.new.self (of_some _ c.in_ok-remove.field-0 c.unwrap-at.result c.unwrap-at.ensures c.in_ok-remove.ensures.place).0
+      (of_some _ c.in_ok-remove.field-0 c.unwrap-at.result c.unwrap-at.ensures c.in_ok-remove.ensures.removed) c.count-left.ensures.count c.cut.ensures
 
   marks : (n : ℕ) → mark_by (148 + c.args.self.now.nodes) c.give_blocks.new.places n + times_set n was.blocks ≡ mark_by (148 + c.args.self.now.nodes) c.args.self.now.places n + times_set n blocks
   marks = marks_left c.in_ok-card.card _ c.card.view_is c.remove.new.self c.count-left.result (148 + c.args.self.now.nodes) c.args.self.now.places c.give_blocks.new.places c.count-left.ensures.count c.give_blocks.ensures.marks
@@ -150,7 +150,7 @@ module _ (c : goal.After-drop-entry-2) where
   map_is entry found =
       let inside : mid_card.names ≡ was.names = ap (λ (one : Card). one.names) c.card.view_is in
       let stamped = stamped_was c.args.self.now c.args.place was name c.requires.known c.in_ok-card.ensures.card c.requires.names in
-      let removes = c.remove.ensures.by_stamp (subst AreStamped (sym inside) stamped) in
+      let removes = c.in_ok-remove.ensures.by_stamp (subst AreStamped (sym inside) stamped) in
       removes.entries ∙ ap (λ (l : List Record). without_entry (by_stamp l) (entry_of name l)) inside ∙ ap (λ (e : Option Record). without_entry (by_stamp was.names) e) found
 
 pub returns-clause-known : goal.returns-clause-known

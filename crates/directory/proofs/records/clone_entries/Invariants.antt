@@ -1,6 +1,6 @@
 use Rattle.std.proofs.Common.{◌≡◌, map, take}
 use Rattle.directory.specs.Records.{record_of}
-use Rattle.directory.proofs.names.clone_entries.Given as goal
+use Rattle.directory.proofs.records.clone_entries.Given as goal
 
 abbrev pub invariant-loop-entry : goal.invariant-loop-entry
 invariant-loop-entry l = map record_of l.copy.items ≡ map record_of (take l.entry-index l.entries)
