@@ -1,7 +1,7 @@
 -- Records in blocks: one is read, changed, put after the last, and the last goes.
-use Rattle.std.proofs.Common.{◌≡◌, ◌<◌, ◌≤◌, ◌+◌, ◌-◌, ◌*◌, ◌/◌, ◌%◌, ◌∙◌, ℕ, zero, suc, List, [], ◌∷◌, ◌++◌, length, get_or, set, take, map, min, refl, sym, ap, subst, arith, append_assoc}
-use Rattle.std.proofs.lemmas.List.{append-nil, length-append, length-take, length-set, length-map, get_or-map, map-set, map_push, take-map, map_push, take-map, length_push, get_or_append_left, get_or-append-add, set-append_left, set-append_right, take-append-le, take_all, take_at, take-take, get_or-take, get_or_default}
-use Rattle.directory.specs.Records.{Record, without_place, record_from}
+use Rattle.std.proofs.Common.{◌≡◌, ◌<◌, ◌≤◌, ◌+◌, ◌-◌, ◌*◌, ◌/◌, ◌%◌, ◌∙◌, ℕ, zero, suc, List, [], ◌∷◌, ◌++◌, length, get_or, set, take, map, refl, sym, ap, subst, arith, append_assoc}
+use Rattle.std.proofs.lemmas.List.{append-nil, length-append, length-take, length-set, length-map, get_or-map, map-set, map_push, take-map, map_push, take-map, length_push, get_or_append_left, get_or-append-add, set-append_left, set-append_right, take-append-le, take_all, take_at, take-take, get_or-take}
+use Rattle.directory.specs.Records.{Record}
 use Rattle.directory.specs.Blocks.{joined, AreFilled}
 
 abbrev Blocks : Type 0

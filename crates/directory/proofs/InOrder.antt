@@ -1,111 +1,88 @@
--- The order of records after a change of these, and what a search in it finds.
-use Rattle.std.proofs.Common.{ℕ, zero, suc, true, false, List, [], ◌∷◌, ◌++◌, ◌≡◌, ◌≢◌, ◌<◌, ◌≤◌, ◌+◌, ◌-◌, ◌∙◌, Some, None, inl, inr, length, get_or, set, take, leb, leb-true, leb-false, refl, sym, ap, subst, arith}
+-- The orders of records after a change of these, and what a search in them finds.
+use Rattle.std.proofs.Common.{ℕ, zero, suc, List, [], ◌∷◌, ◌++◌, ◌≡◌, ◌≢◌, ◌<◌, ◌≤◌, ◌+◌, ◌-◌, ◌∙◌, Some, None, inl, inr, length, get_or, set, take, refl, sym, ap, subst, arith}
 use Rattle.std.specs.List.{Contains}
-use Rattle.std.specs.List.Sorted.{IsPartitionPoint}
-use Rattle.std.proofs.lemmas.Bool.{cases_eq, cases_lt}
-use Rattle.std.proofs.lemmas.List.{take_more, length-set, length-take, length_push, get_or-set_same, get_or-set_other, get_or_default, get_or_append_left, get_or_push}
+use Rattle.std.proofs.lemmas.Bool.{cases_eq, cases_lt, cases_order}
+use Rattle.std.proofs.lemmas.List.{length-set, length-take, length_push, get_or-set_other, get_or_default, get_or_append_left, get_or-take}
 use Rattle.model.specs.Keyed.{at}
 use Rattle.model.proofs.KeyedLaws.{at-first, at-rest}
-use Rattle.directory.specs.declared.order.Placed.{Placed}
+use Rattle.directory.specs.declared.order.By.{By}
+use Rattle.directory.specs.declared.order.By.TheVariants as by
 use Rattle.directory.specs.Records.{Record, record_from, stamp_of, without_place}
 use Rattle.directory.specs.Least.{IsLeast}
-use Rattle.directory.specs.Order.{is_before, IsOf, IsOrder, IsInserted, IsTakenOut}
+use Rattle.directory.specs.Order.{compare_placed, at_place, IsBefore, AreRising, IsOrder, IsPosition, IsInserted, IsTakenOut}
 use Rattle.directory.proofs.Kept.{moved_at, moved_here}
-use Rattle.directory.proofs.Rising.{same_placed, before_stamp, before_place, rising_at}
+use Rattle.directory.proofs.Rising.{before_cases, less_before, tied_less, cmp_low, cmp_same, low_first, tied_same, rising_at, rising_same}
 
 abbrev nothing : Record
 nothing = record_from 0 [] 0
 
--- one place has one stamp
-one_of : (xs : List Record) (one other : Placed) → IsOf xs one → IsOf xs other → other.place ≡ one.place → other ≡ one
-one_of xs one other is others same =
-    same_placed other one (sym (others.1 nothing) ∙ (ap (λ k. stamp_of (get_or xs k nothing)) same ∙ is.1 nothing)) same
-
-pub no_records : IsOrder [] []
-no_records = record {
+pub no_records : (by : By) → IsOrder by [] []
+no_records by = record {
   rising = tt;
-  all = λ one. (λ has. absurd (let low : has.0 < 0 = has.1 in omega arith), λ of. absurd (let low : one.place < 0 = of.0 in omega arith));
+  all = λ place. (λ has. absurd (let low : has.0 < 0 = has.1 in omega arith), λ of. absurd (omega arith));
 }
 
-pub stands : (xs : List Record) (one : Placed) (d : Record) → one.place < length xs → one.stamp ≡ stamp_of (get_or xs one.place d) → IsOf xs one
-stands xs one d within is = (within, λ e. ap stamp_of (get_or_default xs one.place e d within) ∙ sym is)
+-- places whose records are the same
+pub placed_same : (by : By) (xs ys : List Record) (order : List ℕ) → ((a : ℕ) → Contains order a → get_or ys a nothing ≡ get_or xs a nothing) → AreRising by xs order → AreRising by ys order
+placed_same by xs ys order same rising =
+    rising_same by xs ys order
+    (λ a b has has_b.
+    ap (λ (r : Record). compare_placed by (r, a) (at_place ys b)) (same a has) ∙ ap (λ (r : Record). compare_placed by (at_place xs a) (r, b)) (same b has_b))
+    rising
 
 -- A record after the last
 
-module _ (order : List Placed) (xs : List Record) (one : Placed) (kept : IsOrder order xs) (behind : one.place ≡ length xs) where
-  pub fresh : Contains order one → ⊥
-  fresh has = let low : one.place < length xs = ((kept.all one).0 has).0 in omega arith
+pub pushed : (by : By) (order new : List ℕ) (xs : List Record) (last : Record) → IsOrder by order xs → IsInserted by (xs ++ last ∷ []) order new (length xs) → IsOrder by new (xs ++ last ∷ [])
+pushed by order new xs last kept put = record {
+  rising = put.rising;
+  all = λ other. (
+    λ has. elim ((put.all other).0 has) [
+      | inl same ↦ omega (arith, length_push xs last)
+      | inr old ↦ let low : other < length xs = (kept.all other).0 old in omega (arith, length_push xs last)
+    ],
+    λ low. elim (cases_lt other (length xs)) [
+      | inl old ↦ (put.all other).1 (inr ((kept.all other).1 old))
+      | inr end ↦ (put.all other).1 (inl (omega (arith, length_push xs last)))
+    ],
+  );
+}
 
-  pub pushed : (new : List Placed) (last : Record) → IsInserted order new one → stamp_of last ≡ one.stamp → IsOrder new (xs ++ last ∷ [])
-  pushed new last put is = record {
-    rising = put.rising;
-    all = λ other. (
-      λ has. elim ((put.all other).0 has) [
-        | inl same ↦ subst (IsOf (xs ++ last ∷ [])) (sym same) its
-        | inr old ↦
-            let of : IsOf xs other = (kept.all other).0 old in
-            (omega (arith, of.0, length_push xs last), λ d. ap stamp_of (get_or_append_left xs (last ∷ []) d other.place of.0) ∙ of.1 d)
-      ],
-      λ of. elim (cases_lt other.place (length xs)) [
-        | inl old ↦ (put.all other).1 (inr ((kept.all other).1 (old, λ d. sym (ap stamp_of (get_or_append_left xs (last ∷ []) d other.place old)) ∙ of.1 d)))
-        | inr end ↦ (put.all other).1 (inl (one_of (xs ++ last ∷ []) one other its of (omega (arith, of.0, length_push xs last))))
-      ],
-    );
-  }
-    where
-      its : IsOf (xs ++ last ∷ []) one
-      its = (omega (arith, length_push xs last), λ d. ap stamp_of (get_or_push xs last d one.place (omega arith)) ∙ is)
+pub still_rising : (by : By) (order : List ℕ) (xs : List Record) (last : Record) → IsOrder by order xs → AreRising by (xs ++ last ∷ []) order
+still_rising by order xs last kept =
+    placed_same by xs (xs ++ last ∷ []) order (λ a has. get_or_append_left xs (last ∷ []) nothing a ((kept.all a).0 has)) kept.rising
 
-pub one_more : (order new : List Placed) (xs : List Record) (one : Placed) → IsOf xs one → IsOrder order (take one.place xs) → IsInserted order new one
-    → IsOrder new (take (one.place + 1) xs)
-one_more order new xs one its kept put =
-    subst (IsOrder new) (sym (take_more xs one.place nothing its.0))
-    (pushed order (take one.place xs) one kept (omega (arith, length-take one.place xs, its.0)) new (get_or xs one.place nothing) put (its.1 nothing))
+-- A record at a place changes
 
--- A record at a place goes
+module _ (by : By) (order mid : List ℕ) (xs ys : List Record) (place : ℕ) (kept : IsOrder by order xs) (within : place < length xs) (out : IsTakenOut by xs order mid place) where
+  pub left_within : (other : ℕ) → Contains mid other → other < length xs
+  left_within other has = (kept.all other).0 ((out.all other).0 has).1
 
-module _ (order mid : List Placed) (xs : List Record) (old : Placed) (kept : IsOrder order xs) (its : IsOf xs old) (out : IsTakenOut order mid old) where
-  -- what is left is of another place
-  pub left_of : (other : Placed) → Contains mid other → IsOf xs other
-  left_of other has = (kept.all other).0 ((out.all other).0 has).1
+  pub not_left : Contains mid place → ⊥
+  not_left has = ((out.all place).0 has).0 refl
 
-  pub left_elsewhere : (other : Placed) → Contains mid other → other.place ≢ old.place
-  left_elsewhere other has = λ same. ((out.all other).0 has).0 (one_of xs old other its (left_of other has) same)
+  module _ (changed : Record) (is : ys ≡ set xs place changed) where
+    pub left_rising : AreRising by ys mid
+    left_rising =
+        placed_same by xs ys mid
+        (λ a has. ap (λ rs. get_or rs a nothing) is ∙ get_or-set_other xs place a changed nothing ((out.all a).0 has).0) out.rising
 
-  pub is_left : (other : Placed) → IsOf xs other → other.place ≢ old.place → Contains mid other
-  is_left other of apart = (out.all other).1 (λ same. apart (ap (λ (one : Placed). one.place) same), (kept.all other).1 of)
+    pub same_many : length ys ≡ length xs
+    same_many = ap length is ∙ length-set xs place changed
 
-  pub none_there : (to : Placed) → to.place ≡ old.place → Contains mid to → ⊥
-  none_there to same has = left_elsewhere to has same
-
-  pub restamped : (new : List Placed) (to : Placed) (changed : Record) → IsInserted mid new to → to.place ≡ old.place → stamp_of changed ≡ to.stamp
-      → IsOrder new (set xs old.place changed)
-  restamped new to changed put same is = record {
-    rising = put.rising;
-    all = λ other. (
-      λ has. elim ((put.all other).0 has) [
-        | inl one ↦ subst (IsOf (set xs old.place changed)) (sym one) to_its
-        | inr left ↦
-            let of : IsOf xs other = left_of other left in (
-              omega (arith, of.0, length-set xs old.place changed),
-              λ d. ap stamp_of (get_or-set_other xs old.place other.place changed d (left_elsewhere other left)) ∙ of.1 d,
-            )
-      ],
-      λ of. elim (cases_eq other.place old.place) [
-        | inl here ↦ (put.all other).1 (inl (one_of (set xs old.place changed) to other to_its of (here ∙ sym same)))
-        | inr away ↦ (put.all other).1 (inr (is_left other (
-          omega (arith, of.0, length-set xs old.place changed),
-          λ d. sym (ap stamp_of (get_or-set_other xs old.place other.place changed d away)) ∙ of.1 d,
-        ) away))
-      ],
-    );
-  }
-    where
-      to_its : IsOf (set xs old.place changed) to
-      to_its = (
-        omega (arith, its.0, length-set xs old.place changed),
-        λ d. ap (λ k. stamp_of (get_or (set xs old.place changed) k d)) same ∙ (ap stamp_of (get_or-set_same xs old.place changed d its.0) ∙ is),
-      )
+    pub put_back : (new : List ℕ) → IsInserted by ys mid new place → IsOrder by new ys
+    put_back new put = record {
+      rising = put.rising;
+      all = λ other. (
+        λ has. elim ((put.all other).0 has) [
+          | inl same ↦ omega (arith, same_many)
+          | inr left ↦ omega (arith, same_many, left_within other left)
+        ],
+        λ low. elim (cases_eq other place) [
+          | inl here ↦ (put.all other).1 (inl here)
+          | inr away ↦ (put.all other).1 (inr ((out.all other).1 (away, (kept.all other).1 (omega (arith, same_many)))))
+        ],
+      );
+    }
 
 -- The last record moves into the place of one
 
@@ -125,70 +102,63 @@ module _ (xs : List Record) (p : ℕ) (h : p < length xs) where
   comes : (d : Record) → p < length xs - 1 → get_or (without_place xs p) p d ≡ get_or xs (length xs - 1) d
   comes d low = moved_here xs p h last last_is p d low refl
 
-module _ (order mid : List Placed) (xs : List Record) (old : Placed) (kept : IsOrder order xs) (its : IsOf xs old) (out : IsTakenOut order mid old) where
-  abbrev ys : List Record
-  ys = without_place xs old.place
-
-  of_rest : (other : Placed) → IsOf xs other → other.place < length xs - 1 → other.place ≢ old.place → IsOf ys other
-  of_rest other of low apart = (
-    omega (arith, one_less xs old.place its.0),
-    λ d. ap stamp_of (stays xs old.place its.0 other.place d low apart) ∙ of.1 d,
-  )
-
-  of_all : (other : Placed) → IsOf ys other → other.place ≢ old.place → IsOf xs other
-  of_all other of apart =
-      let low : other.place < length xs - 1 = omega (arith, of.0, one_less xs old.place its.0) in
-      (omega arith, λ d. sym (ap stamp_of (stays xs old.place its.0 other.place d low apart)) ∙ of.1 d)
+module _ (by : By) (order mid : List ℕ) (xs ys : List Record) (place : ℕ) (kept : IsOrder by order xs) (within : place < length xs) (out : IsTakenOut by xs order mid place) (is : ys ≡ without_place xs place) where
+  fewer : length ys ≡ length xs - 1
+  fewer = ap length is ∙ one_less xs place within
 
   -- it was the last itself
-  pub shortened : length xs - 1 ≤ old.place → IsOrder mid ys
+  pub shortened : length ys ≤ place → IsOrder by mid ys
   shortened end = record {
-    rising = out.rising;
+    rising = placed_same by xs ys mid
+        (λ a has.
+        let low : a < length xs = left_within by order mid xs ys place kept within out a has in
+        let apart : a ≢ place = ((out.all a).0 has).0 in
+        ap (λ rs. get_or rs a nothing) is ∙ stays xs place within a nothing (omega (arith, fewer, low, apart, end)) apart)
+        out.rising;
     all = λ other. (
       λ has.
-          let of : IsOf xs other = left_of order mid xs old kept its out other has in
-          let apart : other.place ≢ old.place = left_elsewhere order mid xs old kept its out other has in
-          of_rest other of (omega (arith, of.0, its.0)) apart,
-      λ of.
-          let apart : other.place ≢ old.place = omega (arith, of.0, its.0, one_less xs old.place its.0) in
-          is_left order mid xs old kept its out other (of_all other of apart) apart,
+          let low : other < length xs = left_within by order mid xs ys place kept within out other has in
+          let apart : other ≢ place = ((out.all other).0 has).0 in
+          omega (arith, fewer, low, apart, end),
+      λ low. (out.all other).1 (omega (arith, low, end), (kept.all other).1 (omega (arith, fewer, low))),
     );
   }
 
-  module _ (end : Placed) (end_its : IsOf xs end) (end_is : end.place ≡ length xs - 1) (low : old.place < length xs - 1) where
-    pub end_left : Contains mid end
-    end_left = is_left order mid xs old kept its out end end_its (omega arith)
+  module _ (low : place < length ys) where
+    pub last_left : Contains mid (length ys)
+    last_left = (out.all (length ys)).1 (omega (arith, low), (kept.all (length ys)).1 (omega (arith, fewer, within)))
 
-    module _ (rest : List Placed) (end_out : IsTakenOut mid rest end) (to : Placed) (here : to.place ≡ old.place) (stamps : to.stamp ≡ end.stamp) where
-      pub none_here : Contains rest to → ⊥
-      none_here has = left_elsewhere order mid xs old kept its out to ((end_out.all to).0 has).1 here
+    module _ (rest : List ℕ) (end_out : IsTakenOut by xs mid rest (length ys)) where
+      pub rest_within : (other : ℕ) → Contains rest other → other < length ys
+      rest_within other has =
+          let was = (end_out.all other).0 has in
+          let inside : other < length xs = left_within by order mid xs ys place kept within out other was.1 in
+          let apart : other ≢ length ys = was.0 in
+          omega (arith, fewer, inside, apart)
 
-      to_its : IsOf ys to
-      to_its = (
-        omega (arith, one_less xs old.place its.0),
-        λ d. ap (λ k. stamp_of (get_or ys k d)) here
-            ∙ (ap stamp_of (comes xs old.place its.0 d low)
-            ∙ (ap (λ k. stamp_of (get_or xs k d)) (sym end_is) ∙ (end_its.1 d ∙ sym stamps))),
-      )
+      pub none_here : Contains rest place → ⊥
+      none_here has = ((out.all place).0 ((end_out.all place).0 has).1).0 refl
 
-      pub moved : (new : List Placed) → IsInserted rest new to → IsOrder new ys
+      pub rest_rising : AreRising by ys rest
+      rest_rising =
+          placed_same by xs ys rest
+          (λ a has.
+          ap (λ rs. get_or rs a nothing) is
+          ∙ stays xs place within a nothing (omega (arith, fewer, rest_within a has)) ((out.all a).0 ((end_out.all a).0 has).1).0)
+          end_out.rising
+
+      pub moved : (new : List ℕ) → IsInserted by ys rest new place → IsOrder by new ys
       moved new put = record {
         rising = put.rising;
         all = λ other. (
           λ has. elim ((put.all other).0 has) [
-            | inl same ↦ subst (IsOf ys) (sym same) to_its
-            | inr left ↦
-                let was = (end_out.all other).0 left in
-                let of : IsOf xs other = left_of order mid xs old kept its out other was.1 in
-                let off : other.place ≢ end.place = λ same. was.0 (one_of xs end other end_its of same) in
-                of_rest other of (omega (arith, of.0, off, end_is)) (left_elsewhere order mid xs old kept its out other was.1)
+            | inl same ↦ omega (arith, low, same)
+            | inr left ↦ rest_within other left
           ],
-          λ of. elim (cases_eq other.place old.place) [
-            | inl same ↦ (put.all other).1 (inl (one_of ys to other to_its of (same ∙ sym here)))
+          λ inside. elim (cases_eq other place) [
+            | inl same ↦ (put.all other).1 (inl same)
             | inr away ↦
-                let before : other.place ≢ end.place = omega (arith, of.0, end_is, one_less xs old.place its.0) in
-                let was : Contains mid other = is_left order mid xs old kept its out other (of_all other of away) away in
-                (put.all other).1 (inr ((end_out.all other).1 (λ same. before (ap (λ (one : Placed). one.place) same), was)))
+                (put.all other).1 (inr ((end_out.all other).1 (omega (arith, inside), (out.all other).1 (away, (kept.all other).1 (omega (arith, fewer, inside))))))
           ],
         );
       }
@@ -208,63 +178,109 @@ first_at (x ∷ xs) (suc i) d within before =
     at-rest x.0 (stamp_of (get_or xs i d)) x.1 xs (λ same. before 0 (omega arith) (sym same))
     ∙ first_at xs i d (omega arith) (λ j low. before (suc j) (omega arith))
 
-module _ (order : List Placed) (xs : List Record) (cookie next : ℕ) (kept : IsOrder order xs)
-    (point : IsPartitionPoint (λ x. leb x.stamp cookie ≡ true) (λ x. leb x.stamp cookie ≡ false) order next) where
-  abbrev at_place : (i key : ℕ) → Placed
-  at_place i key = record { stamp = key; place = i }
-
-  has_place : (i key : ℕ) (d : Record) → i < length xs → stamp_of (get_or xs i d) ≡ key → Contains order (at_place i key)
-  has_place i key d within is = (kept.all (at_place i key)).1 (stands xs (at_place i key) d within (sym is))
+module _ (order : List ℕ) (xs : List Record) (cookie far : ℕ) (kept : IsOrder by.Stamp order xs) (next : ℕ)
+    (point : IsPosition by.Stamp xs order (record_from cookie [] 0, far) next) (wide : length xs ≤ far) where
+  -- the stamp of a record that stands before
+  below : (a : ℕ) → IsBefore by.Stamp (at_place xs a) (record_from cookie [] 0, far) → stamp_of (get_or xs a nothing) ≤ cookie
+  below a is = elim (before_cases by.Stamp (at_place xs a) (record_from cookie [] 0, far) is) [
+    | inl less ↦ let low = low_first (stamp_of (get_or xs a nothing)) cookie less in omega arith
+    | inr tied ↦ let same = tied_same (stamp_of (get_or xs a nothing)) cookie tied.0 in omega arith
+  ]
 
   -- what is above the cookie stands from there on
-  above : (one : Placed) (has : Contains order one) → cookie < one.stamp → next ≤ has.0
-  above one has high = elim (cases_lt has.0 next) [
+  above : (a : ℕ) (has : Contains order a) → cookie < stamp_of (get_or xs a nothing) → next ≤ has.0
+  above a has high = elim (cases_lt has.0 next) [
     | inl low ↦
-        let below : one.stamp ≤ cookie = leb-true one.stamp cookie (subst (λ x. leb x.stamp cookie ≡ true) has.2 (point.0 has.0 one (omega arith) low)) in
+        let before = subst (λ x. IsBefore by.Stamp (at_place xs x) (record_from cookie [] 0, far)) (get_or_default order has.0 0 a has.1 ∙ has.2) (point.before has.0 low) in
+        let most = below a before in
         absurd (omega arith)
-    | inr far ↦ far
+    | inr past ↦ past
   ]
 
   pub none_least : length order ≤ next → IsLeast cookie xs None
   none_least end key high = none_at key xs (λ i d within is.
-      let has = has_place i key d within is in
-      let far : next ≤ has.0 = above (at_place i key) has high in
+      let same = ap stamp_of (get_or_default xs i nothing d within) ∙ is in
+      let has = (kept.all i).1 within in
+      let past = above i has (omega (arith, same)) in
       let low : has.0 < length order = has.1 in
       absurd (omega arith))
 
-  module _ (one : Placed) (within : next < length order) (found : one ≡ get_or order next one) where
-    pub its_place : IsOf xs one
-    its_place = (kept.all one).0 (next, within, sym found)
+  module _ (within : next < length order) where
+    abbrev one : ℕ
+    one = get_or order next 0
 
-    high : cookie < one.stamp
-    high = leb-false one.stamp cookie (subst (λ x. leb x.stamp cookie ≡ false) (sym found) (point.1 next one (omega arith) within))
+    pub its_place : one < length xs
+    its_place = (kept.all one).0 (next, within, get_or_default order next one 0 within)
+
+    high : cookie < stamp_of (get_or xs one nothing)
+    high = elim (cases_order (stamp_of (get_or xs one nothing)) cookie) [
+      | inl same ↦ absurd (point.behind next (omega arith) within (tied_before same))
+      | inr off ↦ elim off [
+        | inl low ↦ absurd (point.behind next (omega arith) within (less_before by.Stamp (at_place xs one) (record_from cookie [] 0, far) (cmp_low (stamp_of (get_or xs one nothing)) cookie low)))
+        | inr more ↦ more
+      ]
+    ]
+      where
+        tied_before : stamp_of (get_or xs one nothing) ≡ cookie → IsBefore by.Stamp (at_place xs one) (record_from cookie [] 0, far)
+        tied_before same = tied_less by.Stamp (at_place xs one) (record_from cookie [] 0, far) (cmp_same (stamp_of (get_or xs one nothing)) cookie same) (omega (arith, its_place, wide))
 
     -- any other one that is above the cookie comes after it
-    others_behind : (other : Placed) → Contains order other → cookie < other.stamp → other ≢ one → is_before one other ≡ true
-    others_behind other has up apart =
-        let far : next ≤ has.0 = above other has up in
-        let d_is : get_or order has.0 one ≡ other = get_or_default order has.0 one other has.1 ∙ has.2 in
+    others_behind : (other : ℕ) → other < length xs → cookie < stamp_of (get_or xs other nothing) → other ≢ one → IsBefore by.Stamp (at_place xs one) (at_place xs other)
+    others_behind other inside up apart =
+        let has = (kept.all other).1 inside in
+        let past : next ≤ has.0 = above other has up in
+        let d_is : get_or order has.0 0 ≡ other = get_or_default order has.0 0 other has.1 ∙ has.2 in
         elim (cases_eq next has.0) [
-          | inl same ↦ absurd (apart (sym d_is ∙ (ap (λ k. get_or order k one) (sym same) ∙ sym found)))
-          | inr off ↦
-              subst (λ x. is_before one x ≡ true) d_is
-              (subst (λ x. is_before x (get_or order has.0 one) ≡ true) (sym found) (rising_at order next has.0 one kept.rising (omega arith) has.1))
+          | inl same ↦ absurd (apart (sym d_is ∙ ap (λ k. get_or order k 0) (sym same)))
+          | inr off ↦ subst (λ x. IsBefore by.Stamp (at_place xs one) (at_place xs x)) d_is (rising_at by.Stamp xs order next has.0 0 kept.rising (omega arith) has.1)
         ]
 
-    pub found_least : (d : Record) → IsLeast cookie xs (Some (get_or xs one.place d))
+    stamp_up : (other : ℕ) → IsBefore by.Stamp (at_place xs one) (at_place xs other)
+        → (stamp_of (get_or xs one nothing) ≤ stamp_of (get_or xs other nothing)) × (stamp_of (get_or xs one nothing) ≡ stamp_of (get_or xs other nothing) → one < other)
+    stamp_up other is = elim (before_cases by.Stamp (at_place xs one) (at_place xs other) is) [
+      | inl less ↦
+          let low = low_first (stamp_of (get_or xs one nothing)) (stamp_of (get_or xs other nothing)) less in
+          (omega arith, λ same. absurd (omega arith))
+      | inr tied ↦ let same = tied_same (stamp_of (get_or xs one nothing)) (stamp_of (get_or xs other nothing)) tied.0 in (omega arith, λ _. tied.1)
+    ]
+
+    pub found_least : (d : Record) → IsLeast cookie xs (Some (get_or xs one d))
     found_least d =
-        let stamps : stamp_of (get_or xs one.place d) ≡ one.stamp = its_place.1 d in (
-          omega (arith, stamps, high),
-          first_at xs one.place d its_place.0 (λ j low same.
-              let other = at_place j one.stamp in
-              let has = has_place j one.stamp d (omega (arith, its_place.0)) (same ∙ stamps) in
-              let apart : other ≢ one = λ is. let places : j ≡ one.place = ap (λ (x : Placed). x.place) is in omega arith in
-              let up : one.place < j = before_place one other (others_behind other has high apart) refl in
+        let d_is : get_or xs one d ≡ get_or xs one nothing = get_or_default xs one d nothing its_place in
+        subst (λ r. IsLeast cookie xs (Some r)) (sym d_is) (
+          high,
+          first_at xs one nothing its_place (λ j low same.
+              let up = stamp_up j (others_behind j (omega (arith, its_place)) (omega (arith, same, high)) (omega (arith, low))) in
+              let after : one < j = up.1 (sym same) in
               absurd (omega arith)),
-          λ key above_it below. none_at key xs (λ i e within_it is.
-              let other = at_place i key in
-              let has = has_place i key e within_it is in
-              let apart : other ≢ one = λ same. let keys : key ≡ one.stamp = ap (λ (x : Placed). x.stamp) same in omega arith in
-              let up : one.stamp ≤ key = before_stamp one other (others_behind other has above_it apart) in
+          λ key above_it below_it. none_at key xs (λ i e within_it is.
+              let stamp : stamp_of (get_or xs i nothing) ≡ key = ap stamp_of (get_or_default xs i nothing e within_it) ∙ is in
+              let apart : i ≢ one = λ same. let twice : stamp_of (get_or xs i nothing) ≡ stamp_of (get_or xs one nothing) = ap (λ k. stamp_of (get_or xs k nothing)) same in omega arith in
+              let up = (stamp_up i (others_behind i within_it (omega (arith, stamp)) apart)).0 in
               absurd (omega arith)),
         )
+
+-- The first records
+
+pub front_rising : (by : By) (order : List ℕ) (xs : List Record) (k : ℕ) → IsOrder by order (take k xs) → AreRising by xs order
+front_rising by order xs k kept =
+    placed_same by (take k xs) xs order
+    (λ a has. let low : a < length (take k xs) = (kept.all a).0 has in sym (get_or-take k xs a nothing (omega (arith, low, length-take k xs)))) kept.rising
+
+pub one_more : (by : By) (order new : List ℕ) (xs : List Record) (k : ℕ) → k < length xs → IsOrder by order (take k xs) → IsInserted by xs order new k → IsOrder by new (take (k + 1) xs)
+one_more by order new xs k inside kept put = record {
+  rising = placed_same by xs (take (k + 1) xs) new (λ a has. get_or-take (k + 1) xs a nothing (low_end a has)) put.rising;
+  all = λ other. (
+    λ has. let low = low_end other has in omega (arith, low, inside, length-take (k + 1) xs),
+    λ low. elim (cases_eq other k) [
+      | inl same ↦ (put.all other).1 (inl same)
+      | inr off ↦ (put.all other).1 (inr ((kept.all other).1 (omega (arith, low, off, inside, length-take (k + 1) xs, length-take k xs))))
+    ],
+  );
+}
+  where
+    low_end : (a : ℕ) → Contains new a → a < k + 1
+    low_end a has = elim ((put.all a).0 has) [
+      | inl same ↦ omega arith
+      | inr old ↦ let low : a < length (take k xs) = (kept.all a).0 old in omega (arith, low, length-take k xs)
+    ]

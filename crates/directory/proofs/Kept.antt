@@ -22,7 +22,7 @@ apart_same : (xs ys : List Record) → length ys ≡ length xs → ((i : ℕ) (d
 apart_same xs ys len same apart i j d lt within = λ e.
     apart i j d lt (omega arith) (sym (same i d (omega arith)) ∙ e ∙ same j d (omega arith))
 
-set_name : (xs : List Record) (p : ℕ) (new : Record) → p < length xs → ((d : Record) → (get_or xs p d).1.name ≡ new.1.name) → (i : ℕ) (d : Record) → i < length xs → (get_or (set xs p new) i d).1.name ≡ (get_or xs i d).1.name
+pub set_name : (xs : List Record) (p : ℕ) (new : Record) → p < length xs → ((d : Record) → (get_or xs p d).1.name ≡ new.1.name) → (i : ℕ) (d : Record) → i < length xs → (get_or (set xs p new) i d).1.name ≡ (get_or xs i d).1.name
 set_name xs p new h same i d lt =
     elim (cases_eq i p) [
       | inl e ↦ ap (λ (k : ℕ). (get_or (set xs p new) k d).1.name) e ∙ ap (λ (r : Record). r.1.name) (get_or-set_same xs p new d h) ∙ sym (same d) ∙ ap (λ (k : ℕ). (get_or xs k d).1.name) (sym e)

@@ -13,3 +13,4 @@ pub mod ReadBack
 pub mod Rising
 pub mod InOrder
 pub mod Blocks
+pub mod Named

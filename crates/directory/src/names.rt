@@ -4,6 +4,8 @@ ghost use Rattle.std.specs.Prelude.{◌≡◌, ◌≢◌, ◌<◌, ◌≤◌, �
 ghost use Rattle.std.specs.List.{AllByRecursion};
 ghost use Rattle.model.specs.Tree.{entry_of};
 ghost use Rattle.directory.specs.Spelling.{directory_sector};
+ghost use Rattle.directory.specs.Order.{IsOrder};
+ghost use Rattle.directory.specs.declared.order.By.TheVariants as By;
 ghost use Rattle.directory.specs.Records.{record_of, record_from, name_of, place_of, with_record, without_place, AreApart, AreStamped, Record, IsRecord, IsDirectory};
 ghost use Rattle.directory.specs.Listing.{by_stamp, after, PutsByStamp, RemovesByStamp};
 ghost use Rattle.model.specs.Keyed.{at};
@@ -12,7 +14,7 @@ ghost use Rattle.directory.specs.Rest.{rest_of};
 use crate::entry::Entry;
 use crate::fault::DirectoryFault;
 use crate::listing::ListAfter;
-use crate::order::{self, Placed};
+use crate::order::{self, By, Sought};
 use crate::records::Records;
 use crate::sectors::{self, MAX_NAME_BYTES, RECORDS};
 use sector::SIZE;
@@ -21,12 +23,14 @@ use std::marker::Model;
 
 /// The names of a directory, at most 1,024, in the order of their records.
 ///
-/// Contracts see the list of the records. `order` has them by rising stamp.
+/// Contracts see the list of the records. `by_stamp` has their places by rising stamp, `by_name` by
+/// rising name.
 #[derive(Drop)]
 pub struct Names {
     alloc: Global,
     records: Records,
-    order: Vec<Placed>,
+    by_stamp: Vec<u16>,
+    by_name: Vec<u16>,
 }
 
 impl Model for Names {
@@ -39,7 +43,7 @@ impl Model for Names {
 
     ghost view = { λ names. names.records };
 
-    ghost invariant = { λ names. AreKept names.records names.order.items };
+    ghost invariant = { λ names. AreKept names.records names.by_stamp.items names.by_name.items };
 }
 
 impl Names {
@@ -53,7 +57,8 @@ impl Names {
         Names {
             alloc,
             records: Records::new(alloc),
-            order: Vec::new(alloc),
+            by_stamp: Vec::new(alloc),
+            by_name: Vec::new(alloc),
         }
     }
 
@@ -71,14 +76,16 @@ impl Names {
             return Ok(None);
         }
         let records = Records::from_entries(alloc, &entries)?;
-        if !are_apart(&records) {
+        let by_name = order::order_of(alloc, By::Name, &records)?;
+        if !are_apart(&by_name, &records) {
             return Ok(None);
         }
-        let order = order::order_of(alloc, &records)?;
+        let by_stamp = order::order_of(alloc, By::Stamp, &records)?;
         Ok(Some(Names {
             alloc,
             records,
-            order,
+            by_stamp,
+            by_name,
         }))
     }
 
@@ -89,7 +96,8 @@ impl Names {
         Ok(Names {
             alloc: self.alloc,
             records: self.records.try_clone()?,
-            order: Vec::from_slice(self.alloc, &self.order)?,
+            by_stamp: Vec::from_slice(self.alloc, &self.by_stamp)?,
+            by_name: Vec::from_slice(self.alloc, &self.by_name)?,
         })
     }
 
@@ -110,8 +118,16 @@ impl Names {
             (λ entry. after cookie (by_stamp self.now)
             ≡ record_of entry.now ∷ after entry.now.stamp (by_stamp self.now)) }
     {
-        let next = self.order.partition_point(|one| one.stamp <= cookie);
-        let place = self.order.get(next)?.place;
+        let sought = Sought {
+            stamp: cookie,
+            name: &[],
+            place: usize::MAX,
+        };
+        let next = order::position(&self.by_stamp, By::Stamp, &self.records, &sought);
+        if next >= self.by_stamp.len() {
+            return None;
+        }
+        let place = usize::from(self.by_stamp[next]);
         Some(self.records.get(place))
     }
 
@@ -140,7 +156,7 @@ impl Names {
             → option_map (λ found. record_from found.0 name.now found.1) result
             ≡ entry_of name.now (by_stamp self.now) }
     {
-        let place = place_in(&self.records, name);
+        let place = place_in(&self.by_name, &self.records, name);
         if place >= self.records.len() {
             return None;
         }
@@ -171,7 +187,7 @@ impl Names {
         ensures by_stamp { OnOk result (AreStamped self.old → 0 < stamp → at stamp self.old ≡ None
             → PutsByStamp self.old self.new (record_from stamp name.now number)) }
     {
-        let place = place_in(&self.records, name);
+        let place = place_in(&self.by_name, &self.records, name);
         if place >= Names::MAX_NAMES {
             return Err(DirectoryFault::Full);
         }
@@ -193,10 +209,15 @@ impl Names {
         ensures ok { OnOk result (self.new ≡ slice_set self.old place (record_of entry)) }
         ensures err { OnErr result (self.new ≡ self.old) }
     {
-        let stamp = entry.stamp;
         let mut records = self.records.try_clone()?;
         records.set(place, entry)?;
-        order::restamp(&mut self.order, &self.records, place, stamp);
+        order::change(
+            &mut self.by_stamp,
+            By::Stamp,
+            &self.records,
+            &records,
+            place,
+        );
         self.records = records;
         Ok(())
     }
@@ -211,10 +232,11 @@ impl Names {
         ensures err { OnErr result (self.new ≡ self.old) }
     {
         let place = self.records.len();
-        let stamp = entry.stamp;
-        self.order.reserve(1)?;
+        self.by_stamp.reserve(1)?;
+        self.by_name.reserve(1)?;
         self.records.push(entry)?;
-        order::insert(&mut self.order, Placed { stamp, place });
+        order::insert(&mut self.by_stamp, By::Stamp, &self.records, place);
+        order::insert(&mut self.by_name, By::Name, &self.records, place);
         Ok(())
     }
 
@@ -248,7 +270,7 @@ impl Names {
         ensures by_stamp { OnOk result (AreStamped self.old
             → RemovesByStamp self.old self.new name.now) }
     {
-        let place = place_in(&self.records, name);
+        let place = place_in(&self.by_name, &self.records, name);
         if place >= self.records.len() {
             return Ok(None);
         }
@@ -267,7 +289,14 @@ impl Names {
         let entry = self.records.get(place).try_clone()?;
         let mut records = self.records.try_clone()?;
         records.swap_remove(place)?;
-        order::swap_remove(&mut self.order, &self.records, place);
+        order::swap_remove(
+            &mut self.by_stamp,
+            By::Stamp,
+            &self.records,
+            &records,
+            place,
+        );
+        order::swap_remove(&mut self.by_name, By::Name, &self.records, &records, place);
         self.records = records;
         Ok(entry)
     }
@@ -293,11 +322,12 @@ fn is_record(entry: &Entry) -> bool
 }
 
 // Whether no two records have one name.
-fn are_apart(records: &Records) -> bool
+fn are_apart(by_name: &[u16], records: &Records) -> bool
+    requires { IsOrder By.Name by_name.now records.now }
     ensures { IsTrue result ↔ AreApart records.now }
 {
     for place in 0..records.len() {
-        if place_in(records, &records.get(place).name) != place {
+        if place_in(by_name, records, &records.get(place).name) != place {
             return false;
         }
     }
@@ -305,14 +335,23 @@ fn are_apart(records: &Records) -> bool
 }
 
 /// Where a name stands: after the last record where none has it.
-fn place_in(records: &Records, name: &[u8]) -> usize
+fn place_in(by_name: &[u16], records: &Records, name: &[u8]) -> usize
+    requires { IsOrder By.Name by_name.now records.now }
     ensures place { result ≡ place_of name.now records.now }
     ensures within { result ≤ length records.now }
 {
-    for place in 0..records.len() {
-        if name == records.get(place).name.as_slice() {
-            return place;
-        }
+    let sought = Sought {
+        stamp: 0,
+        name,
+        place: 0,
+    };
+    let at = order::position(by_name, By::Name, records, &sought);
+    if at >= by_name.len() {
+        return records.len();
+    }
+    let place = usize::from(by_name[at]);
+    if name == records.get(place).name.as_slice() {
+        return place;
     }
     records.len()
 }

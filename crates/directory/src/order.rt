@@ -1,105 +1,155 @@
-//! The records of a directory by rising stamp.
+//! Orders of the records of a directory, in which they are found by binary search.
 
-ghost use Rattle.std.specs.Prelude.{◌≡◌, ◌<◌, length, slice_set, vec_len, vec_capacity, IfOk};
+ghost use Rattle.std.specs.Prelude.{◌≡◌, ◌≢◌, ◌<◌, ◌≤◌, ◌^◌, ◌↔◌, ℕ, [], IsTrue, length, slice_index_or, slice_set, vec_len, vec_capacity, IfOk};
 ghost use Rattle.std.specs.List.{Contains};
-ghost use Rattle.directory.specs.Order.{is_before, AreRising, IsOf, IsOrder, IsInserted, IsTakenOut};
-ghost use Rattle.directory.specs.Records.{Record, stamp_of, without_place};
+ghost use Rattle.directory.specs.Order.{compare, placed_of, at_place, AreRising, IsBefore, IsOrder, IsPosition, IsInserted, IsTakenOut};
+ghost use Rattle.directory.specs.Records.{record_of, record_from, without_place};
 
+use crate::entry::Entry;
 use crate::records::Records;
 use std::alloc::{AllocError, Global};
+use std::cmp::Ordering;
 
-/// The stamp of a record, and the place where the record stands.
+/// What an order goes by.
 #[derive(Clone, Copy)]
-pub(crate) struct Placed {
+pub(crate) enum By {
+    Stamp,
+    /// The bytes of the name.
+    Name,
+}
+
+/// What is searched for: of an order by stamp the stamp, of one by name the name, and of records
+/// that have the same the place.
+#[derive(Clone, Copy)]
+pub(crate) struct Sought<'a> {
     pub(crate) stamp: u64,
+    pub(crate) name: &'a [u8],
     pub(crate) place: usize,
 }
 
-impl Placed {
-    // By stamp, and of one stamp by place.
-    fn is_before(&self, other: &Placed) -> bool
-        ensures { result ≡ is_before self.now other.now }
-    {
-        if self.stamp == other.stamp {
-            self.place < other.place
-        } else {
-            self.stamp < other.stamp
-        }
+fn compare(by: By, entry: &Entry, sought: &Sought<'_>) -> Ordering
+    ensures { result ≡ compare by (record_of entry.now)
+        (record_from sought.now.stamp sought.now.name.now 0) }
+{
+    match by {
+        By::Stamp => entry.stamp.cmp(&sought.stamp),
+        By::Name => entry.name.as_slice().cmp(sought.name),
     }
 }
 
-// The stamp of the record at a place, and the place.
-fn placed_in(records: &Records, place: usize) -> Placed
-    requires { place < length records.now }
-    ensures stands { IsOf records.now result }
-    ensures place { result.place ≡ place }
+fn is_before(by: By, entry: &Entry, place: usize, sought: &Sought<'_>) -> bool
+    ensures { IsTrue result ↔ IsBefore by (record_of entry.now, place) (placed_of sought.now) }
 {
-    let stamp = records.get(place).stamp;
-    Placed { stamp, place }
+    match compare(by, entry, sought) {
+        Ordering::Less => true,
+        Ordering::Equal => place < sought.place,
+        Ordering::Greater => false,
+    }
+}
+
+/// Where it stands in the order, or would stand.
+pub(crate) fn position(order: &[u16], by: By, records: &Records, sought: &Sought<'_>) -> usize
+    requires rising { AreRising by records.now order.now }
+    requires within { (place : ℕ) → Contains order.now place → place < length records.now }
+    ensures { IsPosition by records.now order.now (placed_of sought.now) result }
+{
+    let mut low = 0;
+    let mut high = order.len();
+    while low < high {
+        let middle = low + (high - low) / 2;
+        let place = usize::from(order[middle]);
+        if is_before(by, records.get(place), place, sought) {
+            low = middle + 1;
+        } else {
+            high = middle;
+        }
+    }
+    low
+}
+
+// Where the record at a place stands, or would stand.
+fn position_of(order: &[u16], by: By, records: &Records, place: usize) -> usize
+    requires rising { AreRising by records.now order.now }
+    requires within { (place : ℕ) → Contains order.now place → place < length records.now }
+    requires there { place < length records.now }
+    ensures { IsPosition by records.now order.now (at_place records.now place) result }
+{
+    let entry = records.get(place);
+    let sought = Sought {
+        stamp: entry.stamp,
+        name: entry.name.as_slice(),
+        place,
+    };
+    position(order, by, records, &sought)
 }
 
 /// The order of these records.
-pub(crate) fn order_of(alloc: Global, records: &Records) -> Result<Vec<Placed>, AllocError>
-    ensures { IfOk result (λ order. IsOrder order.items records.now) }
+pub(crate) fn order_of(alloc: Global, by: By, records: &Records) -> Result<Vec<u16>, AllocError>
+    requires { length records.now ≤ 2 ^ 16 }
+    ensures { IfOk result (λ order. IsOrder by order.items records.now) }
 {
     let mut order = Vec::new(alloc);
     for place in 0..records.len() {
         order.reserve(1)?;
-        insert(&mut order, placed_in(records, place));
+        insert(&mut order, by, records, place);
     }
     Ok(order)
 }
 
-/// Puts one into the order, for which there is room.
-pub(crate) fn insert(order: &mut Vec<Placed>, one: Placed)
-    requires rising { AreRising order.old.items }
-    requires new { ¬ Contains order.old.items one }
+/// Puts the place of a record into the order, for which there is room.
+pub(crate) fn insert(order: &mut Vec<u16>, by: By, records: &Records, place: usize)
+    requires rising { AreRising by records.now order.old.items }
+    requires within { (other : ℕ) → Contains order.old.items other → other < length records.now }
+    requires there { place < length records.now }
+    requires small { length records.now ≤ 2 ^ 16 }
+    requires new { ¬ Contains order.old.items place }
     requires room { vec_len order.old < vec_capacity order.old }
-    ensures { IsInserted order.old.items order.new.items one }
+    ensures { IsInserted by records.now order.old.items order.new.items place }
 {
-    let next = order.partition_point(|other| other.is_before(&one));
-    match order.insert(next, one) {
+    let at = position_of(order, by, records, place);
+    match order.insert(at, place as u16) {
         Ok(()) => {}
         Err(_) => unreachable!(),
     }
 }
 
-// Takes one out of the order, which leaves room for another.
-fn take_out(order: &mut Vec<Placed>, one: Placed)
-    requires rising { AreRising order.old.items }
-    requires there { Contains order.old.items one }
-    ensures taken { IsTakenOut order.old.items order.new.items one }
+// Takes the place of a record out of the order, which leaves room for another.
+fn take_out(order: &mut Vec<u16>, by: By, records: &Records, place: usize)
+    requires rising { AreRising by records.now order.old.items }
+    requires within { (other : ℕ) → Contains order.old.items other → other < length records.now }
+    requires there { Contains order.old.items place }
+    ensures taken { IsTakenOut by records.now order.old.items order.new.items place }
     ensures room { vec_len order.new < vec_capacity order.new }
 {
-    let at = order.partition_point(|other| other.is_before(&one));
+    let at = position_of(order, by, records, place);
     order.remove(at);
 }
 
-/// Gives the record at a place another stamp. Takes no memory.
-pub(crate) fn restamp(order: &mut Vec<Placed>, records: &Records, place: usize, stamp: u64)
-    requires within { place < length records.now }
-    requires order { IsOrder order.old.items records.now }
-    ensures { (new : Record) → stamp_of new ≡ stamp
-        → IsOrder order.new.items (slice_set records.now place new) }
+/// The record at a place changed. Takes no memory.
+pub(crate) fn change(order: &mut Vec<u16>, by: By, old: &Records, new: &Records, place: usize)
+    requires order { IsOrder by order.old.items old.now }
+    requires within { place < length old.now }
+    requires small { length old.now ≤ 2 ^ 16 }
+    requires changed { new.now ≡ slice_set old.now place
+        (slice_index_or new.now place (record_from 0 [] 0)) }
+    ensures { IsOrder by order.new.items new.now }
 {
-    let old = placed_in(records, place);
-    take_out(order, old);
-    insert(order, Placed { stamp, place });
+    take_out(order, by, old, place);
+    insert(order, by, new, place);
 }
 
-/// Removes the record at a place, into which the last one moves. Takes no memory.
-pub(crate) fn swap_remove(order: &mut Vec<Placed>, records: &Records, place: usize)
-    requires within { place < length records.now }
-    requires order { IsOrder order.old.items records.now }
-    ensures { IsOrder order.new.items (without_place records.now place) }
+/// The record at a place was removed, and the last one moved there. Takes no memory.
+pub(crate) fn swap_remove(order: &mut Vec<u16>, by: By, old: &Records, new: &Records, place: usize)
+    requires order { IsOrder by order.old.items old.now }
+    requires within { place < length old.now }
+    requires small { length old.now ≤ 2 ^ 16 }
+    requires removed { new.now ≡ without_place old.now place }
+    ensures { IsOrder by order.new.items new.now }
 {
-    let old = placed_in(records, place);
-    take_out(order, old);
-    let last = records.len() - 1;
+    take_out(order, by, old, place);
+    let last = new.len();
     if place < last {
-        let end = placed_in(records, last);
-        take_out(order, end);
-        let stamp = end.stamp;
-        insert(order, Placed { stamp, place });
+        take_out(order, by, old, last);
+        insert(order, by, new, place);
     }
 }

@@ -1,17 +1,17 @@
-use Rattle.std.proofs.Common.{sym, subst, rules}
-use Rattle.std.proofs.lemmas.List.Sorted.{IsPartitionPoint-from_clause}
-use Rattle.std.specs.List.{Contains, insert}
-use Rattle.directory.specs.Order.{is_before, AreRising, IsInserted}
-use Rattle.directory.proofs.Rising.{rising_partition, inserted}
+use Rattle.std.proofs.Common.{sym, subst}
+use Rattle.std.specs.List.{Contains}
+use Rattle.directory.specs.Order.{IsPosition, IsInserted, at_place}
+use Rattle.directory.proofs.Rising.{inserted}
 use Rattle.directory.proofs.order.insert.Goals as goal
+
+pub position_of-at-requires-clause-within : goal.position_of-at-requires-clause-within
+position_of-at-requires-clause-within c = λ other has. c.requires.within other (subst (λ xs. Contains xs other) c.deref.ensures.value has)
 
 pub returns : goal.returns
 returns c =
-    let one = c.args.one in
-    let read = c.deref.result.now in
-    let at = c.partition_point-next.result in
-    let rising : AreRising read = subst AreRising (sym c.deref.ensures.value) c.requires.rising in
-    let point = IsPartitionPoint-from_clause (λ x. is_before x one) read at c.partition_point-next.ensures.partitioned (rising_partition read one rising) (λ a r q k. search rules) in
-    let put = inserted read one at rising point c.partition_point-next.ensures.bound (subst (λ xs. Contains xs one → ⊥) (sym c.deref.ensures.value) c.requires.new) in
-    subst (λ new. IsInserted c.args.order.now.items new one) (sym c.in-Ok.ensures.items)
-    (subst (λ xs. IsInserted xs (insert xs at one) one) c.deref.ensures.value put)
+    let records = c.args.records.now in
+    let order = c.args.order.now.items in
+    let at = c.position_of-at.result in
+    let point = subst (λ xs. IsPosition c.args.by records xs (at_place records c.args.place) at) c.deref.ensures.value c.position_of-at.ensures in
+    subst (λ new. IsInserted c.args.by records order new c.args.place) (sym c.in-Ok.ensures.items)
+    (inserted c.args.by records order c.args.place at c.requires.rising point c.requires.new)

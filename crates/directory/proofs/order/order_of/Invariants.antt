@@ -3,4 +3,4 @@ use Rattle.directory.specs.Order.{IsOrder}
 use Rattle.directory.proofs.order.order_of.Given as goal
 
 abbrev pub invariant-loop-place : goal.invariant-loop-place
-invariant-loop-place l = IsOrder l.order.items (take l.place l.records)
+invariant-loop-place l = IsOrder l.by l.order.items (take l.place l.records)

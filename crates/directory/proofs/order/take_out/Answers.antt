@@ -1,27 +1,29 @@
-use Rattle.std.proofs.Common.{sym, subst, arith, rules}
-use Rattle.std.proofs.lemmas.List.Sorted.{IsPartitionPoint-from_clause}
-use Rattle.std.specs.List.{Contains, remove}
-use Rattle.directory.specs.Order.{is_before, AreRising, IsTakenOut}
-use Rattle.directory.proofs.Rising.{rising_partition, taken_out, there}
+use Rattle.std.proofs.Common.{◌<◌, length, sym, subst, arith}
+use Rattle.std.specs.List.{Contains}
+use Rattle.directory.specs.Order.{IsPosition, IsTakenOut, at_place}
+use Rattle.directory.proofs.Rising.{taken_out, there}
 use Rattle.directory.proofs.order.take_out.Goals as goal
+
+pub position_of-at-requires-clause-within : goal.position_of-at-requires-clause-within
+position_of-at-requires-clause-within c = λ other has. c.requires.within other (subst (λ xs. Contains xs other) c.deref.ensures.value has)
+
+pub position_of-at-requires-clause-there : goal.position_of-at-requires-clause-there
+position_of-at-requires-clause-there c = c.requires.within c.args.place c.requires.there
 
 pub remove-requires : goal.remove-requires
 remove-requires c =
-    let one = c.args.one in
-    let read = c.deref.result.now in
-    let at = c.partition_point-at.result in
-    let rising : AreRising read = subst AreRising (sym c.deref.ensures.value) c.requires.rising in
-    let point = IsPartitionPoint-from_clause (λ x. is_before x one) read at c.partition_point-at.ensures.partitioned (rising_partition read one rising) (λ a r q k. search rules) in
-    let within = there read one at rising point c.partition_point-at.ensures.bound (subst (λ xs. Contains xs one) (sym c.deref.ensures.value) c.requires.there) in
-    omega (arith, within, c.deref.ensures.len)
+    let records = c.args.records.now in
+    let order = c.args.order.now.items in
+    let at = c.position_of-at.result in
+    let point = subst (λ xs. IsPosition c.args.by records xs (at_place records c.args.place) at) c.deref.ensures.value c.position_of-at.ensures in
+    let inside : at < length order = there c.args.by records order c.args.place at c.requires.rising point c.requires.there in
+    omega (arith, inside, c.args.order.now.ok.0)
 
 pub returns-clause-taken : goal.returns-clause-taken
 returns-clause-taken c =
-    let one = c.args.one in
-    let read = c.deref.result.now in
-    let at = c.partition_point-at.result in
-    let rising : AreRising read = subst AreRising (sym c.deref.ensures.value) c.requires.rising in
-    let point = IsPartitionPoint-from_clause (λ x. is_before x one) read at c.partition_point-at.ensures.partitioned (rising_partition read one rising) (λ a r q k. search rules) in
-    let taken = taken_out read one at rising point c.partition_point-at.ensures.bound (subst (λ xs. Contains xs one) (sym c.deref.ensures.value) c.requires.there) in
-    subst (λ new. IsTakenOut c.args.order.now.items new one) (sym c.remove.ensures.items)
-    (subst (λ xs. IsTakenOut xs (remove xs at) one) c.deref.ensures.value taken)
+    let records = c.args.records.now in
+    let order = c.args.order.now.items in
+    let at = c.position_of-at.result in
+    let point = subst (λ xs. IsPosition c.args.by records xs (at_place records c.args.place) at) c.deref.ensures.value c.position_of-at.ensures in
+    subst (λ new. IsTakenOut c.args.by records order new c.args.place) (sym c.remove.ensures.items)
+    (taken_out c.args.by records order c.args.place at c.requires.rising point c.requires.there)

@@ -1,6 +1,6 @@
-use Rattle.std.proofs.Common.{◌≡◌, map, set, sym, ap, ◌∙◌}
+use Rattle.std.proofs.Common.{map, set, ap, ◌∙◌}
 use Rattle.std.proofs.lemmas.List.{map-set}
-use Rattle.directory.specs.Records.{Record, record_of}
+use Rattle.directory.specs.Records.{record_of}
 use Rattle.directory.proofs.records.with_changed.Goals as goal
 
 pub returns : goal.returns

@@ -1,6 +1,6 @@
-use Rattle.std.proofs.Common.{◌≡◌, ◌++◌, ◌∷◌, [], map, take, sym, ap, ◌∙◌}
+use Rattle.std.proofs.Common.{◌++◌, ◌∷◌, [], map, sym, ap, ◌∙◌}
 use Rattle.std.proofs.lemmas.List.{map_push, take-map}
-use Rattle.directory.specs.Records.{Record, record_of}
+use Rattle.directory.specs.Records.{record_of}
 use Rattle.directory.proofs.records.with_last.Goals as goal
 
 pub returns : goal.returns

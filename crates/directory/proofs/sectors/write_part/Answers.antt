@@ -1,8 +1,7 @@
-use Rattle.std.specs.Rc.{rc_slice_items}
-use Rattle.std.proofs.Common.{◌≡◌, ◌≤◌, ◌<◌, ◌+◌, ◌*◌, ◌-◌, [], length, get_or, take, drop, refl, sym, ap, subst, ◌∙◌, arith}
+use Rattle.std.proofs.Common.{◌≡◌, ◌+◌, ◌*◌, ◌-◌, [], length, get_or, take, drop, refl, sym, subst, ◌∙◌, arith}
 use Rattle.std.proofs.lemmas.List.{length-take, length-drop, get_or-take, get_or-drop}
 use Rattle.sector.specs.Written.{AreWritten, AreWritten-more, AreWritten-zeros, each_at}
-use Rattle.directory.specs.Records.{Record, record_of, record_from, IsRecord}
+use Rattle.directory.specs.Records.{record_of, record_from, IsRecord}
 use Rattle.directory.specs.Spelling.{record_bytes}
 use Rattle.directory.proofs.Sector.{sector_written}
 use Rattle.directory.proofs.sectors.write_part.Goals as goal

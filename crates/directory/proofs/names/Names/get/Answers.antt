@@ -1,6 +1,6 @@
-use Rattle.std.proofs.Common.{[], ◌≡◌, ◌≤◌, ◌<◌, length, ap, subst, sym, ◌∙◌, option_map, arith}
+use Rattle.std.proofs.Common.{◌≤◌, ◌<◌, length, ap, subst, sym, ◌∙◌, arith}
 use Rattle.model.specs.Tree.{entry_of}
-use Rattle.directory.specs.Records.{record_of, record_from, place_of, AreApart}
+use Rattle.directory.specs.Records.{AreApart}
 use Rattle.directory.proofs.Changes.{none_found, some_found}
 use Rattle.directory.proofs.NamedByStamp.{entry_of-by_stamp}
 use Rattle.directory.proofs.names.Names.get.Goals as goal

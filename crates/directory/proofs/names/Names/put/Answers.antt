@@ -1,7 +1,7 @@
 use Rattle.std.proofs.Common.{◌≡◌, ◌<◌, ◌≤◌, ◌++◌, ◌∷◌, [], length, set, ap, subst, sym, ◌∙◌, arith}
 use Rattle.model.specs.Tree.{entry_of}
 use Rattle.directory.specs.Listing.{PutsByStamp}
-use Rattle.directory.specs.Records.{Record, record_of, record_from, place_of, AreApart}
+use Rattle.directory.specs.Records.{Record, record_from, place_of, AreApart}
 use Rattle.directory.proofs.Changes.{has_name}
 use Rattle.directory.proofs.Places.{with_record-set, with_record-push, absent}
 use Rattle.directory.proofs.RecordMaps.{put_found, put_others, puts_by_stamp}

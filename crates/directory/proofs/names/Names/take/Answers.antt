@@ -1,6 +1,5 @@
-use Rattle.std.proofs.Common.{◌≡◌, ◌<◌, length, sym, ap, subst, ◌∙◌}
-use Rattle.directory.specs.Order.{AreKept}
-use Rattle.directory.specs.Records.{without_place}
+use Rattle.std.proofs.Common.{◌<◌, length, sym, ap, subst, ◌∙◌}
+use Rattle.directory.specs.Records.{without_place, IsDirectory}
 use Rattle.directory.proofs.Kept.{IsDirectory-remove}
 use Rattle.directory.proofs.names.Names.take.Goals as goal
 
@@ -9,6 +8,9 @@ invariant_of-self c =
     let records = c.self.inside.records in
     let place = c.args.place in
     let within : place < length records = subst (λ rs. place < length rs) (sym c.self.view_is) c.requires in
-    subst (λ rs. AreKept rs c.swap_remove-2.new.order.items)
-    (sym (c.in_ok-swap_remove.ensures.ok ∙ ap (λ rs. without_place rs place) c.in_ok-records.ensures))
-    (record { directory = IsDirectory-remove records place c.self.invariant.directory within; in_order = c.swap_remove-2.ensures })
+    record {
+      directory = subst IsDirectory (sym (c.in_ok-swap_remove.ensures.ok ∙ ap (λ rs. without_place rs place) c.in_ok-records.ensures))
+          (IsDirectory-remove records place c.self.invariant.directory within);
+      stamps = c.swap_remove-2.ensures;
+      names = c.swap_remove-3.ensures;
+    }

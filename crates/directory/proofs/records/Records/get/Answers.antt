@@ -1,4 +1,4 @@
-use Rattle.std.proofs.Common.{◌≡◌, ◌<◌, ◌/◌, ◌%◌, length, sym, ap, subst, ◌∙◌, map, get_or, arith}
+use Rattle.std.proofs.Common.{◌≡◌, ◌<◌, ◌%◌, length, sym, ap, subst, ◌∙◌, get_or, arith}
 use Rattle.std.proofs.lemmas.List.{length-map, get_or-map}
 use Rattle.directory.specs.Records.{record_of}
 use Rattle.directory.proofs.Blocks.{counted, block_there, record_there, record_read}

@@ -1,4 +1,4 @@
-use Rattle.std.proofs.Common.{◌≡◌, ◌<◌, ◌-◌, length, map, take, sym, ap, ◌∙◌, arith}
+use Rattle.std.proofs.Common.{◌<◌, ◌-◌, length, take, ap, ◌∙◌, arith}
 use Rattle.directory.proofs.Blocks.{counted, cut_filled, cut_is, less_filled, less_is}
 use Rattle.directory.proofs.records.Records.shorten.Goals as goal
 

@@ -18,7 +18,7 @@ give_numbers-requires c = subst (λ (one : Card). AreMarked (148 + c.args.self.n
     (numbers_marked c.args.self.now c.args.place c.in_ok-card.card c.give_blocks.new.places c.requires.known c.in_ok-card.ensures.card
     (subst (λ (one : Card). (n : ℕ) → mark_by (148 + c.args.self.now.nodes) c.give_blocks.new.places n + times_set n one.blocks ≡ mark_by (148 + c.args.self.now.nodes) c.args.self.now.places n + times_set n (take 0 one.blocks)) c.card.view_is c.give_blocks.ensures.marks))
 
-module _ (c : goal.After-drop-card-inside-7) where
+module _ (c : goal.After-drop-card-inside-8) where
   abbrev was : Card
   was = c.in_ok-card.card
 
