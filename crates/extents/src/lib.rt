@@ -7,6 +7,7 @@ mod laws;
 mod list;
 mod run;
 mod sector_runs;
+mod shared;
 
 pub use fault::ExtentsFault;
 pub use laws::reads_back;

@@ -7,27 +7,30 @@ ghost use Rattle.extents.specs.Sector.{IsRun};
 
 use crate::fault::ExtentsFault;
 use crate::run::Run;
+use crate::shared::Shared;
 use std::alloc::{AllocError, Global};
 use std::marker::Model;
 
 /// The sector of each block of a node, up to 4,096 blocks; a block without a sector is a hole, all
-/// zero.
+/// zero. A copy shares the sectors' memory until one of the two changes.
 ///
 /// Contracts see the list of the sectors.
 #[derive(Drop)]
 pub struct BlockList {
-    sectors: Vec<Option<u32>>,
+    /// The sectors of the blocks, and maybe others after them.
+    shared: Shared,
+    count: usize,
 }
 
 impl Model for BlockList {
-    ghost use Rattle.std.specs.Prelude.{ℕ, List, Option, length, ◌≤◌};
+    ghost use Rattle.std.specs.Prelude.{ℕ, List, Option, length, take, ◌≤◌};
     ghost use Rattle.extents.specs.declared.list.TheConstants.BlockList.{MAX_BLOCKS};
 
     ghost Value = { List (Option ℕ) };
 
-    ghost view = { λ list. list.sectors.items };
+    ghost view = { λ list. take list.count list.shared };
 
-    ghost invariant = { λ list. length list.sectors.items ≤ MAX_BLOCKS };
+    ghost invariant = { λ list. (list.count ≤ length list.shared) × (list.count ≤ MAX_BLOCKS) };
 }
 
 impl BlockList {
@@ -39,16 +42,19 @@ impl BlockList {
         ensures { result ≡ [] }
     {
         BlockList {
-            sectors: Vec::new(alloc),
+            shared: Shared::new(alloc),
+            count: 0,
         }
     }
 
-    /// The same list once more, in memory of its own.
+    /// The same list once more, which shares the memory of its sectors.
     pub fn try_clone(&self) -> Result<BlockList, AllocError>
         ensures { IfOk result (λ list. list ≡ self.now) }
     {
-        let sectors = Vec::from_slice(*self.sectors.allocator(), &self.sectors)?;
-        Ok(BlockList { sectors })
+        Ok(BlockList {
+            shared: self.shared.try_clone()?,
+            count: self.count,
+        })
     }
 
     /// How many blocks there are, holes included.
@@ -56,14 +62,14 @@ impl BlockList {
         ensures count { result ≡ length self.now }
         ensures most { length self.now ≤ BlockList.MAX_BLOCKS }
     {
-        self.sectors.len() as u32
+        self.count as u32
     }
 
     /// The sector of a block; none where it is a hole, or past the last block.
     pub fn at(&self, block: u32) -> Option<u32>
         ensures { result ≡ slice_index_or self.now block None }
     {
-        sector_at(&self.sectors, block as usize)
+        sector_at(self.sectors(), block as usize)
     }
 
     /// Puts a block into a sector. The blocks between the last one and this one become holes. An
@@ -75,10 +81,9 @@ impl BlockList {
         ensures err { OnErr result (self.new ≡ self.old) }
     {
         let block = block as usize;
-        if block >= self.sectors.len() {
-            self.sectors.resize(block + 1, None)?;
-        }
-        self.sectors[block] = Some(sector);
+        let count = self.count.max(block + 1);
+        self.shared.put(self.count, count, block, sector)?;
+        self.count = count;
         Ok(())
     }
 
@@ -89,8 +94,9 @@ impl BlockList {
         ensures err { OnErr result (self.new ≡ self.old) }
     {
         let count = count as usize;
-        if count > self.sectors.len() {
-            self.sectors.resize(count, None)?;
+        if count > self.count {
+            self.shared.grow(self.count, count)?;
+            self.count = count;
         }
         Ok(())
     }
@@ -99,7 +105,7 @@ impl BlockList {
     pub fn cut(&mut self, count: u32)
         ensures { self.new ≡ take count self.old }
     {
-        self.sectors.truncate(count as usize);
+        self.count = self.count.min(count as usize);
     }
 
     /// The shortest list of runs of these blocks: no two neighbours could be one.
@@ -112,7 +118,7 @@ impl BlockList {
         ensures few { IfOk result (λ runs. vec_len runs ≤ count_by is_some self.now) }
         ensures most { IfOk result (λ runs. vec_len runs ≤ BlockList.MAX_BLOCKS) }
     {
-        runs_of(alloc, &self.sectors)
+        runs_of(alloc, self.sectors())
     }
 
     /// The `count` blocks that these are the runs of.
@@ -126,8 +132,18 @@ impl BlockList {
         ensures runs { IfOk result (λ list. AreRunsOf runs.now list) }
         ensures not_runs { IsErrOf result ExtentsFault.NotRuns → ¬ AreRising 0 count runs.now }
     {
-        let sectors = laid_out(alloc, count as usize, runs)?;
-        Ok(BlockList { sectors })
+        let count = count as usize;
+        let sectors = laid_out(alloc, count, runs)?;
+        let shared = Shared::from_vec(alloc, sectors)?;
+        Ok(BlockList { shared, count })
+    }
+
+    /// The sectors of the blocks.
+    fn sectors(&self) -> &[Option<u32>]
+        ensures value { result.now ≡ self.now }
+        ensures most { length self.now ≤ BlockList.MAX_BLOCKS }
+    {
+        &self.shared.as_slice()[..self.count]
     }
 }
 
