@@ -6,6 +6,7 @@ mod fault;
 mod laws;
 mod list;
 mod run;
+mod runs;
 mod sector_runs;
 mod shared;
 
@@ -13,4 +14,5 @@ pub use fault::ExtentsFault;
 pub use laws::reads_back;
 pub use list::BlockList;
 pub use run::Run;
+pub use runs::Runs;
 pub use sector_runs::{MAX_SECTOR_RUNS, read_run_sector, write_run_sector};

@@ -3,7 +3,7 @@
 ghost use Rattle.std.specs.Prelude.{◌≡◌, IfOk};
 
 use directory::Names;
-use extents::{BlockList, Run};
+use extents::{BlockList, Runs};
 use inode::{Form, Inode};
 use std::alloc::{AllocError, Global};
 use std::marker::Model;
@@ -14,7 +14,7 @@ pub struct Card {
     pub form: Form,
     pub inode: Inode,
     /// The runs of its blocks, as its run sectors have them.
-    pub runs: Vec<Run>,
+    pub runs: Runs,
     pub blocks: BlockList,
     /// None, where the node is a file.
     pub names: Names,
@@ -26,18 +26,18 @@ impl Model for Card {
 
     ghost Value = { layout.Card };
 
-    ghost view = { λ card. seen card.form card.inode card.runs.items card.blocks card.names };
+    ghost view = { λ card. seen card.form card.inode card.runs card.blocks card.names };
 }
 
 impl Card {
-    /// The same card once more, in memory of its own.
+    /// The same card once more, which shares the memory of its runs and blocks.
     pub fn try_clone(&self, alloc: Global) -> Result<Card, AllocError>
         ensures { IfOk result (λ card. card ≡ self.now) }
     {
         Ok(Card {
             form: self.form,
             inode: self.inode.try_clone(alloc)?,
-            runs: Vec::from_slice(alloc, &self.runs)?,
+            runs: self.runs.try_clone()?,
             blocks: self.blocks.try_clone()?,
             names: self.names.try_clone()?,
         })

@@ -22,7 +22,7 @@ ghost use Rattle.model.specs.Keyed.{is_key};
 
 use crate::edit::Edit;
 use directory::Names;
-use extents::BlockList;
+use extents::{BlockList, Runs};
 use inode::{Form, Inode};
 use layout::sectors::Sectors;
 use model::node::NodeKind;
@@ -119,7 +119,7 @@ fn fresh_card(alloc: Global, number: u64, kind: NodeKind, shown: Shown) -> Card
             run_sectors: Vec::new(alloc),
             acl: shown.acl,
         },
-        runs: Vec::new(alloc),
+        runs: Runs::new(),
         blocks: BlockList::new(alloc),
         names: Names::new(alloc),
     }

@@ -12,7 +12,7 @@ use crate::fault::SpaceFault;
 use crate::numbers::{give_numbers, take_numbers};
 use crate::updates::Updates;
 use disk::SECTOR;
-use extents::{MAX_SECTOR_RUNS, Run, write_run_sector};
+use extents::{MAX_SECTOR_RUNS, Run, Runs, write_run_sector};
 use freemap::Bitmap;
 use inode::to_sector;
 use layout::places::NODES;
@@ -54,7 +54,7 @@ fn lay_node(updates: &mut Updates, sector: u32, card: &Card) -> Result<(), Alloc
     ensures count { length updates.new
         ≤ length updates.old + 1 + length card.now.fields.run_sectors }
 {
-    lay_runs(updates, &card.inode.run_sectors, &card.runs)?;
+    lay_runs(updates, &card.inode.run_sectors, card.runs.as_slice())?;
     let mut content = [0; SECTOR];
     to_sector(&card.inode, card.form, &mut content);
     updates.put(sector, &content)?;
@@ -82,6 +82,7 @@ fn lay_card(
     let wanted = (runs.len() + 499) / MAX_SECTOR_RUNS;
     give_numbers(places, NODES + nodes, &mut card.inode.run_sectors, wanted);
     card.inode.runs = runs.len() as u16;
+    let runs = Runs::from_vec(runs)?;
     card.runs = runs;
     lay_node(updates, NODES + place, card)?;
     Ok(())

@@ -22,7 +22,7 @@ use crate::names::read_content;
 use crate::nodes::read_node;
 use crate::numbers::are_apart;
 use crate::runs::{blocks_from, read_runs};
-use extents::{BlockList, Run};
+use extents::{BlockList, Run, Runs};
 use freemap::Bitmap;
 use inode::{Form, Inode};
 use layout::places::NODES;
@@ -103,10 +103,11 @@ fn read_card<S: Sectors>(
 {
     let laid = read_blocks(alloc, sectors, places, first, &inode)?;
     let names = read_content(alloc, sectors, inode.kind, inode.size, &laid.blocks)?;
+    let runs = Runs::from_vec(laid.runs)?;
     Ok(Card {
         form,
         inode,
-        runs: laid.runs,
+        runs,
         blocks: laid.blocks,
         names,
     })

@@ -1,4 +1,8 @@
-use Rattle.std.proofs.Common.{◌+◌, [], length, ap, sym, ◌∙◌, arith, subst}
+use Rattle.std.proofs.Common.{◌+◌, List, [], length, ap, sym, ◌∙◌, arith, subst}
+use Rattle.std.specs.List.{AllByRecursion}
+use Rattle.extents.specs.declared.run.Run.{Run}
+use Rattle.extents.specs.Runs.{AreRunsOf}
+use Rattle.extents.specs.Sector.{IsRun}
 use Rattle.inode.specs.Fields.{IsInode, fields_of}
 use Rattle.layout.specs.Cards as layout
 use Rattle.tree_transaction.specs.Laying.{AreMarked, fields_with}
@@ -37,9 +41,9 @@ returns-clause-laid c = record {
     blocks = ap (λ (card : layout.Card). card.blocks) c.card.view_is;
     names = ap (λ (card : layout.Card). card.names) c.card.view_is;
     fields = ap (λ (card : layout.Card). fields_with card.fields c.len-2.result c.give_numbers.new.numbers.items) c.card.view_is;
-    runs = (let blocks = ap (λ (card : layout.Card). card.blocks) c.card.view_is in rw blocks c.requires.runs.runs);
-    each_run = c.requires.runs.each;
-    run_count = sym c.args.runs.ok.0 ∙ sym c.len-2.ensures;
+    runs = (let blocks = ap (λ (card : layout.Card). card.blocks) c.card.view_is in rw blocks (subst (λ (l : List Run). AreRunsOf l c.args.card.now.blocks) (sym c.in_ok-runs.ensures) c.requires.runs.runs));
+    each_run = subst (AllByRecursion IsRun) (sym c.in_ok-runs.ensures) c.requires.runs.each;
+    run_count = ap length c.in_ok-runs.ensures ∙ (sym c.args.runs.ok.0 ∙ sym c.len-2.ensures);
     fits = fits c.before.before.before;
   };
   follow = (let numbers = ap (λ (card : layout.Card). card.fields.run_sectors) c.card.view_is in rw (sym numbers) c.give_numbers.ensures.marks);

@@ -5,6 +5,6 @@ use Rattle.tree_transaction.proofs.LayLaws.{lays-card}
 use Rattle.tree_transaction.proofs.laying.lay_node.Goals as goal
 
 pub returns-clause-lays : goal.returns-clause-lays
-returns-clause-lays c = λ image. lays-card _ _ _ c.args.sector c.args.card.now c.deref.result.now c.deref-2.result.now c.to_sector.new.sector
-    (c.deref.ensures.value ∙ ap (λ (card : layout.Card). card.fields.run_sectors) c.card.view_is) (c.deref-2.ensures.value ∙ ap (λ (card : layout.Card). card.runs) c.card.view_is) c.requires.apart
+returns-clause-lays c = λ image. lays-card _ _ _ c.args.sector c.args.card.now c.deref.result.now c.as_slice.result.now c.to_sector.new.sector
+    (c.deref.ensures.value ∙ ap (λ (card : layout.Card). card.fields.run_sectors) c.card.view_is) (c.as_slice.ensures ∙ ap (λ (card : layout.Card). card.runs) c.card.view_is) c.requires.apart
     (c.in_ok-lay_runs.ensures.lays image) (c.to_sector.ensures ∙ ap (λ (card : layout.Card). inode_sector card.form card.fields) c.card.view_is) (c.in_ok-put.ensures.image image)

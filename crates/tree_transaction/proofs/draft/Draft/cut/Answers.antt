@@ -29,9 +29,9 @@ module _ (g : given.Over) (c : goal.After-lay_back_fewer-arg-1 g) where
   abbrev was : Card
   was = c.in_ok-card.card
 
-  card_is : record (cut_card (seen c.card.inside.form c.card.inside.inode c.card.inside.runs.items c.card.inside.blocks c.card.inside.names) c.args.size) { blocks = c.cut.new.self } ≡ cut_card was c.args.size
+  card_is : record (cut_card (seen c.card.inside.form c.card.inside.inode c.card.inside.runs c.card.inside.blocks c.card.inside.names) c.args.size) { blocks = c.cut.new.self } ≡ cut_card was c.args.size
   card_is =
-      ap (λ (b : List (Option ℕ)). record (cut_card (seen c.card.inside.form c.card.inside.inode c.card.inside.runs.items c.card.inside.blocks c.card.inside.names) c.args.size) { blocks = b }) c.cut.ensures
+      ap (λ (b : List (Option ℕ)). record (cut_card (seen c.card.inside.form c.card.inside.inode c.card.inside.runs c.card.inside.blocks c.card.inside.names) c.args.size) { blocks = b }) c.cut.ensures
       ∙ ap (λ (one : Card). cut_card one c.args.size) c.card.view_is
 
   marks : (n : ℕ) → mark_by (148 + c.args.self.now.nodes) c.give_blocks.new.places n + times_set n was.blocks ≡ mark_by (148 + c.args.self.now.nodes) c.args.self.now.places n + times_set n (take (blocks_of kind.File c.args.size) was.blocks)
@@ -66,7 +66,7 @@ module _ (g : given.Over) (c : goal.In_ok-lay_back_fewer g) where
   back = laid_again c.args.self.now c.lay_back_fewer.new.self c.args.place (cut_card c.in_ok-card.card c.args.size) c.give_blocks.new.places c.clear_tail.new.updates (
       subst (λ (one : Card). IsBack c.args.self.now.nodes c.args.place c.give_blocks.new.places c.clear_tail.new.updates (set c.args.self.now.cards.cards c.args.place None) c.lay_back_fewer.new.self one) (card_is g c.before.before.before)
       (subst (λ (l : List (Option Card)). IsBack c.args.self.now.nodes c.args.place c.give_blocks.new.places c.clear_tail.new.updates l c.lay_back_fewer.new.self
-      (record (cut_card (seen c.card.inside.form c.card.inside.inode c.card.inside.runs.items c.card.inside.blocks c.card.inside.names) c.args.size) { blocks = c.cut.new.self })) c.in_ok-card.ensures.cards c.in_ok-lay_back_fewer.ensures.back))
+      (record (cut_card (seen c.card.inside.form c.card.inside.inode c.card.inside.runs c.card.inside.blocks c.card.inside.names) c.args.size) { blocks = c.cut.new.self })) c.in_ok-card.ensures.cards c.in_ok-lay_back_fewer.ensures.back))
 
 pub returns-clause-known : goal.returns-clause-known
 returns-clause-known g c =

@@ -72,7 +72,7 @@ marks_left was card is names left first places mid_places left_is marks n =
 
 module _ (c : goal.After-lay_back_fewer-arg-1) where
   abbrev card : Card
-  card = seen c.card.inside.form c.card.inside.inode c.card.inside.runs.items c.card.inside.blocks c.card.inside.names
+  card = seen c.card.inside.form c.card.inside.inode c.card.inside.runs c.card.inside.blocks c.card.inside.names
 
   left_can : IsLeft c.in_ok-card.card card c.args.name.now c.remove.new.self c.unwrap-at.result.0 c.count-left.result c.cut.new.self
   left_can = is_left c.in_ok-card.card _ c.card.view_is c.args.name.now c.remove.new.self c.unwrap-at.result.0 c.count-left.result c.cut.new.self (of_some _ c.in_ok-remove.field-0 c.unwrap-at.result c.unwrap-at.ensures c.in_ok-remove.ensures.place).0
@@ -114,7 +114,7 @@ module _ (c : goal.After-drop-entry-2) where
   was = c.in_ok-card.card
 
   abbrev mid_card : Card
-  mid_card = seen c.card.inside.form c.card.inside.inode c.card.inside.runs.items c.card.inside.blocks c.card.inside.names
+  mid_card = seen c.card.inside.form c.card.inside.inode c.card.inside.runs c.card.inside.blocks c.card.inside.names
 
   abbrev name : List ℕ
   name = c.args.name.now

@@ -114,7 +114,7 @@ module _ (c : goal.In_ok-lay_back) where
   was = c.in_ok-card.card
 
   abbrev card : Card
-  card = seen c.card.inside.form c.card.inside.inode c.card.inside.runs.items c.card.inside.blocks c.card.inside.names
+  card = seen c.card.inside.form c.card.inside.inode c.card.inside.runs c.card.inside.blocks c.card.inside.names
 
   abbrev names : List Record
   names = c.put.new.self

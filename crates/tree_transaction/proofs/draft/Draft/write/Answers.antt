@@ -109,7 +109,7 @@ module _ (old : Draft) (place end : ℕ) (was card : Card) (blocks : List (Optio
 -- some were: the card is laid anew
 
 written-laying : (g : given.Over) (c : After-lay_back-arg-1 g) → IsWritten c.args.self.now c.args.place (c.args.offset + length c.args.bytes.now) c.in_ok-card.card
-    (seen c.card.inside.form c.card.inside.inode c.card.inside.runs.items c.card.inside.blocks c.card.inside.names) c.write_blocks.new.blocks c.write_blocks.new.places c.write_blocks.new.updates
+    (seen c.card.inside.form c.card.inside.inode c.card.inside.runs c.card.inside.blocks c.card.inside.names) c.write_blocks.new.blocks c.write_blocks.new.places c.write_blocks.new.updates
 written-laying g c = record {
   known = c.requires.known.0;
   there = c.in_ok-card.ensures.card;
@@ -124,7 +124,7 @@ pub lay_back-requires-clause-can : goal.lay_back-requires-clause-can
 lay_back-requires-clause-can g c = can_now _ _ _ _ _ _ _ _ (written-laying g c)
 
 written-full : (g : given.Over) (c : After-from_residual-in_err-lay_back g) → IsWritten c.args.self.now c.args.place (c.args.offset + length c.args.bytes.now) c.in_ok-card.card
-    (seen c.card.inside.form c.card.inside.inode c.card.inside.runs.items c.card.inside.blocks c.card.inside.names) c.write_blocks.new.blocks c.write_blocks.new.places c.write_blocks.new.updates
+    (seen c.card.inside.form c.card.inside.inode c.card.inside.runs c.card.inside.blocks c.card.inside.names) c.write_blocks.new.blocks c.write_blocks.new.places c.write_blocks.new.updates
 written-full g c = record {
   known = c.requires.known.0;
   there = c.in_ok-card.ensures.card;
@@ -141,7 +141,7 @@ returns-in_err-lay_back-clause-full g c full =
     full_now _ _ _ _ _ _ _ _ (written-full g c) more
 
 written-laid : (g : given.Over) (c : In_ok-lay_back g) → IsWritten c.args.self.now c.args.place (c.args.offset + length c.args.bytes.now) c.in_ok-card.card
-    (seen c.card.inside.form c.card.inside.inode c.card.inside.runs.items c.card.inside.blocks c.card.inside.names) c.write_blocks.new.blocks c.write_blocks.new.places c.write_blocks.new.updates
+    (seen c.card.inside.form c.card.inside.inode c.card.inside.runs c.card.inside.blocks c.card.inside.names) c.write_blocks.new.blocks c.write_blocks.new.places c.write_blocks.new.updates
 written-laid g c = record {
   known = c.requires.known.0;
   there = c.in_ok-card.ensures.card;
@@ -156,7 +156,7 @@ laid : (g : given.Over) (c : In_ok-lay_back g) → StandsAgain c.args.self.now c
     (record (grown c.in_ok-card.card (c.args.offset + length c.args.bytes.now)) { blocks = c.write_blocks.new.blocks }) c.write_blocks.new.places c.write_blocks.new.updates
 laid g c = laid_now _ _ _ _ _ _ _ _ (written-laid g c) c.lay_back.new.self
     (subst (λ (l : List (Option Card)). IsBack c.args.self.now.nodes c.args.place c.write_blocks.new.places c.write_blocks.new.updates l c.lay_back.new.self
-    (record (seen c.card.inside.form c.card.inside.inode c.card.inside.runs.items c.card.inside.blocks c.card.inside.names) { blocks = c.write_blocks.new.blocks })) c.in_ok-card.ensures.cards c.in_ok-lay_back.ensures.back)
+    (record (seen c.card.inside.form c.card.inside.inode c.card.inside.runs c.card.inside.blocks c.card.inside.names) { blocks = c.write_blocks.new.blocks })) c.in_ok-card.ensures.cards c.in_ok-lay_back.ensures.back)
 
 pub returns-in_ok-lay_back-clause-known : goal.returns-in_ok-lay_back-clause-known
 returns-in_ok-lay_back-clause-known g c = known_now _ _ _ _ _ _ _ _ (written-laid g c) c.lay_back.new.self (laid g c)
@@ -176,7 +176,7 @@ returns-in_ok-lay_back-clause-count g c =
 -- none was: its runs are as they were
 
 written-putting : (g : given.Over) (c : After-put_back-arg-1 g) → IsWritten c.args.self.now c.args.place (c.args.offset + length c.args.bytes.now) c.in_ok-card.card
-    (seen c.card.inside.form c.card.inside.inode c.card.inside.runs.items c.card.inside.blocks c.card.inside.names) c.write_blocks.new.blocks c.write_blocks.new.places c.write_blocks.new.updates
+    (seen c.card.inside.form c.card.inside.inode c.card.inside.runs c.card.inside.blocks c.card.inside.names) c.write_blocks.new.blocks c.write_blocks.new.places c.write_blocks.new.updates
 written-putting g c = record {
   known = c.requires.known.0;
   there = c.in_ok-card.ensures.card;
@@ -193,7 +193,7 @@ put_back-requires-clause-fits g c =
     fits_now _ _ _ _ _ _ _ _ w (alike_now _ _ _ _ _ _ _ _ w c.in_ok-filled.filled c.if-filled.false c.in_ok-filled.ensures.fills)
 
 written-put : (g : given.Over) (c : In_ok-put_back g) → IsWritten c.args.self.now c.args.place (c.args.offset + length c.args.bytes.now) c.in_ok-card.card
-    (seen c.card.inside.form c.card.inside.inode c.card.inside.runs.items c.card.inside.blocks c.card.inside.names) c.write_blocks.new.blocks c.write_blocks.new.places c.write_blocks.new.updates
+    (seen c.card.inside.form c.card.inside.inode c.card.inside.runs c.card.inside.blocks c.card.inside.names) c.write_blocks.new.blocks c.write_blocks.new.places c.write_blocks.new.updates
 written-put g c = record {
   known = c.requires.known.0;
   there = c.in_ok-card.ensures.card;
@@ -210,7 +210,7 @@ put g c =
     let w = written-put g c in
     put_now _ _ _ _ _ _ _ _ w (alike_now _ _ _ _ _ _ _ _ w c.in_ok-filled.filled c.if-filled.false c.in_ok-filled.ensures.fills) c.put_back.new.self
     (c.in_ok-put_back.ensures.cards
-    ∙ ap (λ (l : List (Option Card)). set l c.args.place (Some (record (seen c.card.inside.form c.card.inside.inode c.card.inside.runs.items c.card.inside.blocks c.card.inside.names) { blocks = c.write_blocks.new.blocks }))) c.in_ok-card.ensures.cards)
+    ∙ ap (λ (l : List (Option Card)). set l c.args.place (Some (record (seen c.card.inside.form c.card.inside.inode c.card.inside.runs c.card.inside.blocks c.card.inside.names) { blocks = c.write_blocks.new.blocks }))) c.in_ok-card.ensures.cards)
     c.put_back.ensures.nodes c.put_back.ensures.places c.in_ok-put_back.ensures.node
 
 pub returns-in_ok-put_back-clause-known : goal.returns-in_ok-put_back-clause-known
