@@ -62,6 +62,11 @@ updated-none [] update none = refl
 updated-none (x ∷ updates) update none =
     rw (ne_eqb x.target update.target (none 0 (omega arith))) (ap (λ (rest : List Update). x ∷ rest) (updated-none updates update (has_not-rest x updates update.target none)))
 
+-- a content that is put into the last update
+pub filled-last : (updates : List Update) (last : Update) (content : List ℕ) → set (updates ++ last ∷ []) (length updates) (record { target = target_of (updates ++ last ∷ []) (length updates); content = content }) ≡ updates ++ (record { target = last.target; content = content }) ∷ []
+filled-last [] last content = refl
+filled-last (update ∷ updates) last content = ap (λ (rest : List Update). update ∷ rest) (filled-last updates last content)
+
 has_not-updated : (updates : List Update) (update : Update) (n : ℕ) → HasNot n updates → update.target ≢ n → HasNot n (updated updates update)
 has_not-updated [] update n none off = λ i. elim i as (λ (k : ℕ). k < length (update ∷ []) → target_of (update ∷ []) k ≢ n) [ zero ↦ (λ h. off) | suc k ↦ (λ h. absurd (omega arith)) ]
 has_not-updated (x ∷ updates) update n none off = elim (cases_eq x.target update.target) [

@@ -1,10 +1,10 @@
 //! The updates so far.
 
-ghost use Rattle.std.specs.Prelude.{◌≡◌, ◌≤◌, ◌<◌, ◌+◌, ◌++◌, ◌∷◌, List, [], Option, Some, None, length, IfOk, IfSome, IfNone, OnOk, OnErr, IsTrue, is_err};
+ghost use Rattle.std.specs.Prelude.{◌≡◌, ◌≤◌, ◌<◌, ◌+◌, ◌++◌, ◌∷◌, List, [], Option, Some, None, length, set, IfOk, IfSome, IfNone, OnOk, OnErr, IsTrue, is_err};
 ghost use Rattle.disk.specs.Moments.{Image, put, applied};
 ghost use Rattle.disk.specs.declared.update.Update.{Update};
 ghost use Rattle.layout.specs.Health.{Reads};
-ghost use Rattle.tree_transaction.specs.Updates.{AreApart, updated, IsFirst, HasNot};
+ghost use Rattle.tree_transaction.specs.Updates.{AreApart, updated, IsFirst, HasNot, target_of};
 
 use disk::{SECTOR, Update};
 use layout::sectors::{ReadFault, Sectors};
@@ -77,19 +77,8 @@ impl Updates {
         ensures err { OnErr result (self.new ≡ self.old) }
     {
         match place_of(&self.list, target) {
-            Some(place) => {
-                self.list[place] = Update {
-                    target,
-                    content: *content,
-                };
-            }
-            None => {
-                let update = Update {
-                    target,
-                    content: *content,
-                };
-                push(&mut self.list, update)?;
-            }
+            Some(place) => fill(&mut self.list, place, content),
+            None => push(&mut self.list, target, content)?,
         }
         Ok(())
     }
@@ -103,16 +92,31 @@ impl Updates {
     }
 }
 
-/// Puts an update after the others. The first one takes room for most transactions.
-fn push(list: &mut Vec<Update>, update: Update) -> Result<(), AllocError>
-    ensures items { OnOk result (list.new.items ≡ list.old.items ++ update ∷ []) }
+/// Puts an update after the others. The first one takes room for most transactions. An `Err`
+/// changes nothing.
+fn push(list: &mut Vec<Update>, target: u32, content: &[u8; SECTOR]) -> Result<(), AllocError>
+    ensures items { OnOk result (list.new.items
+        ≡ list.old.items ++ (record { target = target; content = content.now }) ∷ []) }
     ensures err { OnErr result (list.new.items ≡ list.old.items) }
 {
-    if list.is_empty() {
-        list.reserve(ROOM)?;
-    }
-    list.push(update)?;
+    let last = list.len();
+    list.reserve(if last == 0 { ROOM } else { 1 })?;
+    // Zeros are set where they stay, so that the content is copied once.
+    list.push_reserved(Update {
+        target,
+        content: [0; SECTOR],
+    });
+    fill(list, last, content);
     Ok(())
+}
+
+/// Puts a content into an update.
+fn fill(list: &mut Vec<Update>, place: usize, content: &[u8; SECTOR])
+    requires { place < length list.old.items }
+    ensures { list.new.items ≡ set list.old.items place
+        (record { target = target_of list.old.items place; content = content.now }) }
+{
+    list[place].content.copy_from_slice(content);
 }
 
 /// Where the update of a sector stands.
