@@ -62,10 +62,19 @@ updated-none [] update none = refl
 updated-none (x ∷ updates) update none =
     rw (ne_eqb x.target update.target (none 0 (omega arith))) (ap (λ (rest : List Update). x ∷ rest) (updated-none updates update (has_not-rest x updates update.target none)))
 
--- a content that is put into the last update
-pub filled-last : (updates : List Update) (last : Update) (content : List ℕ) → set (updates ++ last ∷ []) (length updates) (record { target = target_of (updates ++ last ∷ []) (length updates); content = content }) ≡ updates ++ (record { target = last.target; content = content }) ∷ []
-filled-last [] last content = refl
-filled-last (update ∷ updates) last content = ap (λ (rest : List Update). update ∷ rest) (filled-last updates last content)
+-- what is put into the last update
+
+pub target_of-last : (updates : List Update) (last : Update) → target_of (updates ++ last ∷ []) (length updates) ≡ last.target
+target_of-last [] last = refl
+target_of-last (update ∷ updates) last = target_of-last updates last
+
+pub set-last : (updates : List Update) (last other : Update) → set (updates ++ last ∷ []) (length updates) other ≡ updates ++ other ∷ []
+set-last [] last other = refl
+set-last (update ∷ updates) last other = ap (λ (rest : List Update). update ∷ rest) (set-last updates last other)
+
+-- what is put into the update at a place
+pub filled : (old mid new : List Update) (update : Update) (place : ℕ) → target_of mid place ≡ update.target → set mid place update ≡ updated old update → new ≡ set mid place (record { target = target_of mid place; content = update.content }) → new ≡ updated old update
+filled old mid new update place there whole is = is ∙ ap (λ (t : ℕ). set mid place (record { target = t; content = update.content })) there ∙ whole
 
 has_not-updated : (updates : List Update) (update : Update) (n : ℕ) → HasNot n updates → update.target ≢ n → HasNot n (updated updates update)
 has_not-updated [] update n none off = λ i. elim i as (λ (k : ℕ). k < length (update ∷ []) → target_of (update ∷ []) k ≢ n) [ zero ↦ (λ h. off) | suc k ↦ (λ h. absurd (omega arith)) ]

@@ -14,7 +14,6 @@ use crate::updates::Updates;
 use disk::SECTOR;
 use extents::{MAX_SECTOR_RUNS, Run, Runs, write_run_sector};
 use freemap::Bitmap;
-use inode::to_sector;
 use layout::places::NODES;
 use node_table::Card;
 use std::alloc::{AllocError, Global};
@@ -55,9 +54,7 @@ fn lay_node(updates: &mut Updates, sector: u32, card: &Card) -> Result<(), Alloc
         ≤ length updates.old + 1 + length card.now.fields.run_sectors }
 {
     lay_runs(updates, &card.inode.run_sectors, card.runs.as_slice())?;
-    let mut content = [0; SECTOR];
-    to_sector(&card.inode, card.form, &mut content);
-    updates.put(sector, &content)?;
+    updates.put_inode(sector, &card.inode, card.form)?;
     Ok(())
 }
 

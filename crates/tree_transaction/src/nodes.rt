@@ -8,8 +8,6 @@ ghost use Rattle.tree_transaction.specs.Blocks.{IsPut};
 ghost use Rattle.tree_transaction.specs.Ranges.{IsInRange};
 
 use crate::updates::Updates;
-use disk::SECTOR;
-use inode::to_sector;
 use layout::places::NODES;
 use model::acl::Acl;
 use node_table::Card;
@@ -37,8 +35,5 @@ pub(crate) fn put_node(updates: &mut Updates, place: u32, card: &Card) -> Result
         (applied updates.new image) (NODES + place) (inode_sector card.now.form card.now.fields)) }
     ensures count { length updates.new ≤ length updates.old + 1 }
 {
-    let mut content = [0; SECTOR];
-    to_sector(&card.inode, card.form, &mut content);
-    updates.put(NODES + place, &content)?;
-    Ok(())
+    updates.put_inode(NODES + place, &card.inode, card.form)
 }

@@ -1,12 +1,15 @@
 //! The updates so far.
 
-ghost use Rattle.std.specs.Prelude.{◌≡◌, ◌≤◌, ◌<◌, ◌+◌, ◌++◌, ◌∷◌, List, [], Option, Some, None, length, set, IfOk, IfSome, IfNone, OnOk, OnErr, IsTrue, is_err};
+ghost use Rattle.std.specs.Prelude.{◌≡◌, ◌≤◌, ◌<◌, ◌+◌, ◌++◌, ◌∷◌, ℕ, List, [], Option, Some, None, length, set, IfOk, IfSome, IfNone, OnOk, OnErr, IsTrue, is_err};
 ghost use Rattle.disk.specs.Moments.{Image, put, applied};
 ghost use Rattle.disk.specs.declared.update.Update.{Update};
+ghost use Rattle.inode.specs.Fields.{IsInode, fields_of};
+ghost use Rattle.inode.specs.Spelling.{inode_sector};
 ghost use Rattle.layout.specs.Health.{Reads};
 ghost use Rattle.tree_transaction.specs.Updates.{AreApart, updated, IsFirst, HasNot, target_of};
 
 use disk::{SECTOR, Update};
+use inode::{Form, Inode, to_sector};
 use layout::sectors::{ReadFault, Sectors};
 use std::alloc::{AllocError, Global};
 use std::marker::Model;
@@ -76,10 +79,28 @@ impl Updates {
         // Refused
         ensures err { OnErr result (self.new ≡ self.old) }
     {
-        match place_of(&self.list, target) {
-            Some(place) => fill(&mut self.list, place, content),
-            None => push(&mut self.list, target, content)?,
-        }
+        let place = place_for(&mut self.list, target)?;
+        fill(&mut self.list, place, content);
+        Ok(())
+    }
+
+    /// The same of the sector of an inode, which is encoded where it stays.
+    pub(crate) fn put_inode(
+        &mut self,
+        target: u32,
+        inode: &Inode,
+        form: Form,
+    ) -> Result<(), AllocError>
+        requires { IsInode form (fields_of inode.now) }
+        ensures image { OnOk result ((image : Image)
+            → applied self.new image ≡ put (applied self.old image) (record {
+              target = target;
+              content = inode_sector form (fields_of inode.now);
+            })) }
+        ensures count { length self.new ≤ length self.old + 1 }
+    {
+        let place = place_for(&mut self.list, target)?;
+        fill_inode(&mut self.list, place, inode, form);
         Ok(())
     }
 
@@ -92,22 +113,28 @@ impl Updates {
     }
 }
 
-/// Puts an update after the others. The first one takes room for most transactions. An `Err`
-/// changes nothing.
-fn push(list: &mut Vec<Update>, target: u32, content: &[u8; SECTOR]) -> Result<(), AllocError>
-    ensures items { OnOk result (list.new.items
-        ≡ list.old.items ++ (record { target = target; content = content.now }) ∷ []) }
+/// The place of the update of a sector, which is one of zeros after the others where there was
+/// none: what it is to hold is put where it stays. The first one takes room for most transactions.
+/// An `Err` changes nothing.
+fn place_for(list: &mut Vec<Update>, target: u32) -> Result<usize, AllocError>
+    ensures within { IfOk result (λ place. place < length list.new.items) }
+    ensures there { IfOk result (λ place. target_of list.new.items place ≡ target) }
+    ensures put { IfOk result (λ place. (content : List ℕ) → set list.new.items place
+        (record { target = target; content = content })
+        ≡ updated list.old.items (record { target = target; content = content })) }
+    ensures count { length list.new.items ≤ length list.old.items + 1 }
     ensures err { OnErr result (list.new.items ≡ list.old.items) }
 {
+    if let Some(place) = place_of(list, target) {
+        return Ok(place);
+    }
     let last = list.len();
     list.reserve(if last == 0 { ROOM } else { 1 })?;
-    // Zeros are set where they stay, so that the content is copied once.
     list.push_reserved(Update {
         target,
         content: [0; SECTOR],
     });
-    fill(list, last, content);
-    Ok(())
+    Ok(last)
 }
 
 /// Puts a content into an update.
@@ -117,6 +144,19 @@ fn fill(list: &mut Vec<Update>, place: usize, content: &[u8; SECTOR])
         (record { target = target_of list.old.items place; content = content.now }) }
 {
     list[place].content.copy_from_slice(content);
+}
+
+/// Puts the encoding of an inode into an update.
+fn fill_inode(list: &mut Vec<Update>, place: usize, inode: &Inode, form: Form)
+    requires within { place < length list.old.items }
+    requires fits { IsInode form (fields_of inode.now) }
+    ensures { list.new.items ≡ set list.old.items place
+        (record {
+          target = target_of list.old.items place;
+          content = inode_sector form (fields_of inode.now);
+        }) }
+{
+    to_sector(inode, form, &mut list[place].content);
 }
 
 /// Where the update of a sector stands.
