@@ -11,8 +11,7 @@ ghost use Rattle.tree_transaction.specs.Laying.{AreOnce, LaysFront, LaysNode, La
 use crate::fault::SpaceFault;
 use crate::numbers::{give_numbers, take_numbers};
 use crate::updates::Updates;
-use disk::SECTOR;
-use extents::{MAX_SECTOR_RUNS, Run, Runs, write_run_sector};
+use extents::{MAX_SECTOR_RUNS, Run, Runs};
 use freemap::Bitmap;
 use layout::places::NODES;
 use node_table::Card;
@@ -33,9 +32,7 @@ fn lay_runs(updates: &mut Updates, numbers: &[u32], runs: &[Run]) -> Result<(), 
     for i in 0..numbers.len() {
         let from = MAX_SECTOR_RUNS * i;
         let to = runs.len().min(from + MAX_SECTOR_RUNS);
-        let mut content = [0; SECTOR];
-        write_run_sector(&runs[from..to], &mut content);
-        updates.put(numbers[i], &content)?;
+        updates.put_runs(numbers[i], &runs[from..to])?;
     }
     Ok(())
 }

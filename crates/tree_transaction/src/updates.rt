@@ -3,12 +3,14 @@
 ghost use Rattle.std.specs.Prelude.{◌≡◌, ◌≤◌, ◌<◌, ◌+◌, ◌++◌, ◌∷◌, ℕ, List, [], Option, Some, None, length, set, IfOk, IfSome, IfNone, OnOk, OnErr, IsTrue, is_err};
 ghost use Rattle.disk.specs.Moments.{Image, put, applied};
 ghost use Rattle.disk.specs.declared.update.Update.{Update};
+ghost use Rattle.extents.specs.Sector.{run_sector};
 ghost use Rattle.inode.specs.Fields.{IsInode, fields_of};
 ghost use Rattle.inode.specs.Spelling.{inode_sector};
 ghost use Rattle.layout.specs.Health.{Reads};
 ghost use Rattle.tree_transaction.specs.Updates.{AreApart, updated, IsFirst, HasNot, target_of};
 
 use disk::{SECTOR, Update};
+use extents::{MAX_SECTOR_RUNS, Run, write_run_sector};
 use inode::{Form, Inode, to_sector};
 use layout::sectors::{ReadFault, Sectors};
 use std::alloc::{AllocError, Global};
@@ -104,6 +106,21 @@ impl Updates {
         Ok(())
     }
 
+    /// The same of a run sector, which is encoded where it stays.
+    pub(crate) fn put_runs(&mut self, target: u32, runs: &[Run]) -> Result<(), AllocError>
+        requires { length runs.now ≤ MAX_SECTOR_RUNS }
+        ensures image { OnOk result ((image : Image)
+            → applied self.new image ≡ put (applied self.old image) (record {
+              target = target;
+              content = run_sector runs.now;
+            })) }
+        ensures count { length self.new ≤ length self.old + 1 }
+    {
+        let place = place_for(&mut self.list, target)?;
+        fill_runs(&mut self.list, place, runs);
+        Ok(())
+    }
+
     /// The updates, for whoever writes them.
     pub fn into_vec(self) -> Vec<Update>
         ensures { result.items ≡ self }
@@ -157,6 +174,16 @@ fn fill_inode(list: &mut Vec<Update>, place: usize, inode: &Inode, form: Form)
         }) }
 {
     to_sector(inode, form, &mut list[place].content);
+}
+
+/// Puts the encoding of runs into an update.
+fn fill_runs(list: &mut Vec<Update>, place: usize, runs: &[Run])
+    requires within { place < length list.old.items }
+    requires few { length runs.now ≤ MAX_SECTOR_RUNS }
+    ensures { list.new.items ≡ set list.old.items place
+        (record { target = target_of list.old.items place; content = run_sector runs.now }) }
+{
+    write_run_sector(runs, &mut list[place].content);
 }
 
 /// Where the update of a sector stands.
