@@ -14,7 +14,7 @@ listed (update ∷ updates) = (update ∷ updates) ∷ []
 unfoldable pub log_of : {D : _} {g : _} → Journal D g → Log
 log_of {D} {g} journal = record {
   base = through journal.shown.items (seen (g.history journal.device).now);
-  list = listed journal.list.items;
+  list = listed journal.pending.items;
   is_down = journal.is_down;
   size = g.size journal.device;
   history = g.history journal.device;

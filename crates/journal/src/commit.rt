@@ -38,7 +38,7 @@ pub(crate) fn commit<D: Device>(
     ensures failures { FailsCounted (D.failed device.old) (D.failed device.new) result }
 {
     make_way(device, shown, to)?;
-    record(device, shown, to, updates)?;
+    write_commit_record(device, shown, to, updates)?;
     Ok(())
 }
 
@@ -94,7 +94,7 @@ pub(crate) fn close<D: Device>(device: &mut D, shown: &mut Vec<u32>) -> Result<(
 }
 
 /// Writes the payload behind what the gate shows, and then names its targets in the gate.
-pub(crate) fn record<D: Device>(
+pub(crate) fn write_commit_record<D: Device>(
     device: &mut D,
     shown: &mut Vec<u32>,
     to: &[u32],
@@ -139,7 +139,7 @@ pub(crate) fn replay<D: Device>(device: &mut D, to: &[u32]) -> Result<(), DiskFa
     ensures size { D.size device.new ≡ D.size device.old }
     ensures failures { FailsCounted (D.failed device.old) (D.failed device.new) result }
 {
-    phase::copy_payload(device, to)?;
+    phase::checkpoint_payload(device, to)?;
     phase::write_sector(device, GATE, &gate::closed())?;
     Ok(())
 }

@@ -30,48 +30,49 @@ pub const CACHED_SECTORS: usize = 64;
 #[derive(Drop)]
 pub struct Journal<D: Device> {
     device: D,
-    list: Vec<Update>,
-    named: Vec<u32>,
+    pending: Vec<Update>,
+    pending_sectors: Vec<u32>,
     /// The sectors that the open gate names: their content stands in the payload, in this order.
     shown: Vec<u32>,
     /// What was read last.
     cache: Cache,
     is_down: bool,
     ghost large: { MIN_SECTORS ≤ D.size device },
-    ghost few: { length list.items ≤ PAYLOAD_SECTORS },
-    ghost room: { PAYLOAD_SECTORS ≤ vec_capacity list },
-    ghost named_room: { PAYLOAD_SECTORS ≤ vec_capacity named },
-    ghost named_are: { named.items ≡ targets list.items },
-    ghost fit: { AreTargets (D.size device) (targets list.items) },
+    ghost few: { length pending.items ≤ PAYLOAD_SECTORS },
+    ghost room: { PAYLOAD_SECTORS ≤ vec_capacity pending },
+    ghost named_room: { PAYLOAD_SECTORS ≤ vec_capacity pending_sectors },
+    ghost named_are: { pending_sectors.items ≡ targets pending.items },
+    ghost fit: { AreTargets (D.size device) (targets pending.items) },
     ghost shown_room: { PAYLOAD_SECTORS ≤ vec_capacity shown },
     ghost shown_fits: { FitsGate (D.size device) shown.items },
     ghost rests: { D.keeps_word → is_down ≡ false → length (D.history device).now.unsynced ≡ 0 },
     ghost gate_is: { D.keeps_word → is_down ≡ false → seen (D.history device).now 1 ≡ gate shown.items },
     ghost cached: { D.keeps_word → is_down ≡ false → AreCopies (D.size device)
-        (applied list.items (through shown.items (seen (D.history device).now)))
+        (applied pending.items (through shown.items (seen (D.history device).now)))
         cache.sectors.entries },
 }
 
 /// The memory of a journal in which nothing waits.
 #[derive(Drop)]
 struct Room {
-    list: Vec<Update>,
-    named: Vec<u32>,
+    pending: Vec<Update>,
+    pending_sectors: Vec<u32>,
     shown: Vec<u32>,
     cache: Cache,
 }
 
 /// Memory for a journal that keeps so many sectors.
 fn room_for(alloc: Global, cached: NonZeroUsize) -> Result<Room, AllocError>
-    ensures none { IfOk result (λ room. (room.list.items ≡ []) × (room.named.items ≡ [])
+    ensures none { IfOk result
+        (λ room. (room.pending.items ≡ []) × (room.pending_sectors.items ≡ [])
         × (room.cache.sectors.entries ≡ [])) }
-    ensures room { IfOk result (λ room. (PAYLOAD_SECTORS ≤ vec_capacity room.list)
-        × (PAYLOAD_SECTORS ≤ vec_capacity room.named)
+    ensures room { IfOk result (λ room. (PAYLOAD_SECTORS ≤ vec_capacity room.pending)
+        × (PAYLOAD_SECTORS ≤ vec_capacity room.pending_sectors)
         × (PAYLOAD_SECTORS ≤ vec_capacity room.shown)) }
 {
     Ok(Room {
-        list: Vec::with_capacity(alloc, PAYLOAD_SECTORS)?,
-        named: Vec::with_capacity(alloc, PAYLOAD_SECTORS)?,
+        pending: Vec::with_capacity(alloc, PAYLOAD_SECTORS)?,
+        pending_sectors: Vec::with_capacity(alloc, PAYLOAD_SECTORS)?,
         shown: Vec::with_capacity(alloc, PAYLOAD_SECTORS)?,
         cache: Cache::new(alloc, cached)?,
     })
@@ -170,8 +171,8 @@ impl<D: Device> Journal<D> {
         match recover::recover(&mut device, &mut room.shown) {
             Ok(()) => Ok(Journal {
                 device,
-                list: room.list,
-                named: room.named,
+                pending: room.pending,
+                pending_sectors: room.pending_sectors,
                 shown: room.shown,
                 cache: room.cache,
                 is_down: false,
@@ -261,8 +262,8 @@ impl<D: Device> Journal<D> {
         if self.is_down {
             return Err(JournalFault::Down);
         }
-        if let Some(place) = list::find(&self.named, n) {
-            *content = self.list[place].content;
+        if let Some(place) = list::find(&self.pending_sectors, n) {
+            *content = self.pending[place].content;
             return Ok(());
         }
         if self.cache.get(n, content) {
@@ -341,7 +342,7 @@ impl<D: Device> Journal<D> {
     }
 
     /// Takes the list into the base, if there is one.
-    fn take_all(&mut self) -> Result<(), DiskFault>
+    fn flush_pending(&mut self) -> Result<(), DiskFault>
         requires { (log_of self.old).is_down ≡ false }
         ensures part { IsPart D.keeps_word (log_of self.old) (log_of self.new)
             (failures_of self.old) (failures_of self.new) result }
@@ -349,24 +350,31 @@ impl<D: Device> Journal<D> {
             (HasFlushed D.keeps_word (log_of self.old) (log_of self.new)) }
         ensures gate { OnOk result (GoesThrough D.keeps_word (shown_of self.old) (shown_of self.new)
             (log_of self.old) (log_of self.new)) }
-        ensures emptied { OnOk result (self.new.list.items ≡ []) }
+        ensures emptied { OnOk result (self.new.pending.items ≡ []) }
         ensures nothing { (log_of self.old).list ≡ [] → log_of self.new ≡ log_of self.old }
     {
-        if self.list.is_empty() {
+        if self.pending.is_empty() {
             return Ok(());
         }
         self.is_down = true;
-        if commit::commit(&mut self.device, &mut self.shown, &self.named, &self.list).is_err() {
+        if commit::commit(
+            &mut self.device,
+            &mut self.shown,
+            &self.pending_sectors,
+            &self.pending,
+        )
+        .is_err()
+        {
             return Err(DiskFault::Fault);
         }
-        self.list.clear();
-        self.named.clear();
+        self.pending.clear();
+        self.pending_sectors.clear();
         self.is_down = false;
         Ok(())
     }
 
     /// Takes the list into the base if the updates would not fit the payload beside it.
-    fn make_room(&mut self, updates: &[Update]) -> Result<(), DiskFault>
+    fn flush_if_full(&mut self, updates: &[Update]) -> Result<(), DiskFault>
         // A transaction that may be taken
         requires up { (log_of self.old).is_down ≡ false }
         requires short { length updates.now ≤ MAX_UPDATES }
@@ -376,7 +384,8 @@ impl<D: Device> Journal<D> {
             (failures_of self.old) (failures_of self.new) result }
         // It is flushed where there is no room, and only there
         ensures kept { FitTogether (list_with (log_of self.old) updates.now)
-            → (log_of self.new ≡ log_of self.old) × (self.new.list.items ≡ self.old.list.items)
+            → (log_of self.new ≡ log_of self.old)
+            × (self.new.pending.items ≡ self.old.pending.items)
             × (shown_of self.new ≡ shown_of self.old) }
         ensures flushed { OnOk result ((FitTogether (list_with (log_of self.old) updates.now) → ⊥)
             → HasFlushed D.keeps_word (log_of self.old) (log_of self.new)) }
@@ -384,14 +393,15 @@ impl<D: Device> Journal<D> {
             → GoesThrough D.keeps_word (shown_of self.old) (shown_of self.new)
             (log_of self.old) (log_of self.new)) }
         ensures emptied { OnOk result ((FitTogether (list_with (log_of self.old) updates.now) → ⊥)
-            → self.new.list.items ≡ []) }
+            → self.new.pending.items ≡ []) }
         ensures room { OnOk result
-            (length (gathered self.new.named.items (targets updates.now)) ≤ PAYLOAD_SECTORS) }
+            (length (gathered self.new.pending_sectors.items (targets updates.now))
+            ≤ PAYLOAD_SECTORS) }
     {
-        if list::fits(&self.named, updates) {
+        if list::fits(&self.pending_sectors, updates) {
             return Ok(());
         }
-        self.take_all()?;
+        self.flush_pending()?;
         Ok(())
     }
 
@@ -427,9 +437,9 @@ impl<D: Device> Journal<D> {
         if updates.len() > MAX_UPDATES {
             return Err(JournalFault::TooMany);
         }
-        self.make_room(&updates)?;
+        self.flush_if_full(&updates)?;
         self.cache.forget(&updates);
-        list::put_all(&mut self.list, &mut self.named, updates);
+        list::merge_into(&mut self.pending, &mut self.pending_sectors, updates);
         Ok(())
     }
 
@@ -455,7 +465,7 @@ impl<D: Device> Journal<D> {
         if self.is_down {
             return Err(JournalFault::Down);
         }
-        self.take_all()?;
+        self.flush_pending()?;
         Ok(())
     }
 }

@@ -28,13 +28,13 @@ pub(crate) fn newer(
 }
 
 /// The last place of a sector among those that are named.
-pub(crate) fn find(named: &[u32], n: u32) -> Option<usize>
-    ensures found { IfSome result (λ place. IsLastPlace named.now n place) }
-    ensures none { IfNone result (has named.now n ≡ false) }
+pub(crate) fn find(pending_sectors: &[u32], n: u32) -> Option<usize>
+    ensures found { IfSome result (λ place. IsLastPlace pending_sectors.now n place) }
+    ensures none { IfNone result (has pending_sectors.now n ≡ false) }
 {
-    for back in 0..named.len() {
-        let place = named.len() - 1 - back;
-        if named[place] == n {
+    for back in 0..pending_sectors.len() {
+        let place = pending_sectors.len() - 1 - back;
+        if pending_sectors[place] == n {
             return Some(place);
         }
     }
@@ -42,66 +42,72 @@ pub(crate) fn find(named: &[u32], n: u32) -> Option<usize>
 }
 
 /// Whether the sectors that are named and those of the updates are few enough for one payload.
-pub(crate) fn fits(named: &[u32], updates: &[Update]) -> bool
-    requires few { length named.now ≤ PAYLOAD_SECTORS }
+pub(crate) fn fits(pending_sectors: &[u32], updates: &[Update]) -> bool
+    requires few { length pending_sectors.now ≤ PAYLOAD_SECTORS }
     requires short { length updates.now ≤ MAX_UPDATES }
     requires apart { AllPairs (λ a b. a ≢ b) (targets updates.now) }
     ensures { IsTrue result
-        ↔ (length (gathered named.now (targets updates.now)) ≤ PAYLOAD_SECTORS) }
+        ↔ (length (gathered pending_sectors.now (targets updates.now)) ≤ PAYLOAD_SECTORS) }
 {
     let mut fresh = 0;
     for update in updates {
-        if !named.contains(&update.target) {
+        if !pending_sectors.contains(&update.target) {
             fresh += 1;
         }
     }
-    named.len() + fresh <= PAYLOAD_SECTORS
+    pending_sectors.len() + fresh <= PAYLOAD_SECTORS
 }
 
 /// Puts an update in the place of the one of its sector, or else after the others.
-pub(crate) fn put(list: &mut Vec<Update>, named: &mut Vec<u32>, update: Update)
+pub(crate) fn put(pending: &mut Vec<Update>, pending_sectors: &mut Vec<u32>, update: Update)
     // There is room for it
-    requires named_are { named.old.items ≡ targets list.old.items }
-    requires few { length (gathered named.old.items (update.target ∷ [])) ≤ PAYLOAD_SECTORS }
-    requires room { PAYLOAD_SECTORS ≤ vec_capacity list.old }
-    requires named_room { PAYLOAD_SECTORS ≤ vec_capacity named.old }
+    requires named_are { pending_sectors.old.items ≡ targets pending.old.items }
+    requires few { length (gathered pending_sectors.old.items (update.target ∷ []))
+        ≤ PAYLOAD_SECTORS }
+    requires room { PAYLOAD_SECTORS ≤ vec_capacity pending.old }
+    requires named_room { PAYLOAD_SECTORS ≤ vec_capacity pending_sectors.old }
     // What the list has then
-    ensures applied { (image : Image) (n : ℕ) → applied list.new.items image n
-        ≡ with (applied list.old.items image) update n }
-    ensures targets { targets list.new.items
-        ≡ gathered (targets list.old.items) (update.target ∷ []) }
-    ensures named_are { named.new.items ≡ targets list.new.items }
+    ensures applied { (image : Image) (n : ℕ) → applied pending.new.items image n
+        ≡ with (applied pending.old.items image) update n }
+    ensures targets { targets pending.new.items
+        ≡ gathered (targets pending.old.items) (update.target ∷ []) }
+    ensures named_are { pending_sectors.new.items ≡ targets pending.new.items }
     // It takes no memory
-    ensures capacity { vec_capacity list.new ≡ vec_capacity list.old }
-    ensures named_capacity { vec_capacity named.new ≡ vec_capacity named.old }
+    ensures capacity { vec_capacity pending.new ≡ vec_capacity pending.old }
+    ensures named_capacity { vec_capacity pending_sectors.new ≡ vec_capacity pending_sectors.old }
 {
-    match find(named, update.target) {
-        Some(place) => list[place] = update,
+    match find(pending_sectors, update.target) {
+        Some(place) => pending[place] = update,
         None => {
-            named.push_reserved(update.target);
-            list.push_reserved(update);
+            pending_sectors.push_reserved(update.target);
+            pending.push_reserved(update);
         }
     }
 }
 
 /// Puts updates one after the other.
-pub(crate) fn put_all(list: &mut Vec<Update>, named: &mut Vec<u32>, updates: Vec<Update>)
+pub(crate) fn merge_into(
+    pending: &mut Vec<Update>,
+    pending_sectors: &mut Vec<u32>,
+    updates: Vec<Update>,
+)
     // There is room for it
-    requires named_are { named.old.items ≡ targets list.old.items }
-    requires few { length (gathered named.old.items (targets updates.items)) ≤ PAYLOAD_SECTORS }
-    requires room { PAYLOAD_SECTORS ≤ vec_capacity list.old }
-    requires named_room { PAYLOAD_SECTORS ≤ vec_capacity named.old }
+    requires named_are { pending_sectors.old.items ≡ targets pending.old.items }
+    requires few { length (gathered pending_sectors.old.items (targets updates.items))
+        ≤ PAYLOAD_SECTORS }
+    requires room { PAYLOAD_SECTORS ≤ vec_capacity pending.old }
+    requires named_room { PAYLOAD_SECTORS ≤ vec_capacity pending_sectors.old }
     // What the list has then
-    ensures applied { (image : Image) (n : ℕ) → applied list.new.items image n
-        ≡ applied updates.items (applied list.old.items image) n }
-    ensures targets { targets list.new.items
-        ≡ gathered (targets list.old.items) (targets updates.items) }
-    ensures named_are { named.new.items ≡ targets list.new.items }
+    ensures applied { (image : Image) (n : ℕ) → applied pending.new.items image n
+        ≡ applied updates.items (applied pending.old.items image) n }
+    ensures targets { targets pending.new.items
+        ≡ gathered (targets pending.old.items) (targets updates.items) }
+    ensures named_are { pending_sectors.new.items ≡ targets pending.new.items }
     // It takes no memory
-    ensures capacity { vec_capacity list.new ≡ vec_capacity list.old }
-    ensures named_capacity { vec_capacity named.new ≡ vec_capacity named.old }
+    ensures capacity { vec_capacity pending.new ≡ vec_capacity pending.old }
+    ensures named_capacity { vec_capacity pending_sectors.new ≡ vec_capacity pending_sectors.old }
 {
     for update in updates {
-        put(list, named, update);
+        put(pending, pending_sectors, update);
     }
 }

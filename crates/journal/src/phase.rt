@@ -36,7 +36,10 @@ pub(crate) fn write_payload<D: Device>(
 }
 
 /// Copies the payload to its targets.
-pub(crate) fn copy_payload<D: Device>(device: &mut D, targets: &[u32]) -> Result<(), DiskFault>
+pub(crate) fn checkpoint_payload<D: Device>(
+    device: &mut D,
+    targets: &[u32],
+) -> Result<(), DiskFault>
     requires few { length targets.now ≤ PAYLOAD_SECTORS }
     requires fit { AreTargets (D.size device.old) targets.now }
     requires large { FIRST_TARGET ≤ D.size device.old }

@@ -9,8 +9,8 @@ use Rattle.journal.proofs.commit.commit.Goals as goal
 pub make_way-requires-clause-few : goal.make_way-requires-clause-few
 make_way-requires-clause-few g c = omega (arith, c.requires.taken.few, ap (λ (ts : List ℕ). length ts) c.requires.taken.named, length-targets c.args.updates.now)
 
-pub record-requires-clause-fits : goal.record-requires-clause-fits
-record-requires-clause-fits g c =
+pub write_commit_record-requires-clause-fits : goal.write_commit_record-requires-clause-fits
+write_commit_record-requires-clause-fits g c =
     let size = g.D.Device.size c.args.device.now in
     let to = c.args.to.now in
     let P : List ℕ → Type 0 = λ ts. AreTargets size ts in
@@ -21,23 +21,25 @@ record-requires-clause-fits g c =
     (omega (arith, c.requires.taken.few, ap (λ (ts : List ℕ). length ts) c.requires.taken.named, length-targets c.args.updates.now))
     (subst P (sym c.requires.taken.named) c.requires.taken.fit)))
 
-pub returns-in_err-record-clause-moments : goal.returns-in_err-record-clause-moments
-returns-in_err-record-clause-moments g c = λ k gated.
+pub returns-in_err-write_commit_record-clause-moments : goal.returns-in_err-write_commit_record-clause-moments
+returns-in_err-write_commit_record-clause-moments g c = λ k gated.
     let way = c.in_ok-make_way.ensures.ok k gated in
     committed_moments (g.D.Device.size c.args.device.now) (g.D.Device.size c.make_way.new.device) c.args.to.now c.args.updates.now c.args.shown.now.items c.make_way.new.shown.items
     (g.D.Device.history c.args.device.now) (g.D.Device.history c.make_way.new.device) c.in_ok-make_way.ensures.size (c.in_ok-make_way.ensures.moments k gated) way
-    (g.D.Device.history c.record.new.device) (c.in_err-record.ensures.moments k way.gated)
+    (g.D.Device.history c.write_commit_record.new.device)
+    (c.in_err-write_commit_record.ensures.moments k way.gated)
 
 pub returns-clause-moments : goal.returns-clause-moments
 returns-clause-moments g c = λ k gated.
     let way = c.in_ok-make_way.ensures.ok k gated in
     committed_moments (g.D.Device.size c.args.device.now) (g.D.Device.size c.make_way.new.device) c.args.to.now c.args.updates.now c.args.shown.now.items c.make_way.new.shown.items
     (g.D.Device.history c.args.device.now) (g.D.Device.history c.make_way.new.device) c.in_ok-make_way.ensures.size (c.in_ok-make_way.ensures.moments k gated) way
-    (g.D.Device.history c.record.new.device) (c.in_ok-record.ensures.moments k way.gated)
+    (g.D.Device.history c.write_commit_record.new.device)
+    (c.in_ok-write_commit_record.ensures.moments k way.gated)
 
 pub returns-clause-ok : goal.returns-clause-ok
 returns-clause-ok g c = λ k gated.
     let way = c.in_ok-make_way.ensures.ok k gated in
     committed (g.D.Device.size c.args.device.now) (g.D.Device.size c.make_way.new.device) c.args.to.now c.args.updates.now c.args.shown.now.items c.make_way.new.shown.items
     (g.D.Device.history c.args.device.now) (g.D.Device.history c.make_way.new.device) c.in_ok-make_way.ensures.size (c.in_ok-make_way.ensures.moments k gated) way
-    (g.D.Device.history c.record.new.device) c.record.new.shown.items c.requires.taken.named (c.in_ok-record.ensures.ok k way.gated)
+    (g.D.Device.history c.write_commit_record.new.device) c.write_commit_record.new.shown.items c.requires.taken.named (c.in_ok-write_commit_record.ensures.ok k way.gated)

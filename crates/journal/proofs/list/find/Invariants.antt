@@ -3,4 +3,4 @@ use Rattle.journal.specs.Transactions.{has}
 use Rattle.journal.proofs.list.find.Given as goal
 
 abbrev pub invariant-loop-back : goal.invariant-loop-back
-invariant-loop-back l = has (drop (length l.named - l.back) l.named) l.n ≡ false
+invariant-loop-back l = has (drop (length l.pending_sectors - l.back) l.pending_sectors) l.n ≡ false

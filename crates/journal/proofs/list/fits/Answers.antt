@@ -12,13 +12,14 @@ overflow_add-fresh c =
     omega (
       arith,
       c.loop-update.invariant,
-      fresh_few c.args.named.now (targets (take c.loop-update.update-index c.args.updates.now)),
+      fresh_few c.args.pending_sectors.now
+          (targets (take c.loop-update.update-index c.args.updates.now)),
       length-targets (take c.loop-update.update-index c.args.updates.now),
       length-take c.loop-update.update-index c.args.updates.now,
       c.requires.short,
     )
 
-looked : (c : After-contains) → has c.args.named.now (get_or c.args.updates.now c.loop-update.update-index no_update).target ≡ c.contains.result
+looked : (c : After-contains) → has c.args.pending_sectors.now (get_or c.args.updates.now c.loop-update.update-index no_update).target ≡ c.contains.result
 looked c = sym c.contains.ensures.value
 
 pub loop-update-preserved : goal.loop-update-preserved
@@ -26,10 +27,10 @@ loop-update-preserved c =
     let at = (goal.at.loop-update-preserved c).After-contains in
     elim c.if-not-contains.branch [
       | then-not-contains w ↦ w.fresh-is
-          ∙ fresh_more_new c.args.named.now c.args.updates.now c.loop-update.update-index c.loop-update.fresh (omega arith) c.loop-update.invariant
+          ∙ fresh_more_new c.args.pending_sectors.now c.args.updates.now c.loop-update.update-index c.loop-update.fresh (omega arith) c.loop-update.invariant
           (looked at ∙ w.if-not-contains.true)
       | else-not-contains w ↦ w.fresh-is
-          ∙ fresh_more_old c.args.named.now c.args.updates.now c.loop-update.update-index c.loop-update.fresh (omega arith) c.loop-update.invariant
+          ∙ fresh_more_old c.args.pending_sectors.now c.args.updates.now c.loop-update.update-index c.loop-update.fresh (omega arith) c.loop-update.invariant
           (looked at ∙ w.if-not-contains.false)
     ]
 
@@ -38,7 +39,8 @@ overflow_add-result c =
     omega (
       arith,
       c.loop-update.invariant,
-      fresh_few c.args.named.now (targets (take c.loop-update.update-index c.args.updates.now)),
+      fresh_few c.args.pending_sectors.now
+          (targets (take c.loop-update.update-index c.args.updates.now)),
       length-targets (take c.loop-update.update-index c.args.updates.now),
       length-take c.loop-update.update-index c.args.updates.now,
       c.requires.short,
@@ -47,6 +49,6 @@ overflow_add-result c =
 
 pub returns : goal.returns
 returns c =
-    let all = fresh_all c.args.named.now c.args.updates.now c.loop-update.update-index c.loop-update.fresh c.loop-update-test.false
+    let all = fresh_all c.args.pending_sectors.now c.args.updates.now c.loop-update.update-index c.loop-update.fresh c.loop-update-test.false
     (Apart-of (targets c.args.updates.now) c.requires.apart) c.loop-update.invariant in
     rw all (search rules)

@@ -4,4 +4,5 @@ use Rattle.journal.proofs.Lists.{fresh_count}
 use Rattle.journal.proofs.list.fits.Given as goal
 
 abbrev pub invariant-loop-update : goal.invariant-loop-update
-invariant-loop-update l = l.fresh ≡ fresh_count l.named (targets (take l.update-index l.updates))
+invariant-loop-update l =
+    l.fresh ≡ fresh_count l.pending_sectors (targets (take l.update-index l.updates))

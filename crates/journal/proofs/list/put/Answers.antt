@@ -9,63 +9,63 @@ use Rattle.journal.proofs.Lists.{IsLastUpdate, last_update, not_named, has-updat
 use Rattle.journal.proofs.list.put.Goals as goal
 use Rattle.journal.proofs.list.put.Goals.{In-Some, In-None}
 
-found : (c : In-Some) → IsLastUpdate c.args.list.now.items c.args.update.target c.in-Some.place
-found c = last_update c.args.list.now.items c.deref.result.now c.args.named.now.items c.args.update.target c.in-Some.place
+found : (c : In-Some) → IsLastUpdate c.args.pending.now.items c.args.update.target c.in-Some.place
+found c = last_update c.args.pending.now.items c.deref.result.now c.args.pending_sectors.now.items c.args.update.target c.in-Some.place
     c.deref.ensures.value c.requires.named_are c.in-Some.ensures.found
 
-missing : (c : In-None) → has (targets c.args.list.now.items) c.args.update.target ≡ false
-missing c = not_named c.args.list.now.items c.deref.result.now c.args.named.now.items c.args.update.target
+missing : (c : In-None) → has (targets c.args.pending.now.items) c.args.update.target ≡ false
+missing c = not_named c.args.pending.now.items c.deref.result.now c.args.pending_sectors.now.items c.args.update.target
     c.deref.ensures.value c.requires.named_are c.in-None.ensures.none
 
 pub index_mut-requires : goal.index_mut-requires
-index_mut-requires c = omega (arith, (found (goal.at.index_mut-requires c).In-Some).there, c.args.list.now.ok)
+index_mut-requires c = omega (arith, (found (goal.at.index_mut-requires c).In-Some).there, c.args.pending.now.ok)
 
 pub push_reserved-requires-in-None : goal.push_reserved-requires-in-None
 push_reserved-requires-in-None c =
     let none = missing (goal.at.push_reserved-requires-in-None c).In-None in
-    let named = c.args.named.now.items in
+    let pending_sectors = c.args.pending_sectors.now.items in
     let t = c.args.update.target in
     omega (
       arith,
       c.requires.few,
-      ap (λ (xs : List ℕ). length xs) (gathered_new named t (ap (λ (xs : List ℕ). has xs t) c.requires.named_are ∙ none)),
-      length-append named (t ∷ []),
+      ap (λ (xs : List ℕ). length xs) (gathered_new pending_sectors t (ap (λ (xs : List ℕ). has xs t) c.requires.named_are ∙ none)),
+      length-append pending_sectors (t ∷ []),
       ap (λ (xs : List ℕ). length xs) c.requires.named_are,
-      length-targets c.args.list.now.items,
-      c.args.list.now.ok,
+      length-targets c.args.pending.now.items,
+      c.args.pending.now.ok,
       c.requires.room,
     )
 
 pub returns-in-Some-clause-applied : goal.returns-in-Some-clause-applied
 returns-in-Some-clause-applied c = λ image n.
     let last = found (goal.at.returns-in-Some-clause-applied c).In-Some in
-    applied_set c.args.list.now.items c.in-Some.place c.args.update image n last.there last.is last.last
+    applied_set c.args.pending.now.items c.in-Some.place c.args.update image n last.there last.is last.last
 
 pub returns-in-Some-clause-targets : goal.returns-in-Some-clause-targets
 returns-in-Some-clause-targets c =
     let last = found (goal.at.returns-in-Some-clause-targets c).In-Some in
-    targets_set c.args.list.now.items c.in-Some.place c.args.update last.there last.is
-    ∙ sym (gathered_old (targets c.args.list.now.items) c.args.update.target (has-update c.args.list.now.items c.args.update.target c.in-Some.place last))
+    targets_set c.args.pending.now.items c.in-Some.place c.args.update last.there last.is
+    ∙ sym (gathered_old (targets c.args.pending.now.items) c.args.update.target (has-update c.args.pending.now.items c.args.update.target c.in-Some.place last))
 
 pub returns-in-Some-clause-named_are : goal.returns-in-Some-clause-named_are
 returns-in-Some-clause-named_are c =
     let last = found (goal.at.returns-in-Some-clause-named_are c).In-Some in
-    c.requires.named_are ∙ sym (targets_set c.args.list.now.items c.in-Some.place c.args.update last.there last.is)
+    c.requires.named_are ∙ sym (targets_set c.args.pending.now.items c.in-Some.place c.args.update last.there last.is)
 
 pub returns-in-None-clause-applied : goal.returns-in-None-clause-applied
 returns-in-None-clause-applied c = λ image n.
     ap (λ (xs : List Update). applied xs image n) c.push_reserved-in-None.ensures.items
-    ∙ ap (λ (f : Image). f n) (applied-push c.args.list.now.items c.args.update image)
+    ∙ ap (λ (f : Image). f n) (applied-push c.args.pending.now.items c.args.update image)
 
 pub returns-in-None-clause-targets : goal.returns-in-None-clause-targets
 returns-in-None-clause-targets c =
     ap (λ (xs : List Update). targets xs) c.push_reserved-in-None.ensures.items
-    ∙ targets-push c.args.list.now.items c.args.update
-    ∙ sym (gathered_new (targets c.args.list.now.items) c.args.update.target (missing (goal.at.returns-in-None-clause-targets c).In-None))
+    ∙ targets-push c.args.pending.now.items c.args.update
+    ∙ sym (gathered_new (targets c.args.pending.now.items) c.args.update.target (missing (goal.at.returns-in-None-clause-targets c).In-None))
 
 pub returns-in-None-clause-named_are : goal.returns-in-None-clause-named_are
 returns-in-None-clause-named_are c =
     c.push_reserved.ensures.items
     ∙ ap (λ (xs : List ℕ). xs ++ c.args.update.target ∷ []) c.requires.named_are
-    ∙ sym (targets-push c.args.list.now.items c.args.update)
+    ∙ sym (targets-push c.args.pending.now.items c.args.update)
     ∙ sym (ap (λ (xs : List Update). targets xs) c.push_reserved-in-None.ensures.items)

@@ -17,100 +17,101 @@ use Rattle.journal.proofs.Lists.{Fit-gathered, targets_of-Fit}
 use Rattle.journal.proofs.Stages.{Fit-of}
 use Rattle.journal.proofs.journal.Journal.apply.Goals as goal
 use Rattle.journal.proofs.journal.Journal.apply.Given.{Over}
-use Rattle.journal.proofs.journal.Journal.apply.Goals.{After-put_all}
+use Rattle.journal.proofs.journal.Journal.apply.Goals.{After-merge_into}
 
 -- the log after the call
-after : (g : Over) (c : After-put_all g) → Log
+after : (g : Over) (c : After-merge_into g) → Log
 after g c = record {
-  base = through c.make_room.new.self.shown.items (seen (g.D.Device.history c.make_room.new.self.device).now);
-  list = listed c.put_all.new.list.items;
-  is_down = c.make_room.new.self.is_down;
-  size = g.D.Device.size c.make_room.new.self.device;
-  history = g.D.Device.history c.make_room.new.self.device;
+  base = through c.flush_if_full.new.self.shown.items (seen (g.D.Device.history c.flush_if_full.new.self.device).now);
+  list = listed c.merge_into.new.pending.items;
+  is_down = c.flush_if_full.new.self.is_down;
+  size = g.D.Device.size c.flush_if_full.new.self.device;
+  history = g.D.Device.history c.flush_if_full.new.self.device;
 }
 
-taken : (g : Over) (c : After-put_all g) → FitTogether ((log_of c.args.self.now).list ++ c.args.updates.items ∷ [])
+taken : (g : Over) (c : After-merge_into g) → FitTogether ((log_of c.args.self.now).list ++ c.args.updates.items ∷ [])
     → Takes c.args.updates.items (log_of c.args.self.now) (after g c)
 unfolding log_of after
 taken g c fit =
-    let was = c.args.self.now.list.items in
+    let was = c.args.self.now.pending.items in
     let us = c.args.updates.items in
     let P : List Update → Type 0 = λ vs. FitTogether (listed was ++ vs ∷ []) in
-    let kept = c.make_room.ensures.kept (subst P (sym c.deref.ensures.value) fit) in
+    let kept = c.flush_if_full.ensures.kept (subst P (sym c.deref.ensures.value) fit) in
     record {
-      list = joined_as_one (listed was ++ us ∷ []) c.put_all.new.list.items (put_does was us c.put_all.new.list.items
-          (λ image n. c.put_all.ensures.applied image n ∙ ap (λ (xs : List Update). applied us (applied xs image) n) kept.1));
-      only = ap (λ (log : Log). let next : Log = record log { list = listed c.put_all.new.list.items } in next) kept.0;
+      list = joined_as_one (listed was ++ us ∷ []) c.merge_into.new.pending.items (put_does was us c.merge_into.new.pending.items
+          (λ image n. c.merge_into.ensures.applied image n ∙ ap (λ (xs : List Update). applied us (applied xs image) n) kept.1));
+      only = ap (λ (log : Log). let next : Log = record log { list = listed c.merge_into.new.pending.items } in next) kept.0;
     }
 
-alone : (g : Over) (c : After-put_all g) → (FitTogether ((log_of c.args.self.now).list ++ c.args.updates.items ∷ []) → ⊥)
+alone : (g : Over) (c : After-merge_into g) → (FitTogether ((log_of c.args.self.now).list ++ c.args.updates.items ∷ []) → ⊥)
     → IsJoined (c.args.updates.items ∷ []) (after g c).list
 unfolding log_of after
 alone g c over =
-    let was = c.args.self.now.list.items in
+    let was = c.args.self.now.pending.items in
     let us = c.args.updates.items in
     let P : List Update → Type 0 = λ vs. FitTogether (listed was ++ vs ∷ []) in
-    joined_as_one (us ∷ []) c.put_all.new.list.items (put_alone c.make_room.new.self.list.items us c.put_all.new.list.items
-    (c.in_ok-make_room.ensures.emptied (λ fit. over (subst P c.deref.ensures.value fit))) c.put_all.ensures.applied)
+    joined_as_one (us ∷ []) c.merge_into.new.pending.items (put_alone c.flush_if_full.new.self.pending.items us c.merge_into.new.pending.items
+    (c.in_ok-flush_if_full.ensures.emptied (λ fit. over (subst P c.deref.ensures.value fit))) c.merge_into.ensures.applied)
 
-moved : (g : Over) (c : After-put_all g) → g.D.Device.keeps_word
+moved : (g : Over) (c : After-merge_into g) → g.D.Device.keeps_word
     → Moved ((log_of c.args.self.now).list ++ c.args.updates.items ∷ []) (log_of c.args.self.now) (after g c)
 unfolding log_of after
 moved g c k =
-    let was = c.args.self.now.list.items in
+    let was = c.args.self.now.pending.items in
     let us = c.args.updates.items in
     let P : List Update → Type 0 = λ vs. FitTogether (listed was ++ vs ∷ []) in
     ⊎_elim
     (λ (above : 96 < length (gathered [] (sectors_of (listed was ++ us ∷ [])))).
     let over : FitTogether (listed was ++ us ∷ []) → ⊥ = λ fit. omega (arith, above, fit) in
-    moved_flushed (log_of c.args.self.now) (after g c) us ((c.in_ok-make_room.ensures.flushed (λ fit. over (subst P c.deref.ensures.value fit))).ok k) (alone g c over))
+    moved_flushed (log_of c.args.self.now) (after g c) us ((c.in_ok-flush_if_full.ensures.flushed (λ fit. over (subst P c.deref.ensures.value fit))).ok k) (alone g c over))
     (λ (fit : length (gathered [] (sectors_of (listed was ++ us ∷ []))) ≤ 96). moved_takes (log_of c.args.self.now) (after g c) us (taken g c fit))
     (cases_lt 96 (length (gathered [] (sectors_of (listed was ++ us ∷ [])))))
 
 pub returns-then-self-clause-bounded : goal.returns-then-self-clause-bounded
 unfolding log_of
-returns-then-self-clause-bounded g c = omega (arith, listed_sectors c.args.self.now.list.items, c.args.self.now.few)
+returns-then-self-clause-bounded g c = omega (arith, listed_sectors c.args.self.now.pending.items, c.args.self.now.few)
 
 pub returns-then-len-gt-MAX_UPDATES-clause-bounded : goal.returns-then-len-gt-MAX_UPDATES-clause-bounded
 unfolding log_of
-returns-then-len-gt-MAX_UPDATES-clause-bounded g c = omega (arith, listed_sectors c.args.self.now.list.items, c.args.self.now.few)
+returns-then-len-gt-MAX_UPDATES-clause-bounded g c = omega (arith, listed_sectors c.args.self.now.pending.items, c.args.self.now.few)
 
-pub returns-in_err-make_room-clause-bounded : goal.returns-in_err-make_room-clause-bounded
+pub returns-in_err-flush_if_full-clause-bounded : goal.returns-in_err-flush_if_full-clause-bounded
 unfolding log_of
-returns-in_err-make_room-clause-bounded g c = omega (arith, listed_sectors c.make_room.new.self.list.items, c.make_room.new.self.few)
+returns-in_err-flush_if_full-clause-bounded g c = omega (arith, listed_sectors c.flush_if_full.new.self.pending.items, c.flush_if_full.new.self.few)
 
-few : (g : Over) (c : After-put_all g) → length c.put_all.new.list.items ≤ 96
+few : (g : Over) (c : After-merge_into g) → length c.merge_into.new.pending.items ≤ 96
 few g c = omega (
   arith,
-  length-targets c.put_all.new.list.items,
-  ap (λ (ts : List ℕ). length ts) c.put_all.ensures.targets,
-  ap (λ (ts : List ℕ). length (gathered ts (targets c.args.updates.items))) c.make_room.new.self.named_are,
-  ap (λ (us : List Update). length (gathered c.make_room.new.self.named.items (targets us))) c.deref.ensures.value,
-  c.in_ok-make_room.ensures.room,
+  length-targets c.merge_into.new.pending.items,
+  ap (λ (ts : List ℕ). length ts) c.merge_into.ensures.targets,
+  ap (λ (ts : List ℕ). length (gathered ts (targets c.args.updates.items))) c.flush_if_full.new.self.named_are,
+  ap (λ (us : List Update). length (gathered c.flush_if_full.new.self.pending_sectors.items (targets us))) c.deref.ensures.value,
+  c.in_ok-flush_if_full.ensures.room,
 )
 
 pub invariant_of-self-clause-few : goal.invariant_of-self-clause-few
-invariant_of-self-clause-few g c = few g (goal.at.invariant_of-self-clause-few g c).After-put_all
+invariant_of-self-clause-few g c = few g (goal.at.invariant_of-self-clause-few g c).After-merge_into
 
 pub invariant_of-self-clause-fit : goal.invariant_of-self-clause-fit
 unfolding log_of
 invariant_of-self-clause-fit g c =
-    let mid = c.make_room.new.self in
+    let mid = c.flush_if_full.new.self in
     let size = g.D.Device.size mid.device in
     let us = c.args.updates.items in
     let P : List ℕ → Type 0 = λ ts. Fit size ts in
-    targets_of-Fit size (targets c.put_all.new.list.items) (subst P (sym c.put_all.ensures.targets)
-    (Fit-gathered size (targets mid.list.items) (targets us) (Fit-of size (targets mid.list.items) mid.fit)
-    (Fit-of size (targets us) (same_fit (g.D.Device.size c.args.self.now.device) size (targets us) c.make_room.ensures.part.size c.requires))))
+    targets_of-Fit size (targets c.merge_into.new.pending.items)
+    (subst P (sym c.merge_into.ensures.targets)
+    (Fit-gathered size (targets mid.pending.items) (targets us) (Fit-of size (targets mid.pending.items) mid.fit)
+    (Fit-of size (targets us) (same_fit (g.D.Device.size c.args.self.now.device) size (targets us) c.flush_if_full.ensures.part.size c.requires))))
 
 pub returns-clause-bounded : goal.returns-clause-bounded
 unfolding log_of
-returns-clause-bounded g c = omega (arith, listed_sectors c.put_all.new.list.items, few g (goal.at.returns-clause-bounded g c).After-put_all)
+returns-clause-bounded g c = omega (arith, listed_sectors c.merge_into.new.pending.items, few g (goal.at.returns-clause-bounded g c).After-merge_into)
 
 pub returns-clause-ok : goal.returns-clause-ok
 unfolding log_of after
 returns-clause-ok g c =
-    let at = (goal.at.returns-clause-ok g c).After-put_all in
+    let at = (goal.at.returns-clause-ok g c).After-merge_into in
     record {
       kept = λ fit. taken g at fit;
       flushed = λ over. alone g at over;
@@ -132,30 +133,31 @@ pub returns-then-len-gt-MAX_UPDATES-clause-answers : goal.returns-then-len-gt-MA
 unfolding log_of failures_of
 returns-then-len-gt-MAX_UPDATES-clause-answers g c = answers_up _ _ _ _ _ (λ e. cc) (λ e. cc) c.if-self.false c.if-self.false refl
 
-pub returns-in_err-make_room-clause-safe : goal.returns-in_err-make_room-clause-safe
-returns-in_err-make_room-clause-safe g c = part_is_safe _ _ _ _ _ c.in_err-make_room.ensures.part
+pub returns-in_err-flush_if_full-clause-safe : goal.returns-in_err-flush_if_full-clause-safe
+returns-in_err-flush_if_full-clause-safe g c =
+    part_is_safe _ _ _ _ _ c.in_err-flush_if_full.ensures.part
 
-pub returns-in_err-make_room-clause-answers : goal.returns-in_err-make_room-clause-answers
+pub returns-in_err-flush_if_full-clause-answers : goal.returns-in_err-flush_if_full-clause-answers
 unfolding log_of failures_of
-returns-in_err-make_room-clause-answers g c = rw (is_fault _ c.from_residual.ensures.1) (part_failed _ _ _ _ _ c.if-self.false c.in_err-make_room.ensures.part)
+returns-in_err-flush_if_full-clause-answers g c = rw (is_fault _ c.from_residual.ensures.1) (part_failed _ _ _ _ _ c.if-self.false c.in_err-flush_if_full.ensures.part)
 
 pub returns-clause-safe : goal.returns-clause-safe
 unfolding log_of
 returns-clause-safe g c =
-    let safe = part_is_safe c.args.self.now c.make_room.new.self _ _ _ c.in_ok-make_room.ensures.part in
+    let safe = part_is_safe c.args.self.now c.flush_if_full.new.self _ _ _ c.in_ok-flush_if_full.ensures.part in
     record { size = safe.size; moments = safe.moments; settled = safe.settled }
 
 pub returns-clause-answers : goal.returns-clause-answers
 unfolding log_of failures_of
 returns-clause-answers g c =
-    let part = c.in_ok-make_room.ensures.part in
+    let part = c.in_ok-flush_if_full.ensures.part in
     answers_up _ _ _ _ _ (λ e. cc) (λ e. cc) c.if-self.false part.is_down part.failures.ok
 
 pub invariant_of-self-clause-cached : goal.invariant_of-self-clause-cached
 unfolding log_of
 invariant_of-self-clause-cached g c = λ k up.
-    let mid = c.make_room.new.self in
+    let mid = c.flush_if_full.new.self in
     let image = through mid.shown.items (seen (g.D.Device.history mid.device).now) in
-    copies_applied (g.D.Device.size mid.device) c.args.updates.items c.deref-2.result.now (applied mid.list.items image) (applied c.put_all.new.list.items image)
+    copies_applied (g.D.Device.size mid.device) c.args.updates.items c.deref-2.result.now (applied mid.pending.items image) (applied c.merge_into.new.pending.items image)
     mid.cache.sectors.entries c.forget.new.self.sectors.entries (mid.cached k up) c.forget.ensures.among c.forget.ensures.gone c.deref-2.ensures.value
-    (λ n. c.put_all.ensures.applied image n)
+    (λ n. c.merge_into.ensures.applied image n)

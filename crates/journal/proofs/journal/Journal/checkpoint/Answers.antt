@@ -24,9 +24,9 @@ done : (g : Over) (c : After-is_err g) → c.is_err.result ≡ false → g.D.Dev
 done g c e k = on_ok c.close.result (sym c.is_err.ensures.value ∙ e) (c.close.ensures.ok k (gated g c k))
 
 moments : (g : Over) (c : After-is_err g) → g.D.Device.keeps_word
-    → AddsOnly (StandsForFront (g.D.Device.size c.args.self.now.device) (through c.args.self.now.shown.items (seen (g.D.Device.history c.args.self.now.device).now)) (listed c.args.self.now.list.items))
+    → AddsOnly (StandsForFront (g.D.Device.size c.args.self.now.device) (through c.args.self.now.shown.items (seen (g.D.Device.history c.args.self.now.device).now)) (listed c.args.self.now.pending.items))
     (g.D.Device.history c.args.self.now.device) (g.D.Device.history c.close.new.device)
-moments g c k = fronts_base (g.D.Device.size c.args.self.now.device) (listed c.args.self.now.list.items)
+moments g c k = fronts_base (g.D.Device.size c.args.self.now.device) (listed c.args.self.now.pending.items)
     (through c.args.self.now.shown.items (seen (g.D.Device.history c.args.self.now.device).now))
     (g.D.Device.history c.args.self.now.device) (g.D.Device.history c.close.new.device) (c.close.ensures.moments k (gated g c k))
 
@@ -52,7 +52,7 @@ pub invariant_of-self-2-clause-cached : goal.invariant_of-self-2-clause-cached
 invariant_of-self-2-clause-cached g c = λ k up.
     let at = (goal.at.invariant_of-self-2-clause-cached g c).After-is_err in
     let was = c.args.self.now in
-    copies_home (g.D.Device.size was.device) (g.D.Device.size c.close.new.device) was.list.items
+    copies_home (g.D.Device.size was.device) (g.D.Device.size c.close.new.device) was.pending.items
     (through was.shown.items (seen (g.D.Device.history was.device).now)) (through c.close.new.shown.items (seen (g.D.Device.history c.close.new.device).now))
     was.cache.sectors.entries c.close.ensures.size (base g at c.if-is_err.false (none_shown g at c.if-is_err.false) k) (was.cached k c.if-self.false)
 
@@ -64,7 +64,7 @@ returns-clause-ok g c =
     let same = base g at c.if-is_err.false (none_shown g at c.if-is_err.false) in
     record {
       base = same;
-      contents = λ k. all_keep (g.D.Device.size was.device) (listed was.list.items) _ _ (same k);
+      contents = λ k. all_keep (g.D.Device.size was.device) (listed was.pending.items) _ _ (same k);
       cost = λ k. (done g at c.if-is_err.false k).cost
           ∙ ap (λ (n : ℕ). moment (g.D.Device.history was.device) + n) (sym (checkpoint_cost_is was.shown.items
           (λ none. not_empty _ _ c.is_empty.ensures c.if-is_empty.false (was.shown.ok.0 ∙ none))));

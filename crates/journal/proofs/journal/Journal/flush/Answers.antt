@@ -7,5 +7,5 @@ use Rattle.journal.proofs.journal.Journal.flush.Goals as goal
 pub returns-clause-moved : goal.returns-clause-moved
 unfolding log_of
 returns-clause-moved g c = λ k up.
-    moved_all (log_of c.args.self.now) (log_of c.take_all.new.self) (c.in_ok-take_all.ensures.flushed.ok k)
-    (ap (λ (us : List Update). listed us) c.in_ok-take_all.ensures.emptied)
+    moved_all (log_of c.args.self.now) (log_of c.flush_pending.new.self) (c.in_ok-flush_pending.ensures.flushed.ok k)
+    (ap (λ (us : List Update). listed us) c.in_ok-flush_pending.ensures.emptied)

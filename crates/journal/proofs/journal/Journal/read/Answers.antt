@@ -13,29 +13,29 @@ use Rattle.journal.proofs.journal.Journal.read.Goals as goal
 use Rattle.journal.proofs.journal.Journal.read.Given.{Over}
 use Rattle.journal.proofs.journal.Journal.read.Goals.{In-Some, In_default, After-is_err}
 
-found : (g : Over) (c : In-Some g) → IsLastUpdate c.args.self.now.list.items c.args.n c.in-Some.place
-found g c = last_update c.args.self.now.list.items c.deref.result.now c.args.self.now.named.items c.args.n c.in-Some.place
+found : (g : Over) (c : In-Some g) → IsLastUpdate c.args.self.now.pending.items c.args.n c.in-Some.place
+found g c = last_update c.args.self.now.pending.items c.deref.result.now c.args.self.now.pending_sectors.items c.args.n c.in-Some.place
     c.deref.ensures.value c.args.self.now.named_are c.in-Some.ensures.found
 
 pub index-requires : goal.index-requires
-index-requires g c = omega (arith, (found g (goal.at.index-requires g c).In-Some).there, c.args.self.now.list.ok)
+index-requires g c = omega (arith, (found g (goal.at.index-requires g c).In-Some).there, c.args.self.now.pending.ok)
 
 pub returns-in-Some-clause-ok : goal.returns-in-Some-clause-ok
 unfolding log_of
 returns-in-Some-clause-ok g c = λ k.
     let last = found g (goal.at.returns-in-Some-clause-ok g c).In-Some in
     let base = through c.args.self.now.shown.items (seen (g.D.Device.history c.args.self.now.device).now) in
-    let items = c.args.self.now.list.items in
+    let items = c.args.self.now.pending.items in
     ap (λ (u : Update). u.content) (c.index.ensures ∙ get_or_default items c.in-Some.place c.index.result.now no_update last.there)
     ∙ sym (applied_last items c.in-Some.place c.args.n base last.there last.is last.last)
     ∙ ap (λ (f : Image). f c.args.n) (sym (listed_applied items base))
 
 -- no update waits for the sector
-alone : (g : Over) (c : In_default g) → (image : Image) → applied c.args.self.now.list.items image c.args.n ≡ image c.args.n
+alone : (g : Over) (c : In_default g) → (image : Image) → applied c.args.self.now.pending.items image c.args.n ≡ image c.args.n
 alone g c image =
-    let none = not_named c.args.self.now.list.items c.deref.result.now c.args.self.now.named.items c.args.n
+    let none = not_named c.args.self.now.pending.items c.deref.result.now c.args.self.now.pending_sectors.items c.args.n
     c.deref.ensures.value c.args.self.now.named_are c.in_default.ensures.none in
-    let items = c.args.self.now.list.items in
+    let items = c.args.self.now.pending.items in
     applied_out items image c.args.n (not_has-out (targets items) c.args.n none)
 
 -- what was read is what the base has
@@ -50,7 +50,7 @@ pub returns-clause-ok : goal.returns-clause-ok
 unfolding log_of
 returns-clause-ok g c = λ k.
     let base = through c.args.self.now.shown.items (seen (g.D.Device.history c.args.self.now.device).now) in
-    let items = c.args.self.now.list.items in
+    let items = c.args.self.now.pending.items in
     found_there g (goal.at.returns-clause-ok g c).After-is_err c.if-is_err.false k
     ∙ sym (alone g (goal.at.returns-clause-ok g c).In_default base)
     ∙ ap (λ (f : Image). f c.args.n) (sym (listed_applied items base))
@@ -59,7 +59,7 @@ pub returns-then-get-clause-ok : goal.returns-then-get-clause-ok
 unfolding log_of
 returns-then-get-clause-ok g c = λ k.
     let base = through c.args.self.now.shown.items (seen (g.D.Device.history c.args.self.now.device).now) in
-    let items = c.args.self.now.list.items in
+    let items = c.args.self.now.pending.items in
     ((c.args.self.now.cached k c.if-self.false).each c.args.n c.get.new.content (c.get.ensures.found c.if-get.true)).2
     ∙ ap (λ (f : Image). f c.args.n) (sym (listed_applied items base))
 
@@ -72,7 +72,7 @@ unfolding log_of
 invariant_of-self-2-clause-cached g c = λ k up.
     let was = c.args.self.now in
     let base = through was.shown.items (seen (g.D.Device.history was.device).now) in
-    copies_more (g.D.Device.size was.device) (g.D.Device.size c.read.new.self) c.args.n was.list.items was.shown.items
+    copies_more (g.D.Device.size was.device) (g.D.Device.size c.read.new.self) c.args.n was.pending.items was.shown.items
     (g.D.Device.history was.device) (g.D.Device.history c.read.new.self) c.read.new.content c.get.new.self.sectors.entries c.keep.new.self.sectors.entries
     c.read.ensures.size c.read.ensures.history
     (copies_among _ _ _ _ (was.cached k c.if-self.false) c.get.ensures.among) c.keep.ensures c.requires

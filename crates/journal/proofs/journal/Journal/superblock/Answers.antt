@@ -52,7 +52,7 @@ unfolding log_of
 returns-clause-ok g c =
     let at = (goal.at.returns-clause-ok g c).After-is_err in
     let size = g.D.Device.size c.args.self.now.device in
-    let list = c.args.self.now.list.items in
+    let list = c.args.self.now.pending.items in
     let was = through c.args.self.now.shown.items (seen (g.D.Device.history c.args.self.now.device).now) in
     let now = through c.args.self.now.shown.items (seen (g.D.Device.history c.write_sector.new.device).now) in
     record {
@@ -73,7 +73,7 @@ pub invariant_of-self-2-clause-cached : goal.invariant_of-self-2-clause-cached
 unfolding log_of
 invariant_of-self-2-clause-cached g c = λ k up.
     let at = (goal.at.invariant_of-self-2-clause-cached g c).After-is_err in
-    copies_beside (g.D.Device.size c.args.self.now.device) (g.D.Device.size c.write_sector.new.device) c.args.self.now.list.items
+    copies_beside (g.D.Device.size c.args.self.now.device) (g.D.Device.size c.write_sector.new.device) c.args.self.now.pending.items
     (through c.args.self.now.shown.items (seen (g.D.Device.history c.args.self.now.device).now))
     (through c.args.self.now.shown.items (seen (g.D.Device.history c.write_sector.new.device).now))
     c.args.content.now c.args.self.now.cache.sectors.entries c.write_sector.ensures.size (base g at c.if-is_err.false k) (c.args.self.now.cached k c.if-self.false)

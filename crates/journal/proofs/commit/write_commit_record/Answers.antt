@@ -5,9 +5,10 @@ use Rattle.journal.specs.Phase.{AddsUpdates, IsFixedAs}
 use Rattle.journal.proofs.Behinds.{front_fits}
 use Rattle.journal.proofs.Images.{length-targets}
 use Rattle.journal.proofs.Commits.{payload_moments, gate_moments, recorded, AddsUpdates-gate, IsFixedAs-gate, IsRecorded-at, payload_moments_at, payload_fixed_at}
-use Rattle.journal.proofs.commit.record.Goals as goal
-use Rattle.journal.proofs.commit.record.Given.{Over}
-use Rattle.journal.proofs.commit.record.Goals.{After-len, In_ok-write_payload, After-encode}
+use Rattle.journal.proofs.commit.write_commit_record.Goals as goal
+use Rattle.journal.proofs.commit.write_commit_record.Given.{Over}
+use Rattle.journal.proofs.commit.write_commit_record.Goals.{After-len, In_ok-write_payload}
+use Rattle.journal.proofs.commit.write_commit_record.Goals.{After-encode}
 
 -- how many sectors the gate names
 counted : (g : Over) (c : After-len g) → c.len.result ≡ length c.args.shown.now.items

@@ -3,7 +3,7 @@ use Rattle.disk.specs.declared.update.Update.{Update}
 use Rattle.disk.specs.Moments.{seen}
 use Rattle.journal.specs.Layout.{copies}
 use Rattle.journal.proofs.Phases.{write_failed, left_alone, synced_moments, synced_fixes, wrote_more, length-copies, home_at}
-use Rattle.journal.proofs.phase.copy_payload.Goals as goal
+use Rattle.journal.proofs.phase.checkpoint_payload.Goals as goal
 
 pub returns-in_err-read-clause-moments : goal.returns-in_err-read-clause-moments
 returns-in_err-read-clause-moments g c = λ k.

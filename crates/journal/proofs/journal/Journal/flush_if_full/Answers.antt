@@ -6,25 +6,25 @@ use Rattle.journal.proofs.Fronts.{together}
 use Rattle.journal.proofs.Images.{length-targets}
 use Rattle.journal.proofs.Lists.{Apart-Fit, gathered_short}
 use Rattle.journal.proofs.Stages.{Fit-of}
-use Rattle.journal.proofs.journal.Journal.make_room.Goals as goal
-use Rattle.journal.proofs.journal.Journal.make_room.Given.{Over}
-use Rattle.journal.proofs.journal.Journal.make_room.Goals.{After-fits}
+use Rattle.journal.proofs.journal.Journal.flush_if_full.Goals as goal
+use Rattle.journal.proofs.journal.Journal.flush_if_full.Given.{Over}
+use Rattle.journal.proofs.journal.Journal.flush_if_full.Goals.{After-fits}
 
 -- what is named is gathered with the updates as the list with one more
 same : (g : Over) (c : After-fits g) → length (gathered c.deref.result.now (targets c.args.updates.now))
-    ≡ length (gathered [] (sectors_of (listed c.args.self.now.list.items ++ c.args.updates.now ∷ [])))
+    ≡ length (gathered [] (sectors_of (listed c.args.self.now.pending.items ++ c.args.updates.now ∷ [])))
 same g c =
     let was = c.args.self.now in
     let size = g.D.Device.size was.device in
-    ap (λ (ts : List ℕ). length ts) (together was.list.items c.args.updates.now c.deref.result.now (c.deref.ensures.value ∙ was.named_are)
-    (Apart-Fit size (targets was.list.items) (Fit-of size (targets was.list.items) was.fit)))
+    ap (λ (ts : List ℕ). length ts) (together was.pending.items c.args.updates.now c.deref.result.now (c.deref.ensures.value ∙ was.named_are)
+    (Apart-Fit size (targets was.pending.items) (Fit-of size (targets was.pending.items) was.fit)))
 
 pub fits-requires-clause-few : goal.fits-requires-clause-few
 fits-requires-clause-few g c = omega (
   arith,
   ap (λ (xs : List ℕ). length xs) c.deref.ensures.value,
   ap (λ (xs : List ℕ). length xs) c.args.self.now.named_are,
-  length-targets c.args.self.now.list.items,
+  length-targets c.args.self.now.pending.items,
   c.args.self.now.few,
 )
 
@@ -46,10 +46,10 @@ returns-then-fits-clause-gate g c = λ over.
     let at = (goal.at.returns-then-fits-clause-gate g c).After-fits in
     absurd (over (omega (arith, same g at, c.fits.ensures.0 c.if-fits.true)))
 
-pub returns-in_err-take_all-clause-kept : goal.returns-in_err-take_all-clause-kept
+pub returns-in_err-flush_pending-clause-kept : goal.returns-in_err-flush_pending-clause-kept
 unfolding log_of
-returns-in_err-take_all-clause-kept g c = λ fit.
-    let at = (goal.at.returns-in_err-take_all-clause-kept g c).After-fits in
+returns-in_err-flush_pending-clause-kept g c = λ fit.
+    let at = (goal.at.returns-in_err-flush_pending-clause-kept g c).After-fits in
     let yes : c.fits.result ≡ true = c.fits.ensures.1 (omega (arith, same g at, fit)) in
     absurd (let over : c.fits.result ≡ false = c.if-fits.false in cc)
 
@@ -62,12 +62,12 @@ returns-clause-kept g c = λ fit.
 
 pub returns-clause-room : goal.returns-clause-room
 returns-clause-room g c =
-    let now = c.take_all.new.self in
+    let now = c.flush_pending.new.self in
     omega (
       arith,
-      gathered_short now.named.items (targets c.args.updates.now),
+      gathered_short now.pending_sectors.items (targets c.args.updates.now),
       ap (λ (xs : List ℕ). length xs) now.named_are,
-      ap (λ us. length (targets us)) c.in_ok-take_all.ensures.emptied,
+      ap (λ us. length (targets us)) c.in_ok-flush_pending.ensures.emptied,
       length-targets c.args.updates.now,
       c.requires.short,
     )

@@ -2,7 +2,7 @@ use Rattle.std.proofs.Common.{◌≡◌, take}
 use Rattle.disk.specs.Moments.{seen}
 use Rattle.journal.specs.Layout.{copies}
 use Rattle.journal.proofs.Moments.{wrote_all}
-use Rattle.journal.proofs.phase.copy_payload.Given as goal
+use Rattle.journal.proofs.phase.checkpoint_payload.Given as goal
 
 abbrev pub invariant-loop-i : goal.invariant-loop-i
 invariant-loop-i g l = record {
