@@ -18,7 +18,7 @@ use Rattle.compound.specs.Steps.{Steps, stepped_on}
 use Rattle.compound.specs.Views.{Asked}
 use Rattle.compound.specs.Volumes.{TurnGives, kept_in, lasts, undone_ending}
 use Rattle.compound.specs.declared.step.Stepped.{Stepped}
-use Rattle.compound.specs.declared.step.Undone.{Undone}
+use Rattle.compound.specs.declared.step.StepError.{StepError}
 use Rattle.compound.proofs.TablesGo.{run_after, finish_run}
 
 -- No turn changes the table's run
@@ -95,7 +95,7 @@ agreed keeps_word now old new asked request done before after keeps agree steps 
       seats = ap (λ (t : Table). t.seats) (sym table_is) ∙ sym (changes.volume_changes.ends.seats keeps (kept_in turn.world) (lasts turn.executed) gives);
     }
 
-pub agreed_if : (keeps_word : Type 0) (now : ℕ) (old new : SharedState) (asked : Asked) (request : InProgress) (result : Result Stepped Undone) (before after : ℕ) → keeps_word
+pub agreed_if : (keeps_word : Type 0) (now : ℕ) (old new : SharedState) (asked : Asked) (request : InProgress) (result : Result Stepped StepError) (before after : ℕ) → keeps_word
     → Agrees old.files old.table → IfOk result (Steps now old new asked request)
     → Changes keeps_word (TurnGives old (λ world number. stepped_on world number now request)) old.files new.files before after (undone_ending result)
     → IfOk result (λ done. Agrees new.files new.table)

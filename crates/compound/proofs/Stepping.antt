@@ -9,8 +9,8 @@ use Rattle.compound.specs.Views.{Asked}
 use Rattle.compound.specs.States.{SharedState, with_state}
 use Rattle.compound.specs.Steps.{Steps, StaysInRun, GoesFurther, GoesOn, still_fits}
 use Rattle.compound.specs.Turns.{TurnsTo, StandsAfter}
-use Rattle.compound.specs.declared.operated.Effect.{Effect}
-use Rattle.compound.specs.declared.operated.Effect.TheVariants as effect
+use Rattle.compound.specs.declared.executed.Effect.{Effect}
+use Rattle.compound.specs.declared.executed.Effect.TheVariants as effect
 use Rattle.compound.specs.declared.step.Stepped.{Stepped}
 use Rattle.compound.specs.declared.step.Stepped.TheVariants as stepped
 

@@ -17,13 +17,13 @@ use Rattle.model.specs.declared.status.Status.{Status}
 use Rattle.model.specs.declared.status.Status.TheVariants as status
 use Rattle.wire.specs.OutcomeView.{outcome_view}
 use Rattle.compound.specs.Operates.{HasRoom, HasRoomFor, Spells, spelled_text}
-use Rattle.compound.specs.Told.{CanBeTold, Tells, is_ok, told_status, told_text, with_last, with_told}
+use Rattle.compound.specs.EncodedResult.{CanBeTold, Tells, is_ok, told_status, told_text, with_last, with_told}
 use Rattle.compound.specs.Turns.{StandsAfter}
 use Rattle.compound.specs.Views.{Asked, resumed}
 use Rattle.compound.specs.declared.progress.Progress.{Progress}
 use Rattle.compound.specs.declared.step.Stepped.TheVariants as stepped
-use Rattle.compound.specs.declared.told.Told.{Told}
-use Rattle.compound.specs.declared.told.Told.TheVariants as told
+use Rattle.compound.specs.declared.encoded_result.EncodedResult.{EncodedResult}
+use Rattle.compound.specs.declared.encoded_result.EncodedResult.TheVariants as encoded
 use Rattle.compound.proofs.Replies.{room_length, spelled_short}
 use Rattle.compound.proofs.Resuming.{more_follow}
 
@@ -64,38 +64,39 @@ pub has_room_for : (request : InProgress) (operation : ℕ) (values : List ℕ) 
 has_room_for request operation values size same has =
     omega (arith, same, spelled_length operation values, leb-true (32 + length (counted request.tag) + length request.results + (8 + size)) 16368 has)
 
-pub text_is : (result : Told) (outcome : Outcome) → Tells result outcome → told_text result ≡ outcome_text outcome
-text_is (told.Whole whole) outcome is = ap outcome_text (sym is)
-text_is (told.Spelled operation values) outcome is = spelled_is (number_of operation) values.now is.0 is.2 ∙ ap outcome_text (sym is.1)
+pub text_is : (result : EncodedResult) (outcome : Outcome) → Tells result outcome → told_text result ≡ outcome_text outcome
+text_is (encoded.Whole whole) outcome is = ap outcome_text (sym is)
+text_is (encoded.Spelled operation values) outcome is = spelled_is (number_of operation) values.now is.0 is.2 ∙ ap outcome_text (sym is.1)
 
-pub status_is : (result : Told) (outcome : Outcome) → Tells result outcome → told_status result ≡ status_of outcome
-status_is (told.Whole whole) outcome is = ap status_of (sym is)
-status_is (told.Spelled operation values) outcome is = ap status_of (sym is.1)
+pub status_is : (result : EncodedResult) (outcome : Outcome) → Tells result outcome → told_status result ≡ status_of outcome
+status_is (encoded.Whole whole) outcome is = ap status_of (sym is)
+status_is (encoded.Spelled operation values) outcome is = ap status_of (sym is.1)
 
-pub ok_is : (result : Told) (outcome : Outcome) → Tells result outcome → is_ok result ≡ is_done outcome
-ok_is (told.Whole whole) outcome is = ap is_done (sym is)
-ok_is (told.Spelled operation values) outcome is = ap is_done (sym is.1)
+pub ok_is : (result : EncodedResult) (outcome : Outcome) → Tells result outcome → is_ok result ≡ is_done outcome
+ok_is (encoded.Whole whole) outcome is = ap is_done (sym is)
+ok_is (encoded.Spelled operation values) outcome is = ap is_done (sym is.1)
 
-pub request_is : (request : InProgress) (result : Told) (outcome : Outcome) → Tells result outcome → with_told request result ≡ with_result request outcome
+pub request_is : (request : InProgress) (result : EncodedResult) (outcome : Outcome) → Tells result outcome → with_told request result ≡ with_result request outcome
 request_is request result outcome is =
     ap (λ (text : List ℕ). record request { answered = request.answered + 1; results = request.results ++ text }) (text_is result outcome is)
 
-pub last_is : (request : InProgress) (result : Told) (outcome : Outcome) → Tells result outcome
+pub last_is : (request : InProgress) (result : EncodedResult) (outcome : Outcome)
+    → Tells result outcome
     → with_last request result ≡ record (with_result request outcome) { ended = Some (status_of outcome) }
 last_is request result outcome is =
     ap₂ (λ (r : InProgress) (status : Status). let after : InProgress = record r { ended = Some status } in after) (request_is request result outcome is) (status_is result outcome is)
 
 -- How long the reply is
 
-pub told_short : (request : InProgress) (result : Told) → CanBeTold request result
+pub told_short : (request : InProgress) (result : EncodedResult) → CanBeTold request result
     → 32 + length (counted request.tag) + length request.results ≤ 16368
     → 32 + length (counted request.tag) + length request.results + length (told_text result) ≤ 16380
-told_short request (told.Whole outcome) can brief = spelled_short request (outcome_view outcome.now) can brief
-told_short request (told.Spelled operation values) can brief = omega (arith, can)
+told_short request (encoded.Whole outcome) can brief = spelled_short request (outcome_view outcome.now) can brief
+told_short request (encoded.Spelled operation values) can brief = omega (arith, can)
 
-pub ok_room : (request : InProgress) (result : Told) → CanBeTold request result → is_ok result ≡ true
+pub ok_room : (request : InProgress) (result : EncodedResult) → CanBeTold request result → is_ok result ≡ true
     → 32 + length (counted request.tag) + length request.results + length (told_text result) ≤ 16368
-ok_room request (told.Whole outcome) can ok = by_outcome (outcome_view outcome.now) refl
+ok_room request (encoded.Whole outcome) can ok = by_outcome (outcome_view outcome.now) refl
   where
     by_outcome : (of : Outcome) → outcome_view outcome.now ≡ of → 32 + length (counted request.tag) + length request.results + length (outcome_text (outcome_view outcome.now)) ≤ 16368
     by_outcome (Done answer) is = omega (arith, room_length request (outcome_view outcome.now), room)
@@ -103,7 +104,7 @@ ok_room request (told.Whole outcome) can ok = by_outcome (outcome_view outcome.n
         room : length (reply_with request (outcome_view outcome.now)) ≤ 16368
         room = subst (λ (o : Outcome). length (reply_with request o) ≤ 16368) (sym is) (subst (HasRoom request) is can.room)
     by_outcome (Refused n reason) is = let never : ⊥ = cc in absurd never
-ok_room request (told.Spelled operation values) can ok = can
+ok_room request (encoded.Spelled operation values) can ok = can
 
 -- After an OK result that is not the last one the COMPOUND goes on
 
@@ -112,7 +113,7 @@ goes_on_by : (table : Table) (asked : Asked) (request : InProgress) (outcome : O
 goes_on_by table asked request (Done answer) progress done more pushed = more_follow table asked request answer progress more pushed
 goes_on_by table asked request (Refused n reason) progress done more pushed = let never : ⊥ = cc in absurd never
 
-pub goes_on_told : (table : Table) (asked : Asked) (request : InProgress) (result : Told) (outcome : Outcome) (progress : Progress) → is_ok result ≡ true → is_last request ≡ false
+pub goes_on_told : (table : Table) (asked : Asked) (request : InProgress) (result : EncodedResult) (outcome : Outcome) (progress : Progress) → is_ok result ≡ true → is_last request ≡ false
     → resumed asked progress ≡ with_told request result → Tells result outcome → StandsAfter table table asked request outcome (stepped.Ran progress)
 goes_on_told table asked request result outcome progress ok more pushed is =
     goes_on_by table asked request outcome progress (sym (ok_is result outcome is) ∙ ok) more (pushed ∙ request_is request result outcome is)
@@ -141,7 +142,7 @@ behind_last world number request (Done answer) executed last =
     is_end false is = absurd cc
 
 -- a seat is to hold the reply
-pub holds_told : (table : Table) (asked : Asked) (request : InProgress) (result : Told) (outcome : Outcome) (progress : Progress) → (is_ok result && not (is_last request)) ≡ false
+pub holds_told : (table : Table) (asked : Asked) (request : InProgress) (result : EncodedResult) (outcome : Outcome) (progress : Progress) → (is_ok result && not (is_last request)) ≡ false
     → is_to_hold request.slot table.seats ≡ true → resumed asked progress ≡ with_last request result → Tells result outcome
     → StandsAfter table table asked request outcome (stepped.Ran progress)
 holds_told table asked request result outcome progress last holds pushed is = λ world number executed here.
@@ -154,7 +155,7 @@ holds_told table asked request result outcome progress last holds pushed is = λ
     )
 
 -- or the reply is there
-pub ends_told : (old new : Table) (asked : Asked) (request : InProgress) (result : Told) (outcome : Outcome) (reply : Vec ℕ) → (is_ok result && not (is_last request)) ≡ false
+pub ends_told : (old new : Table) (asked : Asked) (request : InProgress) (result : EncodedResult) (outcome : Outcome) (reply : Vec ℕ) → (is_ok result && not (is_last request)) ≡ false
     → is_to_hold request.slot old.seats ≡ false
     → reply.items ≡ framed (reply_text request.xid (Success (result_of (with_last request result) (told_status result))))
     → new ≡ kept_by request.slot (result_of (with_last request result) (told_status result)) old → Tells result outcome

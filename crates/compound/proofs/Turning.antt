@@ -16,8 +16,8 @@ use Rattle.compound.specs.States.{SharedState, with_state}
 use Rattle.compound.specs.Steps.{stepped_on}
 use Rattle.compound.specs.Turns.{Turns, TurnsTo}
 use Rattle.compound.specs.Volumes.{kept_in}
-use Rattle.compound.specs.declared.operated.Operated.{Operated}
-use Rattle.compound.specs.declared.operated.Operated.TheVariants as operated
+use Rattle.compound.specs.declared.executed.Executed.{Executed}
+use Rattle.compound.specs.declared.executed.Executed.TheVariants as execution
 use Rattle.model.proofs.SeatTables.{same_seats}
 use Rattle.model.proofs.TableCalls.{either}
 use Rattle.compound.proofs.Rooms.{state_same}
@@ -42,17 +42,17 @@ turns_to now old new request left operation rest outcome going next ran = λ wor
   read_turn world number now request operation rest _ going next (ran world rest served),
 )
 
-pub turns_read : (now : ℕ) (old new : SharedState) (request : InProgress) (operation : Argument) (rest : List ℕ) (done : Operated) → request.ended ≡ None
+pub turns_read : (now : ℕ) (old new : SharedState) (request : InProgress) (operation : Argument) (rest : List ℕ) (done : Executed) → request.ended ≡ None
     → next_operation request ≡ Reads operation rest → Operates now old new request operation done
     → Turns now old new request rest done
-turns_read now old new request operation rest (operated.Gives outcome left) going next ran =
+turns_read now old new request operation rest (execution.Gives outcome left) going next ran =
     turns_to now old new request (left_by left request) operation rest (outcome_view outcome) going next ran
-turns_read now old new request operation rest (operated.GivesSpelled kind values) going next ran = (
+turns_read now old new request operation rest (execution.GivesSpelled kind values) going next ran = (
   ran.0,
   ran.1,
   turns_to now old new request request operation rest (model.Done ran.0) going next ran.2,
 )
-turns_read now old new request operation rest (operated.Replays slot) going next ran = (
+turns_read now old new request operation rest (execution.Replays slot) going next ran = (
   ran.0,
   ran.1,
   ran.2,

@@ -9,42 +9,42 @@ use Rattle.model.specs.declared.status.Status.TheVariants as status
 use Rattle.wire.specs.Numbers.{number_of}
 use Rattle.wire.specs.OutcomeView.{outcome_view}
 use Rattle.compound.specs.Operates.{IsSpelled, Spells, HasRoomFor, spelled_text}
-use Rattle.compound.specs.declared.told.Told.{Told}
-use Rattle.compound.specs.declared.told.Told.TheVariants as told
+use Rattle.compound.specs.declared.encoded_result.EncodedResult.{EncodedResult}
+use Rattle.compound.specs.declared.encoded_result.EncodedResult.TheVariants as encoded
 
 -- what is spelled of it
-abbrev pub told_text : Told → List ℕ
-told_text (told.Whole outcome) = outcome_text (outcome_view outcome.now)
-told_text (told.Spelled operation values) = spelled_text (number_of operation) values.now
+abbrev pub told_text : EncodedResult → List ℕ
+told_text (encoded.Whole outcome) = outcome_text (outcome_view outcome.now)
+told_text (encoded.Spelled operation values) = spelled_text (number_of operation) values.now
 
-abbrev pub told_status : Told → Status
-told_status (told.Whole outcome) = status_of (outcome_view outcome.now)
-told_status (told.Spelled operation values) = status.Ok
+abbrev pub told_status : EncodedResult → Status
+told_status (encoded.Whole outcome) = status_of (outcome_view outcome.now)
+told_status (encoded.Spelled operation values) = status.Ok
 
-abbrev pub is_ok : Told → Bool
-is_ok (told.Whole outcome) = is_done (outcome_view outcome.now)
-is_ok (told.Spelled operation values) = true
+abbrev pub is_ok : EncodedResult → Bool
+is_ok (encoded.Whole outcome) = is_done (outcome_view outcome.now)
+is_ok (encoded.Spelled operation values) = true
 
 -- it is this result of the definition
-abbrev pub Tells : Told → model.Outcome → Type 0
-Tells (told.Whole outcome) result = result ≡ outcome_view outcome.now
-Tells (told.Spelled operation values) result =
+abbrev pub Tells : EncodedResult → model.Outcome → Type 0
+Tells (encoded.Whole outcome) result = result ≡ outcome_view outcome.now
+Tells (encoded.Spelled operation values) result =
     (answer : model.Answer) × (result ≡ model.Done answer)
     × Spells (number_of operation) values.now answer
 
 -- it has a spelling
-abbrev pub CanBeSpelled : Told → Type 0
-CanBeSpelled (told.Whole outcome) = answers.outcome.Fits (outcome_view outcome.now)
-CanBeSpelled (told.Spelled operation values) = ⊤
+abbrev pub CanBeSpelled : EncodedResult → Type 0
+CanBeSpelled (encoded.Whole outcome) = answers.outcome.Fits (outcome_view outcome.now)
+CanBeSpelled (encoded.Spelled operation values) = ⊤
 
 -- the reply has room for it
-abbrev pub CanBeTold : InProgress → Told → Type 0
-CanBeTold request (told.Whole outcome) = IsSpelled request (outcome_view outcome.now)
-CanBeTold request (told.Spelled operation values) =
+abbrev pub CanBeTold : InProgress → EncodedResult → Type 0
+CanBeTold request (encoded.Whole outcome) = IsSpelled request (outcome_view outcome.now)
+CanBeTold request (encoded.Spelled operation values) =
     HasRoomFor request (spelled_text (number_of operation) values.now)
 
 -- the request after it
-abbrev pub with_told : InProgress → Told → InProgress
+abbrev pub with_told : InProgress → EncodedResult → InProgress
 with_told request result =
     record request {
       answered = request.answered + 1;
@@ -52,6 +52,6 @@ with_told request result =
     }
 
 -- where it is the last one
-abbrev pub with_last : InProgress → Told → InProgress
+abbrev pub with_last : InProgress → EncodedResult → InProgress
 with_last request result =
     record (with_told request result) { ended = Some (told_status result) }

@@ -1,11 +1,11 @@
 pub mod Beside
+pub mod EncodedResult
 pub mod Files
 pub mod Operates
 pub mod Pages
 pub mod Runs
 pub mod States
 pub mod Steps
-pub mod Told
 pub mod Trees
 pub mod Turns
 pub mod Views

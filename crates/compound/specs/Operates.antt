@@ -21,10 +21,10 @@ use Rattle.xdr.specs.Grammar.{number}
 use Rattle.compound.specs.Runs.{with_rest}
 use Rattle.compound.specs.States.{SharedState, HasState, with_state, shared}
 use Rattle.compound.specs.Views.{slot_of}
-use Rattle.compound.specs.declared.operated.Effect.{Effect}
-use Rattle.compound.specs.declared.operated.Effect.TheVariants as effect
-use Rattle.compound.specs.declared.operated.Operated.{Operated}
-use Rattle.compound.specs.declared.operated.Operated.TheVariants as operated
+use Rattle.compound.specs.declared.executed.Effect.{Effect}
+use Rattle.compound.specs.declared.executed.Effect.TheVariants as effect
+use Rattle.compound.specs.declared.executed.Executed.{Executed}
+use Rattle.compound.specs.declared.executed.Executed.TheVariants as execution
 use Rattle.compound.specs.declared.results.TheConstants.{AROUND_RESULTS, MAX_REPLY_BYTES}
 
 abbrev pub left_by : Effect → InProgress → InProgress
@@ -71,44 +71,44 @@ pub record Spells (operation : ℕ) (values : List ℕ) (answer : model.Answer) 
   pub number_is : (answers.answer_told answer).number ≡ operation
   pub values_are : (answers.answer_told answer).text ≡ values
 
-abbrev pub Operates : (now : ℕ) → (old new : SharedState) → InProgress → Argument → Operated
+abbrev pub Operates : (now : ℕ) → (old new : SharedState) → InProgress → Argument → Executed
     → Type 0
-Operates now old new request operation (operated.Gives outcome left) =
+Operates now old new request operation (execution.Gives outcome left) =
     GivesIn now old new request (left_by left request) operation (outcome_view outcome)
-Operates now old new request operation (operated.GivesSpelled kind values) =
+Operates now old new request operation (execution.GivesSpelled kind values) =
     (answer : model.Answer) × Spells (number_of kind) values.items answer
     × GivesIn now old new request request operation (model.Done answer)
-Operates now old new request operation (operated.Replays slot) =
+Operates now old new request operation (execution.Replays slot) =
     (reply : List ℕ) × (new ≡ old) × (reply_kept slot.session slot.slot old.table ≡ Some reply)
     × ((world : World) (rest : List ℕ) → HasState world old
     → run_in_room world (with_rest request rest) now operation
     ≡ turns.Replays reply slot.session slot.slot)
 
 -- all stays as it was, but for its COMPOUND
-abbrev pub OnlyReads : FileSystem → InProgress → Argument → Operated → Type 0
+abbrev pub OnlyReads : FileSystem → InProgress → Argument → Executed → Type 0
 OnlyReads files request operation done = (now : ℕ) (table : Table) (opens : Opens)
     → Operates now (shared files table opens) (shared files table opens) request operation done
 
 -- the file system and the opens stay as they were
-abbrev pub ChangesTable : (old new : Table) → InProgress → Argument → Operated → Type 0
+abbrev pub ChangesTable : (old new : Table) → InProgress → Argument → Executed → Type 0
 ChangesTable old new request operation done = (now : ℕ) (files : FileSystem) (opens : Opens)
     → Operates now (shared files old opens) (shared files new opens) request operation done
 
 -- the file system stays as it was
 abbrev pub ChangesTableAndOpens : (old new : Table) → (before after : Opens) → InProgress → Argument
-    → Operated → Type 0
+    → Executed → Type 0
 ChangesTableAndOpens old new before after request operation done = (now : ℕ) (files : FileSystem)
     → Operates now (shared files old before) (shared files new after) request operation done
 
 -- the clients, the sessions and the opens stay as they were
-abbrev pub ChangesTree : (old new : FileSystem) → (now : ℕ) → InProgress → Argument → Operated
+abbrev pub ChangesTree : (old new : FileSystem) → (now : ℕ) → InProgress → Argument → Executed
     → Type 0
 ChangesTree old new now request operation done = (table : Table) (opens : Opens)
     → Operates now (shared old table opens) (shared new table opens) request operation done
 
 -- the clients and the sessions stay as they were
 abbrev pub ChangesTreeAndOpens : (old new : FileSystem) → (before after : Opens) → (now : ℕ)
-    → InProgress → Argument → Operated → Type 0
+    → InProgress → Argument → Executed → Type 0
 ChangesTreeAndOpens old new before after now request operation done = (table : Table)
     → Operates now (shared old table before) (shared new table after) request operation done
 
@@ -138,17 +138,17 @@ pub record IsSpelled (request : InProgress) (outcome : model.Outcome) : Type 0 w
   pub small : length (outcome_text outcome) < 2 ^ 63
   pub room : HasRoom request outcome
 
-abbrev pub IsAnswered : InProgress → Operated → Type 0
-IsAnswered request (operated.Gives outcome left) = IsSpelled request (outcome_view outcome)
-IsAnswered request (operated.GivesSpelled kind values) =
+abbrev pub IsAnswered : InProgress → Executed → Type 0
+IsAnswered request (execution.Gives outcome left) = IsSpelled request (outcome_view outcome)
+IsAnswered request (execution.GivesSpelled kind values) =
     HasRoomFor request (spelled_text (number_of kind) values.items)
-IsAnswered request (operated.Replays slot) = ⊤
+IsAnswered request (execution.Replays slot) = ⊤
 
 -- what is sent again is there
-abbrev pub IsKept : Table → Operated → Type 0
-IsKept table (operated.Gives outcome left) = Unit {0}
-IsKept table (operated.GivesSpelled kind values) = Unit {0}
-IsKept table (operated.Replays slot) =
+abbrev pub IsKept : Table → Executed → Type 0
+IsKept table (execution.Gives outcome left) = Unit {0}
+IsKept table (execution.GivesSpelled kind values) = Unit {0}
+IsKept table (execution.Replays slot) =
     (reply : List ℕ) × (reply_kept slot.session slot.slot table ≡ Some reply)
 
 -- the operations that come only first in a COMPOUND

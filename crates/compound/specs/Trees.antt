@@ -18,9 +18,9 @@ use Rattle.wire.specs.Short.{IsRefusal}
 use Rattle.wire.specs.declared.outcome.Outcome.TheVariants as outcomes
 use Rattle.compound.specs.declared.fault.Fault.{Fault}
 use Rattle.compound.specs.declared.fault.Fault.TheVariants as faults
-use Rattle.compound.specs.declared.operated.Effect.TheVariants as effect
-use Rattle.compound.specs.declared.operated.Operated.{Operated}
-use Rattle.compound.specs.declared.operated.Operated.TheVariants as operated
+use Rattle.compound.specs.declared.executed.Effect.TheVariants as effect
+use Rattle.compound.specs.declared.executed.Executed.{Executed}
+use Rattle.compound.specs.declared.executed.Executed.TheVariants as execution
 
 -- faults of a file system that is up, of calls that change nothing
 abbrev pub IsStatus : FsFault → Type 0
@@ -61,11 +61,11 @@ IsUp fault.Down = ⊥
 IsUp _ = Unit {0}
 
 -- an operation's refusal
-abbrev pub refusal : (operation : ℕ) → Status → Operated
-refusal operation reason = operated.Gives (outcomes.Refused operation reason) effect.Stays
+abbrev pub refusal : (operation : ℕ) → Status → Executed
+refusal operation reason = execution.Gives (outcomes.Refused operation reason) effect.Stays
 
 -- what an operation comes to that its file system did not do
-abbrev pub told : (operation : ℕ) → FsFault → Result Operated Fault
+abbrev pub told : (operation : ℕ) → FsFault → Result Executed Fault
 told operation (fault.Status reason) = Ok (refusal operation reason)
 told operation fault.NoRoom = Ok (refusal operation status.RepTooBig)
 told operation fault.Memory = Err faults.Memory

@@ -16,8 +16,8 @@ use Rattle.compound.specs.Runs.{with_rest}
 use Rattle.compound.specs.Views.{Asked}
 use Rattle.compound.specs.States.{SharedState, HasState, with_state}
 use Rattle.compound.specs.Steps.{stepped_on, turn_by, connection_by}
-use Rattle.compound.specs.declared.operated.Operated.{Operated}
-use Rattle.compound.specs.declared.operated.Operated.TheVariants as operated
+use Rattle.compound.specs.declared.executed.Executed.{Executed}
+use Rattle.compound.specs.declared.executed.Executed.TheVariants as execution
 use Rattle.compound.specs.declared.step.Stepped.{Stepped}
 
 -- a kept reply is sent again
@@ -44,14 +44,14 @@ TurnsTo now old new request left outcome =
     ≡ behind (with_state world new) number left outcome executed)
 
 -- the same, where the next operation did this and ends where these bytes stand
-abbrev pub Turns : (now : ℕ) → (old new : SharedState) → InProgress → (rest : List ℕ) → Operated
+abbrev pub Turns : (now : ℕ) → (old new : SharedState) → InProgress → (rest : List ℕ) → Executed
     → Type 0
-Turns now old new request rest (operated.Gives outcome left) =
+Turns now old new request rest (execution.Gives outcome left) =
     TurnsTo now old new request (with_rest (left_by left request) rest) (outcome_view outcome)
-Turns now old new request rest (operated.GivesSpelled kind values) =
+Turns now old new request rest (execution.GivesSpelled kind values) =
     (answer : model.Answer) × Spells (number_of kind) values.items answer
     × TurnsTo now old new request (with_rest request rest) (model.Done answer)
-Turns now old new request rest (operated.Replays slot) =
+Turns now old new request rest (execution.Replays slot) =
     (reply : List ℕ) × (new ≡ old) × (reply_kept slot.session slot.slot old.table ≡ Some reply)
     × ((world : World) (number : ℕ) → HasState world old
     → stepped_on world number now request

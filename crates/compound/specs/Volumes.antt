@@ -13,7 +13,7 @@ use Rattle.compound.specs.Runs.{with_rest}
 use Rattle.compound.specs.States.{SharedState, HasState}
 use Rattle.compound.specs.declared.fault.Fault.{Fault}
 use Rattle.compound.specs.declared.fault.Fault.TheVariants as fault
-use Rattle.compound.specs.declared.step.Undone.{Undone}
+use Rattle.compound.specs.declared.step.StepError.{StepError}
 use Rattle.volume.specs.Held.{Held, with_tree}
 
 -- How a call ends
@@ -26,7 +26,7 @@ abbrev pub ending : {T : Type 0} → Result T Fault → Ending
 ending (Ok done) = Done
 ending (Err reason) = ending_of reason
 
-abbrev pub undone_ending : {T : Type 0} → Result T Undone → Ending
+abbrev pub undone_ending : {T : Type 0} → Result T StepError → Ending
 undone_ending (Ok done) = Done
 undone_ending (Err undone) = ending_of undone.fault
 

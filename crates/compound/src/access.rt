@@ -1,6 +1,6 @@
 //! ACCESS (RFC 8881, section 18.1).
 
-use crate::operated::{Effect, Operated};
+use crate::executed::{Effect, Executed};
 use crate::running::Running;
 use crate::tree::status_of;
 use disk::Device;
@@ -16,7 +16,7 @@ impl Running<'_> {
 
     /// ACCESS: of the bits that are asked those that the current node has, and those of them that
     /// the caller is granted.
-    pub(crate) fn access<D: Device>(&self, fs: &Fs<D>, asked: u32) -> Operated
+    pub(crate) fn access<D: Device>(&self, fs: &Fs<D>, asked: u32) -> Executed
         requires up { (fs_of fs.now).volume.is_down ≡ false }
         requires run { (in_progress_of self.now).context.run ≡ (fs_of fs.now).volume.run }
         ensures gives { OnlyReads (fs_of fs.now) (in_progress_of self.now)

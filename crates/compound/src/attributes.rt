@@ -1,7 +1,7 @@
 //! GETATTR (RFC 8881, section 18.7).
 
+use crate::executed::Executed;
 use crate::fault::Fault;
-use crate::operated::Operated;
 use crate::running::Running;
 use crate::tree::status_of;
 use disk::Device;
@@ -24,7 +24,7 @@ impl Running<'_> {
         &self,
         fs: &Fs<D>,
         asked: &Bitmap,
-    ) -> Result<Operated, Fault>
+    ) -> Result<Executed, Fault>
         requires up { (fs_of fs.now).volume.is_down ≡ false }
         requires run { (in_progress_of self.now).context.run ≡ (fs_of fs.now).volume.run }
         ensures gives { IfOk result (OnlyReads (fs_of fs.now) (in_progress_of self.now)

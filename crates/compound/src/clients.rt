@@ -2,9 +2,9 @@
 
 ghost use Rattle.std.specs.Prelude.{◌≡◌};
 
+use crate::executed::{Effect, Executed};
 use crate::fault::Fault;
 use crate::held_replies::put_seats;
-use crate::operated::{Effect, Operated};
 use crate::running::Running;
 use disk::Device;
 use fs::Fs;
@@ -34,7 +34,7 @@ impl Running<'_> {
         table: &mut Table,
         opens: &Opens,
         arguments: &ExchangeIdArguments<'_>,
-    ) -> Result<Operated, Fault>
+    ) -> Result<Executed, Fault>
         requires first { (in_progress_of self.now).answered ≡ 0 }
         ensures gives { IfOk result (ChangesTableAndOpens (table_of table.old) (table_of table.new)
             (opens_of opens.now) (opens_of opens.now) (in_progress_of self.now)
@@ -59,7 +59,7 @@ impl Running<'_> {
         table: &mut Table,
         opens: &mut Opens,
         arguments: &CreateSessionArguments<'_>,
-    ) -> Result<Operated, Fault>
+    ) -> Result<Executed, Fault>
         requires first { (in_progress_of self.now).answered ≡ 0 }
         requires up { (fs_of fs.old).volume.is_down ≡ false }
         requires agrees { D.keeps_word → Agrees (fs_of fs.old) (table_of table.old) }
@@ -98,7 +98,7 @@ impl Running<'_> {
         fs: &mut Fs<D>,
         table: &mut Table,
         id: &[u8; 16],
-    ) -> Result<Operated, Fault>
+    ) -> Result<Executed, Fault>
         requires first { (in_progress_of self.now).answered ≡ 0 }
         requires up { (fs_of fs.old).volume.is_down ≡ false }
         requires agrees { D.keeps_word → Agrees (fs_of fs.old) (table_of table.old) }
@@ -131,7 +131,7 @@ impl Running<'_> {
         table: &mut Table,
         opens: &Opens,
         client: u64,
-    ) -> Result<Operated, Fault>
+    ) -> Result<Executed, Fault>
         requires first { (in_progress_of self.now).answered ≡ 0 }
         ensures gives { IfOk result (ChangesTableAndOpens (table_of table.old) (table_of table.new)
             (opens_of opens.now) (opens_of opens.now) (in_progress_of self.now)

@@ -7,7 +7,7 @@ ghost use Rattle.model.specs.WireAnswers as answers;
 ghost use Rattle.wire.specs.OutcomeView.{outcome_view};
 ghost use Rattle.compound.specs.Beside.{closed_answer};
 
-use crate::operated::{Effect, Operated};
+use crate::executed::{Effect, Executed};
 use crate::results::MAX_REPLY_BYTES;
 use crate::running::Running;
 use disk::Device;
@@ -44,7 +44,7 @@ impl Running<'_> {
         fs: &Fs<D>,
         opens: &mut Opens,
         arguments: &CloseArguments,
-    ) -> Operated
+    ) -> Executed
         requires up { (fs_of fs.now).volume.is_down ≡ false }
         requires run { (in_progress_of self.now).context.run ≡ (fs_of fs.now).volume.run }
         ensures gives { (now : ℕ) → ChangesTreeAndOpens (fs_of fs.now) (fs_of fs.now)
@@ -60,7 +60,7 @@ impl Running<'_> {
             return self.refuse(Operation::Close, Status::RepTooBig);
         }
         opens.close(serial);
-        Operated::Gives {
+        Executed::Gives {
             outcome: closed(),
             effect: Effect::Closes,
         }

@@ -6,7 +6,7 @@ use xdr::{Refusal, Writer};
 
 /// A result of an operation, as it goes into the reply.
 #[derive(Clone, Copy)]
-pub(crate) enum Told<'a> {
+pub(crate) enum EncodedResult<'a> {
     Whole(&'a Outcome<'static>),
     /// An OK result, of which the values after the status are spelled already.
     Spelled {
@@ -15,15 +15,15 @@ pub(crate) enum Told<'a> {
     },
 }
 
-impl Told<'_> {
+impl EncodedResult<'_> {
     ghost use Rattle.std.specs.Prelude.{◌≡◌, ◌+◌, ◌≤◌, ◌++◌, length};
-    ghost use Rattle.compound.specs.Told.{CanBeSpelled, told_text, told_status, is_ok};
+    ghost use Rattle.compound.specs.EncodedResult.{CanBeSpelled, told_text, told_status, is_ok};
 
     /// Whether its status is OK.
     pub(crate) fn is_ok(&self) -> bool
         ensures { result ≡ is_ok self.now }
     {
-        !matches!(self, Told::Whole(Outcome::Refused { .. }))
+        !matches!(self, EncodedResult::Whole(Outcome::Refused { .. }))
     }
 
     /// The status.
@@ -31,7 +31,7 @@ impl Told<'_> {
         ensures { result ≡ told_status self.now }
     {
         match self {
-            Told::Whole(Outcome::Refused { status, .. }) => *status,
+            EncodedResult::Whole(Outcome::Refused { status, .. }) => *status,
             _ => Status::Ok,
         }
     }
@@ -44,8 +44,10 @@ impl Told<'_> {
         ensures capacity { results.capacity ≤ result.capacity }
     {
         match self {
-            Told::Whole(outcome) => write_outcome(results, outcome),
-            Told::Spelled { operation, values } => write_spelled(results, *operation, values),
+            EncodedResult::Whole(outcome) => write_outcome(results, outcome),
+            EncodedResult::Spelled { operation, values } => write_spelled(
+                results, *operation, values,
+            ),
         }
     }
 }

@@ -24,7 +24,7 @@ pub enum Effect {
 
 /// What an operation does.
 #[derive(Drop)]
-pub enum Operated {
+pub enum Executed {
     /// Its result, and what it leaves.
     Gives {
         outcome: Outcome<'static>,

@@ -2,8 +2,8 @@
 
 ghost use Rattle.std.specs.Prelude.{◌≡◌};
 
+use crate::executed::{Effect, Executed};
 use crate::fault::Fault;
-use crate::operated::{Effect, Operated};
 use crate::running::Running;
 use crate::tree::status_of;
 use disk::Device;
@@ -29,7 +29,7 @@ impl Running<'_> {
     ghost use Rattle.compound.specs.declared.fault.Fault.TheVariants.{Memory};
 
     /// PUTROOTFH (section 18.21): the root is the current node, whether it is there or not.
-    pub(crate) fn put_root(&self) -> Operated
+    pub(crate) fn put_root(&self) -> Executed
         ensures gives { (files : FileSystem)
             → OnlyReads files (in_progress_of self.now) operations.Argument.PutRootFh result }
         ensures answered { IsAnswered (in_progress_of self.now) result }
@@ -38,7 +38,7 @@ impl Running<'_> {
     }
 
     /// PUTFH (section 18.19): the node that the filehandle names is the current one.
-    pub(crate) fn put_handle<D: Device>(&self, fs: &Fs<D>, handle: &[u8]) -> Operated
+    pub(crate) fn put_handle<D: Device>(&self, fs: &Fs<D>, handle: &[u8]) -> Executed
         requires { (fs_of fs.now).volume.is_down ≡ false }
         ensures gives { OnlyReads (fs_of fs.now) (in_progress_of self.now)
             (operations.Argument.PutFh handle.now) result }
@@ -51,7 +51,7 @@ impl Running<'_> {
     }
 
     /// GETFH (section 18.8).
-    pub(crate) fn get_handle<D: Device>(&self, fs: &Fs<D>) -> Result<Operated, Fault>
+    pub(crate) fn get_handle<D: Device>(&self, fs: &Fs<D>) -> Result<Executed, Fault>
         requires up { (fs_of fs.now).volume.is_down ≡ false }
         requires run { (in_progress_of self.now).context.run ≡ (fs_of fs.now).volume.run }
         ensures gives { IfOk result (OnlyReads (fs_of fs.now) (in_progress_of self.now)
@@ -73,7 +73,7 @@ impl Running<'_> {
     }
 
     /// SAVEFH (section 18.28): the current node is the saved one too.
-    pub(crate) fn save_handle<D: Device>(&self, fs: &Fs<D>) -> Operated
+    pub(crate) fn save_handle<D: Device>(&self, fs: &Fs<D>) -> Executed
         requires up { (fs_of fs.now).volume.is_down ≡ false }
         requires run { (in_progress_of self.now).context.run ≡ (fs_of fs.now).volume.run }
         ensures gives { OnlyReads (fs_of fs.now) (in_progress_of self.now)
@@ -88,7 +88,7 @@ impl Running<'_> {
 
     /// RESTOREFH (section 18.27): the saved node is the current one too, whether it is there or
     /// not. NOFILEHANDLE where none is saved.
-    pub(crate) fn restore_handle(&self) -> Operated
+    pub(crate) fn restore_handle(&self) -> Executed
         ensures gives { (files : FileSystem)
             → OnlyReads files (in_progress_of self.now) operations.Argument.RestoreFh result }
         ensures answered { IsAnswered (in_progress_of self.now) result }

@@ -9,8 +9,8 @@ ghost use Rattle.xdr.specs.Clauses.{Wrote};
 ghost use Rattle.compound.specs.Pages.{chain_of, link_of, links_of};
 ghost use Rattle.compound.specs.declared.fault.Fault.TheVariants.{Memory};
 
+use crate::executed::Executed;
 use crate::fault::Fault;
-use crate::operated::Operated;
 use crate::running::Running;
 use disk::Device;
 use fs::{Fs, Listing, Page};
@@ -36,7 +36,7 @@ impl Running<'_> {
         &self,
         fs: &Fs<D>,
         arguments: &ReadDirArguments,
-    ) -> Result<Operated, Fault>
+    ) -> Result<Executed, Fault>
         requires up { (fs_of fs.now).volume.is_down ≡ false }
         requires run { (in_progress_of self.now).context.run ≡ (fs_of fs.now).volume.run }
         ensures gives { IfOk result (OnlyReads (fs_of fs.now) (in_progress_of self.now)

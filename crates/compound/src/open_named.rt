@@ -8,9 +8,9 @@ ghost use Rattle.wire.specs.ArgumentViews.{open_type_view};
 ghost use Rattle.wire.specs.SmallViews.{attributes_view};
 ghost use Rattle.xdr.specs.Forms.{is_trimmed};
 
+use crate::executed::Executed;
 use crate::fault::Fault;
 use crate::opening::share_of;
-use crate::operated::Operated;
 use crate::removing::change_info;
 use crate::running::Running;
 use crate::setting::was_set;
@@ -47,7 +47,7 @@ impl Running<'_> {
         arguments: &OpenArguments<'_>,
         how: &OpenType<'_>,
         name: &[u8],
-    ) -> Result<Operated, Fault>
+    ) -> Result<Executed, Fault>
         // It is up, in the run in which the request began
         requires up { (fs_of fs.old).volume.is_down ≡ false }
         requires run { (in_progress_of self.now).context.run ≡ (fs_of fs.old).volume.run }
@@ -104,7 +104,7 @@ impl Running<'_> {
         arguments: &OpenArguments<'_>,
         how: &OpenType<'_>,
         opening: Opening<'_>,
-    ) -> Result<Operated, Fault>
+    ) -> Result<Executed, Fault>
         // It is up, in the run in which the request began
         requires up { (fs_of fs.old).volume.is_down ≡ false }
         requires run { (in_progress_of self.now).context.run ≡ (fs_of fs.old).volume.run }

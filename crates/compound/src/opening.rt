@@ -12,8 +12,8 @@ ghost use Rattle.wire.specs.SmallViews.{change_view, state_view};
 ghost use Rattle.compound.specs.Beside.{opened_answer};
 
 use crate::closing::CLOSED;
+use crate::executed::{Effect, Executed};
 use crate::fault::Fault;
-use crate::operated::{Effect, Operated};
 use crate::removing::change_info;
 use crate::running::Running;
 use crate::tree::status_of;
@@ -54,7 +54,7 @@ impl Running<'_> {
         opens: &mut Opens,
         now: u64,
         arguments: &OpenArguments<'_>,
-    ) -> Result<Operated, Fault>
+    ) -> Result<Executed, Fault>
         // It is up, in the run in which the request began
         requires up { (fs_of fs.old).volume.is_down ≡ false }
         requires run { (in_progress_of self.now).context.run ≡ (fs_of fs.old).volume.run }
@@ -90,7 +90,7 @@ impl Running<'_> {
         opens: &mut Opens,
         arguments: &OpenArguments<'_>,
         how: &OpenType<'_>,
-    ) -> Result<Operated, Fault>
+    ) -> Result<Executed, Fault>
         // It is up, in the run in which the request began
         requires up { (fs_of fs.now).volume.is_down ≡ false }
         requires run { (in_progress_of self.now).context.run ≡ (fs_of fs.now).volume.run }
@@ -155,7 +155,7 @@ impl Running<'_> {
         asked: Open,
         change: ChangeInfo,
         was_set: Bitmap,
-    ) -> Operated
+    ) -> Executed
         requires room { HasMemory opens.old }
         requires serial { CanOpen (opens_of opens.old) (open_of asked) }
         requires trimmed { IsTrue (is_trimmed was_set) }
@@ -172,7 +172,7 @@ impl Running<'_> {
     {
         let number = asked.number;
         let state = opens.open(self.progress.run, asked);
-        Operated::Gives {
+        Executed::Gives {
             outcome: opened(state, change, was_set),
             effect: Effect::Opens { number, state },
         }
@@ -189,7 +189,7 @@ impl Running<'_> {
 
     /// OPEN that is not served: an exclusive create, or a claim other than by name or by
     /// filehandle.
-    pub(crate) fn refuse_opening<D: Device>(&self, fs: &Fs<D>) -> Operated
+    pub(crate) fn refuse_opening<D: Device>(&self, fs: &Fs<D>) -> Executed
         requires up { (fs_of fs.now).volume.is_down ≡ false }
         requires run { (in_progress_of self.now).context.run ≡ (fs_of fs.now).volume.run }
         ensures gives { (arguments : operations.OpenArguments)

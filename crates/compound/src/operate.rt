@@ -1,7 +1,7 @@
 //! The operation that was read, by its kind.
 
+use crate::executed::Executed;
 use crate::fault::Fault;
-use crate::operated::Operated;
 use crate::running::Running;
 use disk::Device;
 use fs::Fs;
@@ -32,7 +32,7 @@ impl Running<'_> {
         opens: &mut Opens,
         now: u64,
         argument: &Argument<'_>,
-    ) -> Result<Operated, Fault>
+    ) -> Result<Executed, Fault>
         // It is up, in the run in which the request began
         requires up { (fs_of fs.old).volume.is_down ≡ false }
         requires run { (in_progress_of self.now).context.run ≡ (fs_of fs.old).volume.run }

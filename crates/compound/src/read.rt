@@ -7,8 +7,8 @@ ghost use Rattle.xdr.specs.Forms.{code_of, padding};
 ghost use Rattle.xdr.specs.Grammar.{number};
 ghost use Rattle.compound.specs.declared.fault.Fault.TheVariants.{Memory};
 
+use crate::executed::Executed;
 use crate::fault::Fault;
-use crate::operated::Operated;
 use crate::running::Running;
 use disk::Device;
 use fs::Fs;
@@ -44,7 +44,7 @@ impl Running<'_> {
         fs: &mut Fs<D>,
         opens: &Opens,
         arguments: &ReadArguments,
-    ) -> Result<Operated, Fault>
+    ) -> Result<Executed, Fault>
         // It is up, in the run in which the request began
         requires up { (fs_of fs.old).volume.is_down ≡ false }
         requires run { (in_progress_of self.now).context.run ≡ (fs_of fs.old).volume.run }

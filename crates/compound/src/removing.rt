@@ -8,8 +8,8 @@ ghost use Rattle.wire.specs.OutcomeView.{outcome_view};
 ghost use Rattle.wire.specs.SmallViews.{change_view};
 ghost use Rattle.compound.specs.Trees.{change_answer, removed_answer};
 
+use crate::executed::{Effect, Executed};
 use crate::fault::Fault;
-use crate::operated::{Effect, Operated};
 use crate::results::MAX_REPLY_BYTES;
 use crate::running::Running;
 use disk::Device;
@@ -39,7 +39,7 @@ impl Running<'_> {
         opens: &mut Opens,
         now: u64,
         name: &[u8],
-    ) -> Result<Operated, Fault>
+    ) -> Result<Executed, Fault>
         // It is up, in the run in which the request began
         requires up { (fs_of fs.old).volume.is_down ≡ false }
         requires run { (in_progress_of self.now).context.run ≡ (fs_of fs.old).volume.run }
@@ -65,7 +65,7 @@ impl Running<'_> {
         match fs.remove(&self.cred, now, directory, name, has_room) {
             Ok(gone) => {
                 opens.remove_file(gone.number);
-                Ok(Operated::Gives {
+                Ok(Executed::Gives {
                     outcome: removed(gone.before, gone.after),
                     effect: Effect::Stays,
                 })

@@ -9,8 +9,8 @@ ghost use Rattle.fs.specs.Renaming.{arguments_of, is_itself, opens_after};
 ghost use Rattle.opens.specs.Views.{opens_of};
 ghost use Rattle.compound.specs.Trees.{renamed_answer};
 
+use crate::executed::{Effect, Executed};
 use crate::fault::Fault;
-use crate::operated::{Effect, Operated};
 use crate::removing::change_info;
 use crate::results::MAX_REPLY_BYTES;
 use crate::running::Running;
@@ -50,7 +50,7 @@ impl Running<'_> {
         opens: &mut Opens,
         now: u64,
         arguments: &RenameArguments<'_>,
-    ) -> Result<Operated, Fault>
+    ) -> Result<Executed, Fault>
         // It is up, in the run in which the request began
         requires up { (fs_of fs.old).volume.is_down ≡ false }
         requires run { (in_progress_of self.now).context.run ≡ (fs_of fs.old).volume.run }
@@ -82,7 +82,7 @@ impl Running<'_> {
         match fs.rename(&self.cred, now, asked, has_room) {
             Ok(made) => {
                 end_replaced(opens, asked, made.replaced);
-                Ok(Operated::Gives {
+                Ok(Executed::Gives {
                     outcome: renamed(made.source, made.target),
                     effect: Effect::Stays,
                 })

@@ -2,11 +2,11 @@
 
 ghost use Rattle.std.specs.Prelude.{◌≡◌};
 
+use crate::encoded_result::EncodedResult;
+use crate::executed::{Effect, Executed};
 use crate::fault::Fault;
-use crate::operated::{Effect, Operated};
 use crate::progress::{Progress, RESULT_BUFFER};
 use crate::running::Running;
-use crate::told::Told;
 use fs::FsFault;
 use model::status::Status;
 use wire::{Answer, Operation, Outcome};
@@ -42,7 +42,7 @@ impl Running<'_> {
     ghost use Rattle.compound.specs.States.{SharedState};
     ghost use Rattle.compound.specs.Trees.{IsUp, refusal, told};
     ghost use Rattle.compound.specs.Views.{in_progress_of};
-    ghost use Rattle.compound.specs.declared.operated.Operated.TheVariants as operated;
+    ghost use Rattle.compound.specs.declared.executed.Executed.TheVariants as execution;
 
     /// Whether the reply has room for this result, if it were the last one.
     #[tactic(auto, unfolding(crate::specs::Views::in_progress_of, model::specs::World::outcome_text), using(crate::proofs::Replies::reply_length))]
@@ -72,7 +72,7 @@ impl Running<'_> {
 
     /// What an operation comes to that nothing else refuses: it is refused where the reply has no
     /// room for its answer.
-    pub(crate) fn settle(&self, answer: Answer<'static>, effect: Effect) -> Operated
+    pub(crate) fn settle(&self, answer: Answer<'static>, effect: Effect) -> Executed
         requires { IsShortAnswer (answer_view answer) }
         ensures gives { (now : ℕ) (state : SharedState) (kind : Kind)
             → (answers.answer_told (answer_view answer.entry)).number ≡ operation_of kind
@@ -86,12 +86,12 @@ impl Running<'_> {
         if !self.has_room(&outcome) {
             return self.refuse(operation, Status::RepTooBig);
         }
-        Operated::Gives { outcome, effect }
+        Executed::Gives { outcome, effect }
     }
 
     /// What an operation comes to that changes nothing, and whose OK result is spelled: it is
     /// refused where the reply has no room.
-    pub(crate) fn settle_spelled(&self, operation: Operation, values: Vec<u8>) -> Operated
+    pub(crate) fn settle_spelled(&self, operation: Operation, values: Vec<u8>) -> Executed
         ensures gives { (now : ℕ) (state : SharedState) (kind : Kind) (answer : Answered)
             → Spells (number_of operation) values.items answer
             → number_of operation ≡ operation_of kind
@@ -104,11 +104,11 @@ impl Running<'_> {
         if !self.has_room_for(RESULT_FRONT + values.as_slice().len()) {
             return self.refuse(operation, Status::RepTooBig);
         }
-        Operated::GivesSpelled { operation, values }
+        Executed::GivesSpelled { operation, values }
     }
 
     /// What an operation comes to that is refused.
-    pub(crate) fn refuse(&self, operation: Operation, status: Status) -> Operated
+    pub(crate) fn refuse(&self, operation: Operation, status: Status) -> Executed
         requires { IsRefusal status }
         ensures gives { (now : ℕ) (old new : SharedState) (kind : Kind)
             → GivesIn now old new (in_progress_of self.now) (in_progress_of self.now) kind
@@ -118,7 +118,7 @@ impl Running<'_> {
         ensures kept { (table : Sessions) → IsKept table result }
         ensures is { result ≡ refusal (number_of operation) status }
     {
-        Operated::Gives {
+        Executed::Gives {
             outcome: Outcome::refused(operation, status),
             effect: Effect::Stays,
         }
@@ -128,7 +128,7 @@ impl Running<'_> {
     ///
     /// # Errors
     /// Those of the file system that are no status.
-    pub(crate) fn tell_fault(&self, operation: Operation, fault: FsFault) -> Result<Operated, Fault>
+    pub(crate) fn tell_fault(&self, operation: Operation, fault: FsFault) -> Result<Executed, Fault>
         requires { IsUp fault }
         ensures { result ≡ told (number_of operation) fault }
     {
@@ -143,7 +143,7 @@ impl Running<'_> {
 
     /// What the first operation comes to, where nothing refuses it: the reply has room for each
     /// short answer.
-    pub(crate) fn answer_first(&self, answer: Answer<'static>, effect: Effect) -> Operated
+    pub(crate) fn answer_first(&self, answer: Answer<'static>, effect: Effect) -> Executed
         requires first { (in_progress_of self.now).answered ≡ 0 }
         requires short { IsShortAnswer (answer_view answer) }
         ensures gives { (now : ℕ) (old new : SharedState) (kind : Kind)
@@ -151,9 +151,9 @@ impl Running<'_> {
             (left_by effect (in_progress_of self.now)) kind (Done (answer_view answer.entry))
             → Operates now old new (in_progress_of self.now) kind result }
         ensures answered { IsAnswered (in_progress_of self.now) result }
-        ensures is { result ≡ operated.Gives (outcomes.Done answer.entry) effect }
+        ensures is { result ≡ execution.Gives (outcomes.Done answer.entry) effect }
     {
-        Operated::Gives {
+        Executed::Gives {
             outcome: Outcome::short(answer),
             effect,
         }
@@ -162,16 +162,16 @@ impl Running<'_> {
 
 impl Progress {
     ghost use Rattle.std.specs.Prelude.{◌≡◌, ◌+◌, ◌<◌, ◌≤◌, ◌^◌, length};
-    ghost use Rattle.compound.specs.Told.{CanBeSpelled, told_text, with_told, with_last};
+    ghost use Rattle.compound.specs.EncodedResult.{CanBeSpelled, told_text, with_told, with_last};
     ghost use Rattle.compound.specs.Views.{Asked, resumed};
 
     /// With one result more, after those so far.
-    pub(crate) fn with_result(self, told: Told<'_>) -> Progress
-        requires spelled { CanBeSpelled told }
+    pub(crate) fn with_result(self, encoded: EncodedResult<'_>) -> Progress
+        requires spelled { CanBeSpelled encoded }
         requires more { self.answered + 1 < 2 ^ 32 }
-        requires room { length self.results.bytes + length (told_text told) ≤ RESULT_BUFFER }
+        requires room { length self.results.bytes + length (told_text encoded) ≤ RESULT_BUFFER }
         ensures request { (asked : Asked) → resumed asked result
-            ≡ with_told (resumed asked self) told.entry }
+            ≡ with_told (resumed asked self) encoded.entry }
         ensures position { result.position ≡ self.position }
     {
         let Progress {
@@ -190,7 +190,7 @@ impl Progress {
         Progress {
             position,
             answered: answered + 1,
-            results: told.write(results),
+            results: encoded.write(results),
             kept,
             reply,
             client,
@@ -203,16 +203,16 @@ impl Progress {
     }
 
     /// With one result more, which is the last one.
-    pub(crate) fn with_last(self, told: Told<'_>) -> Progress
-        requires spelled { CanBeSpelled told }
+    pub(crate) fn with_last(self, encoded: EncodedResult<'_>) -> Progress
+        requires spelled { CanBeSpelled encoded }
         requires more { self.answered + 1 < 2 ^ 32 }
-        requires room { length self.results.bytes + length (told_text told) ≤ RESULT_BUFFER }
+        requires room { length self.results.bytes + length (told_text encoded) ≤ RESULT_BUFFER }
         ensures request { (asked : Asked) → resumed asked result
-            ≡ with_last (resumed asked self) told.entry }
+            ≡ with_last (resumed asked self) encoded.entry }
         ensures position { result.position ≡ self.position }
     {
-        let last = told.status();
-        let mut progress = self.with_result(told);
+        let last = encoded.status();
+        let mut progress = self.with_result(encoded);
         progress.ended = Some(last);
         progress
     }

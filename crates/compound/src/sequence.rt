@@ -2,7 +2,7 @@
 
 ghost use Rattle.std.specs.Prelude.{◌≡◌};
 
-use crate::operated::{Effect, Operated};
+use crate::executed::{Effect, Executed};
 use crate::progress::SlotId;
 use crate::results::MAX_REPLY_BYTES;
 use crate::running::Running;
@@ -29,7 +29,7 @@ impl Running<'_> {
     ghost use Rattle.compound.specs.Views.{in_progress_of};
 
     /// SEQUENCE. Where a slot runs the COMPOUND, its client is the session's from then on.
-    pub(crate) fn sequence(&self, table: &mut Table, arguments: &SequenceArguments) -> Operated
+    pub(crate) fn sequence(&self, table: &mut Table, arguments: &SequenceArguments) -> Executed
         requires first { (in_progress_of self.now).answered ≡ 0 }
         ensures gives { ChangesTable (table_of table.old) (table_of table.new)
             (in_progress_of self.now) (operations.Argument.Sequence (sequence_view arguments.now))
@@ -44,13 +44,13 @@ impl Running<'_> {
             Ok(Begun::Runs { client, answer }) => {
                 self.answer_first(Answer::Sequence(answer), Effect::Joins { slot, client })
             }
-            Ok(Begun::Replays) => Operated::Replays(slot),
+            Ok(Begun::Replays) => Executed::Replays(slot),
             Err(status) => self.refuse(Operation::Sequence, status),
         }
     }
 
     /// RECLAIM_COMPLETE.
-    pub(crate) fn reclaim<D: Device>(&self, fs: &Fs<D>, table: &mut Table, one_fs: bool) -> Operated
+    pub(crate) fn reclaim<D: Device>(&self, fs: &Fs<D>, table: &mut Table, one_fs: bool) -> Executed
         requires up { (fs_of fs.now).volume.is_down ≡ false }
         requires run { (in_progress_of self.now).context.run ≡ (fs_of fs.now).volume.run }
         ensures gives { (now : ℕ) (opens : Opens)
@@ -68,7 +68,7 @@ impl Running<'_> {
 
     /// RECLAIM_COMPLETE for all file systems. Nothing changes where the reply has no room for its
     /// result.
-    fn reclaim_all(&self, table: &mut Table) -> Operated
+    fn reclaim_all(&self, table: &mut Table) -> Executed
         ensures gives { ChangesTable (table_of table.old) (table_of table.new)
             (in_progress_of self.now) (operations.Argument.ReclaimComplete false) result }
         ensures answered { IsAnswered (in_progress_of self.now) result }
@@ -80,7 +80,7 @@ impl Running<'_> {
     }
 
     /// The same, where nothing but room may refuse it.
-    fn reclaim_in_room(&self, table: &mut Table) -> Operated
+    fn reclaim_in_room(&self, table: &mut Table) -> Executed
         requires { (reclaim_complete (in_progress_of self.now).context.client
             (table_of table.old)).0 ≡ None }
         ensures gives { ChangesTable (table_of table.old) (table_of table.new)
@@ -91,7 +91,7 @@ impl Running<'_> {
             return self.refuse(Operation::ReclaimComplete, Status::RepTooBig);
         }
         match table.reclaim_complete(self.progress.client) {
-            Ok(()) => Operated::Gives {
+            Ok(()) => Executed::Gives {
                 outcome: Outcome::Done(Answer::ReclaimComplete),
                 effect: Effect::Stays,
             },
@@ -111,7 +111,7 @@ impl Running<'_> {
     }
 
     /// RECLAIM_COMPLETE for the file system of the current filehandle: it is answered each time.
-    fn reclaim_one<D: Device>(&self, fs: &Fs<D>) -> Operated
+    fn reclaim_one<D: Device>(&self, fs: &Fs<D>) -> Executed
         requires up { (fs_of fs.now).volume.is_down ≡ false }
         requires run { (in_progress_of self.now).context.run ≡ (fs_of fs.now).volume.run }
         ensures gives { OnlyReads (fs_of fs.now) (in_progress_of self.now)

@@ -8,8 +8,8 @@ ghost use Rattle.model.specs.World.{outcome_text};
 ghost use Rattle.model.specs.WireAnswers as answers;
 ghost use Rattle.wire.specs.OutcomeView.{outcome_view};
 
+use crate::executed::{Effect, Executed};
 use crate::fault::Fault;
-use crate::operated::{Effect, Operated};
 use crate::removing::change_info;
 use crate::results::MAX_REPLY_BYTES;
 use crate::running::Running;
@@ -41,7 +41,7 @@ impl Running<'_> {
         opens: &Opens,
         now: u64,
         arguments: &SetAttrArguments<'_>,
-    ) -> Result<Operated, Fault>
+    ) -> Result<Executed, Fault>
         // It is up, in the run in which the request began
         requires up { (fs_of fs.old).volume.is_down ≡ false }
         requires run { (in_progress_of self.now).context.run ≡ (fs_of fs.old).volume.run }
@@ -72,7 +72,7 @@ impl Running<'_> {
             },
         };
         match fs.set_attributes(&self.cred, now, asked, has_room) {
-            Ok(()) => Ok(Operated::Gives {
+            Ok(()) => Ok(Executed::Gives {
                 outcome: attributes_set(&arguments.attributes.bitmap),
                 effect: Effect::Stays,
             }),

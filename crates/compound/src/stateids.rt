@@ -2,7 +2,7 @@
 
 use crate::running::Running;
 use model::status::Status;
-use opens::{Access, Opens, Standing};
+use opens::{Access, Opens, StateIdContext};
 use wire::StateId;
 
 #[tactic(auto, unfolding(crate::specs::Views::in_progress_of))]
@@ -16,14 +16,14 @@ impl Running<'_> {
     ghost use Rattle.compound.specs.Views.{in_progress_of};
 
     /// Where the next operation uses a stateid.
-    pub(crate) fn standing(&self) -> Standing
+    pub(crate) fn standing(&self) -> StateIdContext
         ensures { StandsAt result (in_progress_of self.now).context }
     {
         let (number, state) = match self.progress.current {
             Some(place) => (place.number, place.state),
             None => (0, None),
         };
-        Standing {
+        StateIdContext {
             client: self.progress.client,
             run: self.progress.run,
             number,

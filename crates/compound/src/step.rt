@@ -3,15 +3,15 @@
 
 ghost use Rattle.std.specs.Prelude.{◌≡◌, ◌<◌, ◌^◌};
 ghost use Rattle.wire.specs.declared.outcome.Outcome.TheVariants as outcomes;
-ghost use Rattle.compound.specs.declared.operated.Effect.TheVariants as effect;
-ghost use Rattle.compound.specs.declared.operated.Operated.TheVariants as operated;
+ghost use Rattle.compound.specs.declared.executed.Effect.TheVariants as effect;
+ghost use Rattle.compound.specs.declared.executed.Executed.TheVariants as execution;
 
+use crate::encoded_result::EncodedResult;
+use crate::executed::{Effect, Executed};
 use crate::fault::Fault;
 use crate::next::Next;
-use crate::operated::{Effect, Operated};
 use crate::progress::{HandlePlace, Progress};
 use crate::running::Running;
-use crate::told::Told;
 use disk::Device;
 use fs::Fs;
 use model::status::Status;
@@ -32,7 +32,7 @@ pub enum Stepped {
 
 /// A COMPOUND whose next operation was not done, and why.
 #[derive(Drop)]
-pub struct Undone {
+pub struct StepError {
     pub fault: Fault,
     /// How far the COMPOUND had come, given back as it was.
     pub progress: Progress,
@@ -49,7 +49,7 @@ impl Running<'_> {
     ghost use Rattle.compound.specs.Operates.{IsAnswered, IsKept, left_by};
     ghost use Rattle.compound.specs.States.{Agrees, shared, shared_of};
     ghost use Rattle.compound.specs.Steps.{CanRun, Steps, GoesOn, stepped_on};
-    ghost use Rattle.compound.specs.Told.{CanBeTold, Tells, with_last};
+    ghost use Rattle.compound.specs.EncodedResult.{CanBeTold, Tells, with_last};
     ghost use Rattle.compound.specs.Turns.{Turns, StandsAfter};
     ghost use Rattle.compound.specs.Views.{in_progress_of, asked_of};
     ghost use Rattle.compound.specs.Volumes.{TurnGives, ending, undone_ending};
@@ -68,7 +68,7 @@ impl Running<'_> {
         table: &mut Table,
         opens: &mut Opens,
         now: u64,
-    ) -> Result<Stepped, Undone>
+    ) -> Result<Stepped, StepError>
         requires up { (fs_of fs.old).volume.is_down ≡ false }
         requires run { (in_progress_of self).context.run ≡ (fs_of fs.old).volume.run }
         requires agrees { D.keeps_word → Agrees (fs_of fs.old) (table_of table.old) }
@@ -102,7 +102,7 @@ impl Running<'_> {
         table: &mut Table,
         opens: &mut Opens,
         now: u64,
-    ) -> Result<Stepped, Undone>
+    ) -> Result<Stepped, StepError>
         requires ready { CanRun (fs_of fs.old) (in_progress_of self) }
         requires agrees { D.keeps_word → Agrees (fs_of fs.old) (table_of table.old) }
         // Done
@@ -122,7 +122,7 @@ impl Running<'_> {
     {
         let Ran { position, done } = match self.run_next(fs, table, opens, now) {
             Ok(ran) => ran,
-            Err(fault) => return Err(Undone {
+            Err(fault) => return Err(StepError {
                 fault,
                 progress: self.progress,
             }),
@@ -130,17 +130,17 @@ impl Running<'_> {
         let mut running = self;
         running.advance(position);
         match done {
-            Operated::Replays(slot) => Ok(Stepped::Answered(running.repeat(table, &slot))),
-            Operated::GivesSpelled { operation, values } => {
-                let told = Told::Spelled {
+            Executed::Replays(slot) => Ok(Stepped::Answered(running.repeat(table, &slot))),
+            Executed::GivesSpelled { operation, values } => {
+                let encoded = EncodedResult::Spelled {
                     operation,
                     values: values.as_slice(),
                 };
-                Ok(running.answer(table, told))
+                Ok(running.answer(table, encoded))
             }
-            Operated::Gives { outcome, effect } => {
+            Executed::Gives { outcome, effect } => {
                 running.leave(effect);
-                Ok(running.answer(table, Told::Whole(&outcome)))
+                Ok(running.answer(table, EncodedResult::Whole(&outcome)))
             }
         }
     }
@@ -229,20 +229,20 @@ impl Running<'_> {
 
     /// The COMPOUND after this result: it goes on; or this result is the last one or not OK, and the
     /// reply is there, unless a seat is to hold it first.
-    fn answer(self, table: &mut Table, told: Told<'_>) -> Stepped
-        requires told { CanBeTold (in_progress_of self) told }
+    fn answer(self, table: &mut Table, encoded: EncodedResult<'_>) -> Stepped
+        requires encoded { CanBeTold (in_progress_of self) encoded }
         requires more { (in_progress_of self).ended ≡ None }
-        ensures stands { (outcome : model.Outcome) → Tells told.entry outcome
+        ensures stands { (outcome : model.Outcome) → Tells encoded.entry outcome
             → StandsAfter (table_of table.old) (table_of table.new)
             (asked_of self.entry) (in_progress_of self.entry) outcome result }
         ensures goes_on { GoesOn (in_progress_of self.entry).context.run (asked_of self.entry)
             (in_progress_of self.entry) result }
     {
-        if told.is_ok() && !self.is_last() {
-            return Stepped::Ran(self.progress.with_result(told));
+        if encoded.is_ok() && !self.is_last() {
+            return Stepped::Ran(self.progress.with_result(encoded));
         }
-        let last = told.status();
-        let running = self.with_last(told);
+        let last = encoded.status();
+        let running = self.with_last(encoded);
         if running.is_to_hold(table) {
             return Stepped::Ran(running.progress);
         }
@@ -251,11 +251,12 @@ impl Running<'_> {
 
     /// With this result, which is the last one.
     #[tactic(auto, unfolding(crate::specs::Views::in_progress_of))]
-    fn with_last(self, told: Told<'_>) -> Self
-        requires told { CanBeTold (in_progress_of self) told }
+    fn with_last(self, encoded: EncodedResult<'_>) -> Self
+        requires encoded { CanBeTold (in_progress_of self) encoded }
         requires more { (in_progress_of self).ended ≡ None }
         ensures asked { asked_of result ≡ asked_of self.entry }
-        ensures request { in_progress_of result ≡ with_last (in_progress_of self.entry) told.entry }
+        ensures request { in_progress_of result
+            ≡ with_last (in_progress_of self.entry) encoded.entry }
         ensures position { result.progress.position ≡ self.entry.progress.position }
     {
         let Running {
@@ -270,7 +271,7 @@ impl Running<'_> {
             xid,
             cred,
             compound,
-            progress: progress.with_last(told),
+            progress: progress.with_last(encoded),
         }
     }
 
@@ -281,7 +282,7 @@ impl Running<'_> {
         fs: &mut Fs<D>,
         table: &mut Table,
         last: Status,
-    ) -> Result<Vec<u8>, Undone>
+    ) -> Result<Vec<u8>, StepError>
         requires up { (fs_of fs.old).volume.is_down ≡ false }
         requires ended { (in_progress_of self).ended ≡ Some last }
         requires agrees { D.keeps_word → Agrees (fs_of fs.old) (table_of table.old) }
@@ -301,7 +302,7 @@ impl Running<'_> {
     {
         match self.hold(fs, table, last) {
             Ok(edits) => Ok(self.end(table, last, edits)),
-            Err(fault) => Err(Undone {
+            Err(fault) => Err(StepError {
                 fault,
                 progress: self.progress,
             }),
@@ -322,11 +323,11 @@ impl Running<'_> {
 }
 
 /// The operation of this number is refused before it is run.
-fn refused(operation: u32, status: Status) -> Operated
+fn refused(operation: u32, status: Status) -> Executed
     ensures number { operation < 2 ^ 32 }
-    ensures gives { result ≡ operated.Gives (outcomes.Refused operation status) effect.Stays }
+    ensures gives { result ≡ execution.Gives (outcomes.Refused operation status) effect.Stays }
 {
-    Operated::Gives {
+    Executed::Gives {
         outcome: Outcome::Refused { operation, status },
         effect: Effect::Stays,
     }
@@ -337,5 +338,5 @@ fn refused(operation: u32, status: Status) -> Operated
 struct Ran {
     /// Where the bytes after it begin.
     position: usize,
-    done: Operated,
+    done: Executed,
 }

@@ -2,8 +2,8 @@
 
 ghost use Rattle.std.specs.Prelude.{◌≡◌};
 
+use crate::executed::{Effect, Executed};
 use crate::fault::Fault;
-use crate::operated::{Effect, Operated};
 use crate::results::MAX_REPLY_BYTES;
 use crate::running::Running;
 use disk::Device;
@@ -52,7 +52,7 @@ impl Running<'_> {
     }
 
     /// LOOKUP (section 18.13): the node that the name leads to is the current one.
-    pub(crate) fn look_up<D: Device>(&self, fs: &Fs<D>, name: &[u8]) -> Operated
+    pub(crate) fn look_up<D: Device>(&self, fs: &Fs<D>, name: &[u8]) -> Executed
         requires up { (fs_of fs.now).volume.is_down ≡ false }
         requires run { (in_progress_of self.now).context.run ≡ (fs_of fs.now).volume.run }
         ensures gives { OnlyReads (fs_of fs.now) (in_progress_of self.now)
@@ -71,7 +71,7 @@ impl Running<'_> {
 
     /// LOOKUPP (section 18.14): the directory that has the name of the current one is the current
     /// node.
-    pub(crate) fn look_up_parent<D: Device>(&self, fs: &Fs<D>) -> Operated
+    pub(crate) fn look_up_parent<D: Device>(&self, fs: &Fs<D>) -> Executed
         requires up { (fs_of fs.now).volume.is_down ≡ false }
         requires run { (in_progress_of self.now).context.run ≡ (fs_of fs.now).volume.run }
         ensures gives { OnlyReads (fs_of fs.now) (in_progress_of self.now)
@@ -94,7 +94,7 @@ impl Running<'_> {
         fs: &mut Fs<D>,
         now: u64,
         arguments: &CreateArguments<'_>,
-    ) -> Result<Operated, Fault>
+    ) -> Result<Executed, Fault>
         // It is up, in the run in which the request began
         requires up { (fs_of fs.old).volume.is_down ≡ false }
         requires run { (in_progress_of self.now).context.run ≡ (fs_of fs.old).volume.run }
@@ -118,7 +118,7 @@ impl Running<'_> {
     }
 
     /// CREATE of another type than a directory: nothing else is made by it.
-    pub(crate) fn create_other<D: Device>(&self, fs: &Fs<D>, kind: u32) -> Operated
+    pub(crate) fn create_other<D: Device>(&self, fs: &Fs<D>, kind: u32) -> Executed
         requires up { (fs_of fs.now).volume.is_down ≡ false }
         requires run { (in_progress_of self.now).context.run ≡ (fs_of fs.now).volume.run }
         ensures gives { OnlyReads (fs_of fs.now) (in_progress_of self.now)
@@ -140,7 +140,7 @@ impl Running<'_> {
         now: u64,
         name: &[u8],
         attributes: &Attributes<'_>,
-    ) -> Result<Operated, Fault>
+    ) -> Result<Executed, Fault>
         // It is up, in the run in which the request began
         requires up { (fs_of fs.old).volume.is_down ≡ false }
         requires run { (in_progress_of self.now).context.run ≡ (fs_of fs.old).volume.run }
@@ -169,7 +169,7 @@ impl Running<'_> {
             },
         };
         match fs.make_dir(&self.cred, now, asked, has_room) {
-            Ok(made) => Ok(Operated::Gives {
+            Ok(made) => Ok(Executed::Gives {
                 outcome: created(&attributes.bitmap, made.before, made.number),
                 effect: Effect::Moves(made.number),
             }),

@@ -9,8 +9,8 @@ ghost use Rattle.wire.specs.ArgumentViews.{stable_number};
 ghost use Rattle.wire.specs.OutcomeView.{outcome_view};
 ghost use Rattle.compound.specs.Files.{committed_answer, written_answer};
 
+use crate::executed::{Effect, Executed};
 use crate::fault::Fault;
-use crate::operated::{Effect, Operated};
 use crate::results::MAX_REPLY_BYTES;
 use crate::running::Running;
 use disk::Device;
@@ -40,7 +40,7 @@ impl Running<'_> {
         opens: &Opens,
         now: u64,
         arguments: &WriteArguments<'_>,
-    ) -> Result<Operated, Fault>
+    ) -> Result<Executed, Fault>
         // It is up, in the run in which the request began
         requires up { (fs_of fs.old).volume.is_down ≡ false }
         requires run { (in_progress_of self.now).context.run ≡ (fs_of fs.old).volume.run }
@@ -69,7 +69,7 @@ impl Running<'_> {
             is_stable: is_to_be_stable(arguments.stable),
         };
         match fs.write(&self.cred, now, number, verdict, asked, has_room) {
-            Ok(count) => Ok(Operated::Gives {
+            Ok(count) => Ok(Executed::Gives {
                 outcome: written(self.progress.run, arguments.stable, count),
                 effect: Effect::Stays,
             }),
@@ -87,7 +87,7 @@ impl Running<'_> {
 
     /// COMMIT (section 18.3): all changes so far are kept. Nothing is where the reply has no room
     /// for the result.
-    pub(crate) fn commit<D: Device>(&self, fs: &mut Fs<D>) -> Result<Operated, Fault>
+    pub(crate) fn commit<D: Device>(&self, fs: &mut Fs<D>) -> Result<Executed, Fault>
         // It is up, in the run in which the request began
         requires up { (fs_of fs.old).volume.is_down ≡ false }
         requires run { (in_progress_of self.now).context.run ≡ (fs_of fs.old).volume.run }
@@ -110,7 +110,7 @@ impl Running<'_> {
         };
         let has_room = self.has_committed_room();
         match fs.commit(&self.cred, number, has_room) {
-            Ok(()) => Ok(Operated::Gives {
+            Ok(()) => Ok(Executed::Gives {
                 outcome: committed(self.progress.run),
                 effect: Effect::Stays,
             }),

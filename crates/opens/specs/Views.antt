@@ -12,7 +12,7 @@ use Rattle.model.specs.StateIds.{carried, is_like, is_table_full, open_named, st
 use Rattle.wire.specs.SmallViews.{state_view}
 use Rattle.opens.specs.declared.found.Found.{Found}
 use Rattle.opens.specs.declared.found.Found.TheVariants as found
-use Rattle.opens.specs.declared.found.Standing.{Standing}
+use Rattle.opens.specs.declared.found.StateIdContext.{StateIdContext}
 use Rattle.opens.specs.declared.open.Entry.{Entry}
 use Rattle.opens.specs.declared.open.Open.{Open}
 use Rattle.opens.specs.declared.opens.Opens.{Opens}
@@ -70,7 +70,7 @@ abbrev pub named_by : (run : ℕ) → states.Opened → StateId
 named_by run opened = state_of run opened.serial opened.state.seqid
 
 -- the context of the operation that a stateid is an argument of
-pub record StandsAt (standing : Standing) (context : Context) : Type 0 where
+pub record StandsAt (standing : StateIdContext) (context : Context) : Type 0 where
   pub client : context.client ≡ standing.client
   pub run : context.run ≡ standing.run
   pub number : current_number context ≡ standing.number

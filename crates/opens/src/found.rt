@@ -16,7 +16,7 @@ use wire::StateId;
 
 /// Where a stateid is used.
 #[derive(Clone, Copy)]
-pub struct Standing {
+pub struct StateIdContext {
     /// The session's client.
     pub client: u64,
     /// The server's restart count.
@@ -77,7 +77,7 @@ pub(crate) fn by_seqid<'a>(state: &StateId, entry: &'a Entry) -> Found<'a>
     }
 }
 
-impl Standing {
+impl StateIdContext {
     // The stateid that is meant: the current one is carried whole.
     pub(crate) fn meant(&self, state: &StateId) -> Option<StateId>
         ensures { (context : Context) → StandsAt self.now context

@@ -10,6 +10,6 @@ mod open;
 mod opens;
 
 pub use access::Access;
-pub use found::{Found, Standing};
+pub use found::{Found, StateIdContext};
 pub use open::{Entry, Open};
 pub use opens::Opens;

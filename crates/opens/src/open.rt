@@ -3,7 +3,7 @@
 ghost use Rattle.std.specs.Prelude.{◌<◌, ◌^◌};
 
 use crate::access::Access;
-use crate::found::Standing;
+use crate::found::StateIdContext;
 use bitflags::Flags;
 use std::alloc::{AllocError, Global};
 
@@ -80,7 +80,7 @@ impl Entry {
     }
 
     /// Whether it is an open of the client on the file where a stateid is used.
-    pub(crate) fn is_of(&self, standing: &Standing) -> bool
+    pub(crate) fn is_of(&self, standing: &StateIdContext) -> bool
         ensures { result ≡ (self.now.state.client == standing.now.client
             && self.now.state.number == standing.now.number) }
     {

@@ -3,7 +3,7 @@
 ghost use Rattle.std.specs.Prelude.{◌<◌, ◌≤◌, All};
 ghost use Rattle.std.specs.List.{AllPairs};
 
-use crate::found::{Found, Standing, by_seqid, is_anonymous, state_id};
+use crate::found::{Found, StateIdContext, by_seqid, is_anonymous, state_id};
 use crate::open::{Entry, Open};
 use byteorder::{BigEndian, ByteOrder};
 use model::status::Status;
@@ -139,7 +139,7 @@ impl Opens {
     }
 
     /// What a stateid means where it is used (RFC 8881, section 8.2.4).
-    pub fn find(&self, standing: &Standing, state: &StateId) -> Found<'_>
+    pub fn find(&self, standing: &StateIdContext, state: &StateId) -> Found<'_>
         ensures { (context : Context) → StandsAt standing.now context
             → found_of result ≡ found (opens_of self.now) context (state_view state.now) }
     {

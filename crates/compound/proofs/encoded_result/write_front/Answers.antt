@@ -1,5 +1,5 @@
 use Rattle.xdr.proofs.Writing.{wrote_on, wrote_exit}
-use Rattle.compound.proofs.told.write_front.Goals as goal
+use Rattle.compound.proofs.encoded_result.write_front.Goals as goal
 
 pub returns-in_err-write_u32 : goal.returns-in_err-write_u32
 returns-in_err-write_u32 c =

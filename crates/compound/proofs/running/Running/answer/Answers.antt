@@ -6,7 +6,7 @@ use Rattle.model.specs.Rpc.{Success, reply_text}
 use Rattle.model.specs.World.{InProgress, is_last, is_to_hold, kept_by, result_of}
 use Rattle.model.specs.declared.status.Status.{Status}
 use Rattle.session.specs.Views.{table_of}
-use Rattle.compound.specs.Told.{is_ok, told_text, told_status}
+use Rattle.compound.specs.EncodedResult.{is_ok, told_text, told_status}
 use Rattle.compound.specs.Views.{Asked, in_progress_of, asked_of, resumed, fits}
 use Rattle.compound.proofs.Resuming.{fits_by, fits_ended}
 use Rattle.compound.proofs.Tellings.{ends_told, holds_told, goes_on_told, ok_room}
@@ -22,15 +22,15 @@ with_result-requires-clause-more c = omega (arith, c.args.self.more c.requires.m
 pub with_result-requires-clause-room : goal.with_result-requires-clause-room
 unfolding in_progress_of
 with_result-requires-clause-room c =
-    omega (arith, ok_room (in_progress_of c.args.self) c.args.told c.requires.told (sym c.is_ok.ensures ∙ c.if-is_ok.true))
+    omega (arith, ok_room (in_progress_of c.args.self) c.args.encoded c.requires.encoded (sym c.is_ok.ensures ∙ c.if-is_ok.true))
 
 pub returns-then-not-is_last-clause-stands : goal.returns-then-not-is_last-clause-stands
 unfolding in_progress_of
 returns-then-not-is_last-clause-stands c = λ outcome is.
     let request = in_progress_of c.args.self in
-    let ok : is_ok c.args.told ≡ true = sym c.is_ok.ensures ∙ c.if-is_ok.true in
+    let ok : is_ok c.args.encoded ≡ true = sym c.is_ok.ensures ∙ c.if-is_ok.true in
     let more : is_last request ≡ false = sym c.is_last.ensures ∙ c.if-not-is_last.true in
-    goes_on_told (table_of c.args.table.now) (asked_of c.args.self) request c.args.told outcome c.with_result.result ok more
+    goes_on_told (table_of c.args.table.now) (asked_of c.args.self) request c.args.encoded outcome c.with_result.result ok more
     (c.with_result.ensures.request (asked_of c.args.self)) is
 
 pub returns-then-not-is_last-clause-goes_on : goal.returns-then-not-is_last-clause-goes_on
@@ -38,8 +38,8 @@ unfolding in_progress_of
 returns-then-not-is_last-clause-goes_on c =
     let old = c.args.self.progress in
     let new = c.with_result.result in
-    let text = told_text c.args.told in
-    let room = ok_room (in_progress_of c.args.self) c.args.told c.requires.told (sym c.is_ok.ensures ∙ c.if-is_ok.true) in
+    let text = told_text c.args.encoded in
+    let room = ok_room (in_progress_of c.args.self) c.args.encoded c.requires.encoded (sym c.is_ok.ensures ∙ c.if-is_ok.true) in
     let pushed = c.with_result.ensures.request (asked_of c.args.self) in
     let count : new.answered ≡ old.answered + 1 = ap (λ (r : InProgress). r.answered) pushed in
     let results : new.results.bytes ≡ old.results.bytes ++ text = ap (λ (r : InProgress). r.results) pushed in
@@ -61,7 +61,7 @@ unfolding in_progress_of
 returns-then-is_to_hold-clause-stands c =
     let request = in_progress_of c.args.self in
     let after = c.with_last-running.result in
-    let last : (is_ok c.args.told && not (is_last request)) ≡ false =
+    let last : (is_ok c.args.encoded && not (is_last request)) ≡ false =
     elim c.else-is_ok.branch [
       | else-is_ok-via-then-is_ok+else-not-is_last w ↦
           ap₂ (λ (a b : Bool). a && not b) (sym c.is_ok.ensures ∙ w.if-is_ok.true) (sym w.is_last.ensures ∙ w.if-not-is_last.false)
@@ -71,7 +71,7 @@ returns-then-is_to_hold-clause-stands c =
     let holds : is_to_hold request.slot (table_of c.args.table.now).seats ≡ true =
     ap (λ (r : InProgress). is_to_hold r.slot (table_of c.args.table.now).seats) (sym c.with_last-running.ensures.request) ∙ (sym c.is_to_hold.ensures ∙ c.if-is_to_hold.true) in
     λ outcome is.
-    holds_told (table_of c.args.table.now) (asked_of c.args.self) request c.args.told outcome after.progress last holds
+    holds_told (table_of c.args.table.now) (asked_of c.args.self) request c.args.encoded outcome after.progress last holds
     (ap (λ (one : Asked). resumed one after.progress) (sym c.with_last-running.ensures.asked) ∙ c.with_last-running.ensures.request) is
 
 pub returns-then-is_to_hold-clause-goes_on : goal.returns-then-is_to_hold-clause-goes_on
@@ -79,12 +79,12 @@ unfolding in_progress_of
 returns-then-is_to_hold-clause-goes_on c =
     let after = c.with_last-running.result in
     let pushed = c.with_last-running.ensures.request in
-    let ended : after.progress.ended ≡ Some (told_status c.args.told) = ap (λ (r : InProgress). r.ended) pushed in
+    let ended : after.progress.ended ≡ Some (told_status c.args.encoded) = ap (λ (r : InProgress). r.ended) pushed in
     record {
       stays = ap (λ (r : InProgress). r.context.run) pushed;
       further = (c.requires.more, ap (λ (r : InProgress). r.answered) pushed);
       fits = subst (λ (one : Asked). fits one after.progress ≡ true) c.with_last-running.ensures.asked
-          (fits_ended (asked_of after) after.progress (told_status c.args.told) ended after.within after.brief);
+          (fits_ended (asked_of after) after.progress (told_status c.args.encoded) ended after.within after.brief);
     }
 
 pub returns-clause-stands : goal.returns-clause-stands
@@ -92,7 +92,7 @@ unfolding in_progress_of
 returns-clause-stands c =
     let request = in_progress_of c.args.self in
     let table = table_of c.args.table.now in
-    let last : (is_ok c.args.told && not (is_last request)) ≡ false =
+    let last : (is_ok c.args.encoded && not (is_last request)) ≡ false =
     elim c.else-is_ok.branch [
       | else-is_ok-via-then-is_ok+else-not-is_last w ↦
           ap₂ (λ (a b : Bool). a && not b) (sym c.is_ok.ensures ∙ w.if-is_ok.true) (sym w.is_last.ensures ∙ w.if-not-is_last.false)
@@ -103,6 +103,6 @@ returns-clause-stands c =
     ap (λ (r : InProgress). is_to_hold r.slot table.seats) (sym c.with_last-running.ensures.request) ∙ (sym c.is_to_hold.ensures ∙ c.if-is_to_hold.false) in
     let pushed = c.with_last-running.ensures.request in
     λ outcome is.
-    ends_told table (table_of c.end.new.table) (asked_of c.args.self) request c.args.told outcome c.end.result last none
+    ends_told table (table_of c.end.new.table) (asked_of c.args.self) request c.args.encoded outcome c.end.result last none
     (c.end.ensures.reply ∙ ap₂ (λ (r : InProgress) (status : Status). framed (reply_text r.xid (Success (result_of r status)))) pushed c.status-last.ensures)
     (c.end.ensures.kept ∙ ap₂ (λ (r : InProgress) (status : Status). kept_by r.slot (result_of r status) table) pushed c.status-last.ensures) is

@@ -14,7 +14,7 @@ use Rattle.compound.specs.Trees.{IsHere}
 use Rattle.compound.specs.Volumes.{OperationGives, ending}
 use Rattle.compound.specs.Views.{in_progress_of}
 use Rattle.compound.specs.declared.fault.Fault.{Fault}
-use Rattle.compound.specs.declared.operated.Operated.{Operated}
+use Rattle.compound.specs.declared.executed.Executed.{Executed}
 use Rattle.compound.proofs.Changing.{done_runs, told_gives, told_changes, told_spelled, told_kept, is_short}
 use Rattle.compound.proofs.Rooms.{gives_in_room, gives_refusal}
 use Rattle.compound.proofs.Trees.{is_on, wants}
@@ -95,7 +95,7 @@ returns-in-Err-commit-clause-gives g c = λ arguments now opens keeps.
     let new = fs_of c.commit.new.self in
     let request = in_progress_of c.args.self.now in
     let kind = Argument.Commit arguments in
-    subst (λ (r : Result Operated Fault). IfOk r (ChangesTreeAndOpens fs new opens opens now request kind)) (sym c.tell_fault.ensures)
+    subst (λ (r : Result Executed Fault). IfOk r (ChangesTreeAndOpens fs new opens opens now request kind)) (sym c.tell_fault.ensures)
     (told_gives now fs request kind (commit_on_tree now fs request arguments) _ (commit_sized now fs request arguments _ c.has_committed_room-has_room.ensures)
     g.D.Device.keeps_word _ new _ _ c.requires.up _ opens opens c.in-Err-commit.fault refl
     (λ state there known. commit_not_done g.D.Device.keeps_word fs (fs_of c.commit.new.self) state now arguments c.in-Err-commit.fault (c.in-Err-commit.ensures.step state now arguments (is_on fs request _ state c.requires.run c.in-Ok.ensures.ok.0 c.in-Ok.ensures.ok.1 there)))
@@ -107,13 +107,13 @@ returns-in-Err-commit-clause-answered g c =
     let fs = fs_of c.args.fs.now in
     let request = in_progress_of c.args.self.now in
     let none : CommitArguments = record { offset = 0; count = 0 } in
-    subst (λ (r : Result Operated Fault). IfOk r (IsAnswered request)) (sym c.tell_fault.ensures)
+    subst (λ (r : Result Executed Fault). IfOk r (IsAnswered request)) (sym c.tell_fault.ensures)
     (told_spelled request 5 c.in-Err-commit.fault (omega arith) (commit_up 0 fs request none no_opens c.in-Err-commit.fault c.requires.up
     (λ state there known. commit_not_done g.D.Device.keeps_word fs (fs_of c.commit.new.self) state 0 none c.in-Err-commit.fault (c.in-Err-commit.ensures.step state 0 none (is_on fs request _ state c.requires.run c.in-Ok.ensures.ok.0 c.in-Ok.ensures.ok.1 there)))))
 
 pub returns-in-Err-commit-clause-kept : goal.returns-in-Err-commit-clause-kept
 returns-in-Err-commit-clause-kept g c = λ table.
-    subst (λ (r : Result Operated Fault). IfOk r (IsKept table)) (sym c.tell_fault.ensures) (told_kept table 5 c.in-Err-commit.fault)
+    subst (λ (r : Result Executed Fault). IfOk r (IsKept table)) (sym c.tell_fault.ensures) (told_kept table 5 c.in-Err-commit.fault)
 
 pub returns-in-Err-commit-clause-volume : goal.returns-in-Err-commit-clause-volume
 unfolding in_progress_of
@@ -123,7 +123,7 @@ returns-in-Err-commit-clause-volume g c = λ arguments now table opens.
     let request = in_progress_of c.args.self.now in
     let kind = Argument.Commit arguments in
     let step = λ (state : State) (there : IsHere fs request state) (known : state.opens ≡ opens). commit_not_done g.D.Device.keeps_word fs (fs_of c.commit.new.self) state now arguments c.in-Err-commit.fault (c.in-Err-commit.ensures.step state now arguments (is_on fs request _ state c.requires.run c.in-Ok.ensures.ok.0 c.in-Ok.ensures.ok.1 there)) in
-    subst (λ (r : Result Operated Fault). Changes g.D.Device.keeps_word (OperationGives (shared fs table opens) request now kind) fs new (fs_failures c.args.fs.now) (fs_failures c.commit.new.self) (ending r))
+    subst (λ (r : Result Executed Fault). Changes g.D.Device.keeps_word (OperationGives (shared fs table opens) request now kind) fs new (fs_failures c.args.fs.now) (fs_failures c.commit.new.self) (ending r))
     (sym c.tell_fault.ensures)
     (told_changes now fs request kind (commit_on_tree now fs request arguments) _ (commit_sized now fs request arguments _ c.has_committed_room-has_room.ensures)
     g.D.Device.keeps_word _ new _ _ c.requires.up _ table opens c.in-Err-commit.fault

@@ -10,7 +10,7 @@ use Rattle.compound.specs.States.{shared}
 use Rattle.compound.specs.Views.{in_progress_of}
 use Rattle.compound.specs.declared.fault.Fault.{Fault}
 use Rattle.compound.specs.declared.fault.Fault.TheVariants.{Memory}
-use Rattle.compound.specs.declared.operated.Operated.{Operated}
+use Rattle.compound.specs.declared.executed.Executed.{Executed}
 use Rattle.compound.proofs.Changing.{told_spelled}
 use Rattle.compound.proofs.ListLaws.{list_on_tree, lists_up, told_lists, told_memory}
 use Rattle.compound.proofs.Rooms.{gives_refusal}
@@ -60,7 +60,7 @@ returns-in-Err-list-clause-gives g c =
     let fs = fs_of c.args.fs.now in
     let request = in_progress_of c.args.self.now in
     let arguments = read_dir_view c.args.arguments.now in
-    subst (λ (r : Result Operated Fault). IfOk r (OnlyReads fs request (Argument.ReadDir arguments))) (sym c.tell_fault.ensures)
+    subst (λ (r : Result Executed Fault). IfOk r (OnlyReads fs request (Argument.ReadDir arguments))) (sym c.tell_fault.ensures)
     (told_lists fs request arguments c.in-Err-list.fault
     (λ state now there. subst (λ (asked : ReadDirArguments). Lists fs state now asked (Err c.in-Err-list.fault)) c.listing.ensures.arguments
     (c.in-Err-list.ensures.step state now c.args.arguments.now.dir_count (is_on fs request _ _ c.requires.run c.in-Ok.ensures.ok.0 (c.in-Ok.ensures.ok.1 ∙ sym c.listing.ensures.directory) there))))
@@ -71,7 +71,7 @@ returns-in-Err-list-clause-answered g c =
     let fs = fs_of c.args.fs.now in
     let request = in_progress_of c.args.self.now in
     let state = of_request fs request in
-    subst (λ (r : Result Operated Fault). IfOk r (IsAnswered request)) (sym c.tell_fault.ensures)
+    subst (λ (r : Result Executed Fault). IfOk r (IsAnswered request)) (sym c.tell_fault.ensures)
     (told_spelled request 26 c.in-Err-list.fault (omega arith)
     (lists_up fs state 0 (read_dir_view c.args.arguments.now) c.in-Err-list.fault c.requires.up
     (subst (λ (asked : ReadDirArguments). Lists fs state 0 asked (Err c.in-Err-list.fault)) c.listing.ensures.arguments
@@ -84,7 +84,7 @@ returns-in-Err-list-clause-err g c =
     let request = in_progress_of c.args.self.now in
     let state = of_request fs request in
     let arguments = read_dir_view c.args.arguments.now in
-    subst (λ (r : Result Operated Fault). IfErr r (λ reason. reason ≡ Memory)) (sym c.tell_fault.ensures)
+    subst (λ (r : Result Executed Fault). IfErr r (λ reason. reason ≡ Memory)) (sym c.tell_fault.ensures)
     (told_memory fs state 0 arguments c.in-Err-list.fault c.requires.up
     (subst (λ (asked : ReadDirArguments). Lists fs state 0 asked (Err c.in-Err-list.fault)) c.listing.ensures.arguments
     (c.in-Err-list.ensures.step state 0 c.args.arguments.now.dir_count (is_on fs request _ _ c.requires.run c.in-Ok.ensures.ok.0 (c.in-Ok.ensures.ok.1 ∙ sym c.listing.ensures.directory) (is_there fs request)))))

@@ -4,7 +4,7 @@ use Rattle.opens.specs.Views.{opens_of}
 use Rattle.wire.specs.ArgumentViews.{open_view}
 use Rattle.compound.specs.States.{shared}
 use Rattle.compound.specs.Views.{in_progress_of}
-use Rattle.compound.specs.declared.operated.Operated.{Operated}
+use Rattle.compound.specs.declared.executed.Executed.{Executed}
 use Rattle.compound.specs.declared.fault.Fault.{Fault}
 use Rattle.std.specs.Prelude.{Ok, Result}
 use Rattle.compound.proofs.OpenNamedLaws.{open_still}
@@ -18,7 +18,7 @@ returns-in-Exclusive-clause-gives g c = λ keeps table.
 
 pub returns-in-Exclusive-clause-volume : goal.returns-in-Exclusive-clause-volume
 returns-in-Exclusive-clause-volume g c = λ table.
-    let done : Result Operated Fault = Ok c.refuse_opening.result in
+    let done : Result Executed Fault = Ok c.refuse_opening.result in
     open_still g.D.Device.keeps_word (shared (fs_of c.args.fs.now) table (opens_of c.args.opens.now)) (fs_failures c.args.fs.now) (in_progress_of c.args.self.now) c.args.now
     (open_view c.args.arguments.now) done c.requires.up (λ one. rw c.in-Exclusive.is refl) (λ reason is. absurd cc)
 
@@ -28,7 +28,7 @@ returns-in-OtherClaim-clause-gives g c = λ keeps table.
 
 pub returns-in-OtherClaim-clause-volume : goal.returns-in-OtherClaim-clause-volume
 returns-in-OtherClaim-clause-volume g c = λ table.
-    let done : Result Operated Fault = Ok c.refuse_opening-in-OtherClaim.result in
+    let done : Result Executed Fault = Ok c.refuse_opening-in-OtherClaim.result in
     open_still g.D.Device.keeps_word (shared (fs_of c.args.fs.now) table (opens_of c.args.opens.now)) (fs_failures c.args.fs.now) (in_progress_of c.args.self.now) c.args.now
     (open_view c.args.arguments.now) done c.requires.up (λ one. rw (c.in-Opens.is, c.in-OtherClaim.is) refl) (λ reason is. absurd cc)
 

@@ -21,7 +21,7 @@ use Rattle.compound.specs.Volumes.{OperationGives, ending}
 use Rattle.compound.specs.Views.{in_progress_of}
 use Rattle.compound.specs.declared.fault.Fault.{Fault}
 use Rattle.compound.specs.declared.fault.Fault.TheVariants as fault
-use Rattle.compound.specs.declared.operated.Operated.{Operated}
+use Rattle.compound.specs.declared.executed.Executed.{Executed}
 use Rattle.compound.proofs.Changing.{told_gives, told_changes, told_spelled}
 use Rattle.compound.proofs.OpenLaws.{on_tree}
 use Rattle.compound.proofs.OpenNamedLaws.{is_opening, open_makes, open_up, opens_to, sized}
@@ -153,7 +153,7 @@ returns-in-Err-open_file-clause-gives g c = λ keeps.
     let new = fs_of c.open_file.new.self in
     let how = open_type_view c.args.how.now in
     let left = opens_of c.reserve.new.self in
-    subst (λ (r : Result Operated Fault). IfOk r (ChangesTreeAndOpens fs new opens left c.args.now request kind)) (sym c.tell_fault.ensures)
+    subst (λ (r : Result Executed Fault). IfOk r (ChangesTreeAndOpens fs new opens left c.args.now request kind)) (sym c.tell_fault.ensures)
     (told_gives c.args.now fs request kind (on_tree c.args.now request arguments) _ (sized c.args.now fs request arguments how c.args.name.now c.in-Ok.number c.requires.opening c.in-Ok.ensures.ok.1 (has_room fs (record { directory = c.in-Ok.number; name = c.args.name; share = c.share_of.result; how = c.how_of.result }) c.open_room-room.result)
     (c.open_room-room.ensures (effect_of fs.volume.tree c.in-Ok.number c.args.name.now (type_of c.how_of.result))
     ∙ ap (λ (of : OpenType). has_opened_room request (set_by (effect_of fs.volume.tree c.in-Ok.number c.args.name.now of) how)) c.how_of.ensures.is))
@@ -175,7 +175,7 @@ returns-in-Err-open_file-clause-answered g c =
     let request = in_progress_of c.args.self.now in
     let arguments = open_view c.args.arguments.now in
     let kind = Argument.Open arguments in
-    subst (λ (r : Result Operated Fault). IfOk r (IsAnswered request)) (sym c.tell_fault.ensures)
+    subst (λ (r : Result Executed Fault). IfOk r (IsAnswered request)) (sym c.tell_fault.ensures)
     (told_spelled request 18 c.in-Err-open_file.fault (omega arith) (open_up c.args.now fs request arguments opens c.in-Err-open_file.fault c.requires.up
     (λ state there known. c.in-Err-open_file.ensures.step state arguments (is_on fs request c.in-Ok.number state c.requires.run c.in-Ok.ensures.ok.0 c.in-Ok.ensures.ok.1 there)
     ((is_opening c.args.now fs request arguments opens c.requires.run c.in-Ok.ensures.ok.0 c.in-Some.number c.limits.result.now.opens c.is_full-is_full.result (open_of c.in_ok-asked.asked)
@@ -195,7 +195,7 @@ returns-in-Err-open_file-clause-volume g c = λ table.
     let kind = Argument.Open arguments in
     let new = fs_of c.open_file.new.self in
     let how = open_type_view c.args.how.now in
-    subst (λ (r : Result Operated Fault). Changes g.D.Device.keeps_word (OperationGives (shared fs table opens) request c.args.now kind) fs new (fs_failures c.args.fs.now) (fs_failures c.open_file.new.self) (ending r)) (sym c.tell_fault.ensures)
+    subst (λ (r : Result Executed Fault). Changes g.D.Device.keeps_word (OperationGives (shared fs table opens) request c.args.now kind) fs new (fs_failures c.args.fs.now) (fs_failures c.open_file.new.self) (ending r)) (sym c.tell_fault.ensures)
     (told_changes c.args.now fs request kind (on_tree c.args.now request arguments) _ (sized c.args.now fs request arguments how c.args.name.now c.in-Ok.number c.requires.opening c.in-Ok.ensures.ok.1 (has_room fs (record { directory = c.in-Ok.number; name = c.args.name; share = c.share_of.result; how = c.how_of.result }) c.open_room-room.result)
     (c.open_room-room.ensures (effect_of fs.volume.tree c.in-Ok.number c.args.name.now (type_of c.how_of.result))
     ∙ ap (λ (of : OpenType). has_opened_room request (set_by (effect_of fs.volume.tree c.in-Ok.number c.args.name.now of) how)) c.how_of.ensures.is))

@@ -11,8 +11,8 @@ use Rattle.fs.specs.FileSystem.{FileSystem}
 use Rattle.compound.specs.Operates.{Operates, OnlyReads, ChangesTableAndOpens, ChangesTreeAndOpens, IsKept}
 use Rattle.compound.specs.States.{SharedState, shared, shared_of}
 use Rattle.compound.specs.declared.fault.Fault.{Fault}
-use Rattle.compound.specs.declared.operated.Operated.{Operated}
-use Rattle.compound.specs.declared.operated.Operated.TheVariants as operated
+use Rattle.compound.specs.declared.executed.Executed.{Executed}
+use Rattle.compound.specs.declared.executed.Executed.TheVariants as execution
 use Rattle.compound.specs.Views.{in_progress_of}
 use Rattle.compound.proofs.VolumeLaws.{quiet_changes, quiet_result, tree_changes}
 use Rattle.compound.proofs.running.Running.operate.Goals as goal
@@ -178,24 +178,24 @@ returns-in-CreateSession-clause-volume g c = rw c.in-CreateSession.is (c.create_
 
 -- A reply that is sent again is there
 
-kept_of : (now : ℕ) (old new : SharedState) (request : InProgress) (operation : Argument) (done : Operated) → Operates now old new request operation done → IsKept new.table done
-kept_of now old new request operation (operated.Gives outcome left) runs = tt
-kept_of now old new request operation (operated.GivesSpelled kind values) runs = tt
-kept_of now old new request operation (operated.Replays slot) runs = (runs.0, ap (λ (s : SharedState). reply_kept slot.session slot.slot s.table) runs.1 ∙ runs.2)
+kept_of : (now : ℕ) (old new : SharedState) (request : InProgress) (operation : Argument) (done : Executed) → Operates now old new request operation done → IsKept new.table done
+kept_of now old new request operation (execution.Gives outcome left) runs = tt
+kept_of now old new request operation (execution.GivesSpelled kind values) runs = tt
+kept_of now old new request operation (execution.Replays slot) runs = (runs.0, ap (λ (s : SharedState). reply_kept slot.session slot.slot s.table) runs.1 ∙ runs.2)
 
 -- One that changes nothing, and is refused for memory alone
 
-told_if : (now : ℕ) (files : FileSystem) (table : Table) (opens : Opens) (request : InProgress) (operation : Argument) (result : Result Operated Fault)
+told_if : (now : ℕ) (files : FileSystem) (table : Table) (opens : Opens) (request : InProgress) (operation : Argument) (result : Result Executed Fault)
     → IfOk result (OnlyReads files request operation) → IfOk result (Operates now (shared files table opens) (shared files table opens) request operation)
 told_if now files table opens request operation (Ok done) reads = reads now table opens
 told_if now files table opens request operation (Err fault) reads = tt
 
-told_kept : (now : ℕ) (files : FileSystem) (table : Table) (opens : Opens) (request : InProgress) (operation : Argument) (result : Result Operated Fault)
+told_kept : (now : ℕ) (files : FileSystem) (table : Table) (opens : Opens) (request : InProgress) (operation : Argument) (result : Result Executed Fault)
     → IfOk result (OnlyReads files request operation) → IfOk result (IsKept table)
 told_kept now files table opens request operation (Ok done) reads = kept_of now (shared files table opens) (shared files table opens) request operation done (reads now table opens)
 told_kept now files table opens request operation (Err fault) reads = tt
 
-changed_if : (now : ℕ) (old new : FileSystem) (table : Table) (before after : Opens) (request : InProgress) (operation : Argument) (result : Result Operated Fault)
+changed_if : (now : ℕ) (old new : FileSystem) (table : Table) (before after : Opens) (request : InProgress) (operation : Argument) (result : Result Executed Fault)
     → IfOk result (ChangesTreeAndOpens old new before after now request operation) → IfOk result (Operates now (shared old table before) (shared new table after) request operation)
 changed_if now old new table before after request operation (Ok done) changes = changes table
 changed_if now old new table before after request operation (Err fault) changes = tt
@@ -265,7 +265,7 @@ returns-in-ReclaimComplete-clause-gives g c = λ keeps. rw c.in-ReclaimComplete.
 
 -- A reply that is sent again is there
 
-kept_if : (now : ℕ) (files : FileSystem) (old new : Table) (before after : Opens) (request : InProgress) (operation : Argument) (result : Result Operated Fault)
+kept_if : (now : ℕ) (files : FileSystem) (old new : Table) (before after : Opens) (request : InProgress) (operation : Argument) (result : Result Executed Fault)
     → IfOk result (ChangesTableAndOpens old new before after request operation) → IfOk result (IsKept new)
 kept_if now files old new before after request operation (Ok done) runs = kept_of now (shared files old before) (shared files new after) request operation done (runs now files)
 kept_if now files old new before after request operation (Err fault) runs = tt

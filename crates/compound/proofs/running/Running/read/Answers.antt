@@ -15,7 +15,7 @@ use Rattle.compound.specs.States.{shared}
 use Rattle.compound.specs.Views.{in_progress_of}
 use Rattle.compound.specs.Volumes.{OperationGives, ending}
 use Rattle.compound.specs.declared.fault.Fault.{Fault}
-use Rattle.compound.specs.declared.operated.Operated.{Operated}
+use Rattle.compound.specs.declared.executed.Executed.{Executed}
 use Rattle.compound.proofs.Changing.{told_spelled}
 use Rattle.compound.proofs.QuietLaws.{left_all}
 use Rattle.compound.proofs.ReadLaws.{read_wants, read_ok, read_up, read_nothing, read_quietly, told_reads, told_changes}
@@ -104,7 +104,7 @@ returns-in-Err-read-clause-gives g c = λ now keeps.
     let opens = opens_of c.args.opens.now in
     let request = in_progress_of c.args.self.now in
     let arguments = read_view c.args.arguments.now in
-    subst (λ (r : Result Operated Fault). IfOk r (ChangesTreeAndOpens fs new opens opens now request (Argument.Read arguments))) (sym c.tell_fault.ensures)
+    subst (λ (r : Result Executed Fault). IfOk r (ChangesTreeAndOpens fs new opens opens now request (Argument.Read arguments))) (sym c.tell_fault.ensures)
     (told_reads now fs opens request arguments g.D.Device.keeps_word new _ _ Bool c.in-Err-read.fault
     (λ state there known. c.in-Err-read.ensures.step state now arguments.state (is_on fs request c.in-Ok.number state c.requires.run c.in-Ok.ensures.ok.0 c.in-Ok.ensures.ok.1 there)
     (c.verdict-verdict.ensures.is state known there.context_is)) c.in-Err-read.ensures.volume)
@@ -115,7 +115,7 @@ returns-in-Err-read-clause-answered g c =
     let fs = fs_of c.args.fs.now in
     let request = in_progress_of c.args.self.now in
     let arguments = read_view c.args.arguments.now in
-    subst (λ (r : Result Operated Fault). IfOk r (IsAnswered request)) (sym c.tell_fault.ensures)
+    subst (λ (r : Result Executed Fault). IfOk r (IsAnswered request)) (sym c.tell_fault.ensures)
     (told_spelled request 25 c.in-Err-read.fault (omega arith)
     (read_up 0 fs (opens_of c.args.opens.now) request arguments c.in-Err-read.fault c.requires.up
     (λ state there known. c.in-Err-read.ensures.step state 0 arguments.state (is_on fs request c.in-Ok.number state c.requires.run c.in-Ok.ensures.ok.0 c.in-Ok.ensures.ok.1 there)
@@ -129,7 +129,7 @@ returns-in-Err-read-clause-volume g c = λ now table.
     let opens = opens_of c.args.opens.now in
     let request = in_progress_of c.args.self.now in
     let arguments = read_view c.args.arguments.now in
-    subst (λ (r : Result Operated Fault). Changes g.D.Device.keeps_word (OperationGives (shared fs table opens) request now (Argument.Read arguments)) fs new (fs_failures c.args.fs.now) (fs_failures c.read.new.self) (ending r))
+    subst (λ (r : Result Executed Fault). Changes g.D.Device.keeps_word (OperationGives (shared fs table opens) request now (Argument.Read arguments)) fs new (fs_failures c.args.fs.now) (fs_failures c.read.new.self) (ending r))
     (sym c.tell_fault.ensures)
     (told_changes now fs opens request arguments g.D.Device.keeps_word new _ _ Bool table c.in-Err-read.fault c.requires.up
     (λ state there known. c.in-Err-read.ensures.step state now arguments.state (is_on fs request c.in-Ok.number state c.requires.run c.in-Ok.ensures.ok.0 c.in-Ok.ensures.ok.1 there)

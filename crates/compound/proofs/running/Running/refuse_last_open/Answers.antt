@@ -19,7 +19,7 @@ use Rattle.compound.specs.Trees.{IsHere}
 use Rattle.compound.specs.Volumes.{OperationGives, ending}
 use Rattle.compound.specs.Views.{in_progress_of}
 use Rattle.compound.specs.declared.fault.Fault.{Fault}
-use Rattle.compound.specs.declared.operated.Operated.{Operated}
+use Rattle.compound.specs.declared.executed.Executed.{Executed}
 use Rattle.compound.proofs.Changing.{told_gives, told_changes, told_spelled}
 use Rattle.compound.proofs.OpenLaws.{on_tree}
 use Rattle.compound.proofs.OpenNamedLaws.{is_opening, open_makes, open_up, sized}
@@ -74,7 +74,7 @@ returns-clause-answered g c =
     let arguments = open_view c.args.arguments.now in
     let number = c.requires.high.0 in
     let asked = new_open request.context.client arguments.owner number arguments.access in
-    subst (λ (r : Result Operated Fault). IfOk r (IsAnswered request)) (sym c.tell_fault.ensures)
+    subst (λ (r : Result Executed Fault). IfOk r (IsAnswered request)) (sym c.tell_fault.ensures)
     (told_spelled request 18 c.in-Err.fault (omega arith) (open_up c.args.now fs request arguments opens c.in-Err.fault c.requires.up
     (λ state there known. c.in-Err.ensures.step state arguments (is_on fs request c.args.opening.directory state c.requires.run c.requires.asked.has c.requires.asked.at there)
     (opening_by c.args.now fs request arguments opens (open_type_view c.args.how.now) c.args.opening c.requires.run c.requires.asked number c.limits.result.now.opens c.has_no_room-is_full.result
@@ -93,7 +93,7 @@ returns-clause-gives g c = λ keeps.
     let number = c.requires.high.0 in
     let asked = new_open request.context.client arguments.owner number arguments.access in
     let room = has_room fs c.args.opening c.open_room-room.result in
-    subst (λ (r : Result Operated Fault). IfOk r (ChangesTreeAndOpens fs new opens opens c.args.now request kind)) (sym c.tell_fault.ensures)
+    subst (λ (r : Result Executed Fault). IfOk r (ChangesTreeAndOpens fs new opens opens c.args.now request kind)) (sym c.tell_fault.ensures)
     (told_gives c.args.now fs request kind (on_tree c.args.now request arguments) room
     (sized c.args.now fs request arguments (type_of c.args.opening.how) c.args.opening.name.now c.args.opening.directory c.requires.asked.opening c.requires.asked.at room
     (c.open_room-room.ensures (effect_of fs.volume.tree c.args.opening.directory c.args.opening.name.now (type_of c.args.opening.how))
@@ -125,7 +125,7 @@ returns-clause-volume g c = λ table.
     let fits = sized c.args.now fs request arguments (type_of c.args.opening.how) c.args.opening.name.now c.args.opening.directory c.requires.asked.opening c.requires.asked.at room
     (c.open_room-room.ensures (effect_of fs.volume.tree c.args.opening.directory c.args.opening.name.now (type_of c.args.opening.how))
     ∙ ap (λ (of : OpenType). has_opened_room request (set_by (effect_of fs.volume.tree c.args.opening.directory c.args.opening.name.now (type_of c.args.opening.how)) of)) (sym c.requires.asked.how)) in
-    subst (λ (r : Result Operated Fault). Changes g.D.Device.keeps_word (OperationGives (shared fs table opens) request c.args.now kind) fs new (fs_failures c.args.fs.now) (fs_failures c.open_file.new.self) (ending r)) (sym c.tell_fault.ensures)
+    subst (λ (r : Result Executed Fault). Changes g.D.Device.keeps_word (OperationGives (shared fs table opens) request c.args.now kind) fs new (fs_failures c.args.fs.now) (fs_failures c.open_file.new.self) (ending r)) (sym c.tell_fault.ensures)
     (told_changes c.args.now fs request kind (on_tree c.args.now request arguments) room fits
     g.D.Device.keeps_word _ new _ _ c.requires.up _ table opens c.in-Err.fault step (open_up c.args.now fs request arguments opens c.in-Err.fault c.requires.up step)
     c.in-Err.ensures.no_room c.in-Err.ensures.device_room

@@ -13,7 +13,7 @@ use Rattle.compound.specs.States.{shared}
 use Rattle.compound.specs.Volumes.{OperationGives, ending}
 use Rattle.compound.specs.Views.{in_progress_of}
 use Rattle.compound.specs.declared.fault.Fault.{Fault}
-use Rattle.compound.specs.declared.operated.Operated.{Operated}
+use Rattle.compound.specs.declared.executed.Executed.{Executed}
 use Rattle.fs.specs.Changes.{Changes}
 use Rattle.compound.proofs.Changing.{done_runs, told_gives, told_changes, told_spelled, told_kept, is_short}
 use Rattle.compound.proofs.Rooms.{gives_in_room, gives_refusal}
@@ -102,7 +102,7 @@ returns-in-Err-remove-clause-gives g c = λ keeps.
     let new = fs_of c.remove.new.self in
     let request = in_progress_of c.args.self.now in
     let name = c.args.name.now in
-    subst (λ (r : Result Operated Fault). IfOk r (ChangesTreeAndOpens fs new (opens_of c.args.opens.now) (opens_of c.args.opens.now) c.args.now request (Argument.Remove name))) (sym c.tell_fault.ensures)
+    subst (λ (r : Result Executed Fault). IfOk r (ChangesTreeAndOpens fs new (opens_of c.args.opens.now) (opens_of c.args.opens.now) c.args.now request (Argument.Remove name))) (sym c.tell_fault.ensures)
     (told_gives c.args.now fs request (Argument.Remove name) (on_tree c.args.now fs request name) _ (sized c.args.now fs request name _ c.has_removed_room-has_room.ensures)
     g.D.Device.keeps_word _ new _ _ c.requires.up _ (opens_of c.args.opens.now) (opens_of c.args.opens.now) c.in-Err-remove.fault refl
     (λ state there known. c.in-Err-remove.ensures.step state (is_on fs request _ _ c.requires.run c.in-Ok.ensures.ok.0 c.in-Ok.ensures.ok.1 there))
@@ -113,12 +113,12 @@ unfolding in_progress_of
 returns-in-Err-remove-clause-answered g c =
     let fs = fs_of c.args.fs.now in
     let request = in_progress_of c.args.self.now in
-    subst (λ (r : Result Operated Fault). IfOk r (IsAnswered request)) (sym c.tell_fault.ensures)
+    subst (λ (r : Result Executed Fault). IfOk r (IsAnswered request)) (sym c.tell_fault.ensures)
     (told_spelled request 28 c.in-Err-remove.fault (omega arith) (remove_up c.args.now fs request c.args.name.now _ c.in-Err-remove.fault c.requires.up c.requires.run c.in-Ok.ensures.ok.0 c.in-Ok.ensures.ok.1 c.in-Err-remove.ensures.step))
 
 pub returns-in-Err-remove-clause-kept : goal.returns-in-Err-remove-clause-kept
 returns-in-Err-remove-clause-kept g c = λ table.
-    subst (λ (r : Result Operated Fault). IfOk r (IsKept table)) (sym c.tell_fault.ensures) (told_kept table 28 c.in-Err-remove.fault)
+    subst (λ (r : Result Executed Fault). IfOk r (IsKept table)) (sym c.tell_fault.ensures) (told_kept table 28 c.in-Err-remove.fault)
 
 pub returns-in-Err-remove-clause-volume : goal.returns-in-Err-remove-clause-volume
 unfolding in_progress_of
@@ -128,7 +128,7 @@ returns-in-Err-remove-clause-volume g c = λ table.
     let new = fs_of c.remove.new.self in
     let request = in_progress_of c.args.self.now in
     let name = c.args.name.now in
-    subst (λ (r : Result Operated Fault). Changes g.D.Device.keeps_word (OperationGives (shared fs table opens) request c.args.now (Argument.Remove name)) fs new (fs_failures c.args.fs.now) (fs_failures c.remove.new.self) (ending r))
+    subst (λ (r : Result Executed Fault). Changes g.D.Device.keeps_word (OperationGives (shared fs table opens) request c.args.now (Argument.Remove name)) fs new (fs_failures c.args.fs.now) (fs_failures c.remove.new.self) (ending r))
     (sym c.tell_fault.ensures)
     (told_changes c.args.now fs request (Argument.Remove name) (on_tree c.args.now fs request name) _ (sized c.args.now fs request name _ c.has_removed_room-has_room.ensures)
     g.D.Device.keeps_word _ new _ _ c.requires.up _ table opens c.in-Err-remove.fault

@@ -9,7 +9,7 @@ use Rattle.compound.specs.States.{shared}
 use Rattle.compound.specs.Volumes.{OperationGives, ending}
 use Rattle.compound.specs.Views.{in_progress_of}
 use Rattle.compound.specs.declared.fault.Fault.{Fault}
-use Rattle.compound.specs.declared.operated.Operated.{Operated}
+use Rattle.compound.specs.declared.executed.Executed.{Executed}
 use Rattle.fs.specs.Changes.{Changes}
 use Rattle.compound.proofs.Changing.{done_runs, told_gives, told_changes, told_spelled, told_kept, is_short, refused_gives}
 use Rattle.compound.proofs.Rooms.{gives_in_room}
@@ -102,7 +102,7 @@ returns-in-Err-rename-clause-gives g c = λ keeps.
     let new = fs_of c.rename.new.self in
     let request = in_progress_of c.args.self.now in
     let arguments = rename_view c.args.arguments.now in
-    subst (λ (r : Result Operated Fault). IfOk r (ChangesTreeAndOpens fs new (opens_of c.args.opens.now) (opens_of c.args.opens.now) c.args.now request (Argument.Rename arguments))) (sym c.tell_fault.ensures)
+    subst (λ (r : Result Executed Fault). IfOk r (ChangesTreeAndOpens fs new (opens_of c.args.opens.now) (opens_of c.args.opens.now) c.args.now request (Argument.Rename arguments))) (sym c.tell_fault.ensures)
     (told_gives c.args.now fs request (Argument.Rename arguments) (on_tree c.args.now fs request arguments) _ (sized c.args.now fs request arguments _ c.has_renamed_room-has_room.ensures)
     g.D.Device.keeps_word _ new _ _ c.requires.up _ (opens_of c.args.opens.now) (opens_of c.args.opens.now) c.in-Err-rename.fault refl
     (λ state there known. c.in-Err-rename.ensures.step state (is_on_both c.args.now fs request arguments c.in-Ok.numbers c.requires.run c.in-Ok.ensures.ok state there))
@@ -113,12 +113,12 @@ unfolding in_progress_of
 returns-in-Err-rename-clause-answered g c =
     let fs = fs_of c.args.fs.now in
     let request = in_progress_of c.args.self.now in
-    subst (λ (r : Result Operated Fault). IfOk r (IsAnswered request)) (sym c.tell_fault.ensures)
+    subst (λ (r : Result Executed Fault). IfOk r (IsAnswered request)) (sym c.tell_fault.ensures)
     (told_spelled request 29 c.in-Err-rename.fault (omega arith) (rename_up c.args.now fs request (rename_view c.args.arguments.now) c.in-Ok.numbers c.in-Err-rename.fault c.requires.up c.requires.run c.in-Ok.ensures.ok c.in-Err-rename.ensures.step))
 
 pub returns-in-Err-rename-clause-kept : goal.returns-in-Err-rename-clause-kept
 returns-in-Err-rename-clause-kept g c = λ table.
-    subst (λ (r : Result Operated Fault). IfOk r (IsKept table)) (sym c.tell_fault.ensures) (told_kept table 29 c.in-Err-rename.fault)
+    subst (λ (r : Result Executed Fault). IfOk r (IsKept table)) (sym c.tell_fault.ensures) (told_kept table 29 c.in-Err-rename.fault)
 
 pub returns-in-Err-rename-clause-volume : goal.returns-in-Err-rename-clause-volume
 unfolding in_progress_of
@@ -128,7 +128,7 @@ returns-in-Err-rename-clause-volume g c = λ table.
     let new = fs_of c.rename.new.self in
     let request = in_progress_of c.args.self.now in
     let arguments = rename_view c.args.arguments.now in
-    subst (λ (r : Result Operated Fault). Changes g.D.Device.keeps_word (OperationGives (shared fs table opens) request c.args.now (Argument.Rename arguments)) fs new (fs_failures c.args.fs.now) (fs_failures c.rename.new.self) (ending r))
+    subst (λ (r : Result Executed Fault). Changes g.D.Device.keeps_word (OperationGives (shared fs table opens) request c.args.now (Argument.Rename arguments)) fs new (fs_failures c.args.fs.now) (fs_failures c.rename.new.self) (ending r))
     (sym c.tell_fault.ensures)
     (told_changes c.args.now fs request (Argument.Rename arguments) (on_tree c.args.now fs request arguments) _ (sized c.args.now fs request arguments _ c.has_renamed_room-has_room.ensures)
     g.D.Device.keeps_word _ new _ _ c.requires.up _ table opens c.in-Err-rename.fault

@@ -16,7 +16,7 @@ use Rattle.compound.specs.Trees.{IsHere}
 use Rattle.compound.specs.Volumes.{OperationGives, ending}
 use Rattle.compound.specs.Views.{in_progress_of}
 use Rattle.compound.specs.declared.fault.Fault.{Fault}
-use Rattle.compound.specs.declared.operated.Operated.{Operated}
+use Rattle.compound.specs.declared.executed.Executed.{Executed}
 use Rattle.compound.proofs.Changing.{done_runs, told_gives, told_changes, told_spelled, told_kept, is_short}
 use Rattle.compound.proofs.Rooms.{gives_in_room, gives_refusal}
 use Rattle.compound.proofs.SettingLaws.{on_tree, sized, does_set, set_makes, set_up}
@@ -112,7 +112,7 @@ returns-in-Err-set_attributes-clause-gives g c = λ keeps.
     let request = in_progress_of c.args.self.now in
     let arguments = set_attr_view c.args.arguments.now in
     let kind = Argument.SetAttr arguments in
-    subst (λ (r : Result Operated Fault). IfOk r (ChangesTreeAndOpens fs new opens opens c.args.now request kind)) (sym c.tell_fault.ensures)
+    subst (λ (r : Result Executed Fault). IfOk r (ChangesTreeAndOpens fs new opens opens c.args.now request kind)) (sym c.tell_fault.ensures)
     (told_gives c.args.now fs request kind (on_tree c.args.now fs request arguments) _ (sized c.args.now fs request arguments _ c.has_set_room-has_room.ensures)
     g.D.Device.keeps_word _ new _ _ c.requires.up _ opens opens c.in-Err-set_attributes.fault refl
     (λ state there known. c.in-Err-set_attributes.ensures.step state arguments (is_on fs request _ state c.requires.run c.in-Ok.ensures.ok.0 c.in-Ok.ensures.ok.1 there)
@@ -126,14 +126,14 @@ returns-in-Err-set_attributes-clause-answered g c =
     let fs = fs_of c.args.fs.now in
     let request = in_progress_of c.args.self.now in
     let arguments = set_attr_view c.args.arguments.now in
-    subst (λ (r : Result Operated Fault). IfOk r (IsAnswered request)) (sym c.tell_fault.ensures)
+    subst (λ (r : Result Executed Fault). IfOk r (IsAnswered request)) (sym c.tell_fault.ensures)
     (told_spelled request 34 c.in-Err-set_attributes.fault (omega arith) (set_up c.args.now fs request arguments opens c.in-Err-set_attributes.fault c.requires.up
     (λ state there known. c.in-Err-set_attributes.ensures.step state arguments (is_on fs request _ state c.requires.run c.in-Ok.ensures.ok.0 c.in-Ok.ensures.ok.1 there)
     (record { verdict_is = c.verdict-verdict.ensures.is state known there.context_is; attributes_are = given_is _ _ (sym c.as_slice.ensures.numbers) }))))
 
 pub returns-in-Err-set_attributes-clause-kept : goal.returns-in-Err-set_attributes-clause-kept
 returns-in-Err-set_attributes-clause-kept g c = λ table.
-    subst (λ (r : Result Operated Fault). IfOk r (IsKept table)) (sym c.tell_fault.ensures) (told_kept table 34 c.in-Err-set_attributes.fault)
+    subst (λ (r : Result Executed Fault). IfOk r (IsKept table)) (sym c.tell_fault.ensures) (told_kept table 34 c.in-Err-set_attributes.fault)
 
 pub returns-in-Err-set_attributes-clause-volume : goal.returns-in-Err-set_attributes-clause-volume
 unfolding in_progress_of
@@ -146,7 +146,7 @@ returns-in-Err-set_attributes-clause-volume g c = λ table.
     let kind = Argument.SetAttr arguments in
     let setting = λ (state : State) (there : IsHere fs request state) (known : state.opens ≡ opens). let is : IsSetting state _ arguments = record { verdict_is = c.verdict-verdict.ensures.is state known there.context_is; attributes_are = given_is _ _ (sym c.as_slice.ensures.numbers) } in is in
     let step = λ (state : State) (there : IsHere fs request state) (known : state.opens ≡ opens). c.in-Err-set_attributes.ensures.step state arguments (is_on fs request _ state c.requires.run c.in-Ok.ensures.ok.0 c.in-Ok.ensures.ok.1 there) (setting state there known) in
-    subst (λ (r : Result Operated Fault). Changes g.D.Device.keeps_word (OperationGives (shared fs table opens) request c.args.now kind) fs new (fs_failures c.args.fs.now) (fs_failures c.set_attributes.new.self) (ending r))
+    subst (λ (r : Result Executed Fault). Changes g.D.Device.keeps_word (OperationGives (shared fs table opens) request c.args.now kind) fs new (fs_failures c.args.fs.now) (fs_failures c.set_attributes.new.self) (ending r))
     (sym c.tell_fault.ensures)
     (told_changes c.args.now fs request kind (on_tree c.args.now fs request arguments) _ (sized c.args.now fs request arguments _ c.has_set_room-has_room.ensures)
     g.D.Device.keeps_word _ new _ _ c.requires.up _ table opens c.in-Err-set_attributes.fault

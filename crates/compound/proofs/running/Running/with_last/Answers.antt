@@ -1,6 +1,6 @@
 use Rattle.std.proofs.Common.{◌≡◌, ◌++◌, Some, length, ap, arith, length-append}
 use Rattle.model.specs.World.{InProgress}
-use Rattle.compound.specs.Told.{told_status, told_text}
+use Rattle.compound.specs.EncodedResult.{told_status, told_text}
 use Rattle.compound.specs.Views.{in_progress_of, asked_of}
 use Rattle.compound.proofs.Tellings.{told_short}
 use Rattle.compound.proofs.running.Running.with_last.Goals as goal
@@ -8,7 +8,7 @@ use Rattle.compound.proofs.running.Running.with_last.Goals as goal
 pub with_last-requires-clause-room : goal.with_last-requires-clause-room
 unfolding in_progress_of
 with_last-requires-clause-room c =
-    omega (arith, told_short (in_progress_of c.args.self) c.args.told c.requires.told (c.args.self.room c.requires.more))
+    omega (arith, told_short (in_progress_of c.args.self) c.args.encoded c.requires.encoded (c.args.self.room c.requires.more))
 
 pub invariant_of-result : goal.invariant_of-result
 unfolding in_progress_of
@@ -16,15 +16,15 @@ invariant_of-result c =
     let old = c.args.self.progress in
     let new = c.with_last.result in
     let pushed = c.with_last.ensures.request (asked_of c.args.self) in
-    let results : new.results.bytes ≡ old.results.bytes ++ told_text c.args.told = ap (λ (r : InProgress). r.results) pushed in
-    let ended : new.ended ≡ Some (told_status c.args.told) = ap (λ (r : InProgress). r.ended) pushed in
+    let results : new.results.bytes ≡ old.results.bytes ++ told_text c.args.encoded = ap (λ (r : InProgress). r.results) pushed in
+    let ended : new.ended ≡ Some (told_status c.args.encoded) = ap (λ (r : InProgress). r.ended) pushed in
     record {
       within = omega (arith, c.args.self.within, c.with_last.ensures.position);
       brief = omega (
         arith,
-        told_short (in_progress_of c.args.self) c.args.told c.requires.told (c.args.self.room c.requires.more),
+        told_short (in_progress_of c.args.self) c.args.encoded c.requires.encoded (c.args.self.room c.requires.more),
         ap length results,
-        length-append old.results.bytes (told_text c.args.told),
+        length-append old.results.bytes (told_text c.args.encoded),
       );
       more = λ none. let never : ⊥ = cc in absurd never;
       room = λ none. let never : ⊥ = cc in absurd never;

@@ -16,7 +16,7 @@ use Rattle.compound.specs.Trees.{IsHere}
 use Rattle.compound.specs.Volumes.{OperationGives, ending}
 use Rattle.compound.specs.Views.{in_progress_of}
 use Rattle.compound.specs.declared.fault.Fault.{Fault}
-use Rattle.compound.specs.declared.operated.Operated.{Operated}
+use Rattle.compound.specs.declared.executed.Executed.{Executed}
 use Rattle.compound.proofs.Changing.{done_runs, told_gives, told_changes, told_spelled, told_kept, is_short}
 use Rattle.compound.proofs.Rooms.{gives_in_room, gives_refusal}
 use Rattle.compound.proofs.Trees.{is_on}
@@ -114,7 +114,7 @@ returns-in-Err-write-clause-gives g c = λ keeps.
     let request = in_progress_of c.args.self.now in
     let arguments = write_view c.args.arguments.now in
     let kind = Argument.Write arguments in
-    subst (λ (r : Result Operated Fault). IfOk r (ChangesTreeAndOpens fs new opens opens c.args.now request kind)) (sym c.tell_fault.ensures)
+    subst (λ (r : Result Executed Fault). IfOk r (ChangesTreeAndOpens fs new opens opens c.args.now request kind)) (sym c.tell_fault.ensures)
     (told_gives c.args.now fs request kind (write_on_tree c.args.now fs request arguments) _ (write_sized c.args.now fs request arguments _ c.has_written_room-has_room.ensures)
     g.D.Device.keeps_word _ new _ _ c.requires.up _ opens opens c.in-Err-write.fault refl
     (λ state there known. c.in-Err-write.ensures.step state arguments (is_on fs request _ state c.requires.run c.in-Ok.ensures.ok.0 c.in-Ok.ensures.ok.1 there)
@@ -128,14 +128,14 @@ returns-in-Err-write-clause-answered g c =
     let fs = fs_of c.args.fs.now in
     let request = in_progress_of c.args.self.now in
     let arguments = write_view c.args.arguments.now in
-    subst (λ (r : Result Operated Fault). IfOk r (IsAnswered request)) (sym c.tell_fault.ensures)
+    subst (λ (r : Result Executed Fault). IfOk r (IsAnswered request)) (sym c.tell_fault.ensures)
     (told_spelled request 38 c.in-Err-write.fault (omega arith) (write_up c.args.now fs request arguments opens c.in-Err-write.fault c.requires.up
     (λ state there known. c.in-Err-write.ensures.step state arguments (is_on fs request _ state c.requires.run c.in-Ok.ensures.ok.0 c.in-Ok.ensures.ok.1 there)
     (record { verdict_is = c.verdict-verdict.ensures.is state known there.context_is; offset_is = refl; bytes_are = refl; stable_is = c.is_to_be_stable.ensures }))))
 
 pub returns-in-Err-write-clause-kept : goal.returns-in-Err-write-clause-kept
 returns-in-Err-write-clause-kept g c = λ table.
-    subst (λ (r : Result Operated Fault). IfOk r (IsKept table)) (sym c.tell_fault.ensures) (told_kept table 38 c.in-Err-write.fault)
+    subst (λ (r : Result Executed Fault). IfOk r (IsKept table)) (sym c.tell_fault.ensures) (told_kept table 38 c.in-Err-write.fault)
 
 pub returns-in-Err-write-clause-volume : goal.returns-in-Err-write-clause-volume
 unfolding in_progress_of
@@ -148,7 +148,7 @@ returns-in-Err-write-clause-volume g c = λ table.
     let kind = Argument.Write arguments in
     let writing = λ (state : State) (there : IsHere fs request state) (known : state.opens ≡ opens). let is : IsWriting state _ _ arguments = record { verdict_is = c.verdict-verdict.ensures.is state known there.context_is; offset_is = refl; bytes_are = refl; stable_is = c.is_to_be_stable.ensures } in is in
     let step = λ (state : State) (there : IsHere fs request state) (known : state.opens ≡ opens). c.in-Err-write.ensures.step state arguments (is_on fs request _ state c.requires.run c.in-Ok.ensures.ok.0 c.in-Ok.ensures.ok.1 there) (writing state there known) in
-    subst (λ (r : Result Operated Fault). Changes g.D.Device.keeps_word (OperationGives (shared fs table opens) request c.args.now kind) fs new (fs_failures c.args.fs.now) (fs_failures c.write.new.self) (ending r))
+    subst (λ (r : Result Executed Fault). Changes g.D.Device.keeps_word (OperationGives (shared fs table opens) request c.args.now kind) fs new (fs_failures c.args.fs.now) (fs_failures c.write.new.self) (ending r))
     (sym c.tell_fault.ensures)
     (told_changes c.args.now fs request kind (write_on_tree c.args.now fs request arguments) _ (write_sized c.args.now fs request arguments _ c.has_written_room-has_room.ensures)
     g.D.Device.keeps_word _ new _ _ c.requires.up _ table opens c.in-Err-write.fault
