@@ -68,11 +68,11 @@ module _ (card : Card) where
 
     -- and so does what is answered of it
     pub shows : (limits : Limits) (node : NodeAttributes) → node.kind ≡ card.fields.kind → node.number ≡ card.fields.number → node.owner ≡ card.fields.owner → node.group ≡ card.fields.group
-        → node.acl.now ≡ card.fields.acl → node.mode ≡ mode_of card.fields.acl → node.change ≡ card.fields.change → node.time_modify ≡ card.fields.time_modify
+        → node.acl.now ≡ card.fields.acl → node.change ≡ card.fields.change → node.time_modify ≡ card.fields.time_modify
         → node.size ≡ card.fields.size → node.max_file_size ≡ limits.file_bytes → node.max_name ≡ limits.name_bytes
         → node.max_transfer ≡ limits.transfer_bytes → (bitmap : List ℕ) → attributes_answered node bitmap ≡ node_attributes limits bitmap card.fields.number (node_shown card)
     unfolding attributes_answered node_attributes answered_by
-    shows limits node kind number owner group acl mode change time size file name transfer bitmap =
+    shows limits node kind number owner group acl change time size file name transfer bitmap =
         let here : map (value_of node) every_attribute ≡ node_values limits card.fields.number (node_shown card)
-        = rw (kind, number, owner, group, acl, mode, change, time, size, file, name, transfer, kind_shown card.fields.kind, size_shown) refl in
+        = rw (kind, number, owner, group, acl, change, time, size, file, name, transfer, kind_shown card.fields.kind, size_shown) refl in
         ap (answered_by bitmap) here

@@ -4,7 +4,6 @@ use crate::fault::FsFault;
 use crate::fs::Fs;
 use crate::rights::grants;
 use acl_eval::{Cred, Mask};
-use acl_set::mode_of;
 use disk::Device;
 use model::status::Status;
 use node_table::Card;
@@ -84,7 +83,6 @@ impl<D: Device> Fs<D> {
             owner: inode.owner,
             group: inode.group,
             acl: inode.acl.as_slice(),
-            mode: mode_of(inode.acl.as_slice()),
             change: inode.change,
             time_modify: inode.time_modify,
             size: inode.size,

@@ -5,6 +5,7 @@ use Rattle.model.specs.AclText.{entry_text}
 use Rattle.model.specs.Attribute.{attributes_of, is_among, trimmed}
 use Rattle.model.specs.AttributeValue as spec
 use Rattle.model.specs.AttributeValue.{value_text}
+use Rattle.model.specs.Mode.{mode_of}
 use Rattle.model.specs.NodeAttributes.{supported_bitmap, time_of, lease_time, acl_support, asked_values, common}
 use Rattle.model.specs.Operation as operation
 use Rattle.model.specs.Stamp.{filehandle_of}
@@ -92,7 +93,7 @@ value_of node attribute.MaxFileSize = spec.MaxFileSize node.max_file_size
 value_of node attribute.MaxName = spec.MaxName node.max_name
 value_of node attribute.MaxRead = spec.MaxRead node.max_transfer
 value_of node attribute.MaxWrite = spec.MaxWrite node.max_transfer
-value_of node attribute.Mode = spec.Mode node.mode
+value_of node attribute.Mode = spec.Mode (mode_of node.acl.now)
 value_of node attribute.NumLinks = spec.NumLinks 1
 value_of node attribute.Owner = spec.Owner (decimal node.owner)
 value_of node attribute.OwnerGroup = spec.OwnerGroup (decimal node.group)

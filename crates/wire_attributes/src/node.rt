@@ -16,6 +16,7 @@ ghost use Rattle.xdr.specs.Grammar.{number};
 use crate::ace::{number_of_kind, wire_flags};
 use crate::attribute::Attribute;
 use crate::entry::AclEntry;
+use acl_set::mode_of;
 use bitflags::Flags;
 use itoa::Buffer;
 use model::acl::{Ace, Acl, Who};
@@ -44,8 +45,6 @@ pub struct NodeAttributes<'a> {
     pub owner: u32,
     pub group: u32,
     pub acl: &'a [Ace],
-    /// The nine bits that the list comes to.
-    pub mode: u32,
     pub change: u64,
     /// Nanoseconds since 1970.
     pub time_modify: u64,
@@ -257,7 +256,8 @@ impl NodeAttributes<'_> {
             Attribute::MaxFileSize => w.write_u64(self.max_file_size),
             Attribute::MaxName => w.write_u32(self.max_name),
             Attribute::MaxRead | Attribute::MaxWrite => w.write_u64(self.max_transfer),
-            Attribute::Mode => w.write_u32(self.mode),
+            // Nobody keeps it: the list is gone through where it is asked.
+            Attribute::Mode => w.write_u32(mode_of(self.acl)),
             Attribute::NumLinks => w.write_u32(1),
             Attribute::Owner => write_owner(w, self.owner),
             Attribute::OwnerGroup => write_owner(w, self.group),

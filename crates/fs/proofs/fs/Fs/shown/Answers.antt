@@ -1,7 +1,6 @@
 use Rattle.std.proofs.Common.{◌∙◌, ap}
 use Rattle.layout.specs.Cards.{Card}
 use Rattle.model.specs.declared.limits.Limits.{Limits}
-use Rattle.model.specs.Mode.{mode_of}
 use Rattle.fs.specs.Views.{fs_of}
 use Rattle.fs.proofs.AttributeLaws.{shows}
 use Rattle.fs.proofs.fs.Fs.shown.Goals as goal
@@ -14,7 +13,7 @@ returns-clause-shows g c bitmap =
     shows c.args.card.now c.requires.fits limits _
     (ap (λ (it : Card). it.fields.kind) c.card.view_is) (ap (λ (it : Card). it.fields.number) c.card.view_is)
     (ap (λ (it : Card). it.fields.owner) c.card.view_is) (ap (λ (it : Card). it.fields.group) c.card.view_is)
-    (c.as_slice.ensures ∙ acl) (c.mode_of.ensures.value ∙ ap mode_of (c.as_slice-2.ensures ∙ acl))
+    (c.as_slice.ensures ∙ acl)
     (ap (λ (it : Card). it.fields.change) c.card.view_is) (ap (λ (it : Card). it.fields.time_modify) c.card.view_is)
     (ap (λ (it : Card). it.fields.size) c.card.view_is)
     (ap (λ (l : Limits). l.file_bytes) c.limits-limits.ensures.limits) (ap (λ (l : Limits). l.name_bytes) c.limits-limits.ensures.limits)
