@@ -1,15 +1,13 @@
 //! A mounted volume, its peers, and the loop over them.
 
 use crate::door::Door;
-use crate::inbox::Inbox;
-use crate::pace::Pace;
-use crate::peer::{Peer, Step};
 use crate::told::Told;
 use callers::{Refused, link};
 use disk::Device;
 use mio::event::Event;
 use mio::net::TcpStream;
 use mio::{Events, Interest, Poll, Token};
+use peer::{Inbox, Pace, Peer, Step};
 use server::{MAX_CONNECTIONS, Server};
 use slab::Slab;
 use std::alloc::Global;

@@ -1,6 +1,6 @@
 //! What the operator was told, and when.
 
-use crate::delayed::Delayed;
+use peer::Delayed;
 use std::io::Write;
 use std::time::{Duration, Instant};
 

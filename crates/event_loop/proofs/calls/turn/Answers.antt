@@ -1,5 +1,0 @@
-use Rattle.event_loop.proofs.Made.{turned}
-use Rattle.event_loop.proofs.calls.turn.Goals as goal
-
-pub returns-clause-ok : goal.returns-clause-ok
-returns-clause-ok g c = turned c.args.server.now c.turn.new.self c.args.conn c.args.now c.turn.result c.turn.ensures.turned c.turn.ensures.ok

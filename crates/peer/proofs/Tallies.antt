@@ -1,0 +1,149 @@
+-- What is counted of calls, and bytes that come and go.
+use Rattle.std.proofs.Common.{◌≡◌, ℕ, ◌+◌, List, [], ◌∷◌, ◌++◌, take, Option, Some, None, refl, ap, sym, subst, ◌∙◌, append_assoc, append-nil, arith}
+use Rattle.std.specs.Global.{Vec}
+use Rattle.std.specs.Io.KnownBytes.{Appends, Consumes, Keeps}
+use Rattle.disk.specs.declared.device.Device.{Ghosts}
+use Rattle.model.specs.Runs.{Arrives, Turns, Takes}
+use Rattle.server.specs.Seen.{Call, Did, Said, Took}
+use Rattle.server.specs.Views.{gave}
+use Rattle.server.specs.declared.server.Server.{Server}
+use Rattle.peer.specs.Calls.{Goes, IsNone, IsOne}
+use Rattle.peer.specs.Steps.{AreOn, all_by, count_by, shown_by, taken_by, closings_by, turns_by, given_by, bytes_of, Tally, IsTallied}
+use Rattle.peer.proofs.Made.{goes_as, goes_on}
+
+-- Calls
+
+on-append : (connection : ℕ) (more calls : List Call) → AreOn connection more → AreOn connection calls → AreOn connection (more ++ calls)
+on-append connection [] calls more rest = rest
+on-append connection (call ∷ more) calls more_on rest = (more_on.0, on-append connection more calls more_on.1 rest)
+
+all-append : {A : Type 0} (by : Call → List A) (more calls : List Call) → all_by by (more ++ calls) ≡ all_by by calls ++ all_by by more
+all-append by [] calls = sym (append-nil (all_by by calls))
+all-append by (call ∷ more) calls =
+    ap (λ front. front ++ by call) (all-append by more calls) ∙ append_assoc (all_by by calls) (all_by by more) (by call)
+
+count-append : (by : Call → ℕ) (more calls : List Call) → count_by by (more ++ calls) ≡ count_by by calls + count_by by more
+count-append by [] calls = omega arith
+count-append by (call ∷ more) calls = let rest = count-append by more calls in omega (arith, rest)
+
+-- one tally and then another
+abbrev pub joined : Tally → Tally → Tally
+joined a b = record {
+  came = a.came ++ b.came;
+  shown = a.shown ++ b.shown;
+  taken = a.taken ++ b.taken;
+  closings = a.closings + b.closings;
+  turns = a.turns + b.turns;
+  given = a.given ++ b.given;
+  written = a.written ++ b.written;
+}
+
+abbrev pub nothing : Tally
+nothing = record { came = []; shown = []; taken = []; closings = 0; turns = 0; given = []; written = [] }
+
+tallied_both : (connection : ℕ) (a b : Tally) (calls more : List Call) → IsTallied connection a calls → IsTallied connection b more
+    → IsTallied connection (joined a b) (more ++ calls)
+tallied_both connection a b calls more one two = record {
+  on = on-append connection more calls two.on one.on;
+  shown = rw (all-append shown_by more calls, one.shown, two.shown) refl;
+  taken = rw (all-append taken_by more calls, one.taken, two.taken) refl;
+  closings = rw (count-append closings_by more calls, one.closings, two.closings) refl;
+  turns = rw (count-append turns_by more calls, one.turns, two.turns) refl;
+  given = rw (all-append given_by more calls, one.given, two.given) refl;
+}
+
+pub tallies_then : {D : Type 0} {g : Ghosts D} {keeps : Type 0} {old between new : Server D g} (connection : ℕ) (a b : Tally)
+    → Goes keeps old between (IsTallied connection a) → Goes keeps between new (IsTallied connection b) → Goes keeps old new (IsTallied connection (joined a b))
+tallies_then connection a b before after =
+    goes_on {first = IsTallied connection a} {then = IsTallied connection b} {kind = IsTallied connection (joined a b)}
+    (tallied_both connection a b) before after
+
+-- no call, or one; what comes from the stream and goes to it is no call's
+
+pub tally_none : {D : Type 0} {g : Ghosts D} {keeps : Type 0} {old new : Server D g} (connection : ℕ) (came written : List ℕ)
+    → Goes keeps old new IsNone → Goes keeps old new (IsTallied connection (record nothing { came = came; written = written }))
+tally_none connection came written none =
+    goes_as {first = IsNone} {kind = IsTallied connection (record nothing { came = came; written = written })}
+    (λ (calls : List Call) (is : calls ≡ []). subst (IsTallied connection (record nothing { came = came; written = written })) (sym is)
+    (record { on = tt; shown = refl; taken = refl; closings = refl; turns = refl; given = refl })) none
+
+pub tally_taken : {D : Type 0} {g : Ghosts D} {keeps : Type 0} {old new : Server D g} (connection : ℕ) (piece : List ℕ) (count : ℕ)
+    → Goes keeps old new (IsOne (Did (Arrives connection piece) (Took (Some count))))
+    → Goes keeps old new (IsTallied connection (record nothing { shown = piece ∷ []; taken = take count piece }))
+tally_taken connection piece count one =
+    goes_as {first = IsOne (Did (Arrives connection piece) (Took (Some count)))}
+    {kind = IsTallied connection (record nothing { shown = piece ∷ []; taken = take count piece })}
+    (λ (calls : List Call) (is : calls ≡ Did (Arrives connection piece) (Took (Some count)) ∷ []).
+    subst (IsTallied connection (record nothing { shown = piece ∷ []; taken = take count piece })) (sym is)
+    (record { on = (refl, tt); shown = refl; taken = refl; closings = refl; turns = refl; given = refl })) one
+
+pub tally_closes : {D : Type 0} {g : Ghosts D} {keeps : Type 0} {old new : Server D g} (connection : ℕ) (piece : List ℕ)
+    → Goes keeps old new (IsOne (Did (Arrives connection piece) (Took None)))
+    → Goes keeps old new (IsTallied connection (record nothing { shown = piece ∷ []; closings = 1 }))
+tally_closes connection piece one =
+    goes_as {first = IsOne (Did (Arrives connection piece) (Took None))}
+    {kind = IsTallied connection (record nothing { shown = piece ∷ []; closings = 1 })}
+    (λ (calls : List Call) (is : calls ≡ Did (Arrives connection piece) (Took None) ∷ []).
+    subst (IsTallied connection (record nothing { shown = piece ∷ []; closings = 1 })) (sym is)
+    (record { on = (refl, tt); shown = refl; taken = refl; closings = refl; turns = refl; given = refl })) one
+
+pub tally_turn : {D : Type 0} {g : Ghosts D} {keeps : Type 0} {old new : Server D g} (connection now : ℕ) (said : Said)
+    → Goes keeps old new (IsOne (Did (Turns connection now) said)) → Goes keeps old new (IsTallied connection (record nothing { turns = 1 }))
+tally_turn connection now said one =
+    goes_as {first = IsOne (Did (Turns connection now) said)} {kind = IsTallied connection (record nothing { turns = 1 })}
+    (λ (calls : List Call) (is : calls ≡ Did (Turns connection now) said ∷ []).
+    subst (IsTallied connection (record nothing { turns = 1 })) (sym is)
+    (record { on = (refl, tt); shown = refl; taken = refl; closings = refl; turns = refl; given = refl })) one
+
+gives-output : (connection : ℕ) (output : Option (Vec ℕ)) → given_by (Did (Takes connection) (gave output)) ≡ bytes_of output
+gives-output connection None = refl
+gives-output connection (Some reply) = refl
+
+pub tally_given : {D : Type 0} {g : Ghosts D} {keeps : Type 0} {old new : Server D g} (connection : ℕ) (output : Option (Vec ℕ)) (written : List ℕ)
+    → Goes keeps old new (IsOne (Did (Takes connection) (gave output)))
+    → Goes keeps old new (IsTallied connection (record nothing { given = bytes_of output; written = written }))
+tally_given connection output written one =
+    goes_as {first = IsOne (Did (Takes connection) (gave output))}
+    {kind = IsTallied connection (record nothing { given = bytes_of output; written = written })}
+    (λ (calls : List Call) (is : calls ≡ Did (Takes connection) (gave output) ∷ []).
+    subst (IsTallied connection (record nothing { given = bytes_of output; written = written })) (sym is)
+    (record { on = (refl, tt); shown = refl; taken = refl; closings = refl; turns = refl; given = gives-output connection output })) one
+
+-- Bytes that are known
+
+pub consumes_none : (known : Option (List ℕ)) → Consumes known known []
+consumes_none None = tt
+consumes_none (Some known) = refl
+
+pub consumes_kept : (old new : Option (List ℕ)) → Keeps old new → Consumes old new []
+consumes_kept None new keeps = tt
+consumes_kept (Some old) None keeps = absurd keeps
+consumes_kept (Some old) (Some new) keeps = sym keeps
+
+pub consumes_then : (old between new : Option (List ℕ)) (first more : List ℕ) → Consumes old between first → Consumes between new more → Consumes old new (first ++ more)
+consumes_then None between new first more one two = tt
+consumes_then (Some old) None new first more one two = absurd one
+consumes_then (Some old) (Some between) None first more one two = absurd two
+consumes_then (Some old) (Some between) (Some new) first more one two =
+    one ∙ ap (λ rest. first ++ rest) two ∙ sym (append_assoc first more new)
+
+pub appends_none : (known : Option (List ℕ)) → Appends known known []
+appends_none None = tt
+appends_none (Some known) = sym (append-nil known)
+
+pub appends_kept : (old new : Option (List ℕ)) → Keeps old new → Appends old new []
+appends_kept None new keeps = tt
+appends_kept (Some old) None keeps = absurd keeps
+appends_kept (Some old) (Some new) keeps = keeps ∙ sym (append-nil old)
+
+pub appends_then : (old between new : Option (List ℕ)) (first more : List ℕ) → Appends old between first → Appends between new more → Appends old new (first ++ more)
+appends_then None between new first more one two = tt
+appends_then (Some old) None new first more one two = absurd one
+appends_then (Some old) (Some between) None first more one two = absurd two
+appends_then (Some old) (Some between) (Some new) first more one two =
+    two ∙ ap (λ front. front ++ more) one ∙ append_assoc old first more
+
+-- what goes in and what comes out, first and then
+pub in_order : (a b x y z p q : List ℕ) → a ++ y ≡ x ++ p → b ++ z ≡ y ++ q → (a ++ b) ++ z ≡ x ++ (p ++ q)
+in_order a b x y z p q one two =
+    append_assoc a b z ∙ ap (λ rest. a ++ rest) two ∙ sym (append_assoc a y q) ∙ ap (λ front. front ++ q) one ∙ append_assoc x p q

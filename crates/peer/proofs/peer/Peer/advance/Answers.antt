@@ -1,0 +1,25 @@
+use Rattle.std.proofs.Common.{[], refl, sym, append-nil}
+use Rattle.peer.specs.Steps.{Dismissed}
+use Rattle.peer.proofs.Carried.{quiet, sends_on}
+use Rattle.peer.proofs.Tallies.{consumes_none}
+use Rattle.peer.proofs.peer.Peer.advance.Goals as goal
+
+pub returns-in-Gathers-clause-ends : goal.returns-in-Gathers-clause-ends
+returns-in-Gathers-clause-ends g c = λ is. let was = c.gather.ensures.does.carries.ends is in let never : ⊥ = cc in absurd never
+
+pub returns-in-Runs-clause-does : goal.returns-in-Runs-clause-does
+returns-in-Runs-clause-does g c = c.run.ensures.does.advances
+
+pub returns-in-Runs-clause-ends : goal.returns-in-Runs-clause-ends
+returns-in-Runs-clause-ends g c = λ is. let was = c.run.ensures.does.advances.carries.ends is in let never : ⊥ = cc in absurd never
+
+pub returns-in-Replies-clause-does : goal.returns-in-Replies-clause-does
+returns-in-Replies-clause-does g c = sends_on c.args.server.now c.args.self.now c.reply.new.self c.reply.result c.reply.ensures.does
+
+pub returns-in-Replies-clause-ends : goal.returns-in-Replies-clause-ends
+returns-in-Replies-clause-ends g c = λ is. absurd (c.reply.ensures.does.stays is)
+
+pub returns-in-Ends-clause-does : goal.returns-in-Ends-clause-does
+returns-in-Ends-clause-does g c =
+    quiet c.args.server.now c.args.self.now c.args.self.now [] _ (consumes_none _) (sym (append-nil c.args.self.now.inbox)) refl refl refl
+    (λ is. let never : ⊥ = cc in absurd never) (Dismissed c.in-Ends.is)

@@ -1,0 +1,247 @@
+-- What a step of a peer does: which bytes it takes from its stream and shows the server, which it
+-- writes, and why it sleeps or ends.
+use Rattle.std.specs.Prelude.{ℕ, ◌+◌, ◌<◌, ◌≤◌, List, [], ◌∷◌, ◌++◌, length, take, ◌≡◌, ◌⊎◌, Option, Some, None, Result, Ok, IfErr, true, false}
+use Rattle.std.specs.Global.{Vec}
+use Rattle.std.specs.Io.KnownBytes.{Appends, Consumes}
+use Rattle.std.specs.declared.io.ErrorKind.{ErrorKind}
+use Rattle.std.specs.declared.io.ErrorKind.TheVariants as kinds
+use Rattle.disk.specs.declared.device.Device.{Ghosts}
+use Rattle.model.specs.Runs.{Arrives, Turns, Takes}
+use Rattle.model.specs.World.{Closed}
+use Rattle.server.specs.Refused.{connection_at, view}
+use Rattle.server.specs.Seen.{Call, Did, Failed, Took, Gave}
+use Rattle.server.specs.Views.{volume_of}
+use Rattle.server.specs.declared.server.Server.{Server}
+use Rattle.callers.specs.declared.refused.Refused.{Refused}
+use Rattle.callers.specs.declared.refused.Refused.TheVariants as refusals
+use Rattle.peer.specs.Calls.{Goes, IsEnd}
+use Rattle.peer.specs.Streams.{IsOver}
+use Rattle.peer.specs.declared.pace.Pace.{Pace}
+use Rattle.peer.specs.declared.pace.Pace.TheVariants as paces
+use Rattle.peer.specs.declared.peer.Parting.{Parting}
+use Rattle.peer.specs.declared.peer.Parting.TheVariants as partings
+use Rattle.peer.specs.declared.peer.Peer.{Peer}
+use Rattle.peer.specs.declared.peer.Stage.{Stage}
+use Rattle.peer.specs.declared.peer.Stage.TheVariants as stages
+use Rattle.peer.specs.declared.stream.Stream as stream
+
+-- The calls of a step
+
+-- each is of this connection, and no hang-up
+abbrev pub IsOn : (connection : ℕ) → Call → Type 0
+IsOn connection (Did (Arrives number piece) said) = number ≡ connection
+IsOn connection (Did (Turns number now) said) = number ≡ connection
+IsOn connection (Did (Takes number) said) = number ≡ connection
+IsOn connection (Did event said) = ⊥
+IsOn connection (Failed event) = ⊥
+
+abbrev pub AreOn : (connection : ℕ) → List Call → Type 0
+AreOn connection [] = Unit {0}
+AreOn connection (call ∷ calls) = IsOn connection call × AreOn connection calls
+
+-- the pieces that the server was shown
+abbrev pub shown_by : Call → List (List ℕ)
+shown_by (Did (Arrives number piece) said) = piece ∷ []
+shown_by _ = []
+
+-- the bytes that it took of them
+abbrev pub taken_by : Call → List ℕ
+taken_by (Did (Arrives number piece) (Took (Some count))) = take count piece
+taken_by _ = []
+
+-- the pieces with which it closed the connection
+abbrev pub closings_by : Call → ℕ
+closings_by (Did (Arrives number piece) (Took None)) = 1
+closings_by _ = 0
+
+abbrev pub turns_by : Call → ℕ
+turns_by (Did (Turns number now) said) = 1
+turns_by _ = 0
+
+-- the bytes of the reply that it gave
+abbrev pub given_by : Call → List ℕ
+given_by (Did (Takes number) (Gave (Some reply))) = reply
+given_by _ = []
+
+-- and so of calls, of which the newest is the first
+abbrev pub all_by : {A : Type 0} → (Call → List A) → List Call → List A
+all_by by [] = []
+all_by by (call ∷ calls) = all_by by calls ++ by call
+
+abbrev pub count_by : (Call → ℕ) → List Call → ℕ
+count_by by [] = 0
+count_by by (call ∷ calls) = count_by by calls + by call
+
+-- what comes and goes in a step
+pub record Tally : Type 0 where
+  pub came : List ℕ
+  pub shown : List (List ℕ)
+  pub taken : List ℕ
+  pub closings : ℕ
+  pub turns : ℕ
+  pub given : List ℕ
+  pub written : List ℕ
+
+-- the calls are those that it counts
+pub record IsTallied (connection : ℕ) (tally : Tally) (calls : List Call) : Type 0 where
+  pub on : AreOn connection calls
+  pub shown : all_by shown_by calls ≡ tally.shown
+  pub taken : all_by taken_by calls ≡ tally.taken
+  pub closings : count_by closings_by calls ≡ tally.closings
+  pub turns : count_by turns_by calls ≡ tally.turns
+  pub given : all_by given_by calls ≡ tally.given
+
+-- the bytes of a reply, and of none
+abbrev pub bytes_of : Option (Vec ℕ) → List ℕ
+bytes_of (Some reply) = reply.items
+bytes_of None = []
+
+-- what is left of the reply that goes out
+abbrev pub unsent : Stage → List ℕ
+unsent (stages.Replies reply) = reply
+unsent stages.Gathers = []
+unsent stages.Runs = []
+unsent stages.Ends = []
+
+-- Bytes
+
+-- What had waited and what came is what the server took and what waits now; what was left of a reply
+-- and what it gave is what was written and what is left now. All in order, by the server's calls.
+pub record Carries {D S : Type 0} {g : Ghosts D} {h : stream.Ghosts S} (keeps : Type 0)
+    (old new : Server D g) (before after : Peer S h) (tally : Tally) : Type 0 where
+  pub calls : Goes keeps old new (IsTallied before.conn tally)
+  pub consumed : Consumes (h.coming before.stream) (h.coming after.stream) tally.came
+  pub fed : tally.taken ++ after.inbox ≡ before.inbox ++ tally.came
+  pub appended : Appends (h.gone before.stream) (h.gone after.stream) tally.written
+  pub sent : tally.written ++ unsent after.stage ≡ unsent before.stage ++ tally.given
+  pub conn : after.conn ≡ before.conn
+  pub ends : after.stage ≡ stages.Ends → before.stage ≡ stages.Ends
+
+-- each piece that the server was shown is all that had waited and all that came
+abbrev pub AreAll : (waiting : List ℕ) → List (List ℕ) → Type 0
+AreAll waiting [] = Unit {0}
+AreAll waiting (piece ∷ pieces) = (piece ≡ waiting) × AreAll waiting pieces
+
+-- there was a turn, or a write; or else a signal came
+pub data HasWorked {S : Type 0} {h : stream.Ghosts S} (peer : Peer S h) (tally : Tally)
+    : Type 0 where
+  Turned : 0 < tally.turns → HasWorked peer tally
+  Wrote : 0 < length tally.written → HasWorked peer tally
+  Read_broken : h.read_told peer.stream (Some kinds.Interrupted) ≡ true → HasWorked peer tally
+  Write_broken : h.write_told peer.stream (Some kinds.Interrupted) ≡ true → HasWorked peer tally
+
+-- Sleep
+
+-- it gathers, no byte waits, and its last read told that none had come
+pub record WaitsToRead {S : Type 0} {h : stream.Ghosts S} (peer : Peer S h) : Type 0 where
+  pub gathers : peer.stage ≡ stages.Gathers
+  pub none : peer.inbox ≡ []
+  pub noted : peer.can_read ≡ false
+  pub told : h.read_told peer.stream (Some kinds.WouldBlock) ≡ true
+
+-- a reply goes out, and its last write told that there was no room
+pub record WaitsToWrite {S : Type 0} {h : stream.Ghosts S} (peer : Peer S h) : Type 0 where
+  pub reply : List ℕ
+  pub replies : peer.stage ≡ stages.Replies reply
+  pub noted : peer.can_write ≡ false
+  pub told : h.write_told peer.stream (Some kinds.WouldBlock) ≡ true
+
+abbrev pub IsStuck : {S : Type 0} {h : stream.Ghosts S} → Peer S h → Type 0
+IsStuck peer = WaitsToRead peer ⊎ WaitsToWrite peer
+
+-- Ends
+
+-- Why a peer ends, by what was tallied since: it was dismissed, or could not be hung up before; its
+-- stream ended or failed; or the server closed its connection with these bytes, had done so, or
+-- has none.
+pub data Reason {D S : Type 0} {g : Ghosts D} {h : stream.Ghosts S} (tally : Tally)
+    (server : Server D g) (peer : Peer S h) : Type 0 where
+  Dismissed : peer.stage ≡ stages.Ends → Reason tally server peer
+  Read_over : (told : Option ErrorKind) → IsOver told → h.read_told peer.stream told ≡ true
+      → Reason tally server peer
+  Write_over : (told : Option ErrorKind) → IsOver told → h.write_told peer.stream told ≡ true
+      → Reason tally server peer
+  Closes : 0 < tally.closings → Reason tally server peer
+  Was_closed : connection_at (view server) peer.conn ≡ Some Closed → Reason tally server peer
+  Has_none : connection_at (view server) peer.conn ≡ None → Reason tally server peer
+
+-- why a peer is not served on
+abbrev pub Parts : {D S : Type 0} {g : Ghosts D} {h : stream.Ghosts S} → Tally → Server D g
+    → Peer S h → Parting → Type 0
+Parts tally server peer partings.Peer = Reason tally server peer
+Parts tally server peer partings.Device = (volume_of server).is_down ≡ true
+Parts tally server peer partings.Memory = Unit {0}
+Parts tally server peer partings.Clock = Unit {0}
+
+-- What a step does until it ends the peer: it shows the server each byte once, and gives at most
+-- one turn.
+pub record Advances {D S : Type 0} {g : Ghosts D} {h : stream.Ghosts S} (keeps : Type 0)
+    (old new : Server D g) (before after : Peer S h) (result : Result Pace Parting) : Type 0 where
+  pub tally : Tally
+  pub carries : Carries keeps old new before after tally
+  pub shown : AreAll (before.inbox ++ tally.came) tally.shown
+  pub few : tally.turns ≤ 1
+  pub works : result ≡ Ok paces.Goes → HasWorked after tally
+  pub parts : IfErr result (Parts tally new after)
+
+-- the same of what reads nothing, and shows the server nothing
+pub record Runs {D S : Type 0} {g : Ghosts D} {h : stream.Ghosts S} (keeps : Type 0)
+    (old new : Server D g) (before after : Peer S h) (result : Result Pace Parting) : Type 0 where
+  pub advances : Advances keeps old new before after result
+  pub unread : advances.tally.came ≡ []
+  pub unshown : advances.tally.shown ≡ []
+
+-- and of what gives no turn
+pub record Gives {D S : Type 0} {g : Ghosts D} {h : stream.Ghosts S} (keeps : Type 0)
+    (old new : Server D g) (before after : Peer S h) (result : Result Pace Parting) : Type 0 where
+  pub tally : Tally
+  pub carries : Carries keeps old new before after tally
+  pub unread : tally.came ≡ []
+  pub unshown : tally.shown ≡ []
+  pub unturned : tally.turns ≡ 0
+  pub parts : IfErr result (Parts tally new after)
+
+-- of its reply it sends the front, once
+pub record Sends {S : Type 0} {h : stream.Ghosts S} (before after : Peer S h)
+    (result : Result Pace Parting) : Type 0 where
+  pub written : List ℕ
+  pub appended : Appends (h.gone before.stream) (h.gone after.stream) written
+  pub sent : written ++ unsent after.stage ≡ unsent before.stage
+  pub works : result ≡ Ok paces.Goes → (0 < length written)
+      ⊎ (h.write_told after.stream (Some kinds.Interrupted) ≡ true)
+  pub over : IfErr result (λ parting. (parting ≡ partings.Peer)
+      × ((told : Option ErrorKind) × IsOver told × (h.write_told after.stream told ≡ true)))
+  pub same : (after.conn ≡ before.conn) × (after.inbox ≡ before.inbox)
+      × (h.coming after.stream ≡ h.coming before.stream)
+  pub stays : after.stage ≡ stages.Ends → ⊥
+
+abbrev pub IsReplying : Stage → Type 0
+IsReplying stage = (reply : List ℕ) × (stage ≡ stages.Replies reply)
+
+-- A peer ends: as far as it came, for this reason, and its connection is hung up then.
+pub record EndsPeer {D S : Type 0} {g : Ghosts D} {h : stream.Ghosts S} (keeps : Type 0)
+    (old new : Server D g) (before after : Peer S h) : Type 0 where
+  pub between : Server D g
+  pub left : Peer S h
+  pub tally : Tally
+  pub carries : Carries keeps old between before left tally
+  pub shown : AreAll (before.inbox ++ tally.came) tally.shown
+  pub few : tally.turns ≤ 1
+  pub reason : Reason tally between left
+  pub hung : Goes keeps between new (IsEnd left.conn)
+  pub same : (after.stream ≡ left.stream) × (after.inbox ≡ left.inbox) × (after.conn ≡ left.conn)
+
+-- a step that leaves a peer to be served on
+pub record ServesOn {D S : Type 0} {g : Ghosts D} {h : stream.Ghosts S} (keeps : Type 0)
+    (old new : Server D g) (before after : Peer S h) (goes : Type 0) : Type 0 where
+  pub tally : Tally
+  pub carries : Carries keeps old new before after tally
+  pub shown : AreAll (before.inbox ++ tally.came) tally.shown
+  pub few : tally.turns ≤ 1
+  pub works : goes → HasWorked after tally
+
+-- an error is the clock's, or the device's
+abbrev pub FailsBy : {D : Type 0} {g : Ghosts D} → Server D g → Refused → Type 0
+FailsBy server refused =
+    (refused ≡ refusals.Io)
+    ⊎ ((refused ≡ refusals.Device) × ((volume_of server).is_down ≡ true))

@@ -1,0 +1,16 @@
+//! A connection of a server and the stream that it comes by: what one step of it does.
+#![tactic(auto)]
+
+mod calls;
+mod delayed;
+mod inbox;
+mod pace;
+mod peer;
+mod reply;
+mod stream;
+
+pub use delayed::Delayed;
+pub use inbox::Inbox;
+pub use pace::Pace;
+pub use peer::{Peer, Step};
+pub use stream::Stream;

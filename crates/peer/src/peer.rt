@@ -1,0 +1,431 @@
+//! A peer, step by step: its bytes go to the server piece by piece, its request has one operation
+//! run at a step, and its reply goes out as it is taken.
+
+ghost use Rattle.std.specs.Prelude.{◌≡◌, true, false, Some, IfOk, IfErr, if◌then◌else◌};
+ghost use Rattle.std.specs.IoError.{error_kind};
+ghost use Rattle.std.specs.declared.io.ErrorKind.TheVariants.{WouldBlock, Interrupted};
+ghost use Rattle.peer.specs.Partings.{parting_of};
+ghost use Rattle.peer.specs.Streams.{IsOver};
+
+use crate::calls;
+use crate::delayed::Delayed;
+use crate::inbox::Inbox;
+use crate::pace::Pace;
+use crate::reply::Reply;
+use crate::stream::Stream;
+use callers::Refused;
+use disk::Device;
+use server::{Server, ServerFault, Turn};
+use std::io;
+use std::io::ErrorKind;
+use std::time::{Clock, Duration, Instant};
+use system::moment;
+
+/// For how many seconds a peer may be quiet while another one waits for its place, and where it has
+/// sent a part of a record.
+const PATIENCE_SECONDS: u64 = 60;
+
+const HALF_PATIENCE_SECONDS: u64 = 600;
+
+/// A connection of the server, and the stream over which its bytes come and go.
+#[derive(Drop)]
+pub struct Peer<S: Stream + Drop> {
+    conn: usize,
+    stream: S,
+    inbox: Inbox,
+    stage: Stage,
+    /// Whether a read may give something, and a write take something.
+    can_read: bool,
+    can_write: bool,
+    /// Whether the server has the front of a record.
+    has_half: bool,
+    /// When it was last heard, or took something.
+    heard: Instant,
+    /// What its last reply told to come again.
+    delayed: Option<Delayed>,
+    // What is not tried again has told that it would wait.
+    ghost dry: { can_read ≡ false → S.read_told stream (Some WouldBlock) ≡ true },
+    ghost full: { can_write ≡ false → S.write_told stream (Some WouldBlock) ≡ true },
+}
+
+/// What is to be done next.
+#[derive(Drop)]
+enum Stage {
+    /// Bytes are wanted.
+    Gathers,
+    /// The server has bytes: perhaps a whole request, which is given turns.
+    Runs,
+    /// A reply goes out. Until it is gone no byte is read.
+    Replies(Reply),
+    /// The connection is to be hung up.
+    Ends,
+}
+
+/// What a step leaves.
+#[derive(Clone, Copy, PartialEq, Eq)]
+pub enum Step {
+    /// The peer stays.
+    Stays(Pace),
+    /// The peer has ended, and its connection is hung up.
+    Ended,
+}
+
+/// Why a peer is not served on.
+#[derive(Clone, Copy)]
+enum Parting {
+    /// The peer's bytes or its stream: it ends.
+    Peer,
+    /// No memory: nothing has changed.
+    Memory,
+    /// The device failed, which ends the program.
+    Device,
+    /// The clock failed, which ends the program.
+    Clock,
+}
+
+impl From<ServerFault> for Parting {
+    ghost from_gives = { λ fault parting. parting ≡ parting_of fault };
+
+    fn from(fault: ServerFault) -> Parting {
+        match fault {
+            ServerFault::Device => Parting::Device,
+            ServerFault::Memory => Parting::Memory,
+            ServerFault::NoConnection | ServerFault::Closed | ServerFault::Full => Parting::Peer,
+        }
+    }
+}
+
+impl<S: Stream + Drop> Peer<S> {
+    ghost use Rattle.std.specs.Prelude.{◌≡◌, ◌||◌, [], Ok, None, IfOk, IfErr, IsErrOf, MatchOption};
+    ghost use Rattle.std.specs.Duration.{as_nanos};
+    ghost use Rattle.server.specs.Refused.{connection_at, view};
+    ghost use Rattle.peer.specs.Calls.{Goes, IsEnd};
+    ghost use Rattle.peer.specs.Peers.{Begins, IsSame, IsSpare, quiet_nanos};
+    ghost use Rattle.peer.specs.Steps.{Advances, Runs, Gives, Sends, IsReplying, IsStuck, ServesOn, EndsPeer, FailsBy};
+
+    /// A peer over this connection of the server.
+    pub fn new(conn: usize, stream: S, inbox: Inbox, now: Instant) -> Peer<S>
+        ensures given { (result.conn ≡ conn) × (result.stream ≡ stream) × (result.inbox ≡ inbox)
+            × (result.heard ≡ now) }
+        ensures begins { Begins result }
+    {
+        Peer {
+            conn,
+            stream,
+            inbox,
+            stage: Stage::Gathers,
+            can_read: true,
+            can_write: true,
+            has_half: false,
+            heard: now,
+            delayed: None,
+        }
+    }
+
+    /// Takes what the system told of the stream.
+    pub fn wake(&mut self, can_read: bool, can_write: bool)
+        ensures read { self.new.can_read ≡ (self.old.can_read || can_read) }
+        ensures write { self.new.can_write ≡ (self.old.can_write || can_write) }
+        ensures same { IsSame self.old self.new × (self.new.stage ≡ self.old.stage)
+            × (self.new.delayed ≡ self.old.delayed) }
+    {
+        self.can_read |= can_read;
+        self.can_write |= can_write;
+    }
+
+    /// For how long it has been quiet, where that is so long that another one may have its place: a
+    /// minute between two requests, and ten within the bytes of one.
+    pub fn quiet_for(&self, now: Instant) -> Option<Duration>
+        ensures { MatchOption result (IsSpare self.now now → ⊥) (λ quiet. IsSpare self.now now
+            × (as_nanos quiet ≡ quiet_nanos self.now now)) }
+    {
+        if !matches!(self.stage, Stage::Gathers) || !self.inbox.is_empty() {
+            return None;
+        }
+        let patience = if self.has_half {
+            HALF_PATIENCE_SECONDS
+        } else {
+            PATIENCE_SECONDS
+        };
+        let quiet = now.duration_since(self.heard);
+        if quiet.as_secs() < patience {
+            return None;
+        }
+        Some(quiet)
+    }
+
+    /// Ends it with its next step.
+    pub fn dismiss(&mut self)
+        ensures stage { self.new.stage ≡ Stage.Ends }
+        ensures same { IsSame self.old self.new × (self.new.delayed ≡ self.old.delayed)
+            × (self.new.can_read ≡ self.old.can_read)
+            × (self.new.can_write ≡ self.old.can_write) }
+    {
+        self.stage = Stage::Ends;
+    }
+
+    /// What was told to come again since it was last asked.
+    pub fn take_delayed(&mut self) -> Option<Delayed>
+        ensures told { result ≡ self.old.delayed }
+        ensures taken { self.new.delayed ≡ None }
+        ensures same { IsSame self.old self.new × (self.new.stage ≡ self.old.stage)
+            × (self.new.can_read ≡ self.old.can_read)
+            × (self.new.can_write ≡ self.old.can_write) }
+    {
+        self.delayed.take()
+    }
+
+    /// Does what can be done without waiting, with one operation of a request at most.
+    ///
+    /// # Errors
+    /// What ends the program: a failure of the device or the clock.
+    pub fn step<D, C>(
+        &mut self,
+        server: &mut Server<D>,
+        clock: &C,
+        now: Instant,
+    ) -> Result<Step, Refused>
+    where
+        D: Device,
+        C: Clock,
+        ensures asleep { IfOk result (λ step. step ≡ Step.Stays Pace.Sleeps → IsStuck self.new) }
+        // It stays, or ends
+        ensures stays { (self.new.stage ≡ Stage.Ends → ⊥)
+            → ServesOn D.keeps_word server.old server.new self.old self.new
+            (result ≡ Ok (Step.Stays Pace.Goes)) }
+        ensures ends { self.new.stage ≡ Stage.Ends
+            → EndsPeer D.keeps_word server.old server.new self.old self.new }
+        ensures ended { IfOk result (λ step. step ≡ Step.Ended
+            → (self.new.stage ≡ Stage.Ends)
+            × (connection_at (view server.new) self.new.conn ≡ None)) }
+        ensures failed { IfErr result (FailsBy server.new) }
+    {
+        match self.advance(server, clock, now) {
+            Ok(pace) => Ok(Step::Stays(pace)),
+            Err(Parting::Memory) => Ok(Step::Stays(Pace::Pauses)),
+            Err(Parting::Device) => Err(Refused::Device),
+            Err(Parting::Clock) => Err(Refused::Io),
+            Err(Parting::Peer) => self.end(server, clock),
+        }
+    }
+
+    fn advance<D, C>(
+        &mut self,
+        server: &mut Server<D>,
+        clock: &C,
+        now: Instant,
+    ) -> Result<Pace, Parting>
+    where
+        D: Device,
+        C: Clock,
+        ensures asleep { IfOk result (λ pace. pace ≡ Pace.Sleeps → IsStuck self.new) }
+        ensures does { Advances D.keeps_word server.old server.new self.old self.new result }
+        ensures ends { self.new.stage ≡ Stage.Ends → IsErrOf result Parting.Peer }
+    {
+        match self.stage {
+            Stage::Gathers => self.gather(server, clock, now),
+            Stage::Runs => self.run(server, clock, now),
+            Stage::Replies(_) => self.reply(now),
+            Stage::Ends => Err(Parting::Peer),
+        }
+    }
+
+    /// Hands the server the bytes that wait for it, or those that come.
+    fn gather<D, C>(
+        &mut self,
+        server: &mut Server<D>,
+        clock: &C,
+        now: Instant,
+    ) -> Result<Pace, Parting>
+    where
+        D: Device,
+        C: Clock,
+        requires { self.old.stage ≡ Stage.Gathers }
+        ensures asleep { IfOk result (λ pace. pace ≡ Pace.Sleeps → IsStuck self.new) }
+        ensures does { Advances D.keeps_word server.old server.new self.old self.new result }
+    {
+        if self.inbox.is_empty() {
+            return self.receive(server, clock, now);
+        }
+        self.hand_over(server, clock, now)
+    }
+
+    /// Reads what has come, and hands it to the server.
+    fn receive<D, C>(
+        &mut self,
+        server: &mut Server<D>,
+        clock: &C,
+        now: Instant,
+    ) -> Result<Pace, Parting>
+    where
+        D: Device,
+        C: Clock,
+        requires empty { self.old.inbox ≡ [] }
+        requires gathers { self.old.stage ≡ Stage.Gathers }
+        ensures asleep { IfOk result (λ pace. pace ≡ Pace.Sleeps → IsStuck self.new) }
+        ensures does { Advances D.keeps_word server.old server.new self.old self.new result }
+    {
+        if !self.can_read {
+            return Ok(Pace::Sleeps);
+        }
+        match self.inbox.fill(&mut self.stream) {
+            Ok(0) => Err(Parting::Peer),
+            Ok(_) => {
+                self.heard = now;
+                self.hand_over(server, clock, now)
+            }
+            Err(error) => {
+                self.can_read = !would_wait(&error)?;
+                Ok(pace_of(self.can_read))
+            }
+        }
+    }
+
+    /// Hands the server what it takes of the bytes that wait.
+    fn hand_over<D, C>(
+        &mut self,
+        server: &mut Server<D>,
+        clock: &C,
+        now: Instant,
+    ) -> Result<Pace, Parting>
+    where
+        D: Device,
+        C: Clock,
+        requires { self.old.stage ≡ Stage.Gathers }
+        ensures asleep { IfOk result (λ pace. pace ≡ Pace.Sleeps → IsStuck self.new) }
+        ensures does { Advances D.keeps_word server.old server.new self.old self.new result }
+    {
+        let taken = calls::feed(server, self.conn, self.inbox.bytes())?;
+        self.inbox.consume(taken);
+        self.has_half = true;
+        self.stage = Stage::Runs;
+        self.run(server, clock, now)
+    }
+
+    /// Gives the request a turn, if a whole one waits.
+    fn run<D, C>(
+        &mut self,
+        server: &mut Server<D>,
+        clock: &C,
+        now: Instant,
+    ) -> Result<Pace, Parting>
+    where
+        D: Device,
+        C: Clock,
+        requires { self.old.stage ≡ Stage.Runs }
+        ensures asleep { IfOk result (λ pace. pace ≡ Pace.Sleeps → IsStuck self.new) }
+        ensures does { Runs D.keeps_word server.old server.new self.old self.new result }
+    {
+        let Ok(at) = moment(clock) else {
+            return Err(Parting::Clock);
+        };
+        match calls::turn(server, self.conn, at)? {
+            Turn::Idle => {
+                self.stage = Stage::Gathers;
+                Ok(Pace::Goes)
+            }
+            Turn::Ran => Ok(Pace::Goes),
+            Turn::Answered => self.take_reply(server, now),
+        }
+    }
+
+    /// Takes the reply that a turn has made, and begins to send it.
+    fn take_reply<D: Device>(
+        &mut self,
+        server: &mut Server<D>,
+        now: Instant,
+    ) -> Result<Pace, Parting>
+        requires { self.old.stage ≡ Stage.Runs }
+        ensures asleep { IfOk result (λ pace. pace ≡ Pace.Sleeps → IsStuck self.new) }
+        ensures does { Gives D.keeps_word server.old server.new self.old self.new result }
+    {
+        self.has_half = false;
+        self.stage = Stage::Gathers;
+        match calls::take_output(server, self.conn)? {
+            Some(bytes) => {
+                self.delayed = Delayed::in_reply(&bytes);
+                self.stage = Stage::Replies(Reply::new(bytes));
+                self.reply(now)
+            }
+            None => Ok(Pace::Goes),
+        }
+    }
+
+    /// Sends what the peer takes of its reply.
+    fn reply(&mut self, now: Instant) -> Result<Pace, Parting>
+        requires { IsReplying self.old.stage }
+        ensures asleep { IfOk result (λ pace. pace ≡ Pace.Sleeps → IsStuck self.new) }
+        ensures does { Sends self.old self.new result }
+    {
+        let Stage::Replies(reply) = &mut self.stage else {
+            unreachable!();
+        };
+        if !self.can_write {
+            return Ok(Pace::Sleeps);
+        }
+        match reply.send(&mut self.stream) {
+            Ok(0) => Err(Parting::Peer),
+            Ok(_) => {
+                self.heard = now;
+                if reply.is_sent() {
+                    self.stage = Stage::Gathers;
+                }
+                Ok(Pace::Goes)
+            }
+            Err(error) => {
+                self.can_write = !would_wait(&error)?;
+                Ok(pace_of(self.can_write))
+            }
+        }
+    }
+
+    /// Hangs the connection up. For want of memory it is tried again.
+    fn end<D, C>(&mut self, server: &mut Server<D>, clock: &C) -> Result<Step, Refused>
+    where
+        D: Device,
+        C: Clock,
+        ensures awake { IfOk result (λ step. step ≡ Step.Stays Pace.Sleeps → ⊥) }
+        ensures stage { self.new.stage ≡ Stage.Ends }
+        ensures same { (self.new.stream ≡ self.old.stream) × (self.new.inbox ≡ self.old.inbox)
+            × (self.new.conn ≡ self.old.conn) }
+        ensures hung { Goes D.keeps_word server.old server.new (IsEnd self.old.conn) }
+        ensures ended { IfOk result (λ step. step ≡ Step.Ended
+            → connection_at (view server.new) self.old.conn ≡ None) }
+        ensures failed { IfErr result (FailsBy server.new) }
+    {
+        self.stage = Stage::Ends;
+        let Ok(at) = moment(clock) else {
+            return Err(Refused::Io);
+        };
+        match calls::hangup(server, self.conn, at) {
+            Ok(()) => Ok(Step::Ended),
+            Err(ServerFault::Memory) => Ok(Step::Stays(Pace::Pauses)),
+            Err(ServerFault::Device) => Err(Refused::Device),
+            Err(ServerFault::NoConnection | ServerFault::Closed | ServerFault::Full) => {
+                Ok(Step::Ended)
+            }
+        }
+    }
+}
+
+/// Whether a read or a write that failed would have waited. Otherwise a signal came, and it may be
+/// made again.
+fn would_wait(error: &io::Error) -> Result<bool, Parting>
+    ensures ok { IfOk result (λ waits.
+        error_kind error.now ≡ (if waits then WouldBlock else Interrupted)) }
+    ensures err { IfErr result (λ parting.
+        (parting ≡ Parting.Peer) × IsOver (Some (error_kind error.now))) }
+{
+    match error.kind() {
+        ErrorKind::WouldBlock => Ok(true),
+        ErrorKind::Interrupted => Ok(false),
+        _ => Err(Parting::Peer),
+    }
+}
+
+/// What is to be done once a read or a write failed that may be made again at once, or not.
+fn pace_of(at_once: bool) -> Pace
+    ensures { result ≡ (if at_once then Pace.Goes else Pace.Sleeps) }
+{
+    if at_once { Pace::Goes } else { Pace::Sleeps }
+}
