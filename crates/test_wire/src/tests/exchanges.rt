@@ -282,14 +282,19 @@ fn other_records_are_garbled(rt: HostRuntime) -> Result<(), Fail> {
     Ok(())
 }
 
-/// What is told of a reply after so many empty fragments.
-fn told_after(alloc: Global, empty: u8) -> Result<Told, Fail> {
-    let answer = bytes_of(alloc, EXCHANGED)?;
+/// A reply after so many empty fragments.
+fn behind_empty(alloc: Global, empty: u8) -> Result<Vec<u8>, Fail> {
     let mut bytes = Vec::new(alloc);
     bytes.resize(4 * usize::from(empty), 0)?;
-    bytes.extend_from_slice(&answer)?;
-    let mut reader = bytes.as_slice();
+    bytes.extend_from_slice(&bytes_of(alloc, EXCHANGED)?)?;
+    Ok(bytes)
+}
+
+/// What is told of it.
+fn told_after(alloc: Global, empty: u8) -> Result<Told, Fail> {
     let mut client = new_client(alloc)?;
+    let bytes = behind_empty(alloc, empty)?;
+    let mut reader = bytes.as_slice();
     let mut writer = Vec::new(alloc);
     Ok(exchange(alloc, &mut client, &mut reader, &mut writer))
 }
