@@ -1,6 +1,27 @@
-use Rattle.std.proofs.Common.{rules}
+use Rattle.std.proofs.Common.{◌≡◌, ◌∙◌, ◌==◌, ◌&&◌, true, false, not, sym, ap, refl, rules, ℕ, Bool, bytes_eq, replicate, is_some}
+use Rattle.std.specs.Prelude.{Option, Some}
+use Rattle.directory.specs.Listing.{after, by_stamp}
+use Rattle.layout.specs.Cards.{Card}
+use Rattle.model.specs.declared.acl.Cred.{Cred}
+use Rattle.model.specs.declared.status.Status.TheVariants as status
+use Rattle.model.specs.Acl.{read_data}
+use Rattle.model.specs.Keyed.{at, is_key}
+use Rattle.model.specs.Need.{granted_on}
+use Rattle.model.specs.Operation.{ReadDirArguments}
+use Rattle.model.specs.ReadDir.{asks_errors, asks_lists}
+use Rattle.model.specs.Refusal.{first_refusal}
+use Rattle.model.specs.Tree.{Tree, Node, is_directory, is_directory_at, is_directory_node, names_at, names_of, names_of_node}
+use Rattle.fs.specs.Listing.{list_arguments, list_refusals, may_read_lists}
 use Rattle.fs.specs.Views.{fs_of}
+use Rattle.fs.proofs.CardViews.{granted_by, names_are}
 use Rattle.fs.proofs.fs.Fs.permit_list.Goals as goal
+
+-- where lists are asked and that of an entry may not be read, the last of the tests refuses
+unreadable : (tree : Tree) (cred : Cred) (number : ℕ) (asked : ReadDirArguments) → is_key number tree ≡ true → is_directory_at tree number ≡ true
+    → granted_on (at number tree) cred read_data ≡ true → (not (asked.cookie == 0) && not (bytes_eq asked.verifier (replicate 8 0))) ≡ false
+    → (asks_lists asked.bitmap && not (asks_errors asked.bitmap)) ≡ true → may_read_lists tree cred number asked.cookie ≡ false
+    → first_refusal (list_refusals tree cred number asked) ≡ Some status.Access
+unreadable tree cred number asked key directory granted cookie must may = rw (key, directory, granted, cookie, must, may) refl
 
 pub returns-then-not-grants-clause-tests : goal.returns-then-not-grants-clause-tests
 unfolding fs_of
@@ -12,4 +33,16 @@ returns-then-has_other_verifier-clause-tests g c = search rules
 
 pub returns-then-not-may_read_lists-clause-tests : goal.returns-then-not-may_read_lists-clause-tests
 unfolding fs_of
-returns-then-not-may_read_lists-clause-tests g c = search rules
+returns-then-not-may_read_lists-clause-tests g c dir_count =
+    let tree = (fs_of c.args.self.now).volume.tree in
+    let number = c.args.listing.now.directory in
+    let cookie = c.args.listing.now.cookie in
+    let cred = c.args.cred.now in
+    let node = c.in-Some.ensures.some in
+    let content = names_are tree number c.in-Some.card.now node (c.is_directory.ensures.0 c.if-not-is_directory.false) in
+    let names : by_stamp c.card.inside.names ≡ names_at tree number =
+    ap (λ (card : Card). by_stamp card.names) c.card.view_is ∙ sym (ap names_of_node node.there ∙ ap names_of content) in
+    unreadable tree cred number (list_arguments c.args.listing.now dir_count) (ap is_some node.there) (ap is_directory_node node.there ∙ ap is_directory content)
+    (ap (λ (found : Option Node). granted_on found cred read_data) node.there ∙ sym (granted_by tree number c.in-Some.card.now node cred read_data) ∙ (sym c.grants.ensures ∙ c.if-not-grants.false))
+    (sym c.has_other_verifier.ensures ∙ c.if-has_other_verifier.false) (sym c.must_read_lists.ensures ∙ c.if-must_read_lists.true)
+    (search (rules, names, c.may_read_lists.ensures, c.list_after-names.ensures, c.if-not-may_read_lists.true))
