@@ -54,7 +54,7 @@ use Rattle.compound.proofs.Changing.{HasThisRoom, done_runs, is_up, same_room, t
 use Rattle.compound.proofs.OpenLaws.{on_tree}
 use Rattle.compound.proofs.SettingLaws.{given_bad}
 use Rattle.compound.proofs.Trees.{all_bad, append_bad, does_bad, here, is_on}
-use Rattle.volume.specs.Held.{with_tree}
+use Rattle.volume.specs.VolumeState.{with_tree}
 use Rattle.compound.proofs.VolumeLaws.{operation_stays}
 
 -- Each refusal has a status that refuses

@@ -2,22 +2,22 @@
 use Rattle.std.proofs.Common.{◌≡◌, ℕ, Bool, true, false, sym, ap, ap₂, ◌∙◌, subst, inl, inr, ⊎_elim, arith}
 use Rattle.layout.specs.Stands.{Kept}
 use Rattle.volume.specs.Changes.{Given, Ending, Done, Nothing, Broken, EndsAs}
-use Rattle.volume.specs.Held.{Held, IsSameVolume, IsRecent, AddsTrees}
+use Rattle.volume.specs.VolumeState.{VolumeState, IsSameVolume, IsRecent, AddsTrees}
 use Rattle.volume.specs.Shown.{ShowsAs}
 use Rattle.model.specs.Tree.{Tree}
 use Rattle.fs.specs.Changes.{Changes}
 use Rattle.fs.specs.FileSystem.{FileSystem}
 
-pub same_volume : (old new : Held) → new ≡ old → IsSameVolume old new
+pub same_volume : (old new : VolumeState) → new ≡ old → IsSameVolume old new
 same_volume old new is = record {
-  sectors = ap (λ (h : Held). h.sectors) is;
-  limits = ap (λ (h : Held). h.limits) is;
-  run = ap (λ (h : Held). h.run) is;
+  sectors = ap (λ (h : VolumeState). h.sectors) is;
+  limits = ap (λ (h : VolumeState). h.limits) is;
+  run = ap (λ (h : VolumeState). h.run) is;
 }
 
-adds_nothing : (old new : Held) (after : Kept) → new ≡ old → AddsTrees old after new.history
+adds_nothing : (old new : VolumeState) (after : Kept) → new ≡ old → AddsTrees old after new.history
 adds_nothing old new after same =
-    subst (λ (held : Held). AddsTrees old after held.history) (sym same) (λ recent is. record { later = omega arith; added = λ t image l left. inl left })
+    subst (λ (held : VolumeState). AddsTrees old after held.history) (sym same) (λ recent is. record { later = omega arith; added = λ t image l left. inl left })
 
 -- a call that was refused, and left all as it was
 pub leaves_all : (keeps_word : Type 0) (given : Given) (old new : FileSystem) (before after : ℕ) → new ≡ old → after ≡ before → Changes keeps_word given old new before after Nothing
@@ -47,13 +47,13 @@ answers_quietly keeps_word given old new before after same told up stays quiet =
         none = λ other. told;
         moments = λ keeps kept lasts is. adds_nothing old.volume new.volume kept held;
         ends = record {
-          still_up = ap (λ (h : Held). h.is_down) held ∙ up;
-          seats = λ keeps kept lasts is. ap (λ (h : Held). h.seats) held ∙ sym (stays keeps kept lasts is);
+          still_up = ap (λ (h : VolumeState). h.is_down) held ∙ up;
+          seats = λ keeps kept lasts is. ap (λ (h : VolumeState). h.seats) held ∙ sym (stays keeps kept lasts is);
           leaves = λ keeps kept lasts is recent ready. (
             recent,
             record {
-              ready = subst (λ (h : Held). IsRecent h recent) (sym held) ready;
-              seats = ap (λ (h : Held). h.seats) held ∙ sym (stays keeps kept lasts is);
+              ready = subst (λ (h : VolumeState). IsRecent h recent) (sym held) ready;
+              seats = ap (λ (h : VolumeState). h.seats) held ∙ sym (stays keeps kept lasts is);
               no_others = λ one among. inl among;
               durable = λ durable one among. absurd (never lasts (quiet kept lasts is) durable);
             },
@@ -75,7 +75,7 @@ broken≢done is = cc
 -- what a call left that did nothing
 pub left_all : (keeps_word : Type 0) (given : Given) (old new : FileSystem) (before after : ℕ) → Changes keeps_word given old new before after Nothing → new ≡ old
 left_all keeps_word given old new before after changes =
-    ap₂ (λ (held : Held) (count : ℕ). let fs : FileSystem = record { volume = held; changes = count } in fs) changes.volume_changes.ends (changes.no_count nothing_done)
+    ap₂ (λ (held : VolumeState) (count : ℕ). let fs : FileSystem = record { volume = held; changes = count } in fs) changes.volume_changes.ends (changes.no_count nothing_done)
 
 -- What the definition says may be said otherwise where the device keeps its word, as long as its trees are the same on any device
 module _ (keeps_word : Type 0) (given other : Given) (weaker : keeps_word → (after : Kept) (lasts : Bool) → other after lasts → given after lasts)

@@ -21,7 +21,7 @@ use Rattle.compound.specs.Trees.{IsHere, IsUp, removed_answer}
 use Rattle.compound.specs.Volumes.{OperationGives}
 use Rattle.compound.proofs.Changing.{HasThisRoom, is_up, same_room, tree_given}
 use Rattle.compound.proofs.Trees.{here, is_on, is_there, of_request, remove_bad}
-use Rattle.volume.specs.Held.{with_tree}
+use Rattle.volume.specs.VolumeState.{with_tree}
 
 text_length : (before after : ℕ) → length (outcome_text (Done (removed_answer before after))) ≡ 28
 unfolding outcome_text

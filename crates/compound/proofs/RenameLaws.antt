@@ -29,7 +29,7 @@ use Rattle.compound.specs.Volumes.{OperationGives, lasts, executed_by}
 use Rattle.compound.proofs.Current.{after_some, after_none}
 use Rattle.compound.proofs.Changing.{HasThisRoom, is_up, same_room, tree_given}
 use Rattle.compound.proofs.Trees.{here, is_on, is_there, of_request, rename_bad}
-use Rattle.volume.specs.Held.{with_tree}
+use Rattle.volume.specs.VolumeState.{with_tree}
 
 -- The room of its answer
 

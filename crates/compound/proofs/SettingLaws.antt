@@ -32,7 +32,7 @@ use Rattle.compound.specs.Volumes.{OperationGives, lasts, executed_by}
 use Rattle.compound.proofs.Changing.{HasThisRoom, is_up, tree_given}
 use Rattle.compound.proofs.Trees.{all_bad, append_bad, does_bad, here, is_on, values_bad}
 use Rattle.compound.proofs.VerdictLaws.{verdict_bad}
-use Rattle.volume.specs.Held.{with_tree}
+use Rattle.volume.specs.VolumeState.{with_tree}
 
 -- Each refusal has a status that refuses
 

@@ -38,7 +38,7 @@ use Rattle.compound.proofs.Changing.{HasThisRoom, is_up, ran_given, same_room, t
 use Rattle.compound.proofs.Rooms.{state_same}
 use Rattle.compound.proofs.Trees.{append_bad, does_bad, here, is_on}
 use Rattle.compound.proofs.VerdictLaws.{verdict_bad}
-use Rattle.volume.specs.Held.{kept_of, with_tree}
+use Rattle.volume.specs.VolumeState.{kept_of, with_tree}
 
 verifier_length : (of : ℕ) → length (padded (to_be_bytes w64 of)) ≡ 8
 unfolding number

@@ -14,7 +14,7 @@ use Rattle.compound.specs.States.{SharedState, HasState}
 use Rattle.compound.specs.declared.fault.Fault.{Fault}
 use Rattle.compound.specs.declared.fault.Fault.TheVariants as fault
 use Rattle.compound.specs.declared.step.StepError.{StepError}
-use Rattle.volume.specs.Held.{Held, with_tree}
+use Rattle.volume.specs.VolumeState.{VolumeState, with_tree}
 
 -- How a call ends
 
@@ -80,7 +80,7 @@ pub record TurnGives (state : SharedState) (turn : World → (number : ℕ) → 
   pub lasting_is : lasting ≡ lasts (turn world number).executed
 
 -- the tree stays, and so does what has to last; the seats are these
-abbrev pub IsSeated : Held → Seats → Given
+abbrev pub IsSeated : VolumeState → Seats → Given
 IsSeated held seats after lasting =
     (after ≡ record { tree = held.tree; seats = seats }) × (lasting ≡ false)
 

@@ -1,7 +1,7 @@
--- What the card of a node says of the rights on it.
+-- What the cached node of a node says of the rights on it.
 use Rattle.std.proofs.Common.{◌≡◌, ℕ, refl, ap}
 use Rattle.std.specs.Prelude.{Some}
-use Rattle.layout.specs.Cards.{Card}
+use Rattle.layout.specs.CachedNodes.{CachedNode}
 use Rattle.model.specs.declared.acl.Cred.{Cred}
 use Rattle.model.specs.declared.node.NodeKind.{NodeKind}
 use Rattle.model.specs.declared.node.NodeKind.TheVariants as kind
@@ -10,7 +10,7 @@ use Rattle.model.specs.Tree.{Tree, kind_of}
 use Rattle.fs.specs.AccessRights.{access_on}
 use Rattle.volume.specs.Nodes.{IsNodeOf, ShowsContent}
 
-module _ (tree : Tree) (number : ℕ) (card : Card) (is : IsNodeOf tree number card) where
+module _ (tree : Tree) (number : ℕ) (card : CachedNode) (is : IsNodeOf tree number card) where
   pub kind_is : kind_of is.node.content ≡ card.fields.kind
   kind_is = by_kind card.fields.kind is.content
     where

@@ -1,9 +1,9 @@
--- What the card of a node says of its attributes.
+-- What the cached node of a node says of its attributes.
 use Rattle.std.proofs.Common.{◌≡◌, ℕ, List, length, map, refl, sym, ap, subst, ◌∙◌}
 use Rattle.std.specs.List.{flat_map}
 use Rattle.std.proofs.lemmas.List.{length-replicate}
 use Rattle.directory.specs.Listing.{by_stamp}
-use Rattle.layout.specs.Cards.{Card}
+use Rattle.layout.specs.CachedNodes.{CachedNode}
 use Rattle.layout.specs.Known.{IsCard, HasContent}
 use Rattle.layout.proofs.ChargeLaws.{length-by_stamp}
 use Rattle.model.specs.declared.limits.Limits.{Limits}
@@ -33,7 +33,7 @@ answered_by bitmap values = record {
   values = flat_map value_text (asked_values (attributes_of bitmap) values);
 }
 
-module _ (card : Card) where
+module _ (card : CachedNode) where
   kind_shown : (of : NodeKind) → kind_of (content_shown of card) ≡ of
   kind_shown kind.File = refl
   kind_shown kind.Directory = refl
@@ -51,7 +51,7 @@ module _ (card : Card) where
         by_kind kind.File is = length-replicate card.fields.size 0
         by_kind kind.Directory is = names_count is
 
-    -- what the node of a tree shows, its card shows
+    -- what the node of a tree shows, its cached node shows
     module _ (limits : Limits) (tree : Tree) (number : ℕ) (is : IsNodeOf tree number card) where
       size_is : size_of is.node.content ≡ card.fields.size
       size_is = by_kind card.fields.kind refl is.content

@@ -4,7 +4,7 @@ use Rattle.std.proofs.Math.Logic.{∥∥₁_elim}
 use Rattle.std.proofs.Props.{props}
 use Rattle.std.proofs.lemmas.Bool.{not-false}
 use Rattle.directory.specs.Listing.{by_stamp}
-use Rattle.layout.specs.Cards.{Card}
+use Rattle.layout.specs.CachedNodes.{CachedNode}
 use Rattle.layout.specs.Known.{IsCard}
 use Rattle.model.specs.declared.acl.Ace.{Ace}
 use Rattle.model.specs.declared.acl.Cred.{Cred}
@@ -41,7 +41,7 @@ use Rattle.fs.specs.Making.{first_node, room_tests, tree_with, IsDirectoryOf, Ma
 use Rattle.fs.specs.Operations as operations
 use Rattle.fs.specs.Planned.{IsList, child_shown, list_by}
 use Rattle.fs.specs.Ready.{MayStand}
-use Rattle.fs.proofs.CardViews.{names_are, kind_told}
+use Rattle.fs.proofs.CachedNodeViews.{names_are, kind_told}
 use Rattle.fs.proofs.EntryLaws.{given_list_fits}
 use Rattle.fs.proofs.MakingLaws as laws
 use Rattle.volume.specs.Nodes.{IsNodeOf}
@@ -56,7 +56,7 @@ no_names limits shown list = record {
 }
 
 -- the list of a directory is one that a directory may have
-module _ (fs : FileSystem) (formed : MayStand fs.volume fs.changes) (number : ℕ) (card : Card) (parent : IsDirectoryOf fs.volume.tree number card) where
+module _ (fs : FileSystem) (formed : MayStand fs.volume fs.changes) (number : ℕ) (card : CachedNode) (parent : IsDirectoryOf fs.volume.tree number card) where
   pub listed : IsList fs.volume.limits kind.Directory card.fields.acl
   listed =
       let node = parent.node.node in
@@ -67,7 +67,7 @@ module _ (fs : FileSystem) (formed : MayStand fs.volume fs.changes) (number : �
       (subst (λ (of : NodeKind). is_list_for fs.volume.limits.aces_set fs.volume.limits.aces of node.acl ≡ true) (ap kind_of content) is.entries))
 
 module _ (fs : FileSystem) (formed : MayStand fs.volume fs.changes) (limited : fs.volume.limits ≡ limits_of fs.volume.sectors fs.volume.limits.nodes)
-    (cred : Cred) (now number : ℕ) (name : List ℕ) (given : Attributes) (card : Card) (node : IsNodeOf fs.volume.tree number card) (fit : IsCard card)
+    (cred : Cred) (now number : ℕ) (name : List ℕ) (given : Attributes) (card : CachedNode) (node : IsNodeOf fs.volume.tree number card) (fit : IsCard card)
     (passed : first_refusal (new_directory_refusals fs.volume.limits fs.volume.tree cred number name given) ≡ None) where
   pub parent : IsDirectoryOf fs.volume.tree number card
   parent =

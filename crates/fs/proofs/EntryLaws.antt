@@ -5,10 +5,10 @@ use Rattle.std.proofs.lemmas.Bool.{and_parts, eqb-true, leb-true, ltb-true}
 use Rattle.std.proofs.lemmas.Nat.{and_le_l}
 use Rattle.std.proofs.Math.Logic.{∥∥₁_elim}
 use Rattle.std.proofs.Props.{props}
-use Rattle.tree_edits.specs.Outlines.{blank_node, blanked}
-use Rattle.tree_edits.proofs.BlankLaws.{at-blanked}
+use Rattle.tree_edits.specs.Outlines.{blank_node, without_data}
+use Rattle.tree_edits.proofs.BlankLaws.{at-without_data}
 use Rattle.inode.specs.Fields.{IsAce, id_of}
-use Rattle.layout.specs.Cards.{Card}
+use Rattle.layout.specs.CachedNodes.{CachedNode}
 use Rattle.model.specs.declared.acl.Ace.{Ace}
 use Rattle.model.specs.declared.acl.Who.{Who}
 use Rattle.model.specs.declared.acl.Who.TheVariants as who
@@ -69,9 +69,10 @@ small_list limits of acl is =
 
 -- no node has more entries than the limit, whatever its form has room for
 pub few_listed : (fs : FileSystem) → MayStand fs.volume fs.changes → fs.volume.limits ≡ limits_of fs.volume.sectors fs.volume.limits.nodes
-    → (number : ℕ) (card : Card) → IsNodeOf fs.volume.tree number card → length card.fields.acl ≤ 72
+    → (number : ℕ) (card : CachedNode) → IsNodeOf fs.volume.tree number card
+    → length card.fields.acl ≤ 72
 few_listed fs formed limited number card node = ∥∥₁_elim formed.well_formed (Prim.hlevel props) (λ well.
-    let is = well.nodes number (blank_node node.node) (at-blanked fs.volume.tree number ∙ ap (option_map blank_node) node.there) in
+    let is = well.nodes number (blank_node node.node) (at-without_data fs.volume.tree number ∙ ap (option_map blank_node) node.there) in
     let small = small_list fs.volume.limits _ node.node.acl is.entries in
     let most : fs.volume.limits.aces ≡ 72 = ap (λ (l : Limits). l.aces) limited in
     let same : length node.node.acl ≡ length card.fields.acl = ap (λ (l : List Ace). length l) node.acl in

@@ -4,7 +4,7 @@ use Rattle.std.specs.Prelude.{unwrap_or}
 use Rattle.std.specs.Option.{ForSome}
 use Rattle.std.proofs.lemmas.List.Elements.{All-replicate}
 use Rattle.tree_edits.proofs.BlankLaws.{length-zeros}
-use Rattle.layout.specs.Cards.{Card}
+use Rattle.layout.specs.CachedNodes.{CachedNode}
 use Rattle.model.specs.declared.acl.Ace.{Ace}
 use Rattle.model.specs.declared.acl.Cred.{Cred}
 use Rattle.model.specs.declared.limits.Limits.{Limits}
@@ -37,7 +37,7 @@ size_within None most within = omega arith
 size_within (Some some) most within = within some refl
 
 module _ (fs : FileSystem) (formed : MayStand fs.volume fs.changes) (limited : fs.volume.limits ≡ limits_of fs.volume.sectors fs.volume.limits.nodes)
-    (cred : Cred) (now number : ℕ) (name : List ℕ) (given : Attributes) (card : Card) (parent : IsDirectoryOf fs.volume.tree number card)
+    (cred : Cred) (now number : ℕ) (name : List ℕ) (given : Attributes) (card : CachedNode) (parent : IsDirectoryOf fs.volume.tree number card)
     (allowed : first_refusal (name_refusals fs.volume.limits name) ≡ None) (lacks : is_named fs.volume.tree number name ≡ false)
     (settings : Settings) (set : AreSettings settings given) (within : AreWithin fs.volume.limits kind.File settings) (size : ℕ) (size_is : size ≡ unwrap_or settings.size 0) where
   low : size ≤ fs.volume.limits.file_bytes

@@ -3,9 +3,10 @@ use Rattle.std.proofs.Common.{◌≡◌, ◌≤◌, ◌<◌, ◌+◌, ℕ, zero,
 use Rattle.std.proofs.Math.Logic.{∥∥₁_map, ∥∥₁_elim}
 use Rattle.std.proofs.Props.{props}
 use Rattle.std.specs.Prelude.{IsTrue, option_map, All}
-use Rattle.tree_edits.specs.Outlines.{blank, blank_node, blanked, zeros}
-use Rattle.tree_edits.proofs.BlankLaws.{at-blanked, blanked-with, edits_blanked, length-zeros}
-use Rattle.tree_edits.proofs.FitLaws.{fits-blanked}
+use Rattle.tree_edits.specs.Outlines.{blank, blank_node, without_data, zeros}
+use Rattle.tree_edits.proofs.BlankLaws.{at-without_data, without_data-with, edits_blanked}
+use Rattle.tree_edits.proofs.BlankLaws.{length-zeros}
+use Rattle.tree_edits.proofs.FitLaws.{fits-without_data}
 use Rattle.model.specs.declared.limits.Limits.{Limits}
 use Rattle.model.specs.declared.node.NodeKind.TheVariants as kind
 use Rattle.model.specs.Charge.{fits}
@@ -45,7 +46,7 @@ few_bytes limits (Directory names) file is = absurd cc
 
 module _ (fs : FileSystem) (formed : MayStand fs.volume fs.changes) (number : ℕ) (node : Node) (there : at number fs.volume.tree ≡ Some node) (file : is_directory node.content ≡ false)
     (size : ℕ) (low : size ≤ fs.volume.limits.file_bytes) (shown : Shown) (stamped : shown.change ≡ next_stamp fs.volume.run fs.changes)
-    (listed : IsWellFormed fs.volume.limits (blanked fs.volume.tree) → IsList fs.volume.limits kind.File shown.acl) where
+    (listed : IsWellFormed fs.volume.limits (without_data fs.volume.tree) → IsList fs.volume.limits kind.File shown.acl) where
   abbrev limits : Limits
   limits = fs.volume.limits
 
@@ -53,7 +54,7 @@ module _ (fs : FileSystem) (formed : MayStand fs.volume fs.changes) (number : �
   tree = fs.volume.tree
 
   abbrev flat : Tree
-  flat = blanked tree
+  flat = without_data tree
 
   abbrev own : ℕ
   own = next_stamp fs.volume.run fs.changes
@@ -68,7 +69,7 @@ module _ (fs : FileSystem) (formed : MayStand fs.volume fs.changes) (number : �
   sized old = with_content old (File (resized (bytes_of old.content) size))
 
   flat_there : at number flat ≡ Some (blank_node node)
-  flat_there = at-blanked tree number ∙ ap (option_map blank_node) there
+  flat_there = at-without_data tree number ∙ ap (option_map blank_node) there
 
   -- The trees after the edits
 
@@ -87,11 +88,11 @@ module _ (fs : FileSystem) (formed : MayStand fs.volume fs.changes) (number : �
   same_node : last_flat ≡ blank_node last
   same_node = ap (λ (bytes : List ℕ). showing shown (with_content node (File bytes))) (resized_blank node.content size)
 
-  seen : with flat number last_flat ≡ blanked after
-  seen = ap (with flat number) same_node ∙ sym (blanked-with tree number last) ∙ sym (ap blanked after_is)
+  seen : with flat number last_flat ≡ without_data after
+  seen = ap (with flat number) same_node ∙ sym (without_data-with tree number last) ∙ sym (ap without_data after_is)
 
   fits_flat : fits limits (with flat number last_flat) ≡ fits limits after
-  fits_flat = ap (fits limits) seen ∙ fits-blanked limits after
+  fits_flat = ap (fits limits) seen ∙ fits-without_data limits after
 
   -- The tree after them may stand
 

@@ -5,9 +5,9 @@ use Rattle.std.proofs.Props.{props}
 use Rattle.std.proofs.lemmas.Bool.{lt-ltb, le-ltb, leb-true, leb-false}
 use Rattle.std.proofs.lemmas.List.{take-replicate, drop-replicate, take_all, append-nil, replicate-append-replicate}
 use Rattle.std.specs.Prelude.{IsTrue, Result, Ok, option_map, nat_le}
-use Rattle.tree_edits.specs.Outlines.{blank, blank_node, blanked, zeros}
-use Rattle.tree_edits.proofs.BlankLaws.{at-blanked, blanked-with, key-blanked, directory-blanked, edits_blanked, length-zeros, overwritten-length}
-use Rattle.tree_edits.proofs.FitLaws.{fits-blanked}
+use Rattle.tree_edits.specs.Outlines.{blank, blank_node, without_data, zeros}
+use Rattle.tree_edits.proofs.BlankLaws.{at-without_data, without_data-with, key-without_data, directory-without_data, edits_blanked, length-zeros, overwritten-length}
+use Rattle.tree_edits.proofs.FitLaws.{fits-without_data}
 use Rattle.model.specs.declared.acl.Cred.{Cred}
 use Rattle.model.specs.declared.limits.Limits.{Limits}
 use Rattle.model.specs.declared.status.Status.{Status}
@@ -115,7 +115,7 @@ module _ (fs : FileSystem) (formed : MayStand fs.volume fs.changes) (counted : f
   tree = fs.volume.tree
 
   abbrev flat : Tree
-  flat = blanked tree
+  flat = without_data tree
 
   abbrev pub own : ℕ
   own = next_stamp fs.volume.run fs.changes
@@ -136,7 +136,7 @@ module _ (fs : FileSystem) (formed : MayStand fs.volume fs.changes) (counted : f
   wanted_flat = PutBytes number offset blanks ∷ Show number shown ∷ []
 
   pub flat_there : at number flat ≡ Some (blank_node node)
-  flat_there = at-blanked tree number ∙ ap (option_map blank_node) there
+  flat_there = at-without_data tree number ∙ ap (option_map blank_node) there
 
   -- The trees after the edits
 
@@ -152,11 +152,11 @@ module _ (fs : FileSystem) (formed : MayStand fs.volume fs.changes) (counted : f
   same_node : showing shown (put blanks (blank_node node)) ≡ blank_node (showing shown (put part node))
   same_node = ap (λ (bytes : List ℕ). showing shown (with_content node (File bytes))) (written_blank node.content offset part)
 
-  seen : edited wanted_flat flat ≡ blanked after
-  seen = flat_is ∙ ap (with flat number) same_node ∙ sym (blanked-with tree number (showing shown (put part node))) ∙ sym (ap blanked after_is)
+  seen : edited wanted_flat flat ≡ without_data after
+  seen = flat_is ∙ ap (with flat number) same_node ∙ sym (without_data-with tree number (showing shown (put part node))) ∙ sym (ap without_data after_is)
 
   fits_flat : fits limits (edited wanted_flat flat) ≡ fits limits after
-  fits_flat = ap (fits limits) seen ∙ fits-blanked limits after
+  fits_flat = ap (fits limits) seen ∙ fits-without_data limits after
 
   -- The tests on the flat tree
 
@@ -169,7 +169,7 @@ module _ (fs : FileSystem) (formed : MayStand fs.volume fs.changes) (counted : f
       let directory = none_in_front (is_directory_at tree number) status.IsDir _ stale.1 in
       let stateid = none_in_both (verdict_refusals verdict) ((not (granted_on (at number tree) cred write_data), status.Access) ∷ []) directory.1 in
       let right = none_in_front (not (granted_on (at number tree) cred write_data)) status.Access None stateid.1 in
-      rw (key-blanked tree number, directory-blanked tree number, granted_flat, stale.0, directory.0, right.0) refl
+      rw (key-without_data tree number, directory-without_data tree number, granted_flat, stale.0, directory.0, right.0) refl
 
   abbrev flat_arguments : WriteArguments
   flat_arguments = record { state = anonymous; offset = offset; stable = 0; data_bytes = blanks }

@@ -7,7 +7,7 @@ use Rattle.std.specs.List.{IsAmong}
 use Rattle.tree_edits.specs.declared.edit.Edit.{Edit}
 use Rattle.tree_edits.specs.Doing.{made_by, updates_of_all}
 use Rattle.tree_edits.specs.Edits.{AreDoable}
-use Rattle.tree_edits.specs.Outlines.{blanked}
+use Rattle.tree_edits.specs.Outlines.{without_data}
 use Rattle.model.specs.declared.limits.Limits.{Limits}
 use Rattle.model.specs.Charge.{fits}
 use Rattle.model.specs.Limits.{limits_of}
@@ -31,25 +31,25 @@ module _ (fs : FileSystem) (formed : MayStand fs.volume fs.changes) (counted : f
   limits = fs.volume.limits
 
   -- a state with zeros for the bytes of files is sound
-  sound : (state : State) → state.tree ≡ blanked fs.volume.tree → state.changes ≡ fs.changes → state.context.run ≡ fs.volume.run
-      → IsWellFormed limits (blanked fs.volume.tree) → IsSound limits state
+  sound : (state : State) → state.tree ≡ without_data fs.volume.tree → state.changes ≡ fs.changes → state.context.run ≡ fs.volume.run
+      → IsWellFormed limits (without_data fs.volume.tree) → IsSound limits state
   sound state tree changes run well = record {
     well_formed = subst (IsWellFormed limits) (sym tree) well;
     before = subst (λ (t : Tree). IsBefore (stamp_of state) t) (sym tree)
-        (subst (λ (n : ℕ). IsBefore n (blanked fs.volume.tree)) (ap₂ next_stamp (sym run) (sym changes)) formed.before);
+        (subst (λ (n : ℕ). IsBefore n (without_data fs.volume.tree)) (ap₂ next_stamp (sym run) (sym changes)) formed.before);
     counted = subst (λ (n : ℕ). n < 2 ^ 32) (sym changes) counted;
     room_for_mode = subst (λ (l : Limits). l.aces_set + 5 ≤ l.aces) (sym limited) (omega arith);
   }
 
   -- what a change leaves of such a state may stand after it, and so may each tree with these zeros for its bytes
   pub formed_by : (state : State) (now : ℕ) (operation : Argument) (stepped : Stepped) (after : Tree)
-      → state.tree ≡ blanked fs.volume.tree → state.changes ≡ fs.changes → state.context.run ≡ fs.volume.run
-      → does limits state now operation ≡ stepped → stepped.state.changes ≡ fs.changes + 1 → stepped.state.tree ≡ blanked after
+      → state.tree ≡ without_data fs.volume.tree → state.changes ≡ fs.changes → state.context.run ≡ fs.volume.run
+      → does limits state now operation ≡ stepped → stepped.state.changes ≡ fs.changes + 1 → stepped.state.tree ≡ without_data after
       → IsFormed limits (next_stamp fs.volume.run (fs.changes + 1)) after
   formed_by state now operation stepped after tree changes run is more seen =
       let law : IsLawful limits state operation (does limits state now operation) =
       every_step modes_keep_limits inheritance_keeps_limits limits state now operation in
-      let kept : IsWellFormed limits (blanked fs.volume.tree) → IsSound limits stepped.state = λ well.
+      let kept : IsWellFormed limits (without_data fs.volume.tree) → IsSound limits stepped.state = λ well.
       subst (λ (s : Stepped). IsSound limits s.state) is (law.keeps_soundness (sound state tree changes run well)) in
       let run_then : stepped.state.context.run ≡ fs.volume.run = ap (λ (s : Stepped). s.state.context.run) (sym is) ∙ law.keeps_caller.2 ∙ run in
       record {
@@ -78,7 +78,7 @@ module _ (fs : FileSystem) (formed : MayStand fs.volume fs.changes) (counted : f
       fronts = fronts;
       formed = λ all. record {
         well_formed = stands.well_formed;
-        before = before_later (next_stamp fs.volume.run (fs.changes + 1)) (stamp (fs.volume.run + 1) 0) (blanked (edited_by fs.volume edits)) stands.before (omega (arith, left));
+        before = before_later (next_stamp fs.volume.run (fs.changes + 1)) (stamp (fs.volume.run + 1) 0) (without_data (edited_by fs.volume edits)) stands.before (omega (arith, left));
       };
     };
     fitting = fit;

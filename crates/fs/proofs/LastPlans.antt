@@ -4,9 +4,9 @@ use Rattle.std.proofs.Math.Logic.{∥∥₁_elim}
 use Rattle.std.proofs.Props.{props}
 use Rattle.std.specs.Prelude.{option_map, if◌then◌else◌}
 use Rattle.tree_edits.specs.Edits.{AreDoable, IsFileTo, size_of}
-use Rattle.tree_edits.specs.Outlines.{blank, blank_node, blanked}
-use Rattle.tree_edits.proofs.BlankLaws.{at-blanked, length-zeros}
-use Rattle.layout.specs.Cards.{Card}
+use Rattle.tree_edits.specs.Outlines.{blank, blank_node, without_data}
+use Rattle.tree_edits.proofs.BlankLaws.{at-without_data, length-zeros}
+use Rattle.layout.specs.CachedNodes.{CachedNode}
 use Rattle.model.specs.declared.limits.Limits.{Limits}
 use Rattle.model.specs.declared.node.NodeKind.{NodeKind}
 use Rattle.model.specs.declared.node.NodeKind.TheVariants as kind
@@ -49,14 +49,14 @@ told_as fs Told after asked same full used_up = by_room (fits fs.volume.limits a
     by_room true fit = used_up fit
     by_room false none = full none
 
--- what a card tells of a file
-pub file_of : (tree : Tree) (number : ℕ) (card : Card) → IsNodeOf tree number card → card.fields.kind ≡ kind.File → is_directory_at tree number ≡ false
+-- what a cached node tells of a file
+pub file_of : (tree : Tree) (number : ℕ) (card : CachedNode) → IsNodeOf tree number card → card.fields.kind ≡ kind.File → is_directory_at tree number ≡ false
 file_of tree number card node file =
     let is : IsFile card.fields.size node.node.content = subst (λ (of : NodeKind). ShowsContent of card node.node.content) file node.content in
     ap is_directory_node node.there ∙ ap is_directory is.file
 
 -- numbers rise in a tree where they do in the one with zeros for the bytes of files
-pub above_flat : (least : ℕ) (tree : Tree) → IsAbove least (blanked tree) → IsAbove least tree
+pub above_flat : (least : ℕ) (tree : Tree) → IsAbove least (without_data tree) → IsAbove least tree
 above_flat least [] above = tt
 above_flat least (entry ∷ rest) above = (above.0, above_flat entry.0 rest above.1)
 
@@ -79,7 +79,7 @@ module _ (fs : FileSystem) (formed : MayStand fs.volume fs.changes) (limited : f
   module _ (number : ℕ) (node : Node) (there : at number tree ≡ Some node) where
     small : size_of (at number tree) ≤ limits.file_bytes
     small = ∥∥₁_elim formed.well_formed (Prim.hlevel props) (λ well.
-        let is = well.nodes number (blank_node node) (at-blanked tree number ∙ ap (option_map blank_node) there) in
+        let is = well.nodes number (blank_node node) (at-without_data tree number ∙ ap (option_map blank_node) there) in
         let few = few_bytes limits node.content is.content in
         let same : size_of (at number tree) ≡ length (bytes_of node.content) = ap size_of there in
         omega (arith, few, same))

@@ -6,8 +6,8 @@ use Rattle.std.specs.Prelude.{IsTrue, option_map}
 use Rattle.tree_transaction.specs.Nodes.{no_content}
 use Rattle.tree_edits.specs.Edits.{fresh_node}
 use Rattle.tree_edits.specs.Making.{first_content}
-use Rattle.tree_edits.specs.Outlines.{blank, blank_node, blanked, zeros}
-use Rattle.tree_edits.proofs.BlankLaws.{at-blanked, blanked-with, blanked-twice, edits_blanked, names-blanked, length-zeros}
+use Rattle.tree_edits.specs.Outlines.{blank, blank_node, without_data, zeros}
+use Rattle.tree_edits.proofs.BlankLaws.{at-without_data, without_data-with, without_data-twice, edits_blanked, names-without_data, length-zeros}
 use Rattle.model.specs.declared.limits.Limits.{Limits}
 use Rattle.model.specs.declared.node.NodeKind.{NodeKind}
 use Rattle.model.specs.declared.node.NodeKind.TheVariants as kind
@@ -66,7 +66,7 @@ module _ (fs : FileSystem) (formed : MayStand fs.volume fs.changes) (now number 
   tree = fs.volume.tree
 
   abbrev flat : Tree
-  flat = blanked tree
+  flat = without_data tree
 
   abbrev pub own : ℕ
   own = next_stamp fs.volume.run fs.changes
@@ -81,10 +81,10 @@ module _ (fs : FileSystem) (formed : MayStand fs.volume fs.changes) (now number 
   same_blank = ap (with_content parent) (ap blank content ∙ sym content)
 
   pub flat_there : at number flat ≡ Some parent
-  flat_there = at-blanked tree number ∙ ap (option_map blank_node) there ∙ ap (λ (n : Node). Some n) same_blank
+  flat_there = at-without_data tree number ∙ ap (option_map blank_node) there ∙ ap (λ (n : Node). Some n) same_blank
 
   flat_at : (n : ℕ) (node : Node) → at n tree ≡ Some node → at n flat ≡ Some (blank_node node)
-  flat_at n node is = at-blanked tree n ∙ ap (option_map blank_node) is
+  flat_at n node is = at-without_data tree n ∙ ap (option_map blank_node) is
 
   pub below : (n : ℕ) → IsTrue (is_key n tree) → n < own
   below n key = by_node (at n tree) refl key
@@ -129,18 +129,18 @@ module _ (fs : FileSystem) (formed : MayStand fs.volume fs.changes) (now number 
     flat_child : blank_node child ≡ child
     flat_child = ap (with_content child) (blank_first of size)
 
-    flat-with : (t : Tree) (n : ℕ) (node : Node) → blanked t ≡ t → blank_node node ≡ node → blanked (with t n node) ≡ with t n node
-    flat-with t n node same one = blanked-with t n node ∙ ap₂ (λ (u : Tree) (x : Node). with u n x) same one
+    flat-with : (t : Tree) (n : ℕ) (node : Node) → without_data t ≡ t → blank_node node ≡ node → without_data (with t n node) ≡ with t n node
+    flat-with t n node same one = without_data-with t n node ∙ ap₂ (λ (u : Tree) (x : Node). with u n x) same one
 
-    flat_after : blanked (edited wanted flat) ≡ edited wanted flat
+    flat_after : without_data (edited wanted flat) ≡ edited wanted flat
     flat_after =
         let is = after_is flat own number child parent entry shown apart flat_there in
-        ap blanked is
+        ap without_data is
         ∙ flat-with (with (with flat own child) number (name_put own entry parent)) number (showing shown (name_put own entry parent))
-        (flat-with (with flat own child) number (name_put own entry parent) (flat-with flat own child (blanked-twice tree) flat_child) refl) refl
+        (flat-with (with flat own child) number (name_put own entry parent) (flat-with flat own child (without_data-twice tree) flat_child) refl) refl
         ∙ sym is
 
-    seen : edited wanted flat ≡ blanked after
+    seen : edited wanted flat ≡ without_data after
     seen = sym flat_after ∙ edits_blanked wanted tree
 
     fits_flat : fits limits (edited wanted flat) ≡ fits limits after
@@ -153,7 +153,7 @@ module _ (fs : FileSystem) (formed : MayStand fs.volume fs.changes) (now number 
       directory_flat = ap is_directory_node flat_there ∙ ap is_directory content
 
       lacks : entry_of name (names_at flat number) ≡ None
-      lacks = ap (entry_of name) (names-blanked tree number) ∙ may.new
+      lacks = ap (entry_of name) (names-without_data tree number) ∙ may.new
 
       keeps : IsWellFormed limits flat → IsChanged limits own flat (edited wanted flat) 0
       keeps well = subst (λ (o : Option Node). IsChanged limits own flat (edited (made_by own number child entry (touched o own now)) flat) 0) flat_there

@@ -12,7 +12,7 @@ use Rattle.tree_edits.specs.declared.edit.Edit.{Edit}
 use Rattle.tree_edits.specs.declared.edit.Edit.TheVariants as edit
 use Rattle.tree_edits.specs.Doing.{made_by as made_in, updates_of_all}
 use Rattle.tree_edits.specs.Edits.{AreEntries, AreDoable, edits_of, fresh_node, size_of}
-use Rattle.tree_edits.specs.Outlines.{blanked}
+use Rattle.tree_edits.specs.Outlines.{without_data}
 use Rattle.tree_edits.proofs.BlankLaws.{edits_blanked}
 use Rattle.model.specs.declared.limits.Limits.{Limits}
 use Rattle.model.specs.declared.node.NodeKind.{NodeKind}
@@ -192,7 +192,7 @@ module _ (fs : FileSystem) (formed : MayStand fs.volume fs.changes) (counted : f
     -- What stands after each of them fits
 
     abbrev flat : Tree
-    flat = blanked tree
+    flat = without_data tree
 
     alike : (edits : List model.Edit) → fits limits (edited edits flat) ≡ fits limits (edited edits tree)
     alike edits = fits_alike limits (edited edits tree) (edited edits flat) (edits_blanked edits tree)

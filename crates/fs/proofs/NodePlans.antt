@@ -10,7 +10,7 @@ use Rattle.tree_edits.specs.declared.edit.Edit.{Edit}
 use Rattle.tree_edits.specs.declared.edit.Edit.TheVariants as edit
 use Rattle.tree_edits.specs.Edits.{AreEntries, AreDoable}
 use Rattle.tree_edits.specs.Making.{IsMaking, first_content}
-use Rattle.layout.specs.Cards.{Card}
+use Rattle.layout.specs.CachedNodes.{CachedNode}
 use Rattle.model.specs.declared.node.NodeKind.{NodeKind}
 use Rattle.model.specs.declared.status.Status.TheVariants as status
 use Rattle.model.specs.Changes.{made_edits, touched}
@@ -25,7 +25,7 @@ use Rattle.fs.specs.FileSystem.{FileSystem}
 use Rattle.fs.specs.Making.{first_node, room_tests, sizing, tree_with, IsDirectoryOf, IsSizeOf, MayBeMade}
 use Rattle.fs.specs.Planned.{IsPlanned, shown_by}
 use Rattle.fs.specs.Ready.{MayStand}
-use Rattle.fs.proofs.CardViews.{names_are}
+use Rattle.fs.proofs.CachedNodeViews.{names_are}
 use Rattle.fs.proofs.MakingLaws as laws
 use Rattle.fs.proofs.MakingPlans as plans
 use Rattle.fs.proofs.RemovalPlans.{shown_touched, entries_shown}
@@ -45,7 +45,7 @@ has_room fs after fit left = ap (λ (b : Bool). refused_or (not b) status.NoSpc 
     ∙ ap (λ (b : Bool). refused_or (not b) status.ServerFault None) left
 
 -- The room of a node that is made does not depend on its number
-module _ (fs : FileSystem) (formed : MayStand fs.volume fs.changes) (number : ℕ) (name : List ℕ) (of : NodeKind) (size : ℕ) (card : Card) (parent : IsDirectoryOf fs.volume.tree number card) where
+module _ (fs : FileSystem) (formed : MayStand fs.volume fs.changes) (number : ℕ) (name : List ℕ) (of : NodeKind) (size : ℕ) (card : CachedNode) (parent : IsDirectoryOf fs.volume.tree number card) where
   names : parent.node.node.content ≡ Directory (by_stamp card.names)
   names = names_are fs.volume.tree number card parent.node parent.directory
 
@@ -71,7 +71,7 @@ module _ (fs : FileSystem) (formed : MayStand fs.volume fs.changes) (number : �
       }
 
 module _ (fs : FileSystem) (formed : MayStand fs.volume fs.changes) (counted : fs.changes < 2 ^ 32) (limited : fs.volume.limits ≡ limits_of fs.volume.sectors fs.volume.limits.nodes)
-    (now number : ℕ) (spelled : Bor (List ℕ)) (of : NodeKind) (size : ℕ) (child_shown parent_shown : Shown) (card : Card) (parent : IsDirectoryOf fs.volume.tree number card) (has : IsSizeOf of size)
+    (now number : ℕ) (spelled : Bor (List ℕ)) (of : NodeKind) (size : ℕ) (child_shown parent_shown : Shown) (card : CachedNode) (parent : IsDirectoryOf fs.volume.tree number card) (has : IsSizeOf of size)
     (may : MayBeMade fs number spelled.now (first_node of size (shown_of child_shown))) (entries : AreEntries (shown_of child_shown).acl)
     (stamp : ℕ) (edits : List Edit) (stamp_is : stamp ≡ next_stamp fs.volume.run fs.changes) (shown_is : shown_of parent_shown ≡ shown_by card.fields stamp now)
     (edits_are : edits ≡ edit.PutNode stamp of child_shown ∷ (sizing stamp size ++ (edit.PutName number stamp spelled stamp ∷ edit.Show number parent_shown ∷ []))) where

@@ -9,7 +9,7 @@ use Rattle.tree_transaction.specs.Nodes.{shown_of}
 use Rattle.tree_edits.specs.declared.edit.Edit.{Edit}
 use Rattle.tree_edits.specs.declared.edit.Edit.TheVariants as edit
 use Rattle.tree_edits.specs.Edits.{AreEntries, AreDoable, edits_of}
-use Rattle.layout.specs.Cards.{Card}
+use Rattle.layout.specs.CachedNodes.{CachedNode}
 use Rattle.layout.specs.Known.{IsCard}
 use Rattle.model.specs.declared.acl.Ace.{Ace}
 use Rattle.model.specs.declared.acl.Cred.{Cred}
@@ -38,28 +38,28 @@ use Rattle.volume.specs.Formed.{IsFormed}
 use Rattle.volume.specs.Nodes.{IsNodeOf}
 use Rattle.fs.proofs.EntryLaws.{few_listed}
 
--- What a card shows is what its node does
+-- What a cached node shows is what its node does
 
 abbrev shown_with : (stamp now owner group : ℕ) → List Ace → model.Shown
 shown_with stamp now owner group acl = record { owner = owner; group = group; acl = acl; change = stamp; time_modify = now }
 
-pub shown_touched : (tree : Tree) (number : ℕ) (card : Card) (is : IsNodeOf tree number card) (stamp now : ℕ) → shown_by card.fields stamp now ≡ touched (at number tree) stamp now
+pub shown_touched : (tree : Tree) (number : ℕ) (card : CachedNode) (is : IsNodeOf tree number card) (stamp now : ℕ) → shown_by card.fields stamp now ≡ touched (at number tree) stamp now
 shown_touched tree number card is stamp now =
     ap (λ (n : ℕ). shown_with stamp now n card.fields.group card.fields.acl) (sym is.owner)
     ∙ ap (λ (n : ℕ). shown_with stamp now is.node.owner n card.fields.acl) (sym is.group)
     ∙ ap (shown_with stamp now is.node.owner is.node.group) (sym is.acl)
     ∙ ap (λ (o : Option Node). touched o stamp now) (sym is.there)
 
-pub change_shown : (tree : Tree) (number : ℕ) (card : Card) (is : IsNodeOf tree number card) → change_of (at number tree) ≡ card.fields.change
+pub change_shown : (tree : Tree) (number : ℕ) (card : CachedNode) (is : IsNodeOf tree number card) → change_of (at number tree) ≡ card.fields.change
 change_shown tree number card is = ap change_of is.there ∙ is.change
 
-pub entries_shown : (fs : FileSystem) → MayStand fs.volume fs.changes → fs.volume.limits ≡ limits_of fs.volume.sectors fs.volume.limits.nodes → (number : ℕ) (card : Card) → IsNodeOf fs.volume.tree number card
+pub entries_shown : (fs : FileSystem) → MayStand fs.volume fs.changes → fs.volume.limits ≡ limits_of fs.volume.sectors fs.volume.limits.nodes → (number : ℕ) (card : CachedNode) → IsNodeOf fs.volume.tree number card
     → (fit : IsCard card) (shown : Shown) (stamp now : ℕ) → shown_of shown ≡ shown_by card.fields stamp now → AreEntries (shown_of shown).acl
 entries_shown fs formed limited number card node fit shown stamp now is =
     subst (λ (s : model.Shown). AreEntries s.acl) (sym is) (record { few = few_listed fs formed limited number card node; each = fit.fits.each_ace })
 
 module _ (fs : FileSystem) (formed : MayStand fs.volume fs.changes) (counted : fs.changes < 2 ^ 32) (limited : fs.volume.limits ≡ limits_of fs.volume.sectors fs.volume.limits.nodes)
-    (cred : Cred) (now number : ℕ) (card : Card) (spelled : Bor (List ℕ)) (entry_stamp target : ℕ) (node : IsNodeOf fs.volume.tree number card) (fit_card : IsCard card)
+    (cred : Cred) (now number : ℕ) (card : CachedNode) (spelled : Bor (List ℕ)) (entry_stamp target : ℕ) (node : IsNodeOf fs.volume.tree number card) (fit_card : IsCard card)
     (found : entry_of spelled.now (names_at fs.volume.tree number) ≡ Some (record_from entry_stamp spelled.now target))
     (passed : first_refusal (removal_refusals fs.volume.limits fs.volume.tree cred number spelled.now) ≡ None)
     (stamp : ℕ) (shown : Shown) (edits : List Edit) (stamp_is : stamp ≡ next_stamp fs.volume.run fs.changes)

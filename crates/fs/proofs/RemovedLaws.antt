@@ -4,8 +4,8 @@ use Rattle.std.proofs.Math.Logic.{∥∥₁_elim}
 use Rattle.std.proofs.Props.{props}
 use Rattle.std.proofs.lemmas.Bool.{not-false, lt-ltb}
 use Rattle.std.specs.Prelude.{IsTrue, nat_lt}
-use Rattle.tree_edits.specs.Outlines.{blanked}
-use Rattle.tree_edits.proofs.BlankLaws.{blanked-twice, key-blanked, directory-blanked, names-blanked, edits_blanked}
+use Rattle.tree_edits.specs.Outlines.{without_data}
+use Rattle.tree_edits.proofs.BlankLaws.{without_data-twice, key-without_data, directory-without_data, names-without_data, edits_blanked}
 use Rattle.model.specs.declared.acl.Cred.{Cred}
 use Rattle.model.specs.declared.limits.Limits.{Limits}
 use Rattle.model.specs.declared.status.Status.{Status}
@@ -37,7 +37,7 @@ use Rattle.fs.specs.FileSystem.{FileSystem}
 use Rattle.fs.specs.Operations.{IsOn}
 use Rattle.fs.specs.Ready.{MayStand}
 use Rattle.fs.specs.Removing.{may_remove, removal_refusals, removed}
-use Rattle.fs.proofs.FlatLaws.{touched-blanked, removable-blanked, flat_shown, flat_name_dropped, flat_node_dropped, key-altered, key-dropped}
+use Rattle.fs.proofs.FlatLaws.{touched-without_data, removable-without_data, flat_shown, flat_name_dropped, flat_node_dropped, key-altered, key-dropped}
 use Rattle.fs.proofs.KeptLaws.{formed_by}
 use Rattle.fs.proofs.RemoveTests as tests
 use Rattle.fs.proofs.RoomLaws.{above_name_dropped, drop_name_room, above_node_dropped, drop_node_room, show_room}
@@ -88,7 +88,7 @@ module _ (fs : FileSystem) (formed : MayStand fs.volume fs.changes) (counted : f
   tree = fs.volume.tree
 
   abbrev flat : Tree
-  flat = blanked tree
+  flat = without_data tree
 
   abbrev own : ℕ
   own = next_stamp fs.volume.run fs.changes
@@ -110,9 +110,9 @@ module _ (fs : FileSystem) (formed : MayStand fs.volume fs.changes) (counted : f
   leads : IsWellFormed limits flat → IsTrue (is_key entry.1.number tree)
   leads well =
       let forest = forest_of limits flat well in
-      let stands = entry_found name (names_at flat number) 0 (names_in limits flat forest number).rising entry (ap (entry_of name) (names-blanked tree number) ∙ found) in
+      let stands = entry_found name (names_at flat number) 0 (names_in limits flat forest number).rising entry (ap (entry_of name) (names-without_data tree number) ∙ found) in
       let node = led_to limits flat forest number entry.0 entry.1 stands.0 in
-      sym (key-blanked tree entry.1.number) ∙ ap is_some node.1
+      sym (key-without_data tree entry.1.number) ∙ ap is_some node.1
 
   pub node_there : IsTrue (is_key entry.1.number (done (DropName number entry.0) tree))
   node_there = ∥∥₁_elim formed.well_formed (Prim.hlevel props) (λ well. key-altered (name_dropped entry.0) tree number entry.1.number ∙ leads well)
@@ -175,24 +175,24 @@ module _ (fs : FileSystem) (formed : MayStand fs.volume fs.changes) (counted : f
 
   passed_flat : first_refusal (removal_refusals limits flat cred number name) ≡ None
   passed_flat =
-      let names = names-blanked tree number in
-      ap (λ (b : Bool). first_refusal (tests_by b (is_directory_at flat number) (is_named flat number name) (may_remove flat cred number name) (has_names flat (number_named flat number name)))) (key-blanked tree number)
-      ∙ ap (λ (b : Bool). first_refusal (tests_by (is_key number tree) b (is_named flat number name) (may_remove flat cred number name) (has_names flat (number_named flat number name)))) (directory-blanked tree number)
+      let names = names-without_data tree number in
+      ap (λ (b : Bool). first_refusal (tests_by b (is_directory_at flat number) (is_named flat number name) (may_remove flat cred number name) (has_names flat (number_named flat number name)))) (key-without_data tree number)
+      ∙ ap (λ (b : Bool). first_refusal (tests_by (is_key number tree) b (is_named flat number name) (may_remove flat cred number name) (has_names flat (number_named flat number name)))) (directory-without_data tree number)
       ∙ ap (λ (n : Keyed DirEntry). first_refusal (tests_by (is_key number tree) (is_directory_at tree number) (is_some (entry_of name n)) (may_remove flat cred number name) (has_names flat (number_of_entry (entry_of name n))))) names
-      ∙ ap (λ (b : Bool). first_refusal (tests_by (is_key number tree) (is_directory_at tree number) (is_named tree number name) b (has_names flat (number_named tree number name)))) (removable-blanked tree cred number name)
-      ∙ ap (λ (n : Keyed DirEntry). first_refusal (tests_by (is_key number tree) (is_directory_at tree number) (is_named tree number name) (may_remove tree cred number name) (nat_lt 0 (length n)))) (names-blanked tree (number_named tree number name))
+      ∙ ap (λ (b : Bool). first_refusal (tests_by (is_key number tree) (is_directory_at tree number) (is_named tree number name) b (has_names flat (number_named tree number name)))) (removable-without_data tree cred number name)
+      ∙ ap (λ (n : Keyed DirEntry). first_refusal (tests_by (is_key number tree) (is_directory_at tree number) (is_named tree number name) (may_remove tree cred number name) (nat_lt 0 (length n)))) (names-without_data tree (number_named tree number name))
       ∙ passed
 
   flat_edits : removed_edits flat number name own now ≡ wanted
   flat_edits =
-      ap (λ (o : Option (ℕ × DirEntry)). removal number o ++ (Show number (touched (at number flat) own now) ∷ [])) (ap (entry_of name) (names-blanked tree number) ∙ found)
-      ∙ ap (λ (shown : Shown). DropName number entry.0 ∷ DropNode entry.1.number ∷ Show number shown ∷ []) (touched-blanked tree number own now)
+      ap (λ (o : Option (ℕ × DirEntry)). removal number o ++ (Show number (touched (at number flat) own now) ∷ [])) (ap (entry_of name) (names-without_data tree number) ∙ found)
+      ∙ ap (λ (shown : Shown). DropName number entry.0 ∷ DropNode entry.1.number ∷ Show number shown ∷ []) (touched-without_data tree number own now)
 
-  flat_after : blanked (edited wanted flat) ≡ edited wanted flat
+  flat_after : without_data (edited wanted flat) ≡ edited wanted flat
   flat_after = flat_shown (done (DropNode entry.1.number) (done (DropName number entry.0) flat))
-      (flat_node_dropped (done (DropName number entry.0) flat) (flat_name_dropped flat (blanked-twice tree) number entry.0) entry.1.number) number (touched (at number tree) own now)
+      (flat_node_dropped (done (DropName number entry.0) flat) (flat_name_dropped flat (without_data-twice tree) number entry.0) entry.1.number) number (touched (at number tree) own now)
 
-  seen : (remove on now name).state.tree ≡ blanked after
+  seen : (remove on now name).state.tree ≡ without_data after
   seen = ap (λ (l : List Edit). edited l flat) flat_edits ∙ sym flat_after ∙ edits_blanked wanted tree
 
   fit_flat : fits limits (remove on now name).state.tree ≡ true

@@ -11,8 +11,9 @@ use Rattle.tree_edits.specs.declared.edit.Edit.TheVariants as edit
 use Rattle.tree_edits.specs.Sizes.{resized_by}
 use Rattle.tree_edits.proofs.SizeLaws.{IsRising}
 use Rattle.tree_edits.specs.Edits.{AreEntries, AreDoable, edits_of}
-use Rattle.tree_edits.specs.Outlines.{blanked}
-use Rattle.tree_edits.proofs.BlankLaws.{blanked-twice, directory-blanked, names-blanked}
+use Rattle.tree_edits.specs.Outlines.{without_data}
+use Rattle.tree_edits.proofs.BlankLaws.{without_data-twice, directory-without_data}
+use Rattle.tree_edits.proofs.BlankLaws.{names-without_data}
 use Rattle.tree_edits.proofs.DoableLaws.{doable_alike}
 use Rattle.model.specs.declared.acl.Cred.{Cred}
 use Rattle.model.specs.declared.limits.Limits.{Limits}
@@ -54,7 +55,7 @@ module _ (fs : FileSystem) (formed : MayStand fs.volume fs.changes) (counted : f
   own = next_stamp fs.volume.run fs.changes
 
   abbrev flat : Tree
-  flat = blanked fs.volume.tree
+  flat = without_data fs.volume.tree
 
   pub places : laws.HasPlaces fs.volume.limits fs.volume.tree asked
   places = laws.places fs formed counted limited cred now asked old_stamp number target found under passed placed other
@@ -100,7 +101,7 @@ module _ (fs : FileSystem) (formed : MayStand fs.volume fs.changes) (counted : f
   moved stamp above none = moved_doable (laws.cleared asked.to target flat) stamp number old_stamp asked from_shown to_shown (can_at stamp none) above name_is_some name_is_short from_entries to_entries
 
   to_flat : is_directory_at flat asked.to ≡ true
-  to_flat = directory-blanked fs.volume.tree asked.to ∙ places.to_directory
+  to_flat = directory-without_data fs.volume.tree asked.to ∙ places.to_directory
 
   target_key : (one : ℕ × ℕ) → IsTarget fs.volume.tree asked (Some one) → is_key one.1 (done (DropName asked.to one.0) flat) ≡ true
   target_key one there = ∥∥₁_elim formed.well_formed (Prim.hlevel props) (λ well.
@@ -108,16 +109,16 @@ module _ (fs : FileSystem) (formed : MayStand fs.volume fs.changes) (counted : f
     where
       target_there_by : IsWellFormed fs.volume.limits flat → is_key one.1 flat ≡ true
       target_there_by well = target_there fs.volume.limits flat well own formed.before asked.from asked.to asked.old_name.now asked.new_name.now (record_from old_stamp asked.old_name.now number)
-          (directory-blanked fs.volume.tree asked.from ∙ places.from_directory) to_flat (ap (entry_of asked.old_name.now) (names-blanked fs.volume.tree asked.from) ∙ found)
-          (record_from one.0 asked.new_name.now one.1) (ap (entry_of asked.new_name.now) (names-blanked fs.volume.tree asked.to) ∙ there)
-          (names-blanked fs.volume.tree one.1 ∙ laws.empty_by fs.volume.tree cred asked one there placed)
+          (directory-without_data fs.volume.tree asked.from ∙ places.from_directory) to_flat (ap (entry_of asked.old_name.now) (names-without_data fs.volume.tree asked.from) ∙ found)
+          (record_from one.0 asked.new_name.now one.1) (ap (entry_of asked.new_name.now) (names-without_data fs.volume.tree asked.to) ∙ there)
+          (names-without_data fs.volume.tree one.1 ∙ laws.empty_by fs.volume.tree cred asked one there placed)
           (laws.differs fs formed counted limited cred now asked old_stamp number target found under passed placed other)
 
   doable_by : (stamp : ℕ) (o : Option (ℕ × ℕ)) → IsTarget fs.volume.tree asked o → AreDoable (laws.cleared asked.to o flat) (moving_edits asked old_stamp number stamp from_shown to_shown)
       → AreDoable flat (replacing asked.to asked.new_name o ++ moving_edits asked old_stamp number stamp from_shown to_shown)
   doable_by stamp None there rest = rest
   doable_by stamp (Some one) there rest = (
-    record { there = to_flat; number = one.1; named = ap (entry_of asked.new_name.now) (names-blanked fs.volume.tree asked.to) ∙ there },
+    record { there = to_flat; number = one.1; named = ap (entry_of asked.new_name.now) (names-without_data fs.volume.tree asked.to) ∙ there },
     (target_key one there, rest),
   )
 
@@ -125,7 +126,7 @@ module _ (fs : FileSystem) (formed : MayStand fs.volume fs.changes) (counted : f
   list_at stamp = replacing asked.to asked.new_name target ++ moving_edits asked old_stamp number stamp from_shown to_shown
 
   pub doable_at : (stamp : ℕ) → 0 < stamp → IsOpen stamp → AreDoable fs.volume.tree (list_at stamp)
-  doable_at stamp above none = doable_alike flat fs.volume.tree (list_at stamp) (sym (blanked-twice fs.volume.tree)) (doable_by stamp target under (moved stamp above none))
+  doable_at stamp above none = doable_alike flat fs.volume.tree (list_at stamp) (sym (without_data-twice fs.volume.tree)) (doable_by stamp target under (moved stamp above none))
 
   -- the next stamp is such, and that of the entry which goes
 
@@ -145,7 +146,7 @@ module _ (fs : FileSystem) (formed : MayStand fs.volume fs.changes) (counted : f
   pub rising_by : IsWellFormed fs.volume.limits flat → IsRising fs.volume.tree
   rising_by well = record {
     above = above_flat 0 fs.volume.tree well.numbered;
-    names = λ place. subst (IsAbove 0) (names-blanked fs.volume.tree place) ((names_in fs.volume.limits flat (forest_of fs.volume.limits flat well) place).rising);
+    names = λ place. subst (IsAbove 0) (names-without_data fs.volume.tree place) ((names_in fs.volume.limits flat (forest_of fs.volume.limits flat well) place).rising);
   }
 
 -- As much room is left under any two stamps

@@ -12,10 +12,10 @@ use Rattle.tree_transaction.specs.Nodes.{shown_of}
 use Rattle.tree_edits.specs.declared.edit.Edit.{Edit}
 use Rattle.tree_edits.specs.Doing.{made_by, updates_of_all}
 use Rattle.tree_edits.specs.Edits.{AreEntries, AreDoable, edits_of}
-use Rattle.tree_edits.specs.Outlines.{blanked}
-use Rattle.tree_edits.proofs.BlankLaws.{names-blanked, edits_blanked}
+use Rattle.tree_edits.specs.Outlines.{without_data}
+use Rattle.tree_edits.proofs.BlankLaws.{names-without_data, edits_blanked}
 use Rattle.model.specs.declared.acl.Cred.{Cred}
-use Rattle.layout.specs.Cards.{Card}
+use Rattle.layout.specs.CachedNodes.{CachedNode}
 use Rattle.layout.specs.Known.{IsCard}
 use Rattle.model.specs.declared.status.Status.TheVariants as status
 use Rattle.model.specs.Changes.{touched}
@@ -36,7 +36,7 @@ use Rattle.fs.specs.Planned.{IsPlanned, shown_by}
 use Rattle.fs.specs.Ready.{MayStand}
 use Rattle.fs.specs.Renaming.{IsOnBoth, arguments_of, is_itself, renamed}
 use Rattle.fs.specs.RenameTests.{HasMoved, moving_refusals, placing_refusals, record_under, IsTarget, replacing, moving_edits}
-use Rattle.fs.proofs.CardViews.{entry_at, kind_told}
+use Rattle.fs.proofs.CachedNodeViews.{entry_at, kind_told}
 use Rattle.fs.proofs.KeptLaws.{planned_by}
 use Rattle.fs.proofs.PlacedLaws.{CanMove, name_there}
 use Rattle.fs.proofs.RenameDoable.{can_move_there, doable_old, doable_own, moved_room, name_high, name_is_short, name_is_some, rising_by, shown_room}
@@ -84,7 +84,7 @@ module _ (fs : FileSystem) (formed : MayStand fs.volume fs.changes) (counted : f
   own = next_stamp fs.volume.run fs.changes
 
   abbrev flat : Tree
-  flat = blanked fs.volume.tree
+  flat = without_data fs.volume.tree
 
   abbrev pub list : List Edit
   list = replacing asked.to asked.new_name target ++ moving_edits asked old_stamp number own from_shown to_shown
@@ -120,8 +120,8 @@ module _ (fs : FileSystem) (formed : MayStand fs.volume fs.changes) (counted : f
       ∙ name_there (laws.cleared asked.to target flat) own number old_stamp asked from_shown to_shown can (name_high fs formed counted limited cred now asked old_stamp number target found under passed placed other from_shown to_shown from_entries to_entries) (name_is_some fs formed counted limited cred now asked old_stamp number target found under passed placed other from_shown to_shown from_entries to_entries) (name_is_short fs formed counted limited cred now asked old_stamp number target found under passed placed other from_shown to_shown from_entries to_entries) from_entries to_entries
 
   put_there : at own (names_at (edited_by fs.volume list) asked.to) ≡ Some put
-  put_there = ap (at own) (sym (names-blanked (edited_by fs.volume list) asked.to) ∙ sym (ap (λ (t : Tree). names_at t asked.to) (edits_blanked (edits_of list) fs.volume.tree))
-      ∙ names-blanked (edited (edits_of list) flat) asked.to) ∙ put_flat
+  put_there = ap (at own) (sym (names-without_data (edited_by fs.volume list) asked.to) ∙ sym (ap (λ (t : Tree). names_at t asked.to) (edits_blanked (edits_of list) fs.volume.tree))
+      ∙ names-without_data (edited (edits_of list) flat) asked.to) ∙ put_flat
 
   module _ (fit : IsTrue (fits fs.volume.limits (edited_by fs.volume list))) (left : fs.changes + 1 < 2 ^ 32) where
     fit_after : IsTrue (fits fs.volume.limits after)
@@ -159,7 +159,7 @@ record_mapped name None = refl
 record_mapped name (Some found) = refl
 
 -- what the target directory answers is the target
-pub target_told : (tree : Tree) (asked : Renaming) (card : Card) (node : IsNodeOf tree asked.to card) → IsCard card → is_directory_at tree asked.to ≡ true
+pub target_told : (tree : Tree) (asked : Renaming) (card : CachedNode) (node : IsNodeOf tree asked.to card) → IsCard card → is_directory_at tree asked.to ≡ true
     → (names : List Record) → names ≡ card.names → (target : Option (ℕ × ℕ))
     → (AreStamped names → option_map (λ (found : ℕ × ℕ). record_from found.0 asked.new_name.now found.1) target ≡ entry_of asked.new_name.now (by_stamp names)) → IsTarget tree asked target
 target_told tree asked card node fit directory names same target told =

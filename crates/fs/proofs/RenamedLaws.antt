@@ -5,8 +5,9 @@ use Rattle.std.proofs.Props.{props}
 use Rattle.std.proofs.lemmas.Bool.{not-false}
 use Rattle.std.specs.Prelude.{IsTrue, option_map, ◌==◌}
 use Rattle.directory.specs.Records.{record_from}
-use Rattle.tree_edits.specs.Outlines.{blanked}
-use Rattle.tree_edits.proofs.BlankLaws.{blanked-twice, directory-blanked, names-blanked}
+use Rattle.tree_edits.specs.Outlines.{without_data}
+use Rattle.tree_edits.proofs.BlankLaws.{without_data-twice, directory-without_data}
+use Rattle.tree_edits.proofs.BlankLaws.{names-without_data}
 use Rattle.tree_edits.proofs.BlankLaws.{edits_blanked}
 use Rattle.model.specs.declared.acl.Cred.{Cred}
 use Rattle.model.specs.declared.limits.Limits.{Limits}
@@ -40,11 +41,11 @@ use Rattle.fs.specs.FileSystem.{FileSystem}
 use Rattle.fs.specs.Ready.{MayStand}
 use Rattle.fs.specs.Renaming.{IsOnBoth, arguments_of, is_itself, opens_after, without_replaced, renamed}
 use Rattle.fs.specs.RenameTests.{moving_refusals, placing_refusals, target_in, record_under, IsTarget}
-use Rattle.fs.proofs.FlatLaws.{touched-blanked, flat_shown, flat_name_dropped, flat_name_put, flat_node_dropped}
+use Rattle.fs.proofs.FlatLaws.{touched-without_data, flat_shown, flat_name_dropped, flat_name_put, flat_node_dropped}
 use Rattle.fs.proofs.KeptLaws.{formed_by}
 use Rattle.fs.proofs.PlacedLaws.{IsFree, free_there, free_then}
 use Rattle.fs.proofs.RemovedLaws.{no_names}
-use Rattle.fs.proofs.RenameFlat.{moving-blanked, placing-blanked}
+use Rattle.fs.proofs.RenameFlat.{moving-without_data, placing-without_data}
 use Rattle.fs.proofs.RenameSteps as steps
 use Rattle.fs.proofs.RoomLaws.{above_name_dropped, drop_name_room, above_node_dropped, drop_node_room, show_room, above_altered, above_shown}
 
@@ -144,7 +145,7 @@ pub cleared_is : (to : ℕ) (target : Option (ℕ × ℕ)) (rest : List Edit) (t
 cleared_is to None rest tree = refl
 cleared_is to (Some found) rest tree = refl
 
-flat_cleared : (to : ℕ) (target : Option (ℕ × ℕ)) (tree : Tree) → blanked tree ≡ tree → blanked (cleared to target tree) ≡ cleared to target tree
+flat_cleared : (to : ℕ) (target : Option (ℕ × ℕ)) (tree : Tree) → without_data tree ≡ tree → without_data (cleared to target tree) ≡ cleared to target tree
 flat_cleared to None tree flat = flat
 flat_cleared to (Some found) tree flat = flat_node_dropped (done (DropName to found.0) tree) (flat_name_dropped tree flat to found.0) found.1
 
@@ -211,7 +212,7 @@ module _ (fs : FileSystem) (formed : MayStand fs.volume fs.changes) (counted : f
   tree = fs.volume.tree
 
   abbrev flat : Tree
-  flat = blanked tree
+  flat = without_data tree
 
   abbrev own : ℕ
   own = next_stamp fs.volume.run fs.changes
@@ -242,20 +243,20 @@ module _ (fs : FileSystem) (formed : MayStand fs.volume fs.changes) (counted : f
   free well = by_target target under
     where
       from_flat : is_directory_at flat asked.from ≡ true
-      from_flat = directory-blanked tree asked.from ∙ places.from_directory
+      from_flat = directory-without_data tree asked.from ∙ places.from_directory
 
       to_flat : is_directory_at flat asked.to ≡ true
-      to_flat = directory-blanked tree asked.to ∙ places.to_directory
+      to_flat = directory-without_data tree asked.to ∙ places.to_directory
 
       entry_flat : entry_of asked.old_name.now (names_at flat asked.from) ≡ Some (record_from old_stamp asked.old_name.now number)
-      entry_flat = ap (entry_of asked.old_name.now) (names-blanked tree asked.from) ∙ found
+      entry_flat = ap (entry_of asked.old_name.now) (names-without_data tree asked.from) ∙ found
 
       by_target : (o : Option (ℕ × ℕ)) → IsTarget tree asked o → IsFree limits own (cleared asked.to o flat) asked.from asked.to asked.old_name.now asked.new_name.now (record_from old_stamp asked.old_name.now number)
       by_target None there = free_there limits flat well own formed.before asked.from asked.to asked.old_name.now asked.new_name.now (record_from old_stamp asked.old_name.now number)
-          from_flat to_flat entry_flat (ap (entry_of asked.new_name.now) (names-blanked tree asked.to) ∙ there)
+          from_flat to_flat entry_flat (ap (entry_of asked.new_name.now) (names-without_data tree asked.to) ∙ there)
       by_target (Some one) there = free_then limits flat well own formed.before asked.from asked.to asked.old_name.now asked.new_name.now (record_from old_stamp asked.old_name.now number)
-          from_flat to_flat entry_flat (record_from one.0 asked.new_name.now one.1) (ap (entry_of asked.new_name.now) (names-blanked tree asked.to) ∙ there)
-          (names-blanked tree one.1 ∙ empty_by tree cred asked one there placed) differs
+          from_flat to_flat entry_flat (record_from one.0 asked.new_name.now one.1) (ap (entry_of asked.new_name.now) (names-without_data tree asked.to) ∙ there)
+          (names-without_data tree one.1 ∙ empty_by tree cred asked one there placed) differs
 
   -- Room
 
@@ -289,21 +290,21 @@ module _ (fs : FileSystem) (formed : MayStand fs.volume fs.changes) (counted : f
   flat_edits =
       let shows = λ (a b : Shown). Show asked.from a ∷ Show asked.to b ∷ [] in
       ap (λ (o : Option (ℕ × DirEntry)). removal asked.to o ++ (moving asked.from asked.to (entry_of asked.old_name.now (names_at flat asked.from)) asked.new_name.now own
-      ++ shows (touched (at asked.from flat) own now) (touched (at asked.to flat) own now))) (ap (entry_of asked.new_name.now) (names-blanked tree asked.to) ∙ under)
+      ++ shows (touched (at asked.from flat) own now) (touched (at asked.to flat) own now))) (ap (entry_of asked.new_name.now) (names-without_data tree asked.to) ∙ under)
       ∙ ap (λ (l : List Edit). l ++ (moving asked.from asked.to (entry_of asked.old_name.now (names_at flat asked.from)) asked.new_name.now own
       ++ shows (touched (at asked.from flat) own now) (touched (at asked.to flat) own now))) (removal_is asked.to asked.new_name.now target)
       ∙ ap (λ (o : Option (ℕ × DirEntry)). dropping asked.to target ++ (moving asked.from asked.to o asked.new_name.now own
-      ++ shows (touched (at asked.from flat) own now) (touched (at asked.to flat) own now))) (ap (entry_of asked.old_name.now) (names-blanked tree asked.from) ∙ found)
-      ∙ ap₂ (λ (a b : Shown). dropping asked.to target ++ (DropName asked.from old_stamp ∷ PutName asked.to own put ∷ shows a b)) (touched-blanked tree asked.from own now) (touched-blanked tree asked.to own now)
+      ++ shows (touched (at asked.from flat) own now) (touched (at asked.to flat) own now))) (ap (entry_of asked.old_name.now) (names-without_data tree asked.from) ∙ found)
+      ∙ ap₂ (λ (a b : Shown). dropping asked.to target ++ (DropName asked.from old_stamp ∷ PutName asked.to own put ∷ shows a b)) (touched-without_data tree asked.from own now) (touched-without_data tree asked.to own now)
 
-  flat_after : blanked (edited wanted flat) ≡ edited wanted flat
+  flat_after : without_data (edited wanted flat) ≡ edited wanted flat
   flat_after =
       let base = cleared asked.to target flat in
       let one = done (DropName asked.from old_stamp) base in
       let two = done (PutName asked.to own put) one in
       let three = done (Show asked.from (touched (at asked.from tree) own now)) two in
-      ap blanked (cleared_is asked.to target behind_drops flat)
-      ∙ flat_shown three (flat_shown two (flat_name_put one (flat_name_dropped base (flat_cleared asked.to target flat (blanked-twice tree)) asked.from old_stamp) asked.to own put)
+      ap without_data (cleared_is asked.to target behind_drops flat)
+      ∙ flat_shown three (flat_shown two (flat_name_put one (flat_name_dropped base (flat_cleared asked.to target flat (without_data-twice tree)) asked.from old_stamp) asked.to own put)
       asked.from (touched (at asked.from tree) own now)) asked.to (touched (at asked.to tree) own now)
       ∙ sym (cleared_is asked.to target behind_drops flat)
 
@@ -311,10 +312,10 @@ module _ (fs : FileSystem) (formed : MayStand fs.volume fs.changes) (counted : f
   tree_flat = ap (λ (l : List Edit). edited l flat) flat_edits
 
   passed_flat : first_refusal (moving_refusals limits flat asked.from asked.to (arguments_of asked)) ≡ None
-  passed_flat = moving-blanked limits tree asked.from asked.to (arguments_of asked) ∙ passed
+  passed_flat = moving-without_data limits tree asked.from asked.to (arguments_of asked) ∙ passed
 
   placed_flat : first_refusal (placing_refusals flat cred asked.from asked.to (arguments_of asked)) ≡ None
-  placed_flat = placing-blanked tree cred asked.from asked.to (arguments_of asked) ∙ placed
+  placed_flat = placing-without_data tree cred asked.from asked.to (arguments_of asked) ∙ placed
 
   pub formed_after : IsTrue (fits limits after) → is_stamp_left fs.changes ≡ true → IsFormed limits (next_stamp fs.volume.run (fs.changes + 1)) after
   formed_after fit left = formed_by fs formed counted limited on now (Argument.Rename (arguments_of asked)) (rename false on now (arguments_of asked)) after refl refl refl

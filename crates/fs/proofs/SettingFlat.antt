@@ -3,9 +3,9 @@ use Rattle.std.proofs.Common.{◌≡◌, ◌<◌, ◌+◌, ◌^◌, ℕ, zero, s
 use Rattle.std.proofs.Math.Logic.{∥∥₁_elim}
 use Rattle.std.proofs.Props.{props}
 use Rattle.std.specs.Prelude.{IsTrue, Result, Ok, option_map, if◌then◌else◌}
-use Rattle.tree_edits.specs.Outlines.{blank_node, blanked, zeros}
-use Rattle.tree_edits.proofs.BlankLaws.{at-blanked, blanked-twice, key-blanked, directory-blanked, edits_blanked}
-use Rattle.tree_edits.proofs.FitLaws.{fits-blanked}
+use Rattle.tree_edits.specs.Outlines.{blank_node, without_data, zeros}
+use Rattle.tree_edits.proofs.BlankLaws.{at-without_data, without_data-twice, key-without_data, directory-without_data, edits_blanked}
+use Rattle.tree_edits.proofs.FitLaws.{fits-without_data}
 use Rattle.model.specs.declared.acl.Cred.{Cred}
 use Rattle.model.specs.declared.limits.Limits.{Limits}
 use Rattle.model.specs.declared.node.NodeKind.{NodeKind}
@@ -53,11 +53,11 @@ sized_zeros size node same =
     (ap zeros (length-resized (bytes_of node.content) size)
     ∙ sym (ap (λ (l : List ℕ). resized l size) bytes ∙ resized_zeros (length (bytes_of node.content)) size))
 
-flat_sized : (tree : Tree) → blanked tree ≡ tree → (number size : ℕ) → blanked (done (SetSize number size) tree) ≡ done (SetSize number size) tree
+flat_sized : (tree : Tree) → without_data tree ≡ tree → (number size : ℕ) → without_data (done (SetSize number size) tree) ≡ done (SetSize number size) tree
 flat_sized tree flat number size = flat_altered (sizing size) (sized_zeros size) tree flat number
 
-flat_set : (tree : Tree) → blanked tree ≡ tree → (number : ℕ) (size : Option ℕ) (shown : Shown)
-    → blanked (edited (size_edits number size ++ (Show number shown ∷ [])) tree) ≡ edited (size_edits number size ++ (Show number shown ∷ [])) tree
+flat_set : (tree : Tree) → without_data tree ≡ tree → (number : ℕ) (size : Option ℕ) (shown : Shown)
+    → without_data (edited (size_edits number size ++ (Show number shown ∷ [])) tree) ≡ edited (size_edits number size ++ (Show number shown ∷ [])) tree
 flat_set tree flat number None shown = flat_shown tree flat number shown
 flat_set tree flat number (Some size) shown = flat_shown (done (SetSize number size) tree) (flat_sized tree flat number size) number shown
 
@@ -71,7 +71,7 @@ module _ (fs : FileSystem) (formed : MayStand fs.volume fs.changes) (counted : f
   tree = fs.volume.tree
 
   abbrev flat : Tree
-  flat = blanked tree
+  flat = without_data tree
 
   abbrev pub own : ℕ
   own = next_stamp fs.volume.run fs.changes
@@ -86,7 +86,7 @@ module _ (fs : FileSystem) (formed : MayStand fs.volume fs.changes) (counted : f
   after = edited wanted tree
 
   flat_there : at number flat ≡ Some (blank_node node)
-  flat_there = at-blanked tree number ∙ ap (option_map blank_node) there
+  flat_there = at-without_data tree number ∙ ap (option_map blank_node) there
 
   -- The tests on the flat tree
 
@@ -105,7 +105,7 @@ module _ (fs : FileSystem) (formed : MayStand fs.volume fs.changes) (counted : f
   attributes of = attribute_refusals limits of settable_at_setattr given
 
   kind_flat : kind_at flat number ≡ kind_at tree number
-  kind_flat = ap (λ (b : Bool). if b then kind.Directory else kind.File) (directory-blanked tree number)
+  kind_flat = ap (λ (b : Bool). if b then kind.Directory else kind.File) (directory-without_data tree number)
 
   passed_flat : first_refusal (setting_tests limits flat cred number (Ok tt) given) ≡ None
   passed_flat =
@@ -114,17 +114,17 @@ module _ (fs : FileSystem) (formed : MayStand fs.volume fs.changes) (counted : f
       let sized = none_in_both (sized_refusals (sets_size given) (is_directory_at tree number) verdict) ((not (may tree), status.Access) ∷ []) values.1 in
       let right = none_in_front (not (may tree)) status.Access None sized.1 in
       let size_there : first_refusal (sized_refusals (sets_size given) (is_directory_at flat number) (Ok tt)) ≡ None =
-      ap (λ (d : Bool). first_refusal (sized_refusals (sets_size given) d (Ok tt))) (directory-blanked tree number) ∙ without_verdict (sets_size given) (is_directory_at tree number) sized.0 in
+      ap (λ (d : Bool). first_refusal (sized_refusals (sets_size given) d (Ok tt))) (directory-without_data tree number) ∙ without_verdict (sets_size given) (is_directory_at tree number) sized.0 in
       tests_are limits flat cred number (Ok tt) given false None None false
-      (ap not (key-blanked tree number) ∙ stale.0) (ap (λ (of : NodeKind). first_refusal (attributes of)) kind_flat ∙ values.0) size_there (ap not may_flat ∙ right.0)
+      (ap not (key-without_data tree number) ∙ stale.0) (ap (λ (of : NodeKind). first_refusal (attributes of)) kind_flat ∙ values.0) size_there (ap not may_flat ∙ right.0)
 
   -- The trees after the edits
 
-  seen : edited wanted flat ≡ blanked after
-  seen = sym (flat_set flat (blanked-twice tree) number (size_given given) shown) ∙ edits_blanked wanted tree
+  seen : edited wanted flat ≡ without_data after
+  seen = sym (flat_set flat (without_data-twice tree) number (size_given given) shown) ∙ edits_blanked wanted tree
 
   fits_flat : fits limits (edited wanted flat) ≡ fits limits after
-  fits_flat = ap (fits limits) seen ∙ fits-blanked limits after
+  fits_flat = ap (fits limits) seen ∙ fits-without_data limits after
 
   shown_flat : shown_set (at number flat) given own now ≡ shown
   shown_flat = ap (λ (o : Option Node). shown_set o given own now) flat_there ∙ rw (kind_blank node.content) refl

@@ -27,7 +27,7 @@ use Rattle.fs.specs.Setting.{IsSet, IsSetting, SetsTree, StaysSet, after_setting
 use Rattle.fs.proofs.SettingSteps as steps
 use Rattle.volume.specs.Changes.{IsTree}
 use Rattle.volume.specs.Edits.{edited_by}
-use Rattle.volume.specs.Held.{with_tree}
+use Rattle.volume.specs.VolumeState.{with_tree}
 
 module _ (fs : FileSystem) (cred : Cred) (now : ℕ) (asked : Setting) (state : State) (arguments : SetAttrArguments) (on : IsOn fs cred asked.number state) (is : IsSetting state asked arguments) where
   abbrev limits : Limits

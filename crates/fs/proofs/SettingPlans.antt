@@ -11,9 +11,9 @@ use Rattle.tree_edits.specs.declared.edit.Edit.{Edit}
 use Rattle.tree_edits.specs.declared.edit.Edit.TheVariants as edit
 use Rattle.tree_edits.specs.Edits.{AreEntries, AreDoable, edits_of, size_of}
 use Rattle.tree_edits.specs.Outlines.{blank, blank_node}
-use Rattle.tree_edits.proofs.BlankLaws.{at-blanked, length-zeros}
+use Rattle.tree_edits.proofs.BlankLaws.{at-without_data, length-zeros}
 use Rattle.inode.specs.Fields.{Fields}
-use Rattle.layout.specs.Cards.{Card}
+use Rattle.layout.specs.CachedNodes.{CachedNode}
 use Rattle.model.specs.declared.acl.Ace.{Ace}
 use Rattle.model.specs.declared.acl.Cred.{Cred}
 use Rattle.model.specs.declared.limits.Limits.{Limits}
@@ -67,13 +67,13 @@ same_shown settings given are stamp now fields node owner group acl time of =
 
 -- The list of a node is one that it may have
 
-kind_shown : (of : NodeKind) (card : Card) (content : Content) → ShowsContent of card content → kind_of content ≡ of
+kind_shown : (of : NodeKind) (card : CachedNode) (content : Content) → ShowsContent of card content → kind_of content ≡ of
 kind_shown kind.File card content shows = ap kind_of shows.file
 kind_shown kind.Directory card content shows = ap kind_of shows
 
-pub listed : (fs : FileSystem) (formed : MayStand fs.volume fs.changes) (number : ℕ) (card : Card) → IsNodeOf fs.volume.tree number card → IsList fs.volume.limits card.fields.kind card.fields.acl
+pub listed : (fs : FileSystem) (formed : MayStand fs.volume fs.changes) (number : ℕ) (card : CachedNode) → IsNodeOf fs.volume.tree number card → IsList fs.volume.limits card.fields.kind card.fields.acl
 listed fs formed number card is = ∥∥₁_elim formed.well_formed (Prim.hlevel props) (λ well.
-    let own = (well.nodes number (blank_node is.node) (at-blanked fs.volume.tree number ∙ ap (option_map blank_node) is.there)).entries in
+    let own = (well.nodes number (blank_node is.node) (at-without_data fs.volume.tree number ∙ ap (option_map blank_node) is.there)).entries in
     subst (λ (acl : List Ace). IsList fs.volume.limits card.fields.kind acl) is.acl
     (subst (λ (of : NodeKind). IsList fs.volume.limits of is.node.acl) (kind_blank is.node.content ∙ kind_shown card.fields.kind card is.node.content is.content) own))
 
@@ -100,7 +100,7 @@ low_size limits of settings within size is = (subst (λ (o : Option ℕ). ForSom
 -- Where no stamp is left
 
 module _ (fs : FileSystem) (formed : MayStand fs.volume fs.changes) (limited : fs.volume.limits ≡ limits_of fs.volume.sectors fs.volume.limits.nodes)
-    (cred : Cred) (now : ℕ) (asked : Setting) (card : Card) (is_node : IsNodeOf fs.volume.tree asked.number card)
+    (cred : Cred) (now : ℕ) (asked : Setting) (card : CachedNode) (is_node : IsNodeOf fs.volume.tree asked.number card)
     (passed : first_refusal (setting_tests fs.volume.limits fs.volume.tree cred asked.number asked.verdict (given_of asked.attributes)) ≡ None)
     (settings : Settings) (are : AreSettings settings (given_of asked.attributes)) (within : AreWithin fs.volume.limits card.fields.kind settings) where
   pub last_doable : AreDoable fs.volume.tree (resizing asked.number settings.size)
@@ -121,7 +121,7 @@ module _ (fs : FileSystem) (formed : MayStand fs.volume fs.changes) (limited : f
       (λ fit. laws.used_up fs cred now asked state arguments on is passed not_empty is_node.node is_node.there fit none)
 
 module _ (fs : FileSystem) (formed : MayStand fs.volume fs.changes) (counted : fs.changes < 2 ^ 32) (limited : fs.volume.limits ≡ limits_of fs.volume.sectors fs.volume.limits.nodes)
-    (cred : Cred) (now : ℕ) (asked : Setting) (card : Card) (is_node : IsNodeOf fs.volume.tree asked.number card)
+    (cred : Cred) (now : ℕ) (asked : Setting) (card : CachedNode) (is_node : IsNodeOf fs.volume.tree asked.number card)
     (passed : first_refusal (setting_tests fs.volume.limits fs.volume.tree cred asked.number asked.verdict (given_of asked.attributes)) ≡ None)
     (settings : Settings) (are : AreSettings settings (given_of asked.attributes)) (within : AreWithin fs.volume.limits card.fields.kind settings) (some : settings.is_empty ≡ false)
     (stamp : ℕ) (shown : Shown) (edits : List Edit) (stamp_is : stamp ≡ next_stamp fs.volume.run fs.changes)
@@ -192,7 +192,7 @@ module _ (fs : FileSystem) (formed : MayStand fs.volume fs.changes) (counted : f
 
   small : size_of (at number tree) ≤ limits.file_bytes
   small = ∥∥₁_elim formed.well_formed (Prim.hlevel props) (λ well.
-      let is = well.nodes number (blank_node node) (at-blanked tree number ∙ ap (option_map blank_node) is_node.there) in
+      let is = well.nodes number (blank_node node) (at-without_data tree number ∙ ap (option_map blank_node) is_node.there) in
       let few = few_bytes node.content is.content in
       let same : size_of (at number tree) ≡ length (bytes_of node.content) = ap size_of is_node.there in
       omega (arith, few, same))

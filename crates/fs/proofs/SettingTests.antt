@@ -1,7 +1,7 @@
 -- The tests of SETATTR, one after the other.
 use Rattle.std.proofs.Common.{◌≡◌, ◌&&◌, ◌||◌, ℕ, Bool, List, [], ◌∷◌, ◌++◌, not, sym, ap, ap₂, ◌∙◌}
 use Rattle.std.specs.Prelude.{Option, None, Result, if◌then◌else◌}
-use Rattle.layout.specs.Cards.{Card}
+use Rattle.layout.specs.CachedNodes.{CachedNode}
 use Rattle.model.specs.declared.acl.Cred.{Cred}
 use Rattle.model.specs.declared.limits.Limits.{Limits}
 use Rattle.model.specs.declared.node.NodeKind.{NodeKind}
@@ -18,7 +18,7 @@ use Rattle.model.specs.SetAttr.{kind_at, sets_size}
 use Rattle.model.specs.Tree.{Tree, Node, is_directory, is_directory_at, is_directory_node}
 use Rattle.model.proofs.RefusalLaws.{first-append, or_else}
 use Rattle.fs.specs.Setting.{may_set, setting_tests, sized_refusals}
-use Rattle.fs.proofs.CardViews.{granted_by}
+use Rattle.fs.proofs.CachedNodeViews.{granted_by}
 use Rattle.volume.specs.Nodes.{IsNodeOf, ShowsContent}
 
 pub tests_are : (limits : Limits) (tree : Tree) (cred : Cred) (number : ℕ) (verdict : Result (Unit {0}) Status) (given : Attributes)
@@ -36,8 +36,8 @@ tests_are limits tree cred number verdict given stale values sized denied stale_
     (first-append own (size ++ right)
     ∙ ap₂ or_else values_are (first-append size right ∙ ap₂ or_else sized_is (ap (λ (b : Bool). refused_or b status.Access None) denied_is)))
 
--- the kind that the card of a node tells
-pub kind_is : (tree : Tree) (number : ℕ) (card : Card) → IsNodeOf tree number card → card.fields.kind ≡ kind_at tree number
+-- the kind that the cached node of a node tells
+pub kind_is : (tree : Tree) (number : ℕ) (card : CachedNode) → IsNodeOf tree number card → card.fields.kind ≡ kind_at tree number
 kind_is tree number card is = by_kind card.fields.kind is.content
   where
     there : is_directory_at tree number ≡ is_directory is.node.content
@@ -47,7 +47,7 @@ kind_is tree number card is = by_kind card.fields.kind is.content
     by_kind kind.File file = sym (ap (λ (b : Bool). if b then kind.Directory else kind.File) (there ∙ ap is_directory file.file))
     by_kind kind.Directory names = sym (ap (λ (b : Bool). if b then kind.Directory else kind.File) (there ∙ ap is_directory names))
 
--- whether one may set attributes, by the card
+-- whether one may set attributes, by the cached node
 may_by : (numbers : List ℕ) (f g : ℕ → Bool) → ((mask : ℕ) → f mask ≡ g mask) → may_set f numbers ≡ may_set g numbers
 may_by numbers f g same =
     let size = not (is_among numbers size_number) in
@@ -57,7 +57,7 @@ may_by numbers f g same =
     ∙ ap (λ (b : Bool). (size || g write_data) && ((list || b) && (owner || f write_owner))) (same write_acl)
     ∙ ap (λ (b : Bool). (size || g write_data) && ((list || g write_acl) && (owner || b))) (same write_owner)
 
-pub may_told : (tree : Tree) (number : ℕ) (card : Card) → IsNodeOf tree number card → (cred : Cred) (numbers : List ℕ)
+pub may_told : (tree : Tree) (number : ℕ) (card : CachedNode) → IsNodeOf tree number card → (cred : Cred) (numbers : List ℕ)
     → may_set (granted_on (at number tree) cred) numbers ≡ may_set (granted card.fields.acl card.fields.owner card.fields.group cred) numbers
 may_told tree number card is cred numbers = may_by numbers (granted_on (at number tree) cred) (granted card.fields.acl card.fields.owner card.fields.group cred)
     (λ mask. ap (λ (o : Option Node). granted_on o cred mask) is.there ∙ sym (granted_by tree number card is cred mask))

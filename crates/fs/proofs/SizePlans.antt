@@ -6,9 +6,9 @@ use Rattle.tree_transaction.specs.Nodes.{shown_of}
 use Rattle.tree_edits.specs.declared.edit.Edit.{Edit}
 use Rattle.tree_edits.specs.declared.edit.Edit.TheVariants as edit
 use Rattle.tree_edits.specs.Edits.{AreDoable, size_of}
-use Rattle.tree_edits.specs.Outlines.{blank, blank_node, blanked}
-use Rattle.tree_edits.proofs.BlankLaws.{at-blanked}
-use Rattle.layout.specs.Cards.{Card}
+use Rattle.tree_edits.specs.Outlines.{blank, blank_node, without_data}
+use Rattle.tree_edits.proofs.BlankLaws.{at-without_data}
+use Rattle.layout.specs.CachedNodes.{CachedNode}
 use Rattle.layout.specs.Known.{IsCard}
 use Rattle.model.specs.declared.acl.Ace.{Ace}
 use Rattle.model.specs.declared.limits.Limits.{Limits}
@@ -36,7 +36,7 @@ use Rattle.volume.specs.Edits.{edited_by}
 use Rattle.volume.specs.Nodes.{IsNodeOf, IsFile, ShowsContent}
 
 module _ (fs : FileSystem) (formed : MayStand fs.volume fs.changes) (counted : fs.changes < 2 ^ 32) (limited : fs.volume.limits ≡ limits_of fs.volume.sectors fs.volume.limits.nodes)
-    (now number : ℕ) (card : Card) (node : IsNodeOf fs.volume.tree number card) (file : card.fields.kind ≡ kind.File) (fit_card : IsCard card) (size : ℕ) (low : size ≤ fs.volume.limits.file_bytes)
+    (now number : ℕ) (card : CachedNode) (node : IsNodeOf fs.volume.tree number card) (file : card.fields.kind ≡ kind.File) (fit_card : IsCard card) (size : ℕ) (low : size ≤ fs.volume.limits.file_bytes)
     (stamp : ℕ) (shown : Shown) (edits : List Edit) (stamp_is : stamp ≡ next_stamp fs.volume.run fs.changes) (shown_is : shown_of shown ≡ shown_by card.fields stamp now)
     (edits_are : edits ≡ edit.SetSize number size ∷ edit.Show number shown ∷ []) where
   abbrev tree : Tree
@@ -60,9 +60,9 @@ module _ (fs : FileSystem) (formed : MayStand fs.volume fs.changes) (counted : f
   list_is : (shown_of shown).acl ≡ node.node.acl
   list_is = ap (λ (s : model.Shown). s.acl) shown_is ∙ sym node.acl
 
-  listed : IsWellFormed fs.volume.limits (blanked tree) → IsList fs.volume.limits kind.File (shown_of shown).acl
+  listed : IsWellFormed fs.volume.limits (without_data tree) → IsList fs.volume.limits kind.File (shown_of shown).acl
   listed well =
-      let is = well.nodes number (blank_node node.node) (at-blanked tree number ∙ ap (option_map blank_node) node.there) in
+      let is = well.nodes number (blank_node node.node) (at-without_data tree number ∙ ap (option_map blank_node) node.there) in
       subst (λ (acl : List Ace). IsList fs.volume.limits kind.File acl) (sym list_is)
       (subst (λ (c : Content). is_list_for fs.volume.limits.aces_set fs.volume.limits.aces (kind_of (blank c)) node.node.acl ≡ true) is_file.file is.entries)
 

@@ -10,7 +10,7 @@ use Rattle.tree_edits.specs.declared.edit.Edit.{Edit}
 use Rattle.tree_edits.specs.declared.edit.Edit.TheVariants as edit
 use Rattle.tree_edits.specs.Doing.{updates_of_all}
 use Rattle.tree_edits.specs.Edits.{AreEntries, AreDoable, edits_of, size_of}
-use Rattle.layout.specs.Cards.{Card}
+use Rattle.layout.specs.CachedNodes.{CachedNode}
 use Rattle.layout.specs.Known.{IsCard}
 use Rattle.layout.specs.Stands.{Kept}
 use Rattle.model.specs.declared.acl.Ace.{Ace}
@@ -51,7 +51,7 @@ use Rattle.fs.proofs.LastPlans.{file_to, put_room, told_as}
 use Rattle.volume.specs.Edits.{edited_by}
 use Rattle.volume.specs.Formed.{IsFormed}
 use Rattle.volume.specs.Nodes.{IsNodeOf, IsFile, ShowsContent}
-use Rattle.volume.specs.Held.{with_tree}
+use Rattle.volume.specs.VolumeState.{with_tree}
 use Rattle.fs.proofs.EntryLaws.{few_listed}
 
 -- In each state of the operation
@@ -146,7 +146,7 @@ puts_tree fs cred now number verdict asked edits step then lasts made = (
 -- Where no stamp is left
 
 module _ (fs : FileSystem) (formed : MayStand fs.volume fs.changes) (limited : fs.volume.limits ≡ limits_of fs.volume.sectors fs.volume.limits.nodes)
-    (cred : Cred) (now number : ℕ) (verdict : Result (Unit {0}) Status) (asked : Writing) (card : Card) (node : IsNodeOf fs.volume.tree number card) (file : card.fields.kind ≡ kind.File)
+    (cred : Cred) (now number : ℕ) (verdict : Result (Unit {0}) Status) (asked : Writing) (card : CachedNode) (node : IsNodeOf fs.volume.tree number card) (file : card.fields.kind ≡ kind.File)
     (low : asked.offset + length (bytes_taken fs asked) ≤ fs.volume.limits.file_bytes) (place : ℕ) (spelled : Bor (List ℕ)) (place_is : place ≡ asked.offset) (spelled_is : spelled.now ≡ bytes_taken fs asked) where
   abbrev put : List Edit
   put = edit.PutBytes number place spelled ∷ []
@@ -175,7 +175,7 @@ module _ (fs : FileSystem) (formed : MayStand fs.volume fs.changes) (limited : f
 -- The edits, as they stand in memory
 
 module _ (fs : FileSystem) (formed : MayStand fs.volume fs.changes) (counted : fs.changes < 2 ^ 32) (limited : fs.volume.limits ≡ limits_of fs.volume.sectors fs.volume.limits.nodes)
-    (cred : Cred) (now number : ℕ) (verdict : Result (Unit {0}) Status) (asked : Writing) (card : Card) (node : IsNodeOf fs.volume.tree number card) (file : card.fields.kind ≡ kind.File) (fit_card : IsCard card)
+    (cred : Cred) (now number : ℕ) (verdict : Result (Unit {0}) Status) (asked : Writing) (card : CachedNode) (node : IsNodeOf fs.volume.tree number card) (file : card.fields.kind ≡ kind.File) (fit_card : IsCard card)
     (passed : first_refusal (permit_refusals fs.volume.tree cred number write_data verdict) ≡ None) (some : 0 < length asked.bytes.now)
     (low : asked.offset + length (bytes_taken fs asked) ≤ fs.volume.limits.file_bytes)
     (stamp place : ℕ) (spelled : Bor (List ℕ)) (shown : Shown) (edits : List Edit) (stamp_is : stamp ≡ next_stamp fs.volume.run fs.changes) (place_is : place ≡ asked.offset)

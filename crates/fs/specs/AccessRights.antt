@@ -1,6 +1,6 @@
 -- What the call of ACCESS says.
 use Rattle.std.specs.Prelude.{ℕ, Result, Ok, Err, ◌≡◌}
-use Rattle.layout.specs.Cards.{Card}
+use Rattle.layout.specs.CachedNodes.{CachedNode}
 use Rattle.model.specs.declared.acl.Cred.{Cred}
 use Rattle.model.specs.Access.{access_masks, asked_bits, granted_bits}
 use Rattle.model.specs.Answer.{Answer, AccessAnswer}
@@ -15,8 +15,8 @@ use Rattle.fs.specs.Outline.{node_shown}
 abbrev pub access_answer : Access → AccessAnswer
 access_answer access = record { supported = access.supported; access = access.granted }
 
--- what the node of a card supports and grants, of the bits that are asked
-abbrev pub access_on : Card → Cred → (asked : ℕ) → AccessAnswer
+-- what a cached node supports and grants, of the bits that are asked
+abbrev pub access_on : CachedNode → Cred → (asked : ℕ) → AccessAnswer
 access_on card cred asked = record {
   supported = asked_bits asked (access_masks card.fields.kind);
   access = granted_bits (node_shown card) cred asked (access_masks card.fields.kind);

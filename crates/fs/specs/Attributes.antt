@@ -1,6 +1,6 @@
 -- What the call of GETATTR says.
 use Rattle.std.specs.Prelude.{ℕ, List, Result, Ok, Err, ◌≡◌}
-use Rattle.layout.specs.Cards.{Card}
+use Rattle.layout.specs.CachedNodes.{CachedNode}
 use Rattle.model.specs.declared.acl.Cred.{Cred}
 use Rattle.model.specs.declared.limits.Limits.{Limits}
 use Rattle.model.specs.declared.status.Status.{Status}
@@ -18,8 +18,8 @@ use Rattle.wire_attributes.specs.NodeValues.{answer_view, attributes_answered}
 use Rattle.wire_attributes.specs.declared.answer.AttributesAnswer.{AttributesAnswer}
 use Rattle.wire_attributes.specs.declared.node.NodeAttributes.{NodeAttributes}
 
--- what the node of a card shows, whichever attributes are asked
-abbrev pub ShowsCard : Limits → Card → NodeAttributes → Type 0
+-- what a cached node shows, whichever attributes are asked
+abbrev pub ShowsCard : Limits → CachedNode → NodeAttributes → Type 0
 ShowsCard limits card node = (bitmap : List ℕ) → attributes_answered node bitmap
     ≡ node_attributes limits bitmap card.fields.number (node_shown card)
 

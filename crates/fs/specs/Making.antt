@@ -3,7 +3,7 @@ use Rattle.std.specs.Prelude.{◌≡◌, ◌≤◌, ◌∷◌, [], ℕ, zero, su
 use Rattle.tree_edits.specs.declared.edit.Edit.{Edit}
 use Rattle.tree_edits.specs.declared.edit.Edit.TheVariants as edit
 use Rattle.tree_edits.specs.Making.{first_content}
-use Rattle.layout.specs.Cards.{Card}
+use Rattle.layout.specs.CachedNodes.{CachedNode}
 use Rattle.layout.specs.Known.{IsCard}
 use Rattle.model.specs.declared.node.NodeKind.{NodeKind}
 use Rattle.model.specs.declared.node.NodeKind.TheVariants as kind
@@ -63,8 +63,8 @@ abbrev pub sizing : (number size : ℕ) → List Edit
 sizing number zero = []
 sizing number (suc size) = edit.SetSize number (suc size) ∷ []
 
--- the directory of this number, as its card tells
-pub record IsDirectoryOf (tree : Tree) (number : ℕ) (card : Card) : Type 0 where
+-- the directory of this number, as its cached node tells
+pub record IsDirectoryOf (tree : Tree) (number : ℕ) (card : CachedNode) : Type 0 where
   pub node : IsNodeOf tree number card
   pub fit : IsCard card
   pub directory : card.fields.kind ≡ kind.Directory

@@ -38,7 +38,7 @@ use Rattle.fs.specs.FileSystem.{FileSystem}
 use Rattle.fs.specs.Operations.{IsOn, does_on, IsNotDone, IsRefused}
 use Rattle.fs.specs.Renaming.{info_of}
 use Rattle.volume.specs.Edits.{edited_by}
-use Rattle.volume.specs.Held.{with_tree}
+use Rattle.volume.specs.VolumeState.{with_tree}
 
 -- What is asked, as the definition has it
 

@@ -18,7 +18,7 @@ use Rattle.fs.specs.declared.fault.FsFault.TheVariants as fault
 use Rattle.fs.specs.declared.created.Created.{Created}
 use Rattle.fs.specs.FileSystem.{FileSystem}
 use Rattle.volume.specs.Edits.{edited_by}
-use Rattle.volume.specs.Held.{with_tree}
+use Rattle.volume.specs.VolumeState.{with_tree}
 
 -- a COMPOUND's state on this file system, by this caller, with the node of this number as the
 -- current one

@@ -1,14 +1,14 @@
--- The node that a card shows, with zeros for the bytes of a file.
+-- The node that a cached node shows, with zeros for the bytes of a file.
 use Rattle.directory.specs.Listing.{by_stamp}
 use Rattle.tree_edits.specs.Outlines.{zeros}
-use Rattle.layout.specs.Cards.{Card, node_with}
+use Rattle.layout.specs.CachedNodes.{CachedNode, node_with}
 use Rattle.model.specs.declared.node.NodeKind.{NodeKind}
 use Rattle.model.specs.declared.node.NodeKind.TheVariants as kind
 use Rattle.model.specs.Tree.{Node, Content, File, Directory}
 
-abbrev pub content_shown : NodeKind → Card → Content
+abbrev pub content_shown : NodeKind → CachedNode → Content
 content_shown kind.File card = File (zeros card.fields.size)
 content_shown kind.Directory card = Directory (by_stamp card.names)
 
-abbrev pub node_shown : Card → Node
+abbrev pub node_shown : CachedNode → Node
 node_shown card = node_with card.fields (content_shown card.fields.kind card)

@@ -3,17 +3,17 @@ use Rattle.std.specs.Prelude.{◌≡◌, ℕ, false}
 use Rattle.std.proofs.Props.{props}
 use Rattle.model.specs.Stamp.{next_stamp}
 use Rattle.volume.specs.Formed.{IsFormed}
-use Rattle.volume.specs.Held.{Held}
+use Rattle.volume.specs.VolumeState.{VolumeState}
 use Rattle.volume.specs.KnownProps.{IsFormed-prop}
 
 -- a tree that may stand after so many changes of a run
-abbrev pub MayStand : Held → (changes : ℕ) → Type 0
+abbrev pub MayStand : VolumeState → (changes : ℕ) → Type 0
 MayStand held changes = IsFormed held.limits (next_stamp held.run changes) held.tree
 
-abbrev pub IsReady : Held → (changes : ℕ) → Type 0
+abbrev pub IsReady : VolumeState → (changes : ℕ) → Type 0
 IsReady held changes = held.is_down ≡ false → MayStand held changes
 
-pub IsReady-prop : (held : Held) (changes : ℕ) → IsProp (IsReady held changes)
+pub IsReady-prop : (held : VolumeState) (changes : ℕ) → IsProp (IsReady held changes)
 IsReady-prop held changes = Prim.hlevel (
   props,
   IsFormed-prop held.limits (next_stamp held.run changes) held.tree,

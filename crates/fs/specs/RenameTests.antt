@@ -7,7 +7,7 @@ use Rattle.directory.specs.Records.{record_from}
 use Rattle.tree_transaction.specs.declared.nodes.Shown.{Shown}
 use Rattle.tree_edits.specs.declared.edit.Edit.{Edit}
 use Rattle.tree_edits.specs.declared.edit.Edit.TheVariants as edit
-use Rattle.layout.specs.Cards.{Card}
+use Rattle.layout.specs.CachedNodes.{CachedNode}
 use Rattle.layout.specs.Known.{IsCard}
 use Rattle.model.specs.declared.acl.Cred.{Cred}
 use Rattle.model.specs.declared.limits.Limits.{Limits}
@@ -104,7 +104,7 @@ is_in_the_way tree moves_directory (Some found) =
     is_other moves_directory (is_directory_at tree found.1) || has_names tree found.1
 
 -- whether a caller may remove it
-abbrev pub may_replace : Tree → Cred → (directory : Card) → Option (ℕ × ℕ) → Bool
+abbrev pub may_replace : Tree → Cred → (directory : CachedNode) → Option (ℕ × ℕ) → Bool
 may_replace tree cred directory None = true
 may_replace tree cred directory (Some found) = granted_on (at found.1 tree) cred delete
     || granted directory.fields.acl directory.fields.owner directory.fields.group cred delete_child

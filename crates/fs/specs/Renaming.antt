@@ -19,7 +19,7 @@ use Rattle.fs.specs.declared.renaming.Renaming.{Renaming}
 use Rattle.fs.specs.FileSystem.{FileSystem}
 use Rattle.fs.specs.Operations.{IsOn, does_on, IsNotDone}
 use Rattle.volume.specs.Edits.{edited_by}
-use Rattle.volume.specs.Held.{with_tree}
+use Rattle.volume.specs.VolumeState.{with_tree}
 
 -- a COMPOUND's state with one directory as the saved filehandle, and another or the same as the
 -- current one

@@ -29,7 +29,7 @@ use Rattle.fs.specs.FileSystem.{FileSystem}
 use Rattle.fs.specs.Files.{IsVerdict, verdict_refusals}
 use Rattle.fs.specs.Operations.{IsOn, IsNotDone, does_on}
 use Rattle.volume.specs.Edits.{edited_by}
-use Rattle.volume.specs.Held.{with_tree}
+use Rattle.volume.specs.VolumeState.{with_tree}
 
 -- the arguments that a call is made for, and the verdict on their stateid
 pub record IsSetting (state : State) (asked : Setting) (arguments : SetAttrArguments) : Type 0 where

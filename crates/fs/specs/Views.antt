@@ -4,10 +4,10 @@ use Rattle.fs.specs.declared.fs.Fs.{Fs}
 use Rattle.fs.specs.Changes.{Changes}
 use Rattle.fs.specs.FileSystem.{FileSystem}
 use Rattle.volume.specs.Changes.{Given, Ending}
-use Rattle.volume.specs.Views.{held_of, volume_failures}
+use Rattle.volume.specs.Views.{volume_state, volume_failures}
 
 unfoldable pub fs_of : {D : _} {g : _} → Fs D g → FileSystem
-fs_of fs = record { volume = held_of fs.volume; changes = fs.changes }
+fs_of fs = record { volume = volume_state fs.volume; changes = fs.changes }
 
 -- how often its device has failed
 unfoldable pub fs_failures : {D : _} {g : _} → Fs D g → ℕ

@@ -19,7 +19,7 @@ use Rattle.fs.specs.Files.{IsVerdict}
 use Rattle.fs.specs.Operations.{IsOn, IsNotDone, does_on}
 use Rattle.volume.specs.Changes.{Given}
 use Rattle.volume.specs.Edits.{edited_by}
-use Rattle.volume.specs.Held.{Held, with_tree}
+use Rattle.volume.specs.VolumeState.{VolumeState, with_tree}
 
 -- WRITE
 
@@ -83,7 +83,7 @@ pub record WritesTree (fs : FileSystem) (cred : Cred) (number now : ℕ)
   pub lasting_is : lasts ≡ is_lasting fs state now (Argument.Write arguments)
 
 -- the tree after edits, which has to last only where they are to be stable
-abbrev pub IsPut : Held → List Edit → (is_stable : Bool) → Given
+abbrev pub IsPut : VolumeState → List Edit → (is_stable : Bool) → Given
 IsPut held edits is_stable after lasts =
     (after ≡ with_tree held (edited_by held edits)) × (lasts ≡ true → is_stable ≡ true)
 

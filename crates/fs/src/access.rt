@@ -13,7 +13,7 @@ use acl_eval::{Cred, Mask, NodeKind};
 use bitflags::Flags;
 use disk::Device;
 use model::status::Status;
-use node_table::Card;
+use node_table::CachedNode;
 
 /// `ACCESS4_READ`: to read a file's bytes, or to list a directory.
 const READ: u32 = 0x01;
@@ -67,7 +67,7 @@ fn supported_bits(kind: NodeKind, asked: u32) -> u32
 }
 
 /// A bit where it is asked and the node grants what it asks for.
-fn granted_bit(card: &Card, cred: &Cred, asked: u32, bit: u32, mask: Mask) -> u32
+fn granted_bit(card: &CachedNode, cred: &Cred, asked: u32, bit: u32, mask: Mask) -> u32
     ensures value { result ≡ (if meets asked bit && granted card.now.fields.acl
         card.now.fields.owner card.now.fields.group cred.now mask.0 then bit else 0) }
     ensures small { result ≤ bit }
@@ -76,7 +76,7 @@ fn granted_bit(card: &Card, cred: &Cred, asked: u32, bit: u32, mask: Mask) -> u3
 }
 
 /// The bits that are asked and granted.
-fn granted_bits(card: &Card, cred: &Cred, asked: u32) -> u32
+fn granted_bits(card: &CachedNode, cred: &Cred, asked: u32) -> u32
     ensures { result ≡ granted_bits (node_shown card.now) cred.now asked
         (access_masks card.now.fields.kind) }
 {
@@ -100,8 +100,8 @@ fn granted_bits(card: &Card, cred: &Cred, asked: u32) -> u32
     }
 }
 
-/// What the node of a card supports and grants, of the bits that are asked.
-fn access_on(card: &Card, cred: &Cred, asked: u32) -> Access
+/// What a cached node supports and grants, of the bits that are asked.
+fn access_on(card: &CachedNode, cred: &Cred, asked: u32) -> Access
     ensures { access_answer result ≡ access_on card.now cred.now asked }
 {
     Access {

@@ -6,7 +6,7 @@ use crate::rights::grants;
 use acl_eval::{Cred, Mask};
 use disk::Device;
 use model::status::Status;
-use node_table::Card;
+use node_table::CachedNode;
 use wire_attributes::{Attribute, AttributesAnswer, NodeAttributes, is_asked};
 
 #[tactic(auto, unfolding(crate::specs::Views::fs_of))]
@@ -68,8 +68,8 @@ impl<D: Device> Fs<D> {
         })
     }
 
-    /// What the node of a card shows.
-    pub(crate) fn shown<'a>(&self, card: &'a Card) -> NodeAttributes<'a>
+    /// What a cached node shows.
+    pub(crate) fn shown<'a>(&self, card: &'a CachedNode) -> NodeAttributes<'a>
         requires fits { IsCard card.now }
         requires few { length card.now.fields.acl ≤ MAX_STORED }
         ensures shows { ShowsCard (fs_of self.now).volume.limits card.entry.now result }

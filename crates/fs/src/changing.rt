@@ -13,13 +13,18 @@ use acl_eval::{Acl, NodeKind};
 use disk::Device;
 use model::not_done::NotDone;
 use model::status::Status;
-use node_table::Card;
+use node_table::CachedNode;
 use std::alloc::{AllocError, Global};
 use tree_edits::Edit;
 use tree_transaction::Shown;
 
 /// A node whose content a change alters: what it shows then.
-pub(crate) fn touched(alloc: Global, card: &Card, stamp: u64, now: u64) -> Result<Shown, AllocError>
+pub(crate) fn metadata_with_change(
+    alloc: Global,
+    card: &CachedNode,
+    stamp: u64,
+    now: u64,
+) -> Result<Shown, AllocError>
     ensures { IfOk result (λ shown. shown_of shown ≡ shown_by card.now.fields stamp now) }
 {
     let inode = &card.inode;
@@ -210,7 +215,7 @@ impl<D: Device> Fs<D> {
     }
 
     /// Makes a change, and counts it. A stop may lose it until the next flush.
-    pub(crate) fn alter(&mut self, edits: Vec<Edit<'_>>) -> Result<(), FsFault>
+    pub(crate) fn change_unstable(&mut self, edits: Vec<Edit<'_>>) -> Result<(), FsFault>
         // A change that may be made
         requires up { (fs_of self.old).volume.is_down ≡ false }
         requires planned { IsPlanned (fs_of self.old) edits.items }
@@ -231,7 +236,7 @@ impl<D: Device> Fs<D> {
     }
 
     /// Keeps a change, and counts it.
-    pub(crate) fn keep(&mut self, edits: Vec<Edit<'_>>) -> Result<(), FsFault>
+    pub(crate) fn change_stable(&mut self, edits: Vec<Edit<'_>>) -> Result<(), FsFault>
         // A change that may be made
         requires up { (fs_of self.old).volume.is_down ≡ false }
         requires planned { IsPlanned (fs_of self.old) edits.items }

@@ -6,7 +6,7 @@ use crate::rights::grants;
 use acl_eval::{Cred, Mask};
 use disk::Device;
 use model::status::Status;
-use node_table::Card;
+use node_table::CachedNode;
 
 #[tactic(auto, unfolding(crate::specs::Views::fs_of))]
 impl<D: Device> Fs<D> {
@@ -19,7 +19,7 @@ impl<D: Device> Fs<D> {
     ghost use Rattle.volume.specs.Nodes.{IsNodeOf};
 
     /// The file of this number. STALE where no node has it, ISDIR where it is a directory's.
-    pub(crate) fn file(&self, number: u64) -> Result<&Card, Status>
+    pub(crate) fn file(&self, number: u64) -> Result<&CachedNode, Status>
         ensures tests { IsChecked (file_refusals (fs_of self.entry.now).volume.tree number) result }
         ensures node { IfOk result (λ card.
             IsNodeOf (fs_of self.entry.now).volume.tree number card.now) }
@@ -43,7 +43,7 @@ impl<D: Device> Fs<D> {
         number: u64,
         verdict: Result<(), Status>,
         mask: Mask,
-    ) -> Result<&Card, Status>
+    ) -> Result<&CachedNode, Status>
         ensures tests { IsChecked (permit_refusals (fs_of self.entry.now).volume.tree cred.now
             number mask.0 verdict) result }
         ensures node { IfOk result (λ card.

@@ -2,7 +2,7 @@
 
 ghost use Rattle.std.specs.Prelude.{◌<◌, ◌^◌};
 ghost use Rattle.fs.specs.Ready.{IsReady, IsReady-prop};
-ghost use Rattle.volume.specs.Views.{held_of};
+ghost use Rattle.volume.specs.Views.{volume_state};
 
 use crate::fault::FsFault;
 use disk::Device;
@@ -19,7 +19,7 @@ pub struct Fs<D: Device> {
     pub(crate) volume: Volume<D>,
     pub(crate) changes: u32,
     ghost counted: { changes < 2 ^ 32 },
-    ghost ready: { IsReady (held_of volume) changes } by { IsReady-prop (held_of volume) changes },
+    ghost ready: { IsReady (volume_state volume) changes } by { IsReady-prop (volume_state volume) changes },
 }
 
 /// A file system that was mounted, and the seats that its volume keeps.
@@ -40,7 +40,7 @@ impl<D: Device> Fs<D> {
     ghost use Rattle.model.specs.SeatViews.{seats_view};
     ghost use Rattle.volume.specs.Changes.{IsSeats, Stays};
     ghost use Rattle.volume.specs.Formed.{Shows};
-    ghost use Rattle.volume.specs.Held.{KeepsRecent};
+    ghost use Rattle.volume.specs.VolumeState.{KeepsRecent};
     ghost use Rattle.volume.specs.MountAnswers.{FindsSeats, MountServes, MountGivesBack};
 
     /// Makes the device a new volume of this many nodes, with an empty root: `volume::format`.

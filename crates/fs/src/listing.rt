@@ -11,7 +11,7 @@ use acl_eval::{Cred, Mask};
 use directory::{Entry, ListAfter};
 use disk::Device;
 use model::status::Status;
-use node_table::Card;
+use node_table::CachedNode;
 use std::alloc::AllocError;
 use wire_attributes::{Attribute, AttributesAnswer, ListedAttributes, ListedEntry, is_asked};
 
@@ -118,7 +118,7 @@ impl<D: Device> Fs<D> {
     }
 
     /// The tests before those of the page, and the directory.
-    fn permit_list(&self, cred: &Cred, listing: &Listing<'_>) -> Result<&Card, Status>
+    fn permit_list(&self, cred: &Cred, listing: &Listing<'_>) -> Result<&CachedNode, Status>
         ensures tests { (dir_count : ℕ)
             → IsChecked (list_refusals (fs_of self.entry.now).volume.tree
             cred.now listing.now.directory (list_arguments listing.now dir_count)) result }

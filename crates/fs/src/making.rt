@@ -1,6 +1,6 @@
 //! CREATE of a directory.
 
-use crate::changing::{NewNode, made_edits, touched};
+use crate::changing::{NewNode, made_edits, metadata_with_change};
 use crate::created::Created;
 use crate::fault::FsFault;
 use crate::fs::Fs;
@@ -12,7 +12,7 @@ use disk::Device;
 use model::not_done::NotDone;
 use model::status::Status;
 use names::check_name;
-use node_table::Card;
+use node_table::CachedNode;
 use set_attributes::{GivenAttributes, SETTABLE_AT_CREATION, Settings, check_attributes};
 use std::alloc::AllocError;
 use tree_edits::Edit;
@@ -97,7 +97,7 @@ impl<D: Device> Fs<D> {
         if !has_room {
             return Err(FsFault::NoRoom);
         }
-        self.keep(planned.edits)?;
+        self.change_stable(planned.edits)?;
         Ok(planned.created)
     }
 
@@ -142,7 +142,11 @@ impl<D: Device> Fs<D> {
 
     /// The tests before those of room and stamps: the directory that is to hold the new one, and
     /// what is set.
-    fn permit_dir(&self, cred: &Cred, asked: NewDirectory) -> Result<(&Card, Settings), NotDone>
+    fn permit_dir(
+        &self,
+        cred: &Cred,
+        asked: NewDirectory,
+    ) -> Result<(&CachedNode, Settings), NotDone>
         requires { length asked.attributes.bitmap.now ≤ 8 }
         // Its tests, in their order
         ensures tests { IsCheckedInMemory
@@ -184,7 +188,7 @@ impl<D: Device> Fs<D> {
 
     /// The stamp of the change that makes a node below a directory, where the tree has room for it
     /// and a stamp is left. NOSPC, SERVERFAULT.
-    pub(crate) fn stamp_for(&self, parent: &Card, new: NewNode<'_>) -> Result<u64, Status>
+    pub(crate) fn stamp_for(&self, parent: &CachedNode, new: NewNode<'_>) -> Result<u64, Status>
         requires up { (fs_of self.now).volume.is_down ≡ false }
         requires parent { IsDirectoryOf (fs_of self.now).volume.tree new.directory parent.now }
         // Its tests, in their order
@@ -211,7 +215,7 @@ impl<D: Device> Fs<D> {
     /// holds.
     pub(crate) fn plan_node<'a>(
         &self,
-        parent: &Card,
+        parent: &CachedNode,
         new: NewNode<'a>,
         shown: Shown,
         stamp: u64,
@@ -232,7 +236,7 @@ impl<D: Device> Fs<D> {
             ≡ tree_with (fs_of self.now) new.entry.directory new.entry.name.now
             (first_node new.entry.kind new.entry.size (shown_of shown)) now) }
     {
-        let directory_shown = touched(self.alloc, parent, stamp, now)?;
+        let directory_shown = metadata_with_change(self.alloc, parent, stamp, now)?;
         let edits = made_edits(self.alloc, new, stamp, shown, directory_shown)?;
         Ok(edits)
     }
@@ -241,7 +245,7 @@ impl<D: Device> Fs<D> {
     pub(crate) fn new_node(
         &self,
         cred: &Cred,
-        parent: &Card,
+        parent: &CachedNode,
         kind: NodeKind,
         settings: Settings,
         stamp: u64,

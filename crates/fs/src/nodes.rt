@@ -1,4 +1,4 @@
-//! Nodes by number, and what their cards tell.
+//! Nodes by number, and what their cached nodes tell.
 
 ghost use Rattle.std.specs.Prelude.{◌≡◌, ◌↔◌, IsTrue, option_map};
 ghost use Rattle.directory.specs.Records.{record_from};
@@ -11,10 +11,10 @@ ghost use Rattle.fs.specs.Views.{fs_of};
 use crate::fs::Fs;
 use acl_eval::NodeKind;
 use disk::Device;
-use node_table::Card;
+use node_table::CachedNode;
 
 /// Whether a node is a directory.
-pub(crate) fn is_directory(card: &Card) -> bool
+pub(crate) fn is_directory(card: &CachedNode) -> bool
     ensures { IsTrue result ↔ (card.now.fields.kind ≡ kind.Directory) }
 {
     matches!(card.inode.kind, NodeKind::Directory)

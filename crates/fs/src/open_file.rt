@@ -1,6 +1,6 @@
 //! OPEN of a file by its name.
 
-use crate::changing::{NewNode, set_edits, touched};
+use crate::changing::{NewNode, metadata_with_change, set_edits};
 use crate::fault::FsFault;
 use crate::fs::Fs;
 use crate::nodes::is_directory;
@@ -12,7 +12,7 @@ use disk::Device;
 use model::not_done::NotDone;
 use model::status::Status;
 use names::check_name;
-use node_table::Card;
+use node_table::CachedNode;
 use set_attributes::{GivenAttributes, SETTABLE_AT_OPEN, Settings, check_attributes};
 use tree_edits::Edit;
 
@@ -104,7 +104,7 @@ impl<D: Device> Fs<D> {
         let Some(edits) = edits else {
             return Ok(opened);
         };
-        self.keep(edits)?;
+        self.change_stable(edits)?;
         Ok(opened)
     }
 
@@ -143,7 +143,7 @@ impl<D: Device> Fs<D> {
     }
 
     /// The tests of the place: the directory, the share, the name, and the right to look it up.
-    fn permit_place(&self, cred: &Cred, asked: Opening<'_>) -> Result<&Card, Status>
+    fn permit_place(&self, cred: &Cred, asked: Opening<'_>) -> Result<&CachedNode, Status>
         ensures tests { (state : State) (arguments : OpenArguments)
             → IsState (fs_of self.entry.now).volume.tree cred.now asked.entry.directory state
             → arguments.access ≡ asked.entry.share.access
@@ -176,7 +176,7 @@ impl<D: Device> Fs<D> {
         now: u64,
         asked: Opening<'a>,
         is_full: bool,
-        directory: &Card,
+        directory: &CachedNode,
         number: u64,
     ) -> Result<Planned<'a>, NotDone>
         requires up { (fs_of self.now).volume.is_down ≡ false }
@@ -236,7 +236,7 @@ impl<D: Device> Fs<D> {
         cred: &Cred,
         asked: Opening<'_>,
         number: u64,
-    ) -> Result<(&Card, bool), NotDone>
+    ) -> Result<(&CachedNode, bool), NotDone>
         requires few { length (given_by (type_of asked.how)).bitmap ≤ 8 }
         requires leads { LeadsTo (fs_of self.now).volume.tree asked.directory asked.name.now
             number }
@@ -265,7 +265,7 @@ impl<D: Device> Fs<D> {
 
     /// The tests of a node that is there, before those of rights, and whether it is to be cut: it
     /// is a file, and may be there.
-    fn check_known(&self, card: &Card, how: How<'_>) -> Result<bool, NotDone>
+    fn check_known(&self, card: &CachedNode, how: How<'_>) -> Result<bool, NotDone>
         requires few { length (given_by (type_of how)).bitmap ≤ 8 }
         ensures tests { (state : State) (number : _) → state.tree ≡ (fs_of self.now).volume.tree
             → IsNodeOf state.tree number card.now → IsCheckedInMemory (known_refusals
@@ -313,7 +313,12 @@ impl<D: Device> Fs<D> {
 
     /// The change that cuts a file, where the tree has room for it and a stamp is left. NOSPC,
     /// SERVERFAULT.
-    fn plan_cut<'a>(&self, card: &Card, number: u64, now: u64) -> Result<Vec<Edit<'a>>, NotDone>
+    fn plan_cut<'a>(
+        &self,
+        card: &CachedNode,
+        number: u64,
+        now: u64,
+    ) -> Result<Vec<Edit<'a>>, NotDone>
         requires up { (fs_of self.now).volume.is_down ≡ false }
         requires node { IsNodeOf (fs_of self.now).volume.tree number card.now }
         requires file { card.now.fields.kind ≡ kind.File }
@@ -331,7 +336,7 @@ impl<D: Device> Fs<D> {
         let Some(stamp) = self.stamp_left() else {
             return Err(self.refuse_last_size(number, Some(0)));
         };
-        let shown = touched(self.alloc, card, stamp, now)?;
+        let shown = metadata_with_change(self.alloc, card, stamp, now)?;
         let edits = set_edits(self.alloc, number, Some(0), shown)?;
         if !self.volume.fits(&edits) {
             return Err(NotDone::Status(Status::NoSpc));
@@ -346,7 +351,7 @@ impl<D: Device> Fs<D> {
         now: u64,
         asked: Opening<'a>,
         is_full: bool,
-        directory: &Card,
+        directory: &CachedNode,
     ) -> Result<Planned<'a>, NotDone>
         requires up { (fs_of self.now).volume.is_down ≡ false }
         requires few { length (given_by (type_of asked.how)).bitmap ≤ 8 }
@@ -401,7 +406,7 @@ impl<D: Device> Fs<D> {
         &self,
         cred: &Cred,
         asked: Opening<'_>,
-        directory: &Card,
+        directory: &CachedNode,
     ) -> Result<Settings, NotDone>
         requires few { length (given_by (type_of asked.how)).bitmap ≤ 8 }
         requires directory { IsDirectoryOf (fs_of self.now).volume.tree asked.directory

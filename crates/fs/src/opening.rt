@@ -14,7 +14,7 @@ use crate::rights::grants;
 use acl_eval::{Cred, Mask};
 use disk::Device;
 use model::status::Status;
-use node_table::Card;
+use node_table::CachedNode;
 use set_attributes::GivenAttributes;
 
 /// `OPEN4_SHARE_ACCESS_READ` and `OPEN4_SHARE_ACCESS_WRITE`.
@@ -116,7 +116,7 @@ pub(crate) fn check_share(share: Share) -> Result<(), Status>
 
 /// Whether a caller has the rights that an open asks for on its file: to read it, and to write it,
 /// which a cut asks for too.
-pub(crate) fn may_open(card: &Card, cred: &Cred, access: u32, is_cut: bool) -> bool
+pub(crate) fn may_open(card: &CachedNode, cred: &Cred, access: u32, is_cut: bool) -> bool
     ensures { result ≡ may_use card.now.fields cred.now access is_cut }
 {
     let reads = access & READ != 0;

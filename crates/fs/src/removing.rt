@@ -1,6 +1,6 @@
 //! REMOVE.
 
-use crate::changing::{removed_edits, touched};
+use crate::changing::{metadata_with_change, removed_edits};
 use crate::fault::FsFault;
 use crate::fs::Fs;
 use crate::nodes::is_directory;
@@ -9,7 +9,7 @@ use disk::Device;
 use model::not_done::NotDone;
 use model::status::Status;
 use names::check_name;
-use node_table::Card;
+use node_table::CachedNode;
 use tree_edits::Edit;
 
 /// A name that was removed.
@@ -27,7 +27,7 @@ pub struct Removed {
 #[derive(Clone, Copy)]
 struct Removal<'a> {
     /// The directory that has it.
-    directory: &'a Card,
+    directory: &'a CachedNode,
     /// The name's entry stamp.
     stamp: u64,
     /// The number of the node that it leads to.
@@ -100,7 +100,7 @@ impl<D: Device> Fs<D> {
         if !has_room {
             return Err(FsFault::NoRoom);
         }
-        self.keep(planned.edits)?;
+        self.change_stable(planned.edits)?;
         Ok(planned.removed)
     }
 
@@ -132,7 +132,7 @@ impl<D: Device> Fs<D> {
         let Some(stamp) = self.stamp_left() else {
             return Err(NotDone::Status(Status::ServerFault));
         };
-        let shown = touched(self.alloc, holder, stamp, now)?;
+        let shown = metadata_with_change(self.alloc, holder, stamp, now)?;
         let edits = removed_edits(
             self.alloc,
             directory,

@@ -4,7 +4,7 @@ ghost use Rattle.std.specs.Prelude.{◌≡◌, ◌++◌, IfOk, option_map};
 ghost use Rattle.fs.specs.Renaming.{arguments_of, is_itself};
 ghost use Rattle.fs.specs.RenameTests.{replacing, moving_edits};
 
-use crate::changing::touched;
+use crate::changing::metadata_with_change;
 use crate::fault::FsFault;
 use crate::fs::Fs;
 use crate::nodes::is_directory;
@@ -14,7 +14,7 @@ use disk::Device;
 use model::not_done::NotDone;
 use model::status::Status;
 use names::check_name;
-use node_table::Card;
+use node_table::CachedNode;
 use std::alloc::{AllocError, Global};
 use tree_edits::Edit;
 use tree_transaction::Shown;
@@ -51,8 +51,8 @@ pub struct Renamed {
 /// What a rename moves.
 #[derive(Clone, Copy)]
 struct Moving<'a> {
-    from: &'a Card,
-    to: &'a Card,
+    from: &'a CachedNode,
+    to: &'a CachedNode,
     /// The old name's entry stamp.
     stamp: u64,
     /// The number of the node that it leads to.
@@ -200,7 +200,7 @@ impl<D: Device> Fs<D> {
         let Some(edits) = edits else {
             return Ok(renamed);
         };
-        self.keep(edits)?;
+        self.change_stable(edits)?;
         Ok(renamed)
     }
 
@@ -273,7 +273,7 @@ impl<D: Device> Fs<D> {
     }
 
     /// The directory that has the old name, and the one that is to have the new one. STALE, NOTDIR.
-    fn both_directories(&self, asked: Renaming<'_>) -> Result<(&Card, &Card), Status>
+    fn both_directories(&self, asked: Renaming<'_>) -> Result<(&CachedNode, &CachedNode), Status>
         ensures tests { IsChecked (directory_refusals (fs_of self.entry.now).volume.tree
             asked.entry.from asked.entry.to) result }
         ensures from { IfOk result (λ both.
@@ -326,8 +326,8 @@ impl<D: Device> Fs<D> {
         self.permit_rename(cred, asked, moving, target)?;
         // where none is left: the stamp of the entry that goes, whose edits need as much room
         let stamp = self.stamp_left().unwrap_or(moving.stamp);
-        let from_shown = touched(self.alloc, from, stamp, now)?;
-        let to_shown = touched(self.alloc, to, stamp, now)?;
+        let from_shown = metadata_with_change(self.alloc, from, stamp, now)?;
+        let to_shown = metadata_with_change(self.alloc, to, stamp, now)?;
         let edits = renamed_edits(
             self.alloc, asked, moving, target, stamp, from_shown, to_shown,
         )?;
@@ -425,7 +425,7 @@ impl<D: Device> Fs<D> {
     }
 
     /// Whether a caller may remove what stands under the new name, where something does.
-    fn may_replace(&self, cred: &Cred, directory: &Card, target: Option<(u64, u64)>) -> bool
+    fn may_replace(&self, cred: &Cred, directory: &CachedNode, target: Option<(u64, u64)>) -> bool
         ensures { result ≡ may_replace (fs_of self.now).volume.tree cred.now directory.now target }
     {
         match target {

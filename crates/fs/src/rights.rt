@@ -9,10 +9,10 @@ ghost use Rattle.fs.specs.Views.{fs_of};
 use crate::fs::Fs;
 use acl_eval::{Cred, Mask};
 use disk::Device;
-use node_table::Card;
+use node_table::CachedNode;
 
 /// Whether the list of a node grants a caller these rights.
-pub(crate) fn grants(card: &Card, cred: &Cred, mask: Mask) -> bool
+pub(crate) fn grants(card: &CachedNode, cred: &Cred, mask: Mask) -> bool
     ensures { result ≡ granted card.now.fields.acl
         card.now.fields.owner card.now.fields.group cred.now mask.0 }
 {
@@ -24,7 +24,7 @@ pub(crate) fn grants(card: &Card, cred: &Cred, mask: Mask) -> bool
 impl<D: Device> Fs<D> {
     /// Whether a caller may take away a name that leads to a node: where he may delete the node, or
     /// any child of its directory.
-    pub(crate) fn may_remove(&self, cred: &Cred, directory: &Card, number: u64) -> bool
+    pub(crate) fn may_remove(&self, cred: &Cred, directory: &CachedNode, number: u64) -> bool
         ensures { result ≡ (granted_on (at number (fs_of self.now).volume.tree) cred.now delete
             || granted directory.now.fields.acl directory.now.fields.owner
             directory.now.fields.group cred.now delete_child) }

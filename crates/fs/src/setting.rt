@@ -15,7 +15,7 @@ use acl_eval::{Cred, Mask};
 use disk::Device;
 use model::not_done::NotDone;
 use model::status::Status;
-use node_table::Card;
+use node_table::CachedNode;
 use set_attributes::{
     ACL, GivenAttributes, MODE, OWNER, OWNER_GROUP, SETTABLE_AT_SETATTR, SIZE, Settings,
     check_attributes, is_among,
@@ -36,7 +36,7 @@ pub struct Setting<'a> {
 }
 
 /// Whether a caller has the rights to set attributes of these numbers on a node.
-fn may_set(card: &Card, cred: &Cred, attributes: &[u32]) -> bool
+fn may_set(card: &CachedNode, cred: &Cred, attributes: &[u32]) -> bool
     ensures { result ≡ may_set (granted card.now.fields.acl card.now.fields.owner
         card.now.fields.group cred.now) attributes.now }
 {
@@ -132,7 +132,7 @@ impl<D: Device> Fs<D> {
         let Some(edits) = planned else {
             return Ok(());
         };
-        self.keep(edits)
+        self.change_stable(edits)
     }
 
     /// The change that sets attributes, where nothing refuses it but that its reply has no room:
@@ -176,7 +176,11 @@ impl<D: Device> Fs<D> {
     }
 
     /// The tests before those of room and stamps: the node, and what is set.
-    fn permit_setting(&self, cred: &Cred, asked: Setting<'_>) -> Result<(&Card, Settings), NotDone>
+    fn permit_setting(
+        &self,
+        cred: &Cred,
+        asked: Setting<'_>,
+    ) -> Result<(&CachedNode, Settings), NotDone>
         requires { length asked.attributes.bitmap.now ≤ 8 }
         // Its tests, in their order
         ensures tests { IsCheckedInMemory (setting_tests (fs_of self.entry.now).volume.limits
@@ -212,7 +216,7 @@ impl<D: Device> Fs<D> {
     /// What a node shows with these settings, which passed their tests.
     fn shown_set(
         &self,
-        card: &Card,
+        card: &CachedNode,
         settings: Settings,
         stamp: u64,
         now: u64,

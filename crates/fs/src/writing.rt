@@ -1,6 +1,6 @@
 //! WRITE and COMMIT.
 
-use crate::changing::{touched, written_edits};
+use crate::changing::{metadata_with_change, written_edits};
 use crate::fault::FsFault;
 use crate::fs::Fs;
 use acl_eval::{Cred, Mask};
@@ -90,7 +90,7 @@ impl<D: Device> Fs<D> {
         if !has_room {
             return Err(FsFault::NoRoom);
         }
-        self.put(edits, asked.is_stable)?;
+        self.apply_plan(edits, asked.is_stable)?;
         Ok(self.taken(asked.bytes).len() as u32)
     }
 
@@ -132,7 +132,7 @@ impl<D: Device> Fs<D> {
                 bytes: part,
             }]));
         };
-        let shown = touched(self.alloc, card, stamp, now)?;
+        let shown = metadata_with_change(self.alloc, card, stamp, now)?;
         let edits = written_edits(self.alloc, number, offset, part, shown)?;
         if !self.volume.fits(&edits) {
             return Err(NotDone::Status(Status::NoSpc));
@@ -169,7 +169,7 @@ impl<D: Device> Fs<D> {
     }
 
     /// Makes a change, and counts it; one that is to be stable is kept.
-    fn put(&mut self, edits: Vec<Edit<'_>>, is_stable: bool) -> Result<(), FsFault>
+    fn apply_plan(&mut self, edits: Vec<Edit<'_>>, is_stable: bool) -> Result<(), FsFault>
         // A change that may be made
         requires up { (fs_of self.old).volume.is_down ≡ false }
         requires planned { IsPlanned (fs_of self.old) edits.items }
@@ -185,9 +185,9 @@ impl<D: Device> Fs<D> {
             (fault ≡ FsFault.Memory) ⊎ (fault ≡ FsFault.Device)) }
     {
         if is_stable {
-            self.keep(edits)
+            self.change_stable(edits)
         } else {
-            self.alter(edits)
+            self.change_unstable(edits)
         }
     }
 

@@ -14,7 +14,7 @@ use Rattle.extents.specs.declared.run.Run.{Run}
 use Rattle.extents.specs.Runs.{AreRising}
 use Rattle.directory.specs.Records.{Record, AreStamped}
 use Rattle.directory.specs.Listing.{by_stamp}
-use Rattle.layout.specs.Cards.{Card, tree_of, node_of, content_of, bytes_in, byte_at}
+use Rattle.layout.specs.CachedNodes.{CachedNode, tree_of, node_of, content_of, bytes_in, byte_at}
 use Rattle.layout.specs.Known.{HasContent, IsCard}
 use Rattle.layout.specs.Laid.{AreNumbered}
 use Rattle.layout.specs.MarkLaws.{FullIsCharged}
@@ -72,7 +72,7 @@ sum_times_set a n [] = omega (arith, sum_to-zero (λ i. 0) n (λ i. refl))
 sum_times_set a n (None ∷ blocks) = omega (arith, sum_times_set a n blocks)
 sum_times_set a n (Some s ∷ blocks) = omega (arith, sum_to-plus (λ i. once_if (eqb (a + i) s)) (λ i. times_set (a + i) blocks) n, (sum_once a s n).0, sum_times_set a n blocks)
 
-sum_card : (a n : ℕ) (card : Card) → sum_to (λ i. named_by (a + i) (Some card)) n ≤ length card.fields.run_sectors + length card.blocks
+sum_card : (a n : ℕ) (card : CachedNode) → sum_to (λ i. named_by (a + i) (Some card)) n ≤ length card.fields.run_sectors + length card.blocks
 unfolding named_by
 sum_card a n card =
     omega (arith, sum_to-plus (λ i. times (a + i) card.fields.run_sectors) (λ i. times_set (a + i) card.blocks) n, sum_times a n card.fields.run_sectors, sum_times_set a n card.blocks)
@@ -117,16 +117,16 @@ length-by_stamp (entry ∷ names) stamped =
     let fresh : at entry.0 (by_stamp names) ≡ None = at-by_stamp entry.0 names ∙ at-absent names entry.0 (λ i d h e. stamped.apart 0 (suc i) d (omega arith) (omega arith) (sym e)) in
     omega (arith, length-with (by_stamp names) entry.0 0 entry.1 (above_by_stamp names rest) fresh, length-by_stamp names rest)
 
-content_blocks : (image : Image) (kind : NodeKind) (card : Card) → HasContent kind card → blocks (content_of image kind card) ≡ blocks_of kind card.fields.size
+content_blocks : (image : Image) (kind : NodeKind) (card : CachedNode) → HasContent kind card → blocks (content_of image kind card) ≡ blocks_of kind card.fields.size
 unfolding bytes_in
 content_blocks image kind.File card has = ap (λ (n : ℕ). divided_up n 4096) (length-map-range_with_len (byte_at image card.blocks) 0 card.fields.size)
 content_blocks image kind.Directory card has = ap (λ (n : ℕ). divided_up n 15) (length-by_stamp card.names has.stamped ∙ has.count)
 
-pub charge_is : (image : Image) (card : Card) → IsCard card → charge (node_of image card) ≡ charge_of_blocks (length card.blocks)
+pub charge_is : (image : Image) (card : CachedNode) → IsCard card → charge (node_of image card) ≡ charge_of_blocks (length card.blocks)
 unfolding node_of
 charge_is image card is = ap charge_of_blocks (content_blocks image card.fields.kind card is.content ∙ sym is.blocks)
 
-card_charged : (image : Image) (card : Card) (a n : ℕ) → IsCard card → sum_to (λ i. named_by (a + i) (Some card)) n ≤ charge (node_of image card)
+card_charged : (image : Image) (card : CachedNode) (a n : ℕ) → IsCard card → sum_to (λ i. named_by (a + i) (Some card)) n ≤ charge (node_of image card)
 card_charged image card a n is =
     let charged = charge_is image card is in
     let runs = few_runs 0 (length card.blocks) card.runs is.runs.rising (omega arith) in
@@ -136,7 +136,7 @@ pub named-none : (n : ℕ) → named_by n None ≡ 0
 unfolding named_by
 named-none n = refl
 
-cards_charged : (image : Image) (a n : ℕ) (cards : List (Option Card)) → AreEach cards → AreNumbered cards
+cards_charged : (image : Image) (a n : ℕ) (cards : List (Option CachedNode)) → AreEach cards → AreNumbered cards
     → sum_to (λ i. named (a + i) cards) n ≤ total charge (tree_of image cards)
 cards_charged image a n [] each apart = omega (arith, sum_to-zero (λ i. 0) n (λ i. refl))
 cards_charged image a n (None ∷ cards) each apart =

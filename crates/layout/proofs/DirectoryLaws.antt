@@ -10,7 +10,7 @@ use Rattle.std.proofs.lemmas.List.{length-append, length-take, length-drop, leng
 use Rattle.directory.specs.Records.{Record, record_from, without_place, place_of, name_of, AreStamped}
 use Rattle.directory.specs.Spelling.{directory_sector}
 use Rattle.directory.proofs.Places.{with_record-set, with_record-push, place_of-le}
-use Rattle.layout.specs.Cards.{content_at}
+use Rattle.layout.specs.CachedNodes.{content_at}
 use Rattle.layout.specs.Directories.{block_of, PutsInOne, RemovesInTwo, Rewriting, NoHoles, StaysStamped, PutsStamped}
 use Rattle.layout.specs.Laid.{names_of_block}
 

@@ -7,7 +7,7 @@ use Rattle.disk.specs.Moments.{Image}
 use Rattle.disk.specs.Calls.{zero_sector}
 use Rattle.extents.specs.Runs.{with_holes}
 use Rattle.sector.specs.Placed.{placed}
-use Rattle.layout.specs.Cards.{content_at, byte_at, bytes_in}
+use Rattle.layout.specs.CachedNodes.{content_at, byte_at, bytes_in}
 use Rattle.layout.specs.Files.{over, below, CutsBlocks, Filling, Writing, WritingOn, Cutting, Growing, HoldBytes, FilledBytes, WrittenBytes, ResizedBytes, GrownBytes}
 use Rattle.model.specs.Edit.{overwritten, resized}
 use Rattle.model.proofs.NodeChangeLaws.{length-resized}

@@ -4,8 +4,8 @@ use Rattle.std.specs.Prelude.{IsTrue, drop}
 use Rattle.std.specs.Int.{w32, from_be_bytes}
 use Rattle.std.proofs.lemmas.Bool.{and_parts, leb-true}
 use Rattle.std.proofs.lemmas.Nat.{from_be_bytes-to_be_bytes_4}
-use Rattle.layout.specs.CardLaws.{OneTree}
-use Rattle.layout.specs.Cards.{tree_in}
+use Rattle.layout.specs.CachedNodeLaws.{OneTree}
+use Rattle.layout.specs.CachedNodes.{tree_in}
 use Rattle.layout.specs.Superblock.{superblock, is_size}
 
 pub record Sized (size nodes : ℕ) : Type 0 where

@@ -15,20 +15,20 @@ use Rattle.model.specs.Limits.{limits_of}
 use Rattle.model.specs.Stamp.{stamp}
 use Rattle.model.specs.Tree.{Tree, Node}
 use Rattle.model.proofs.FreshTree.{fresh}
-use Rattle.layout.specs.Cards.{Card, tree_of, node_of}
+use Rattle.layout.specs.CachedNodes.{CachedNode, tree_of, node_of}
 use Rattle.layout.specs.FreshLaws.{root_fields, IsFresh, FreshStands}
 use Rattle.layout.specs.Laid.{HoldsCard, HoldsPlace, AreNumbered}
 use Rattle.layout.specs.Marks.{named, named_by, mark_in}
 use Rattle.layout.specs.Stands.{Version, HaveForms, IsLaid}
-use Rattle.layout.proofs.CardLaws.{cards-back, only_cards}
+use Rattle.layout.proofs.CachedNodeLaws.{cards-back, only_cards}
 use Rattle.layout.proofs.FileLaws.{zero_sector-at}
 use Rattle.layout.proofs.FirstLaws.{sized_parts}
 use Rattle.layout.proofs.StepLaws.{node_of-directory}
 
-pub nones-at : (n i : ℕ) → get_or (replicate {A = Option Card} n None) i None ≡ None
+pub nones-at : (n i : ℕ) → get_or (replicate {A = Option CachedNode} n None) i None ≡ None
 nones-at n i = elim (cases_lt i n) [
   | inl low ↦ get_or-replicate n i None None low
-  | inr high ↦ get_or_past (replicate n None) i None (omega (arith, length-replicate {A = Option Card} n None))
+  | inr high ↦ get_or_past (replicate n None) i None (omega (arith, length-replicate {A = Option CachedNode} n None))
 ]
 
 named-nones : (n k : ℕ) → named k (replicate n None) ≡ 0
@@ -52,10 +52,10 @@ bit_in-zeros : (low high : List ℕ) → low ≡ zero_sector → high ≡ zero_s
 bit_in-zeros low high a b i = ap₂ (λ (x y : ℕ). if ltb i 32768 then x else y) (bit_of-zeros low a i) (bit_of-zeros high b (i - 32768)) ∙ either_zero (ltb i 32768)
 
 module _ (version : Version) (size nodes : ℕ) (image : Image) (formatted : IsFresh version size nodes image) where
-  abbrev root_card : Card
+  abbrev root_card : CachedNode
   root_card = record { form = version.form 0; fields = root_fields; runs = []; blocks = []; names = [] }
 
-  abbrev root_cards : List (Option Card)
+  abbrev root_cards : List (Option CachedNode)
   root_cards = Some root_card ∷ replicate (nodes - 1) None
 
   some : 0 < nodes
@@ -100,18 +100,18 @@ module _ (version : Version) (size nodes : ℕ) (image : Image) (formatted : IsF
   held zero h = holds_root
   held (suc place) h = rw (nones-at (nodes - 1) place) (formatted.others (suc place) (omega arith) h)
 
-  root_alone : (i : ℕ) (card : Card) → get_or root_cards i None ≡ Some card → i ≡ 0
+  root_alone : (i : ℕ) (card : CachedNode) → get_or root_cards i None ≡ Some card → i ≡ 0
   root_alone zero card at_i = refl
   root_alone (suc i) card at_i = absurd (none-some card (sym (nones-at (nodes - 1) i) ∙ at_i))
 
   apart : AreNumbered root_cards
   apart i j a b off at_i at_j = absurd (off (root_alone i a at_i ∙ sym (root_alone j b at_j)))
 
-  some_is : (x y : Card) → (let one : Option Card = Some x in one ≡ Some y) → x ≡ y
+  some_is : (x y : CachedNode) → (let one : Option CachedNode = Some x in one ≡ Some y) → x ≡ y
   some_is x y e = cc
 
   forms : HaveForms version root_cards
-  forms zero card at_i = ap (λ (c : Card). c.form) (some_is card root_card (sym at_i))
+  forms zero card at_i = ap (λ (c : CachedNode). c.form) (some_is card root_card (sym at_i))
   forms (suc i) card at_i = absurd (none-some card (sym (nones-at (nodes - 1) i) ∙ at_i))
 
   unmarked : (n : ℕ) → mark_in nodes image n ≡ 0
@@ -128,7 +128,7 @@ module _ (version : Version) (size nodes : ℕ) (image : Image) (formatted : IsF
   laid : IsLaid version size nodes image root_cards
   laid = record {
     laid = record {
-      count = omega (arith, some, length-replicate {A = Option Card} (nodes - 1) None);
+      count = omega (arith, some, length-replicate {A = Option CachedNode} (nodes - 1) None);
       held = held;
       apart = apart;
       marks = λ n. unnamed n ∙ sym (unmarked n);

@@ -1,4 +1,4 @@
--- A card whose sectors are kept is held still, and is the same node.
+-- A cached node whose sectors are kept is held still, and is the same node.
 use Rattle.std.proofs.Common.{◌≡◌, ◌<◌, ◌/◌, ◌%◌, ℕ, zero, suc, List, [], ◌∷◌, Option, Some, None, get_or, map, refl, ap, ◌∙◌, arith}
 use Rattle.std.specs.List.{range_with_len}
 use Rattle.std.proofs.lemmas.Option.{same_Some, none-some}
@@ -7,8 +7,8 @@ use Rattle.model.specs.declared.node.NodeKind.{NodeKind}
 use Rattle.model.specs.declared.node.NodeKind.TheVariants as kind
 use Rattle.model.specs.Tree.{File}
 use Rattle.extents.specs.declared.run.Run.{Run}
-use Rattle.layout.specs.CardLaws.{AreKept, Frame}
-use Rattle.layout.specs.Cards.{Card, node_sector, content_at, byte_at, bytes_in, content_of, node_with, node_of}
+use Rattle.layout.specs.CachedNodeLaws.{AreKept, Frame}
+use Rattle.layout.specs.CachedNodes.{CachedNode, node_sector, content_at, byte_at, bytes_in, content_of, node_with, node_of}
 use Rattle.layout.specs.Laid.{AreRunSectors, HoldsContent, HoldsCard}
 use Rattle.layout.specs.Marks.{times, times_set, named_by}
 use Rattle.layout.proofs.NumberLaws.{once-here, times-at}
@@ -36,7 +36,7 @@ module _ (old new : Image) (blocks : List (Option ℕ)) (same : (n : ℕ) → 0 
   unfolding bytes_in
   bytes-kept size = ap (λ (f : ℕ → ℕ). map f (range_with_len 0 size)) (λ i k. byte_at-kept k i)
 
-module _ (old new : Image) (card : Card) (same : AreKept old new (Some card)) where
+module _ (old new : Image) (card : CachedNode) (same : AreKept old new (Some card)) where
   pub of_runs : (n : ℕ) → 0 < times n card.fields.run_sectors → new n ≡ old n
   unfolding named_by
   of_runs n h = same n (omega arith)

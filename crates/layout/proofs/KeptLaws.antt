@@ -3,7 +3,7 @@ use Rattle.std.proofs.Common.{ℕ, ◌≡◌, ◌<◌, ◌+◌, Option, None, re
 use Rattle.disk.specs.Moments.{Image}
 use Rattle.model.specs.Seats.{Seats, no_seats}
 use Rattle.model.specs.Tree.{Tree}
-use Rattle.layout.specs.CardLaws.{OneKept}
+use Rattle.layout.specs.CachedNodeLaws.{OneKept}
 use Rattle.layout.specs.Stands.{Version, AreKept, Kept, IsMark, IsVersion, MayKeep, By, Stands, StandsAs, StandsNow, current, seats_at, version_by}
 use Rattle.layout.specs.declared.versions.VersionNumber.{VersionNumber}
 use Rattle.layout.specs.declared.versions.VersionNumber.TheVariants as numbers

@@ -1,4 +1,4 @@
--- What is known of cards without their sectors.
+-- What is known of cached nodes without their sectors.
 use Rattle.std.proofs.Common.{◌≡◌, ◌<◌, ℕ, List, Option, Some, None, get_or, set, sym, ap, ◌∙◌, arith, inl, inr, subst}
 use Rattle.std.proofs.lemmas.Bool.{cases_eq, cases_lt}
 use Rattle.std.proofs.lemmas.List.{length-set, get_or_past, get_or-set_same, get_or-set_other}
@@ -6,17 +6,17 @@ use Rattle.std.proofs.lemmas.Option.{none-some}
 use Rattle.disk.specs.Moments.{Image}
 use Rattle.model.specs.declared.node.NodeKind.{NodeKind}
 use Rattle.model.specs.declared.node.NodeKind.TheVariants as kind
-use Rattle.layout.specs.Cards.{Card}
+use Rattle.layout.specs.CachedNodes.{CachedNode}
 use Rattle.layout.specs.Known.{HasContent, IsCard, IsPlace, AreCards, MovesMarks, LaidAreCards, OneCardChange}
 use Rattle.layout.specs.Laid.{HoldsContent, HoldsPlace}
 use Rattle.layout.specs.Marks.{named}
 use Rattle.layout.proofs.Changing.{AreAbove, named-set, apart_now}
 
-content_known : (image : Image) (kind : NodeKind) (card : Card) → HoldsContent image kind card → HasContent kind card
+content_known : (image : Image) (kind : NodeKind) (card : CachedNode) → HoldsContent image kind card → HasContent kind card
 content_known image kind.File card holds = holds.unnamed
 content_known image kind.Directory card holds = record { count = holds.count; names = holds.names; stamped = holds.stamped }
 
-place_known : (image : Image) (place : ℕ) (card : Option Card) → HoldsPlace image place card → IsPlace card
+place_known : (image : Image) (place : ℕ) (card : Option CachedNode) → HoldsPlace image place card → IsPlace card
 place_known image place None holds = tt
 place_known image place (Some card) holds = record {
   fits = holds.node.fits;
@@ -38,20 +38,20 @@ laid_are_cards nodes image mark cards laid = record {
   once = laid.once;
 }
 
--- each card of a table is one
-abbrev pub AreEach : List (Option Card) → Type 0
-AreEach cards = (i : ℕ) (card : Card) → get_or cards i None ≡ Some card → IsCard card
+-- each cached node of a table is one
+abbrev pub AreEach : List (Option CachedNode) → Type 0
+AreEach cards = (i : ℕ) (card : CachedNode) → get_or cards i None ≡ Some card → IsCard card
 
-pub each_card : (nodes : ℕ) (mark : ℕ → ℕ) (cards : List (Option Card)) → AreCards nodes mark cards → AreEach cards
+pub each_card : (nodes : ℕ) (mark : ℕ → ℕ) (cards : List (Option CachedNode)) → AreCards nodes mark cards → AreEach cards
 each_card nodes mark cards known i card there = elim (cases_lt i nodes) [
   | inl low ↦ subst IsPlace there (known.each i low)
   | inr high ↦ absurd (none-some card (sym (get_or_past cards i None (omega (arith, known.count))) ∙ there))
 ]
 
-pub each_above : (cards : List (Option Card)) → AreEach cards → AreAbove cards
+pub each_above : (cards : List (Option CachedNode)) → AreEach cards → AreAbove cards
 each_above cards each i card there = let is = each i card there in is.number
 
-module _ (nodes : ℕ) (marked mark : ℕ → ℕ) (cards : List (Option Card)) (place : ℕ) (is : Option Card) (h : place < nodes) (old : AreCards nodes marked cards) (new : IsPlace is) (moves : MovesMarks nodes marked mark (get_or cards place None) is) where
+module _ (nodes : ℕ) (marked mark : ℕ → ℕ) (cards : List (Option CachedNode)) (place : ℕ) (is : Option CachedNode) (h : place < nodes) (old : AreCards nodes marked cards) (new : IsPlace is) (moves : MovesMarks nodes marked mark (get_or cards place None) is) where
   each_now : (p : ℕ) → p < nodes → IsPlace (get_or (set cards place is) p None)
   each_now p in_ = elim (cases_eq p place) [
     | inl one ↦

@@ -1,14 +1,15 @@
 pub mod Answering
-pub mod CardLaws
+pub mod CachedNodeLaws
 pub mod Changing
 pub mod ChargeLaws
 pub mod DirectoryLaws
 pub mod EditMeets
 pub mod FileLaws
 pub mod FirstLaws
-pub mod KeptLaws
 pub mod Formatted
 pub mod Frame
+pub mod FrontBytes
+pub mod KeptLaws
 pub mod Knowing
 pub mod Linking
 pub mod MarkOnce
@@ -17,6 +18,5 @@ pub mod NodeEditLaws
 pub mod NumberLaws
 pub mod Rewriting
 pub mod SeatLaws
-pub mod FrontBytes
 pub mod StepLaws
 pub mod Summing

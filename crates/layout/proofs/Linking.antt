@@ -9,7 +9,7 @@ use Rattle.model.specs.Keyed.{with, is_key}
 use Rattle.model.specs.Tree.{root}
 use Rattle.model.specs.WellFormed.{links_owed, one_if}
 use Rattle.model.proofs.KeyedLaws.{at-with_same, at-with_other}
-use Rattle.layout.specs.Cards.{Card, tree_of, node_of, content_at, byte_at, bytes_in}
+use Rattle.layout.specs.CachedNodes.{CachedNode, tree_of, node_of, content_at, byte_at, bytes_in}
 use Rattle.layout.specs.Known.{AreCards}
 use Rattle.layout.specs.Laid.{AreNumbered}
 use Rattle.layout.specs.SumLaws.{other_numbers, Links, EachLink, BytesFit}
@@ -34,14 +34,14 @@ times-here n m xs e = rw (eq-eqb n m e) refl
 times-there : (n m : ℕ) (xs : List ℕ) → n ≢ m → times n (m ∷ xs) ≡ times n xs
 times-there n m xs off = rw (ne_eqb n m off) (omega arith)
 
-key_of-with : (image : Image) (one : Card) (cards : List (Option Card)) (n : ℕ) → n ≡ one.fields.number → is_key n (tree_of image (Some one ∷ cards)) ≡ true
+key_of-with : (image : Image) (one : CachedNode) (cards : List (Option CachedNode)) (n : ℕ) → n ≡ one.fields.number → is_key n (tree_of image (Some one ∷ cards)) ≡ true
 key_of-with image one cards n e =
     ap (λ (k : ℕ). is_key k (with (tree_of image cards) one.fields.number (node_of image one))) e ∙ ap is_some (at-with_same (tree_of image cards) one.fields.number (node_of image one))
 
-key_of-other : (image : Image) (one : Card) (cards : List (Option Card)) (n : ℕ) → n ≢ one.fields.number → is_key n (tree_of image (Some one ∷ cards)) ≡ is_key n (tree_of image cards)
+key_of-other : (image : Image) (one : CachedNode) (cards : List (Option CachedNode)) (n : ℕ) → n ≢ one.fields.number → is_key n (tree_of image (Some one ∷ cards)) ≡ is_key n (tree_of image cards)
 key_of-other image one cards n off = ap is_some (at-with_other (tree_of image cards) one.fields.number n (node_of image one) off)
 
-owed-times : (image : Image) (cards : List (Option Card)) (n : ℕ) → AreNumbered cards → links_owed (tree_of image cards) n ≡ times n (other_numbers cards)
+owed-times : (image : Image) (cards : List (Option CachedNode)) (n : ℕ) → AreNumbered cards → links_owed (tree_of image cards) n ≡ times n (other_numbers cards)
 owed-times image [] n apart = refl
 owed-times image (None ∷ cards) n apart = owed-times image cards n (λ i j x y off. apart (suc i) (suc j) x y (omega arith))
 owed-times image (Some one ∷ cards) n apart =
@@ -63,7 +63,7 @@ owed-times image (Some one ∷ cards) n apart =
           ]
     ]
 
-pub known_link : (nodes : ℕ) (mark : ℕ → ℕ) (cards : List (Option Card)) → AreCards nodes mark cards → (image : Image) (number : ℕ) → Links image cards number
+pub known_link : (nodes : ℕ) (mark : ℕ → ℕ) (cards : List (Option CachedNode)) → AreCards nodes mark cards → (image : Image) (number : ℕ) → Links image cards number
 known_link nodes mark cards known image number =
     record { to = links-sum nodes mark cards known image number; owed = owed-times image cards number known.apart }
 

@@ -7,7 +7,7 @@ use Rattle.std.proofs.Math.Nat.{zero-div}
 use Rattle.disk.specs.Moments.{Image}
 use Rattle.freemap.specs.Places.{mark_of, bit_of, bit_in, bit_from, Show}
 use Rattle.freemap.proofs.Bits.{bit_in-shown}
-use Rattle.layout.specs.Cards.{Card, tree_of, node_sector, cards_in}
+use Rattle.layout.specs.CachedNodes.{CachedNode, tree_of, node_sector, cards_in}
 use Rattle.layout.specs.Laid.{AreLaid, HoldsPlace}
 use Rattle.layout.specs.MarkLaws.{EachMark, MarksLaid, LaysMarks, KeptAlone, StandsAlone}
 use Rattle.layout.specs.Stands.{Version}
@@ -16,7 +16,7 @@ use Rattle.std.specs.Prelude.{IsTrue}
 use Rattle.layout.proofs.FirstLaws.{sized_parts}
 use Rattle.layout.specs.Marks.{mark_in, named_by, mark_by}
 use Rattle.layout.specs.Stands.{IsLaid}
-use Rattle.layout.proofs.CardLaws.{cards-back}
+use Rattle.layout.proofs.CachedNodeLaws.{cards-back}
 use Rattle.layout.proofs.Frame.{held-still, node-kept}
 use Rattle.layout.proofs.Changing.{named-at, tree-kept}
 use Rattle.layout.proofs.NumberLaws.{once-off, once-at}
@@ -106,14 +106,14 @@ marks_of nodes image places marked n = ap (λ (m : ℕ). if ltb n (148 + nodes) 
 pub marks_laid : MarksLaid
 marks_laid nodes count image places few shown = marks_of nodes image places (shown-at (image 98) (image 99) count places few shown)
 
--- ---- images that differ in what no card names
+-- ---- images that differ in what no cached node names
 
-module _ (nodes : ℕ) (old new : Image) (marked mark : ℕ → ℕ) (cards : List (Option Card)) (laid : AreLaid nodes old marked cards) (marks : (n : ℕ) → mark n ≡ marked n)
+module _ (nodes : ℕ) (old new : Image) (marked mark : ℕ → ℕ) (cards : List (Option CachedNode)) (laid : AreLaid nodes old marked cards) (marks : (n : ℕ) → mark n ≡ marked n)
     (same_nodes : (place : ℕ) → place < nodes → new (node_sector place) ≡ old (node_sector place)) (same_data : (n : ℕ) → 0 < marked n → new n ≡ old n) where
   kept_all : (place n : ℕ) → 0 < named_by n (get_or cards place None) → new n ≡ old n
   kept_all place n some = same_data n (omega (arith, named-at n cards place, laid.marks n))
 
-  held_at : (place : ℕ) (card : Option Card) → place < nodes → get_or cards place None ≡ card → HoldsPlace old place card → HoldsPlace new place card
+  held_at : (place : ℕ) (card : Option CachedNode) → place < nodes → get_or cards place None ≡ card → HoldsPlace old place card → HoldsPlace new place card
   held_at place None h there holds = same_nodes place h ∙ holds
   held_at place (Some card) h there holds = held-still old new card (λ n some. kept_all place n (rw there some)) place (same_nodes place h) holds
 
@@ -145,7 +145,7 @@ pub mark_in-same : (nodes : ℕ) (old new : Image) → new 98 ≡ old 98 → new
 unfolding mark_in
 mark_in-same nodes old new low high n = ap₂ (λ (a b : List ℕ). if ltb n (148 + nodes) then 0 else bit_in a b (n - (148 + nodes))) low high
 
-pub below_size : (version : Version) (size nodes : ℕ) (image : Image) (cards : List (Option Card)) → IsLaid version size nodes image cards → (n : ℕ) → 0 < mark_in nodes image n → n < size
+pub below_size : (version : Version) (size nodes : ℕ) (image : Image) (cards : List (Option CachedNode)) → IsLaid version size nodes image cards → (n : ℕ) → 0 < mark_in nodes image n → n < size
 below_size version size nodes image cards laid n some = elim (cases_lt n size) [
   | inl low ↦ low
   | inr high ↦ absurd (let none = laid.within n high in omega arith)

@@ -11,7 +11,7 @@ use Rattle.model.specs.Edit.{Shown, PutBytes, done, showing, overwritten, resize
 use Rattle.model.specs.Keyed.{Keyed, at, with, without}
 use Rattle.model.specs.Tree.{Node, Content, File, Directory, DirEntry, bytes_of, names_of}
 use Rattle.model.proofs.NodeChangeLaws.{altered-once, length-resized}
-use Rattle.layout.specs.Cards.{Card, node_sector, content_at, byte_at, bytes_in, content_of, node_with, node_of, tree_of}
+use Rattle.layout.specs.CachedNodes.{CachedNode, node_sector, content_at, byte_at, bytes_in, content_of, node_with, node_of, tree_of}
 use Rattle.layout.specs.ChangeLaws.{ChangesOwn, ChangesCard, tree_with}
 use Rattle.layout.specs.Directories.{ChangesBlocks, block_of, block_put}
 use Rattle.layout.specs.Files.{below}
@@ -28,12 +28,12 @@ use Rattle.layout.proofs.StepLaws.{put-step, shown, file_step, same_step, names_
 
 -- ---- a step as an edit
 
-node_of-bytes : (image : Image) (card : Card) → card.fields.kind ≡ kind.File → node_of image card ≡ node_with card.fields (File (bytes_in image card.blocks card.fields.size))
+node_of-bytes : (image : Image) (card : CachedNode) → card.fields.kind ≡ kind.File → node_of image card ≡ node_with card.fields (File (bytes_in image card.blocks card.fields.size))
 unfolding node_of
 node_of-bytes image card is = ap (λ (k : NodeKind). node_with card.fields (content_of image k card)) is
 
 -- the tree with a node for another that shows the same is the tree that an edit makes of its node
-module _ (nodes : ℕ) (old new : Image) (marked mark : ℕ → ℕ) (cards : List (Option Card)) (place : ℕ) (was is : Card) (steps : Steps nodes old new marked mark cards place was is) where
+module _ (nodes : ℕ) (old new : Image) (marked mark : ℕ → ℕ) (cards : List (Option CachedNode)) (place : ℕ) (was is : CachedNode) (steps : Steps nodes old new marked mark cards place was is) where
   edited_as : (change : Node → Node) (node : Node) → node_of old was ≡ node → with (tree_of old cards) is.fields.number (change node) ≡ altered change (tree_of old cards) was.fields.number
   edited_as change node is_node =
       ap (λ (n : ℕ). with (tree_of old cards) n (change node)) steps.number
@@ -55,12 +55,12 @@ put-here image target content = rw (eq-eqb target target refl) refl
 pub put-elsewhere : (image : Image) (target : ℕ) (content : List ℕ) (n : ℕ) → n ≢ target → put image (record { target = target; content = content }) n ≡ image n
 put-elsewhere image target content n off = rw (ne_eqb n target off) refl
 
--- how often a card names a sector: as a run sector, or as a block
-pub named_by-parts : (n : ℕ) (card : Card) → named_by n (Some card) ≡ times n card.fields.run_sectors + times_set n card.blocks
+-- how often a cached node names a sector: as a run sector, or as a block
+pub named_by-parts : (n : ℕ) (card : CachedNode) → named_by n (Some card) ≡ times n card.fields.run_sectors + times_set n card.blocks
 unfolding named_by
 named_by-parts n card = refl
 
-module _ (nodes : ℕ) (old : Image) (marked : ℕ → ℕ) (cards : List (Option Card)) (place : ℕ) (card : Card) (block sector from : ℕ) (part : List ℕ) (writes : WritesPart nodes old marked cards place card block sector from part) where
+module _ (nodes : ℕ) (old : Image) (marked : ℕ → ℕ) (cards : List (Option CachedNode)) (place : ℕ) (card : CachedNode) (block sector from : ℕ) (part : List ℕ) (writes : WritesPart nodes old marked cards place card block sector from part) where
   new : Image
   new = part_written old sector from part
 
@@ -74,7 +74,7 @@ module _ (nodes : ℕ) (old : Image) (marked : ℕ → ℕ) (cards : List (Optio
   is_block =
       let some = times_set-at card.blocks block sector writes.is_set in
       let parts = named_by-parts sector card in
-      let all : named_by sector (Some card) ≤ named sector cards = subst (λ (c : Option Card). named_by sector c ≤ named sector cards) writes.there (named-at sector cards place) in
+      let all : named_by sector (Some card) ≤ named sector cards = subst (λ (c : Option CachedNode). named_by sector c ≤ named sector cards) writes.there (named-at sector cards place) in
       let marks = writes.laid.marks sector in
       let few = writes.laid.once sector in
       record { behind = writes.laid.behind sector (omega arith); not_run = omega arith; once = omega arith }
@@ -182,7 +182,7 @@ grow_file nodes old new marked mark cards place was is count steps grows =
 
 -- ---- directories
 
-module _ (nodes : ℕ) (old new : Image) (marked mark : ℕ → ℕ) (cards : List (Option Card)) (place : ℕ) (was is : Card) (steps : Steps nodes old new marked mark cards place was is) (are : AreDirectories old was is) where
+module _ (nodes : ℕ) (old new : Image) (marked mark : ℕ → ℕ) (cards : List (Option CachedNode)) (place : ℕ) (was is : CachedNode) (steps : Steps nodes old new marked mark cards place was is) (are : AreDirectories old was is) where
   named_anew : (change : Keyed DirEntry → Keyed DirEntry) (one other : ℕ) → AreStamped is.names → ((i : ℕ) → i < length is.blocks → content_at new (get_or is.blocks i None) ≡ directory_sector (names_of_block i is.names))
       → by_stamp is.names ≡ change (by_stamp was.names)
       → Gives nodes new mark cards place is (altered (λ node. with_content node (Directory (change (names_of node.content)))) (tree_of old cards) was.fields.number)
@@ -210,7 +210,7 @@ drop_one_name nodes old new marked mark cards place was is at stamp steps drops 
 
 -- ---- nodes
 
-module _ (old new : Image) (was is : Card) (shown : Shown) (shows : ShowsOther old new was is shown) where
+module _ (old new : Image) (was is : CachedNode) (shown : Shown) (shows : ShowsOther old new was is shown) where
   content_there : (k : NodeKind) → HoldsContent old k was → HoldsContent new k is
   content_there kind.File holds = record {
     unnamed = shows.names ∙ holds.unnamed;
@@ -259,4 +259,4 @@ free_node nodes old new marked mark cards place was frees =
     let changes : ChangesCard nodes old new marked mark place (get_or cards place None) None =
     rw frees.there (record { held = frees.vacated; number = tt; own = frees.own }) in
     let changed = one_change nodes old new marked mark cards place None frees.within frees.laid tt changes in
-    record { laid = changed.laid; tree_is = changed.tree_is ∙ ap (λ (c : Option Card). tree_with new (tree_of old cards) c None) frees.there }
+    record { laid = changed.laid; tree_is = changed.tree_is ∙ ap (λ (c : Option CachedNode). tree_with new (tree_of old cards) c None) frees.there }

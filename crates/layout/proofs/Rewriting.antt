@@ -15,13 +15,14 @@ use Rattle.inode.specs.declared.node.Form.TheVariants.{One, Two}
 use Rattle.inode.specs.Fields.{Fields, IsInode, most_entries}
 use Rattle.inode.specs.Spelling.{inode_sector}
 use Rattle.inode.proofs.ReadBack.{fields-back}
-use Rattle.layout.specs.Cards.{Card, node_sector, cards_in, content_of, node_of, node_with, tree_of}
+use Rattle.layout.specs.CachedNodes.{CachedNode, node_sector, cards_in, content_of, node_of}
+use Rattle.layout.specs.CachedNodes.{node_with, tree_of}
 use Rattle.layout.specs.Laid.{AreNumbered, HoldsContent, HoldsPlace}
 use Rattle.layout.specs.Marks.{mark_in, named, named_by}
 use Rattle.layout.specs.Known.{IsPlace, HasContent}
 use Rattle.layout.specs.Rewriting.{in_form, in_second, all_second, second_image, AreRewritten, RewrittenStands, FormStays, IsLaidSecond, LaidSecond, KnownSecond, RewrittenCards, CurrentSecond}
 use Rattle.layout.specs.Stands.{Version, IsLaid, current}
-use Rattle.layout.proofs.CardLaws.{cards-back, zero_first, starts}
+use Rattle.layout.proofs.CachedNodeLaws.{cards-back, zero_first, starts}
 use Rattle.layout.proofs.Changing.{named-at, tree-kept}
 use Rattle.layout.proofs.Frame.{content-held, of_runs, run_sectors-kept, node-kept}
 use Rattle.layout.proofs.MarkProofs.{mark_in-same, below_size, room}
@@ -37,55 +38,56 @@ pub free_in_form : (form : Form) → in_form form zero_sector ≡ zero_sector
 unfolding in_form
 free_in_form form = rw zero_first refl
 
--- Cards in other forms
+-- Cached nodes in other forms
 
-abbrev in_its_form : Form → Card → Card
+abbrev in_its_form : Form → CachedNode → CachedNode
 in_its_form form card = record card { form = form }
 
-abbrev place_in : Form → Option Card → Option Card
+abbrev place_in : Form → Option CachedNode → Option CachedNode
 place_in form None = None
 place_in form (Some card) = Some (in_its_form form card)
 
-abbrev cards_from : (form : ℕ → Form) → (place : ℕ) → List (Option Card) → List (Option Card)
+abbrev cards_from : (form : ℕ → Form) → (place : ℕ) → List (Option CachedNode)
+    → List (Option CachedNode)
 cards_from form place [] = []
 cards_from form place (card ∷ cards) = place_in (form place) card ∷ cards_from form (suc place) cards
 
-length_from : (form : ℕ → Form) (place : ℕ) (cards : List (Option Card)) → length (cards_from form place cards) ≡ length cards
+length_from : (form : ℕ → Form) (place : ℕ) (cards : List (Option CachedNode)) → length (cards_from form place cards) ≡ length cards
 length_from form place [] = refl
 length_from form place (card ∷ cards) = ap suc (length_from form (suc place) cards)
 
-from_at : (form : ℕ → Form) (place : ℕ) (cards : List (Option Card)) (i : ℕ) → get_or (cards_from form place cards) i None ≡ place_in (form (place + i)) (get_or cards i None)
+from_at : (form : ℕ → Form) (place : ℕ) (cards : List (Option CachedNode)) (i : ℕ) → get_or (cards_from form place cards) i None ≡ place_in (form (place + i)) (get_or cards i None)
 from_at form place [] i = refl
 from_at form place (card ∷ cards) zero = ap (λ (n : ℕ). place_in (form n) card) (omega arith)
 from_at form place (card ∷ cards) (suc i) = from_at form (suc place) cards i ∙ ap (λ (n : ℕ). place_in (form n) (get_or cards i None)) (omega arith)
 
-all_at : (form : ℕ → Form) (cards : List (Option Card)) (i : ℕ) → get_or (cards_from form 0 cards) i None ≡ place_in (form i) (get_or cards i None)
+all_at : (form : ℕ → Form) (cards : List (Option CachedNode)) (i : ℕ) → get_or (cards_from form 0 cards) i None ≡ place_in (form i) (get_or cards i None)
 all_at form cards i = from_at form 0 cards i ∙ ap (λ (n : ℕ). place_in (form n) (get_or cards i None)) (omega arith)
 
-named_place : (n : ℕ) (form : Form) (card : Option Card) → named_by n (place_in form card) ≡ named_by n card
+named_place : (n : ℕ) (form : Form) (card : Option CachedNode) → named_by n (place_in form card) ≡ named_by n card
 unfolding named_by
 named_place n form None = refl
 named_place n form (Some card) = refl
 
-named_from : (n : ℕ) (form : ℕ → Form) (place : ℕ) (cards : List (Option Card)) → named n (cards_from form place cards) ≡ named n cards
+named_from : (n : ℕ) (form : ℕ → Form) (place : ℕ) (cards : List (Option CachedNode)) → named n (cards_from form place cards) ≡ named n cards
 named_from n form place [] = refl
 named_from n form place (card ∷ cards) = ap₂ (λ (a b : ℕ). a + b) (named_place n (form place) card) (named_from n form (suc place) cards)
 
-same_content : (image : Image) (of : NodeKind) (form : Form) (card : Card) → content_of image of (in_its_form form card) ≡ content_of image of card
+same_content : (image : Image) (of : NodeKind) (form : Form) (card : CachedNode) → content_of image of (in_its_form form card) ≡ content_of image of card
 same_content image kind.File form card = refl
 same_content image kind.Directory form card = refl
 
-same_node : (image : Image) (form : Form) (card : Card) → node_of image (in_its_form form card) ≡ node_of image card
+same_node : (image : Image) (form : Form) (card : CachedNode) → node_of image (in_its_form form card) ≡ node_of image card
 unfolding node_of
 same_node image form card = ap (node_with card.fields) (same_content image card.fields.kind form card)
 
-tree_from : (image : Image) (form : ℕ → Form) (place : ℕ) (cards : List (Option Card)) → tree_of image (cards_from form place cards) ≡ tree_of image cards
+tree_from : (image : Image) (form : ℕ → Form) (place : ℕ) (cards : List (Option CachedNode)) → tree_of image (cards_from form place cards) ≡ tree_of image cards
 tree_from image form place [] = refl
 tree_from image form place (None ∷ cards) = tree_from image form (suc place) cards
 tree_from image form place (Some card ∷ cards) =
     ap₂ (λ (tree : Tree) (node : Node). with tree card.fields.number node) (tree_from image form (suc place) cards) (same_node image (form place) card)
 
-held_in_form : (image : Image) (of : NodeKind) (form : Form) (card : Card) → HoldsContent image of card → HoldsContent image of (in_its_form form card)
+held_in_form : (image : Image) (of : NodeKind) (form : Form) (card : CachedNode) → HoldsContent image of card → HoldsContent image of (in_its_form form card)
 held_in_form image kind.File form card holds = record { unnamed = holds.unnamed; tail = holds.tail }
 held_in_form image kind.Directory form card holds = record { count = holds.count; names = holds.names; stamped = holds.stamped; spelled = holds.spelled }
 
@@ -112,9 +114,9 @@ fits_in_form was is fields roomy fits = record {
   each_ace = fits.each_ace;
 }
 
-module _ (was is : Version) (size nodes : ℕ) (old new : Image) (cards : List (Option Card)) (laid : IsLaid was size nodes old cards)
+module _ (was is : Version) (size nodes : ℕ) (old new : Image) (cards : List (Option CachedNode)) (laid : IsLaid was size nodes old cards)
     (below : 148 + nodes ≤ size) (rewritten : AreRewritten was is size nodes old new) where
-  abbrev now : List (Option Card)
+  abbrev now : List (Option CachedNode)
   now = cards_from is.form 0 cards
 
   marks : (n : ℕ) → mark_in nodes new n ≡ mark_in nodes old n
@@ -125,7 +127,7 @@ module _ (was is : Version) (size nodes : ℕ) (old new : Image) (cards : List (
       let marked : 0 < mark_in nodes old n = omega (arith, some, named-at n cards place, laid.laid.marks n) in
       rewritten.region n (laid.laid.behind n marked) (below_size was size nodes old cards laid n marked)
 
-  held_at : (place : ℕ) (card : Option Card) → place < nodes → get_or cards place None ≡ card → HoldsPlace old place card → HoldsPlace new place (place_in (is.form place) card)
+  held_at : (place : ℕ) (card : Option CachedNode) → place < nodes → get_or cards place None ≡ card → HoldsPlace old place card → HoldsPlace new place (place_in (is.form place) card)
   held_at place None within there holds =
       rewritten.nodes_are place within ∙ (ap (in_form (is.form place)) holds ∙ free_in_form (is.form place))
   held_at place (Some card) within there holds =
@@ -150,7 +152,7 @@ module _ (was is : Version) (size nodes : ℕ) (old new : Image) (cards : List (
   held_now place within = subst (HoldsPlace new place) (sym (all_at is.form cards place))
       (held_at place (get_or cards place None) within refl (laid.laid.held place within))
 
-  some_is : (form : Form) (card : Option Card) (one : Card) → place_in form card ≡ Some one → (it : Card) × (card ≡ Some it) × (one ≡ in_its_form form it)
+  some_is : (form : Form) (card : Option CachedNode) (one : CachedNode) → place_in form card ≡ Some one → (it : CachedNode) × (card ≡ Some it) × (one ≡ in_its_form form it)
   some_is form None one e = absurd (cc)
   some_is form (Some it) one e = (it, refl, cc)
 
@@ -159,7 +161,7 @@ module _ (was is : Version) (size nodes : ℕ) (old new : Image) (cards : List (
       let one = some_is (is.form i) (get_or cards i None) a (sym (all_at is.form cards i) ∙ at_i) in
       let two = some_is (is.form j) (get_or cards j None) b (sym (all_at is.form cards j) ∙ at_j) in
       λ same. laid.laid.apart i j one.0 two.0 off one.1 two.1
-      (sym (ap (λ (c : Card). c.fields.number) one.2) ∙ (same ∙ ap (λ (c : Card). c.fields.number) two.2))
+      (sym (ap (λ (c : CachedNode). c.fields.number) one.2) ∙ (same ∙ ap (λ (c : CachedNode). c.fields.number) two.2))
 
   laid_now : IsLaid is size nodes new now
   laid_now = record {
@@ -173,7 +175,7 @@ module _ (was is : Version) (size nodes : ℕ) (old new : Image) (cards : List (
     };
     forms = λ place card there.
         let one = some_is (is.form place) (get_or cards place None) card (sym (all_at is.form cards place) ∙ there) in
-        ap (λ (c : Card). c.form) one.2;
+        ap (λ (c : CachedNode). c.form) one.2;
     within = λ n past. marks n ∙ laid.within n past;
     spare = rewritten.spare;
   }
@@ -206,7 +208,7 @@ rewritten_stands was is size nodes run later old new tree stands no_less counted
       before = before_later (stamp (run + 1) 0) (stamp (later + 1) 0) tree (omega (arith, no_less)) stands.before;
     }
 
-stays_at : (version : Version) (image : Image) (place : ℕ) (card : Option Card) → ((one : Card) → card ≡ Some one → one.form ≡ version.form place) → HoldsPlace image place card
+stays_at : (version : Version) (image : Image) (place : ℕ) (card : Option CachedNode) → ((one : CachedNode) → card ≡ Some one → one.form ≡ version.form place) → HoldsPlace image place card
     → in_form (version.form place) (image (node_sector place)) ≡ image (node_sector place)
 stays_at version image place None forms holds = ap (in_form (version.form place)) holds ∙ (free_in_form (version.form place) ∙ sym holds)
 stays_at version image place (Some card) forms holds =
@@ -218,24 +220,24 @@ pub form_stays : FormStays
 form_stays version size nodes run image tree place stands within =
     stays_at version image place (get_or (cards_in nodes image) place None) (λ one there. stands.laid.forms place one there) (stands.laid.laid.held place within)
 
--- Cards in form two
+-- Cached nodes in form two
 
-second_from : (place : ℕ) (cards : List (Option Card)) → cards_from (λ i. Two) place cards ≡ all_second cards
+second_from : (place : ℕ) (cards : List (Option CachedNode)) → cards_from (λ i. Two) place cards ≡ all_second cards
 second_from place [] = refl
-second_from place (None ∷ cards) = ap (λ (l : List (Option Card)). None ∷ l) (second_from (suc place) cards)
-second_from place (Some card ∷ cards) = ap (λ (l : List (Option Card)). Some (in_its_form Two card) ∷ l) (second_from (suc place) cards)
+second_from place (None ∷ cards) = ap (λ (l : List (Option CachedNode)). None ∷ l) (second_from (suc place) cards)
+second_from place (Some card ∷ cards) = ap (λ (l : List (Option CachedNode)). Some (in_its_form Two card) ∷ l) (second_from (suc place) cards)
 
-second_of : (form : ℕ → Form) (place : ℕ) (cards : List (Option Card)) → all_second (cards_from form place cards) ≡ all_second cards
+second_of : (form : ℕ → Form) (place : ℕ) (cards : List (Option CachedNode)) → all_second (cards_from form place cards) ≡ all_second cards
 second_of form place [] = refl
-second_of form place (None ∷ cards) = ap (λ (l : List (Option Card)). None ∷ l) (second_of form (suc place) cards)
-second_of form place (Some card ∷ cards) = ap (λ (l : List (Option Card)). Some (in_its_form Two card) ∷ l) (second_of form (suc place) cards)
+second_of form place (None ∷ cards) = ap (λ (l : List (Option CachedNode)). None ∷ l) (second_of form (suc place) cards)
+second_of form place (Some card ∷ cards) = ap (λ (l : List (Option CachedNode)). Some (in_its_form Two card) ∷ l) (second_of form (suc place) cards)
 
-pub second_at : (cards : List (Option Card)) (i : ℕ) → get_or (all_second cards) i None ≡ in_second (get_or cards i None)
+pub second_at : (cards : List (Option CachedNode)) (i : ℕ) → get_or (all_second cards) i None ≡ in_second (get_or cards i None)
 second_at [] i = refl
 second_at (card ∷ cards) zero = refl
 second_at (card ∷ cards) (suc i) = second_at cards i
 
-module _ (version : Version) (size nodes : ℕ) (image : Image) (cards : List (Option Card)) (laid : IsLaid version size nodes image cards)
+module _ (version : Version) (size nodes : ℕ) (image : Image) (cards : List (Option CachedNode)) (laid : IsLaid version size nodes image cards)
     (below : 148 + nodes ≤ size) where
   pub then_second : AreRewritten version (current no_seats) size nodes image (second_image nodes image)
   then_second = record {
@@ -258,11 +260,11 @@ module _ (version : Version) (size nodes : ℕ) (image : Image) (cards : List (O
 pub laid_as_second : LaidSecond
 laid_as_second version size nodes image cards laid below = laid_second version size nodes image cards laid below
 
-known_content : (of : NodeKind) (card : Card) → HasContent of card → HasContent of (in_its_form Two card)
+known_content : (of : NodeKind) (card : CachedNode) → HasContent of card → HasContent of (in_its_form Two card)
 known_content kind.File card has = has
 known_content kind.Directory card has = record { count = has.count; names = has.names; stamped = has.stamped }
 
-known_place : (card : Option Card) → IsPlace card → IsPlace (in_second card)
+known_place : (card : Option CachedNode) → IsPlace card → IsPlace (in_second card)
 known_place None is = is
 known_place (Some card) is = record {
   fits = fits_in_form card.form Two card.fields (inr refl) is.fits;
@@ -274,16 +276,17 @@ known_place (Some card) is = record {
   content = known_content card.fields.kind card is.content;
 }
 
-some_second : (card : Option Card) (one : Card) → in_second card ≡ Some one → (it : Card) × (card ≡ Some it) × (one ≡ in_its_form Two it)
+some_second : (card : Option CachedNode) (one : CachedNode) → in_second card ≡ Some one → (it : CachedNode) × (card ≡ Some it) × (one ≡ in_its_form Two it)
 some_second None one e = absurd (cc)
 some_second (Some it) one e = (it, refl, cc)
 
-apart_second : (cards : List (Option Card)) → AreNumbered cards → AreNumbered (all_second cards)
+apart_second : (cards : List (Option CachedNode)) → AreNumbered cards
+    → AreNumbered (all_second cards)
 apart_second cards apart i j a b off at_i at_j =
     let one = some_second (get_or cards i None) a (sym (second_at cards i) ∙ at_i) in
     let two = some_second (get_or cards j None) b (sym (second_at cards j) ∙ at_j) in
     λ same. apart i j one.0 two.0 off one.1 two.1
-    (sym (ap (λ (c : Card). c.fields.number) one.2) ∙ (same ∙ ap (λ (c : Card). c.fields.number) two.2))
+    (sym (ap (λ (c : CachedNode). c.fields.number) one.2) ∙ (same ∙ ap (λ (c : CachedNode). c.fields.number) two.2))
 
 pub known_as_second : KnownSecond
 known_as_second nodes mark cards known = record {
@@ -302,11 +305,12 @@ rewritten_cards was is size nodes run later old new tree stands rewritten =
     let laid = laid_now was is size nodes old new cards stands.laid below rewritten.others in
     ap all_second (cards-back new nodes (cards_from is.form 0 cards) laid.laid.count laid.laid.held) ∙ second_of is.form 0 cards
 
-second_same : (card : Option Card) → ((one : Card) → card ≡ Some one → one.form ≡ Two) → in_second card ≡ card
+second_same : (card : Option CachedNode) → ((one : CachedNode) → card ≡ Some one → one.form ≡ Two) → in_second card ≡ card
 second_same None forms = refl
 second_same (Some card) forms = ap (λ (form : Form). Some (in_its_form form card)) (sym (forms card refl))
 
 pub current_second : CurrentSecond
 current_second [] forms = refl
-current_second (card ∷ cards) forms = ap₂ (λ (one : Option Card) (l : List (Option Card)). one ∷ l)
+current_second (card ∷ cards) forms =
+    ap₂ (λ (one : Option CachedNode) (l : List (Option CachedNode)). one ∷ l)
     (second_same card (λ one there. forms 0 one there)) (current_second cards (λ place one there. forms (suc place) one there))

@@ -1,4 +1,4 @@
--- Steps on one card.
+-- Steps on one cached node.
 use Rattle.std.proofs.Common.{◌≡◌, ◌≢◌, ◌≤◌, ◌<◌, ◌+◌, ◌-◌, ℕ, zero, suc, List, [], ◌∷◌, ◌++◌, Option, Some, None, length, get_or, set, take, drop, max, replicate, refl, sym, ap, ap₂, ◌∙◌, arith, inl, inr, subst, eqb}
 use Rattle.std.proofs.lemmas.Bool.{cases_lt}
 use Rattle.std.proofs.lemmas.List.{length-append, ext_get_or, set-get_or}
@@ -10,7 +10,7 @@ use Rattle.model.specs.Tree.{Node, Content, File, Directory, DirEntry}
 use Rattle.inode.specs.Fields.{Fields}
 use Rattle.std.proofs.lemmas.List.FromFn.{length-map-range_with_len}
 use Rattle.directory.specs.Listing.{by_stamp}
-use Rattle.layout.specs.Cards.{Card, tree_of, node_of, content_of, content_at, byte_at, bytes_in, node_with}
+use Rattle.layout.specs.CachedNodes.{CachedNode, tree_of, node_of, content_of, content_at, byte_at, bytes_in, node_with}
 use Rattle.layout.specs.ChangeLaws.{ChangesCard}
 use Rattle.layout.specs.Files.{HoldBytes, over, EachWrite}
 use Rattle.layout.specs.Laid.{HoldsCard, HoldsBytes, HoldsContent, HoldsPlace, AreNumbered}
@@ -22,12 +22,12 @@ use Rattle.layout.proofs.Changing.{one_change}
 use Rattle.layout.proofs.FileLaws.{over-same, overwritten-at, length-overwritten, grown-at, writing_on}
 use Rattle.model.proofs.NodeChangeLaws.{length-resized}
 
-own_number : (cards : List (Option Card)) (place : ℕ) (was is : Card) → AreNumbered cards → get_or cards place None ≡ Some was → is.fields.number ≡ was.fields.number
-    → (i : ℕ) (other : Card) → i ≢ place → get_or cards i None ≡ Some other → other.fields.number ≢ is.fields.number
+own_number : (cards : List (Option CachedNode)) (place : ℕ) (was is : CachedNode) → AreNumbered cards → get_or cards place None ≡ Some was → is.fields.number ≡ was.fields.number
+    → (i : ℕ) (other : CachedNode) → i ≢ place → get_or cards i None ≡ Some other → other.fields.number ≢ is.fields.number
 own_number cards place was is apart there same i other off at_i e = apart i place other was off at_i there (e ∙ same)
 
--- a card that is held in place of another of its number
-pub put-step : (nodes : ℕ) (old new : Image) (marked mark : ℕ → ℕ) (cards : List (Option Card)) (place : ℕ) (was is : Card) (node : Node) → Steps nodes old new marked mark cards place was is → HoldsCard new place is → node_of new is ≡ node
+-- a cached node that is held in place of another of its number
+pub put-step : (nodes : ℕ) (old new : Image) (marked mark : ℕ → ℕ) (cards : List (Option CachedNode)) (place : ℕ) (was is : CachedNode) (node : Node) → Steps nodes old new marked mark cards place was is → HoldsCard new place is → node_of new is ≡ node
     → Gives nodes new mark cards place is (with (tree_of old cards) is.fields.number node)
 put-step nodes old new marked mark cards place was is node steps held node_is =
     let changes : ChangesCard nodes old new marked mark place (get_or cards place None) (Some is) =
@@ -35,17 +35,17 @@ put-step nodes old new marked mark cards place was is node steps held node_is =
     let changed = one_change nodes old new marked mark cards place (Some is) steps.within steps.laid (own_number cards place was is steps.laid.apart steps.there steps.number) changes in
     record { laid = changed.laid; tree_is = changed.tree_is ∙ ap (with (tree_of old cards) is.fields.number) node_is }
 
-node_of-file : (image : Image) (card : Card) (bytes : List ℕ) → card.fields.kind ≡ kind.File → card.fields.size ≡ length bytes → HoldBytes image card.blocks bytes → node_of image card ≡ node_with card.fields (File bytes)
+node_of-file : (image : Image) (card : CachedNode) (bytes : List ℕ) → card.fields.kind ≡ kind.File → card.fields.size ≡ length bytes → HoldBytes image card.blocks bytes → node_of image card ≡ node_with card.fields (File bytes)
 unfolding node_of
 node_of-file image card bytes is long hold =
     ap (λ (k : NodeKind). node_with card.fields (content_of image k card)) is
     ∙ ap (λ (n : ℕ). node_with card.fields (File (bytes_in image card.blocks n))) long ∙ ap (λ (b : List ℕ). node_with card.fields (File b)) hold.bytes_are
 
-pub node_of-directory : (image : Image) (card : Card) → card.fields.kind ≡ kind.Directory → node_of image card ≡ node_with card.fields (Directory (by_stamp card.names))
+pub node_of-directory : (image : Image) (card : CachedNode) → card.fields.kind ≡ kind.Directory → node_of image card ≡ node_with card.fields (Directory (by_stamp card.names))
 unfolding node_of
 node_of-directory image card is = ap (λ (k : NodeKind). node_with card.fields (content_of image k card)) is
 
-hold_file : (image : Image) (card : Card) (bytes : List ℕ) → card.fields.kind ≡ kind.File → card.names ≡ [] → card.fields.size ≡ length bytes → HoldBytes image card.blocks bytes → HoldsContent image card.fields.kind card
+hold_file : (image : Image) (card : CachedNode) (bytes : List ℕ) → card.fields.kind ≡ kind.File → card.names ≡ [] → card.fields.size ≡ length bytes → HoldBytes image card.blocks bytes → HoldsContent image card.fields.kind card
 hold_file image card bytes is unnamed long hold =
     let holds : HoldsBytes image card = record { unnamed = unnamed; tail = λ k h. hold.tail k (omega arith) } in
     subst (λ (k : NodeKind). HoldsContent image k card) (sym is) holds
@@ -65,7 +65,7 @@ pub shown : (was is : Fields) (content : Content) → ShowsSame was is → node_
 shown was is content same = rw (same.owner, same.group, same.acl, same.change, same.time_modify) refl
 
 -- the node that stands there already
-same_tree : (nodes : ℕ) (old new : Image) (marked mark : ℕ → ℕ) (cards : List (Option Card)) (place : ℕ) (was is : Card) (bytes : List ℕ) → Steps nodes old new marked mark cards place was is → was.fields.kind ≡ kind.File
+same_tree : (nodes : ℕ) (old new : Image) (marked mark : ℕ → ℕ) (cards : List (Option CachedNode)) (place : ℕ) (was is : CachedNode) (bytes : List ℕ) → Steps nodes old new marked mark cards place was is → was.fields.kind ≡ kind.File
     → was.fields.size ≡ length bytes → HoldBytes old was.blocks bytes → ShowsSame was.fields is.fields → with (tree_of old cards) is.fields.number (node_with is.fields (File bytes)) ≡ tree_of old cards
 same_tree nodes old new marked mark cards place was is bytes steps file long held same =
     let holds : HoldsCard old place was = subst (HoldsPlace old place) steps.there (steps.laid.held place steps.within) in

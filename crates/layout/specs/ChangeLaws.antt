@@ -1,60 +1,63 @@
--- One card changes: a node is made, altered or removed.
+-- One cached node changes: a node is made, altered or removed.
 use Rattle.std.specs.Prelude.{◌≡◌, ◌≢◌, ◌≤◌, ◌<◌, ◌+◌, ℕ, List, Option, Some, None, set, slice_index_or}
 use Rattle.disk.specs.Moments.{Image}
 use Rattle.model.specs.Keyed.{with, without}
 use Rattle.model.specs.Tree.{Tree}
-use Rattle.layout.specs.Cards.{Card, node_sector, node_of, tree_of}
+use Rattle.layout.specs.CachedNodes.{CachedNode, node_sector, node_of, tree_of}
 use Rattle.layout.specs.Laid.{AreLaid, HoldsPlace}
 use Rattle.layout.specs.Marks.{named_by}
 
--- the tree with the node of a card, or without it where the card is gone
-abbrev pub tree_with : Image → Tree → (was is : Option Card) → Tree
+-- the tree with a cached node, or without it where the cached node is gone
+abbrev pub tree_with : Image → Tree → (was is : Option CachedNode) → Tree
 tree_with image tree was (Some card) = with tree card.fields.number (node_of image card)
 tree_with image tree None None = tree
 tree_with image tree (Some card) None = without tree card.fields.number
 
--- no other card has the number of what is there
-abbrev pub IsOwnNumber : List (Option Card) → (place : ℕ) → (is : Option Card) → Type 0
+-- no other cached node has the number of what is there
+abbrev pub IsOwnNumber : List (Option CachedNode) → (place : ℕ) → (is : Option CachedNode) → Type 0
 IsOwnNumber cards place None = Unit {0}
 IsOwnNumber cards place (Some card) =
-    (i : ℕ) (other : Card) → i ≢ place → slice_index_or cards i None ≡ Some other
+    (i : ℕ) (other : CachedNode) → i ≢ place → slice_index_or cards i None ≡ Some other
     → other.fields.number ≢ card.fields.number
 
 -- a node keeps its number
-abbrev pub IsSameNumber : (was is : Option Card) → Type 0
+abbrev pub IsSameNumber : (was is : Option CachedNode) → Type 0
 IsSameNumber None is = Unit {0}
 IsSameNumber (Some old) None = Unit {0}
 IsSameNumber (Some old) (Some new) = new.fields.number ≡ old.fields.number
 
--- From the node table on nothing has changed but the place's sector and what the card names, or the
--- one that was there. The marks follow the card.
+-- From the node table on nothing has changed but the place's sector and what the cached node names,
+-- or the one that was there. The marks follow the cached node.
 pub record ChangesOwn (nodes : ℕ) (old new : Image) (marked mark : ℕ → ℕ) (place : ℕ)
-    (was is : Option Card) : Type 0 where
+    (was is : Option CachedNode) : Type 0 where
   pub others : (n : ℕ) → 148 ≤ n → n ≢ node_sector place → named_by n was ≡ 0 → named_by n is ≡ 0
       → new n ≡ old n
   pub marks : (n : ℕ) → mark n + named_by n was ≡ marked n + named_by n is
   pub once : (n : ℕ) → mark n ≤ 1
   pub behind : (n : ℕ) → 0 < mark n → 148 + nodes ≤ n
 
--- The card at a place becomes another
+-- The cached node at a place becomes another
 pub record ChangesCard (nodes : ℕ) (old new : Image) (marked mark : ℕ → ℕ) (place : ℕ)
-    (was is : Option Card) : Type 0 where
+    (was is : Option CachedNode) : Type 0 where
   pub held : HoldsPlace new place is
   pub number : IsSameNumber was is
   pub own : ChangesOwn nodes old new marked mark place was is
 
--- Then the cards are laid with this one changed, and the tree is the one with its node changed
-pub record AreChanged (nodes : ℕ) (old new : Image) (mark : ℕ → ℕ) (cards : List (Option Card))
+-- Then the cached nodes are laid with this one changed, and the tree is the one with its node
+-- changed
+pub record AreChanged (nodes : ℕ) (old new : Image) (mark : ℕ → ℕ)
+    (cards : List (Option CachedNode))
     (place : ℕ)
-    (is : Option Card) : Type 0 where
+    (is : Option CachedNode) : Type 0 where
   pub laid : AreLaid nodes new mark (set cards place is)
   pub tree_is : tree_of new (set cards place is)
       ≡ tree_with new (tree_of old cards) (slice_index_or cards place None) is
 
 abbrev pub OneChange : Type 0
 OneChange =
-    (nodes : ℕ) (old new : Image) (marked mark : ℕ → ℕ) (cards : List (Option Card)) (place : ℕ)
-    (is : Option Card)
+    (nodes : ℕ) (old new : Image) (marked mark : ℕ → ℕ) (cards : List (Option CachedNode))
+    (place : ℕ)
+    (is : Option CachedNode)
     → place < nodes → AreLaid nodes old marked cards → IsOwnNumber cards place is
     → ChangesCard nodes old new marked mark place (slice_index_or cards place None) is
     → AreChanged nodes old new mark cards place is

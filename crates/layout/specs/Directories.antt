@@ -4,7 +4,7 @@ use Rattle.std.specs.Prelude.{◌≡◌, ◌≢◌, ◌<◌, ◌-◌, ◌/◌, �
 use Rattle.disk.specs.Moments.{Image}
 use Rattle.directory.specs.Records.{Record, with_record, without_place, place_of, name_of, AreStamped}
 use Rattle.directory.specs.Spelling.{directory_sector}
-use Rattle.layout.specs.Cards.{content_at}
+use Rattle.layout.specs.CachedNodes.{content_at}
 use Rattle.layout.specs.Laid.{names_of_block, AreSpelled}
 
 -- the names of each block but these are the same

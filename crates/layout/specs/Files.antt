@@ -5,7 +5,7 @@ use Rattle.disk.specs.Calls.{zero_sector}
 use Rattle.model.specs.Edit.{overwritten, resized}
 use Rattle.extents.specs.Runs.{with_holes}
 use Rattle.sector.specs.Placed.{placed}
-use Rattle.layout.specs.Cards.{content_at, byte_at, bytes_in}
+use Rattle.layout.specs.CachedNodes.{content_at, byte_at, bytes_in}
 
 -- Bytes by their places
 

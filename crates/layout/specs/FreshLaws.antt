@@ -7,7 +7,7 @@ use Rattle.inode.specs.Spelling.{inode_sector}
 use Rattle.model.specs.declared.node.NodeKind.TheVariants as kind
 use Rattle.model.specs.Fresh.{fresh_tree, fresh_root}
 use Rattle.model.specs.Tree.{root}
-use Rattle.layout.specs.Cards.{node_sector}
+use Rattle.layout.specs.CachedNodes.{node_sector}
 use Rattle.layout.specs.Stands.{Version, Stands}
 use Rattle.layout.specs.Superblock.{superblock, is_size}
 

@@ -1,5 +1,6 @@
--- What is known of cards that are laid whatever the sectors hold: all of it is told by the cards
--- themselves and by the marks. On a device that does not keep its word nothing else is known.
+-- What is known of cached nodes that are laid whatever the sectors hold: all of it is told by the
+-- cached nodes themselves and by the marks. On a device that does not keep its word nothing else is
+-- known.
 use Rattle.std.specs.Prelude.{◌≡◌, ◌≤◌, ◌<◌, ◌+◌, ℕ, List, [], Option, Some, None, length, set, slice_index_or}
 use Rattle.std.specs.List.{AllByRecursion}
 use Rattle.disk.specs.Moments.{Image}
@@ -9,22 +10,22 @@ use Rattle.inode.specs.Fields.{IsInode}
 use Rattle.extents.specs.Runs.{AreRunsOf}
 use Rattle.extents.specs.Sector.{IsRun}
 use Rattle.directory.specs.Records.{IsDirectory, AreStamped}
-use Rattle.layout.specs.Cards.{Card, block_count}
+use Rattle.layout.specs.CachedNodes.{CachedNode, block_count}
 use Rattle.layout.specs.ChangeLaws.{IsOwnNumber}
 use Rattle.layout.specs.Laid.{AreLaid, AreNumbered}
 use Rattle.layout.specs.Marks.{named, named_by}
 
 -- a directory's names are as many as its size says
-pub record HasNames (card : Card) : Type 0 where
+pub record HasNames (card : CachedNode) : Type 0 where
   pub count : length card.names ≡ card.fields.size
   pub names : IsDirectory card.names
   pub stamped : AreStamped card.names
 
-abbrev pub HasContent : NodeKind → Card → Type 0
+abbrev pub HasContent : NodeKind → CachedNode → Type 0
 HasContent kind.File card = card.names ≡ []
 HasContent kind.Directory card = HasNames card
 
-pub record IsCard (card : Card) : Type 0 where
+pub record IsCard (card : CachedNode) : Type 0 where
   pub fits : IsInode card.form card.fields
   pub number : 0 < card.fields.number
   pub each_run : AllByRecursion IsRun card.runs
@@ -33,12 +34,12 @@ pub record IsCard (card : Card) : Type 0 where
   pub blocks : length card.blocks ≡ block_count card.fields
   pub content : HasContent card.fields.kind card
 
-abbrev pub IsPlace : Option Card → Type 0
+abbrev pub IsPlace : Option CachedNode → Type 0
 IsPlace None = Unit {0}
 IsPlace (Some card) = IsCard card
 
--- the cards of a table, and marks that are what they name
-pub record AreCards (nodes : ℕ) (mark : ℕ → ℕ) (cards : List (Option Card)) : Type 0 where
+-- the cached nodes of a table, and marks that are what they name
+pub record AreCards (nodes : ℕ) (mark : ℕ → ℕ) (cards : List (Option CachedNode)) : Type 0 where
   pub count : length cards ≡ nodes
   pub each : (place : ℕ) → place < nodes → IsPlace (slice_index_or cards place None)
   pub apart : AreNumbered cards
@@ -46,15 +47,15 @@ pub record AreCards (nodes : ℕ) (mark : ℕ → ℕ) (cards : List (Option Car
   pub behind : (n : ℕ) → 0 < mark n → 148 + nodes ≤ n
   pub once : (n : ℕ) → mark n ≤ 1
 
--- cards that are laid are so
+-- cached nodes that are laid are so
 abbrev pub LaidAreCards : Type 0
 LaidAreCards =
-    (nodes : ℕ) (image : Image) (mark : ℕ → ℕ) (cards : List (Option Card))
+    (nodes : ℕ) (image : Image) (mark : ℕ → ℕ) (cards : List (Option CachedNode))
     → AreLaid nodes image mark cards
     → AreCards nodes mark cards
 
--- the marks follow the card that stands at a place now, in place of the one that was there
-pub record MovesMarks (nodes : ℕ) (marked mark : ℕ → ℕ) (was is : Option Card) : Type 0 where
+-- the marks follow the cached node that stands at a place now, in place of the one that was there
+pub record MovesMarks (nodes : ℕ) (marked mark : ℕ → ℕ) (was is : Option CachedNode) : Type 0 where
   pub marks : (n : ℕ) → mark n + named_by n was ≡ marked n + named_by n is
   pub once : (n : ℕ) → mark n ≤ 1
   pub behind : (n : ℕ) → 0 < mark n → 148 + nodes ≤ n
@@ -62,7 +63,8 @@ pub record MovesMarks (nodes : ℕ) (marked mark : ℕ → ℕ) (was is : Option
 -- and where one of them changes with the marks, they stay so
 abbrev pub OneCardChange : Type 0
 OneCardChange =
-    (nodes : ℕ) (marked mark : ℕ → ℕ) (cards : List (Option Card)) (place : ℕ) (is : Option Card)
+    (nodes : ℕ) (marked mark : ℕ → ℕ) (cards : List (Option CachedNode)) (place : ℕ)
+    (is : Option CachedNode)
     → place < nodes → AreCards nodes marked cards → IsOwnNumber cards place is → IsPlace is
     → MovesMarks nodes marked mark (slice_index_or cards place None) is
     → AreCards nodes mark (set cards place is)

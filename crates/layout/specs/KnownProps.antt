@@ -1,23 +1,23 @@
--- What is known of cards without their sectors has one proof at most.
+-- What is known of cached nodes without their sectors has one proof at most.
 use Rattle.std.specs.Prelude.{ℕ, List, Option, Some, None}
 use Rattle.std.proofs.Props.{props}
 use Rattle.model.specs.declared.node.NodeKind.{NodeKind}
 use Rattle.model.specs.declared.node.NodeKind.TheVariants as kind
-use Rattle.layout.specs.Cards.{Card}
+use Rattle.layout.specs.CachedNodes.{CachedNode}
 use Rattle.layout.specs.Known.{HasContent, IsCard, IsPlace, AreCards}
 use Rattle.layout.specs.LaidProps.{AreRunsOf-prop, IsInode-prop}
 
-HasContent-prop : (kind : NodeKind) (card : Card) → IsProp (HasContent kind card)
+HasContent-prop : (kind : NodeKind) (card : CachedNode) → IsProp (HasContent kind card)
 HasContent-prop kind.File card = Prim.hlevel props
 HasContent-prop kind.Directory card = Prim.hlevel props
 
-pub IsCard-prop : (card : Card) → IsProp (IsCard card)
+pub IsCard-prop : (card : CachedNode) → IsProp (IsCard card)
 IsCard-prop card = Prim.hlevel (props, IsInode-prop, AreRunsOf-prop, HasContent-prop)
 
-pub IsPlace-prop : (card : Option Card) → IsProp (IsPlace card)
+pub IsPlace-prop : (card : Option CachedNode) → IsProp (IsPlace card)
 IsPlace-prop None = Prim.hlevel props
 IsPlace-prop (Some card) = IsCard-prop card
 
-pub AreCards-prop : (nodes : ℕ) (mark : ℕ → ℕ) (cards : List (Option Card))
+pub AreCards-prop : (nodes : ℕ) (mark : ℕ → ℕ) (cards : List (Option CachedNode))
     → IsProp (AreCards nodes mark cards)
 AreCards-prop nodes mark cards = Prim.hlevel (props, IsPlace-prop)

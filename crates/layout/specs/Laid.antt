@@ -12,7 +12,7 @@ use Rattle.extents.specs.Runs.{AreRunsOf}
 use Rattle.extents.specs.Sector.{run_sector, IsRun}
 use Rattle.directory.specs.Records.{Record, IsDirectory, AreStamped}
 use Rattle.directory.specs.Spelling.{directory_sector}
-use Rattle.layout.specs.Cards.{Card, node_sector, block_count, content_at, byte_at}
+use Rattle.layout.specs.CachedNodes.{CachedNode, node_sector, block_count, content_at, byte_at}
 use Rattle.layout.specs.Marks.{named}
 
 -- Run sectors: 500 runs each, so all but the last are full
@@ -28,7 +28,7 @@ AreRunSectors image sectors runs =
 -- Content
 
 -- a file's bytes past its size are zero
-pub record HoldsBytes (image : Image) (card : Card) : Type 0 where
+pub record HoldsBytes (image : Image) (card : CachedNode) : Type 0 where
   pub unnamed : card.names ≡ []
   pub tail : (k : ℕ) → card.fields.size ≤ k → byte_at image card.blocks k ≡ 0
 
@@ -40,20 +40,20 @@ abbrev pub AreSpelled : Image → List (Option ℕ) → List Record → Type 0
 AreSpelled image blocks names = (i : ℕ) → i < length blocks
     → content_at image (slice_index_or blocks i None) ≡ directory_sector (names_of_block i names)
 
-pub record HoldsNames (image : Image) (card : Card) : Type 0 where
+pub record HoldsNames (image : Image) (card : CachedNode) : Type 0 where
   pub count : length card.names ≡ card.fields.size
   pub names : IsDirectory card.names
   pub stamped : AreStamped card.names
   pub spelled : AreSpelled image card.blocks card.names
 
-abbrev pub HoldsContent : Image → NodeKind → Card → Type 0
+abbrev pub HoldsContent : Image → NodeKind → CachedNode → Type 0
 HoldsContent image kind.File card = HoldsBytes image card
 HoldsContent image kind.Directory card = HoldsNames image card
 
 -- A place of the node table
 
 -- the node's sector and its run sectors, and how its blocks stand in runs
-pub record HoldsNode (image : Image) (place : ℕ) (card : Card) : Type 0 where
+pub record HoldsNode (image : Image) (place : ℕ) (card : CachedNode) : Type 0 where
   pub fits : IsInode card.form card.fields
   pub number : 0 < card.fields.number
   pub sector : image (node_sector place) ≡ inode_sector card.form card.fields
@@ -63,28 +63,29 @@ pub record HoldsNode (image : Image) (place : ℕ) (card : Card) : Type 0 where
   pub runs : AreRunsOf card.runs card.blocks
   pub blocks : length card.blocks ≡ block_count card.fields
 
-pub record HoldsCard (image : Image) (place : ℕ) (card : Card) : Type 0 where
+pub record HoldsCard (image : Image) (place : ℕ) (card : CachedNode) : Type 0 where
   pub node : HoldsNode image place card
   pub content : HoldsContent image card.fields.kind card
 
 -- a free place is zero
-abbrev pub HoldsPlace : Image → (place : ℕ) → Option Card → Type 0
+abbrev pub HoldsPlace : Image → (place : ℕ) → Option CachedNode → Type 0
 HoldsPlace image place None = image (node_sector place) ≡ zero_sector
 HoldsPlace image place (Some card) = HoldsCard image place card
 
 -- The node table
 
 -- no two nodes have one number
-abbrev pub AreNumbered : List (Option Card) → Type 0
+abbrev pub AreNumbered : List (Option CachedNode) → Type 0
 AreNumbered cards =
-    (i j : ℕ) (a b : Card) → i ≢ j → slice_index_or cards i None ≡ Some a
+    (i j : ℕ) (a b : CachedNode) → i ≢ j → slice_index_or cards i None ≡ Some a
     → slice_index_or cards j None ≡ Some b
     → a.fields.number ≢ b.fields.number
 
--- The places hold these cards, and each sector is marked as often as they name it: so none is named
--- twice, none outside the data region is named, and none is marked that is not named. Where the
--- marks stand is left open: a change has them in memory.
-pub record AreLaid (nodes : ℕ) (image : Image) (mark : ℕ → ℕ) (cards : List (Option Card)) : Type
+-- The places hold these cached nodes, and each sector is marked as often as they name it: so none
+-- is named twice, none outside the data region is named, and none is marked that is not named.
+-- Where the marks stand is left open: a change has them in memory.
+pub record AreLaid (nodes : ℕ) (image : Image) (mark : ℕ → ℕ) (cards : List (Option CachedNode))
+    : Type
     0 where
   pub count : length cards ≡ nodes
   pub held : (place : ℕ) → place < nodes → HoldsPlace image place (slice_index_or cards place None)

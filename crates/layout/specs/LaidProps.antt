@@ -1,4 +1,4 @@
--- That cards are laid has one proof at most.
+-- That cached nodes are laid has one proof at most.
 use Rattle.std.specs.Prelude.{◌+◌, ℕ, List, [], ◌∷◌, Option, Some, None}
 use Rattle.std.proofs.Props.{props}
 use Rattle.std.specs.Coded.{Unit-prop}
@@ -10,7 +10,7 @@ use Rattle.inode.specs.declared.node.Form.{Form}
 use Rattle.inode.specs.Fields.{Fields, IsInode}
 use Rattle.extents.specs.declared.run.Run.{Run}
 use Rattle.extents.specs.Runs.{AreRising, AreRunsOf}
-use Rattle.layout.specs.Cards.{Card}
+use Rattle.layout.specs.CachedNodes.{CachedNode}
 use Rattle.layout.specs.Laid.{HoldsNode, HoldsContent, HoldsPlace, AreLaid}
 use Rattle.layout.specs.Stands.{Version, HaveForms, IsLaid, Stands}
 
@@ -25,28 +25,30 @@ AreRunsOf-prop runs blocks = Prim.hlevel (props, AreRising-prop)
 pub IsInode-prop : (form : Form) (fields : Fields) → IsProp (IsInode form fields)
 IsInode-prop form fields = Prim.hlevel props
 
-HoldsNode-prop : (image : Image) (place : ℕ) (card : Card) → IsProp (HoldsNode image place card)
+HoldsNode-prop : (image : Image) (place : ℕ) (card : CachedNode)
+    → IsProp (HoldsNode image place card)
 HoldsNode-prop image place card = Prim.hlevel (props, IsInode-prop, AreRunsOf-prop)
 
-HoldsContent-prop : (image : Image) (kind : NodeKind) (card : Card)
+HoldsContent-prop : (image : Image) (kind : NodeKind) (card : CachedNode)
     → IsProp (HoldsContent image kind card)
 HoldsContent-prop image kind.File card = Prim.hlevel props
 HoldsContent-prop image kind.Directory card = Prim.hlevel props
 
-HoldsPlace-prop : (image : Image) (place : ℕ) (card : Option Card)
+HoldsPlace-prop : (image : Image) (place : ℕ) (card : Option CachedNode)
     → IsProp (HoldsPlace image place card)
 HoldsPlace-prop image place None = Prim.hlevel props
 HoldsPlace-prop image place (Some card) = Prim.hlevel (props, HoldsNode-prop, HoldsContent-prop)
 
-pub AreLaid-prop : (nodes : ℕ) (image : Image) (mark : ℕ → ℕ) (cards : List (Option Card))
+pub AreLaid-prop : (nodes : ℕ) (image : Image) (mark : ℕ → ℕ) (cards : List (Option CachedNode))
     → IsProp (AreLaid nodes image mark cards)
 AreLaid-prop nodes image mark cards = Prim.hlevel (props, HoldsPlace-prop)
 
-pub HaveForms-prop : (version : Version) (cards : List (Option Card))
+pub HaveForms-prop : (version : Version) (cards : List (Option CachedNode))
     → IsProp (HaveForms version cards)
 HaveForms-prop version cards = Prim.hlevel props
 
-pub IsLaid-prop : (version : Version) (size nodes : ℕ) (image : Image) (cards : List (Option Card))
+pub IsLaid-prop : (version : Version) (size nodes : ℕ) (image : Image)
+    (cards : List (Option CachedNode))
     → IsProp (IsLaid version size nodes image cards)
 IsLaid-prop version size nodes image cards = Prim.hlevel (props, AreLaid-prop, HaveForms-prop)
 

@@ -1,5 +1,5 @@
-pub mod CardLaws
-pub mod Cards
+pub mod CachedNodeLaws
+pub mod CachedNodes
 pub mod ChangeLaws
 pub mod Directories
 pub mod EditLaws

@@ -6,7 +6,7 @@ use Rattle.freemap.specs.Places.{Show, mark_of, bit_in}
 use Rattle.model.specs.Charge.{charge}
 use Rattle.model.specs.Keyed.{total}
 use Rattle.model.specs.Tree.{Tree}
-use Rattle.layout.specs.Cards.{Card, cards_in, tree_of}
+use Rattle.layout.specs.CachedNodes.{CachedNode, cards_in, tree_of}
 use Rattle.layout.specs.Laid.{AreLaid}
 use Rattle.layout.specs.Marks.{once_if, mark_in, mark_by}
 use Rattle.layout.specs.Stands.{Version, HaveForms, IsLaid, Stands}
@@ -35,7 +35,7 @@ MarksLaid =
 
 -- where the bitmap sectors alone are written, what was laid by a set in memory is laid
 pub record WritesMarks (version : Version) (size nodes : ℕ) (old new : Image) (places : List Bool)
-    (cards : List (Option Card)) : Type 0 where
+    (cards : List (Option CachedNode)) : Type 0 where
   pub size_is : size ≡ 148 + nodes + length places
   pub laid : AreLaid nodes old (mark_by (148 + nodes) places) cards
   pub forms : HaveForms version cards
@@ -46,19 +46,19 @@ pub record WritesMarks (version : Version) (size nodes : ℕ) (old new : Image) 
 abbrev pub LaysMarks : Type 0
 LaysMarks =
     (version : Version) (size nodes : ℕ) (old new : Image) (places : List Bool)
-    (cards : List (Option Card))
+    (cards : List (Option CachedNode))
     → WritesMarks version size nodes old new places cards → IsLaid version size nodes new cards
 
 -- Kept sectors alone are seen: the superblock, and what comes after the gate and the payload
 pub record SeesSame (version : Version) (size nodes : ℕ) (old new : Image)
-    (cards : List (Option Card)) : Type 0 where
+    (cards : List (Option CachedNode)) : Type 0 where
   pub laid : IsLaid version size nodes new cards
   pub same_cards : cards_in nodes new ≡ cards_in nodes old
   pub same_tree : tree_of new cards ≡ tree_of old cards
 
 abbrev pub KeptAlone : Type 0
 KeptAlone =
-    (version : Version) (size nodes : ℕ) (old new : Image) (cards : List (Option Card))
+    (version : Version) (size nodes : ℕ) (old new : Image) (cards : List (Option CachedNode))
     → 148 + nodes ≤ size
     → IsLaid version size nodes old cards → ((n : ℕ) → 98 ≤ n → n < size → new n ≡ old n)
     → SeesSame version size nodes old new cards
@@ -73,6 +73,7 @@ StandsAlone = (version : Version) (size nodes : ℕ) (old new : Image) (run : �
 -- Where all places are marked, the tree is charged for all of them: so where it is charged for
 -- less, a place is free
 abbrev pub FullIsCharged : Type 0
-FullIsCharged = (nodes : ℕ) (image : Image) (mark : ℕ → ℕ) (cards : List (Option Card)) (count : ℕ)
+FullIsCharged =
+    (nodes : ℕ) (image : Image) (mark : ℕ → ℕ) (cards : List (Option CachedNode)) (count : ℕ)
     → AreLaid nodes image mark cards → ((i : ℕ) → i < count → mark (148 + nodes + i) ≡ 1)
     → count ≤ total charge (tree_of image cards)

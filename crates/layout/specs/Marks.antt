@@ -2,7 +2,7 @@
 use Rattle.std.specs.Prelude.{◌+◌, ◌-◌, ◌==◌, ℕ, Bool, List, [], ◌∷◌, Option, Some, None, nat_lt, if◌then◌else◌}
 use Rattle.disk.specs.Moments.{Image}
 use Rattle.freemap.specs.Places.{mark_of, bit_in}
-use Rattle.layout.specs.Cards.{Card}
+use Rattle.layout.specs.CachedNodes.{CachedNode}
 
 abbrev pub once_if : Bool → ℕ
 once_if is = if is then 1 else 0
@@ -19,11 +19,11 @@ times_set n (None ∷ blocks) = times_set n blocks
 times_set n (Some sector ∷ blocks) = once_if (n == sector) + times_set n blocks
 
 -- how often a node, and how often all of them, name it: as a run sector, or as a block
-unfoldable pub named_by : (n : ℕ) → Option Card → ℕ
+unfoldable pub named_by : (n : ℕ) → Option CachedNode → ℕ
 named_by n None = 0
 named_by n (Some card) = times n card.fields.run_sectors + times_set n card.blocks
 
-abbrev pub named : (n : ℕ) → List (Option Card) → ℕ
+abbrev pub named : (n : ℕ) → List (Option CachedNode) → ℕ
 named n [] = 0
 named n (card ∷ cards) = named_by n card + named n cards
 

@@ -9,7 +9,7 @@ use Rattle.extents.specs.Runs.{with_holes}
 use Rattle.model.specs.declared.node.NodeKind.TheVariants as kind
 use Rattle.model.specs.Edit.{Shown, PutNode, DropNode, Show, PutName, DropName, PutBytes, SetSize, done}
 use Rattle.model.specs.Keyed.{with, without}
-use Rattle.layout.specs.Cards.{Card, byte_at, node_sector, node_of, tree_of}
+use Rattle.layout.specs.CachedNodes.{CachedNode, byte_at, node_sector, node_of, tree_of}
 use Rattle.layout.specs.ChangeLaws.{ChangesOwn, IsOwnNumber}
 use Rattle.layout.specs.Directories.{RewritesBlocks, block_of, block_put}
 use Rattle.layout.specs.Files.{over, CutsBlocks}
@@ -20,15 +20,15 @@ use Rattle.layout.specs.Steps.{Steps, Gives, ShowsSame}
 -- Files
 
 -- a file before and after: nothing of it that the tree shows has changed but its bytes
-pub record AreFiles (was is : Card) : Type 0 where
+pub record AreFiles (was is : CachedNode) : Type 0 where
   pub was_file : was.fields.kind ≡ kind.File
   pub is_file : is.fields.kind ≡ kind.File
   pub unnamed : is.names ≡ []
   pub shows : ShowsSame was.fields is.fields
 
 -- a part is written within a block that is set, below the file's size
-pub record WritesPart (nodes : ℕ) (old : Image) (marked : ℕ → ℕ) (cards : List (Option Card))
-    (place : ℕ) (card : Card)
+pub record WritesPart (nodes : ℕ) (old : Image) (marked : ℕ → ℕ) (cards : List (Option CachedNode))
+    (place : ℕ) (card : CachedNode)
     (block sector from : ℕ) (part : List ℕ) : Type 0 where
   pub laid : AreLaid nodes old marked cards
   pub within : place < nodes
@@ -45,8 +45,8 @@ part_written old sector from part =
 
 abbrev pub WritePart : Type 0
 WritePart =
-    (nodes : ℕ) (old : Image) (marked : ℕ → ℕ) (cards : List (Option Card)) (place : ℕ)
-    (card : Card)
+    (nodes : ℕ) (old : Image) (marked : ℕ → ℕ) (cards : List (Option CachedNode)) (place : ℕ)
+    (card : CachedNode)
     (block sector from : ℕ) (part : List ℕ)
     → WritesPart nodes old marked cards place card block sector from part
     → Gives nodes (part_written old sector from part) marked cards place card
@@ -54,22 +54,24 @@ WritePart =
 
 -- bytes are written from a place on, over however many blocks: holes on the way are filled, and the
 -- file may grow
-pub record WritesFile (old new : Image) (was is : Card) (offset : ℕ) (bytes : List ℕ) : Type 0 where
+pub record WritesFile (old new : Image) (was is : CachedNode) (offset : ℕ) (bytes : List ℕ)
+    : Type 0 where
   pub files : AreFiles was is
   pub size : is.fields.size ≡ max was.fields.size (offset + length bytes)
   pub written : (k : ℕ) → byte_at new is.blocks k ≡ over (byte_at old was.blocks) offset bytes k
 
 abbrev pub WriteFile : Type 0
 WriteFile =
-    (nodes : ℕ) (old new : Image) (marked mark : ℕ → ℕ) (cards : List (Option Card)) (place : ℕ)
-    (was is : Card)
+    (nodes : ℕ) (old new : Image) (marked mark : ℕ → ℕ) (cards : List (Option CachedNode))
+    (place : ℕ)
+    (was is : CachedNode)
     (offset : ℕ) (bytes : List ℕ) → Steps nodes old new marked mark cards place was is
     → WritesFile old new was is offset bytes
     → Gives nodes new mark cards place is
     (done (PutBytes was.fields.number offset bytes) (tree_of old cards))
 
 -- a hole gets a sector of zeros, beside what its runs want
-pub record FillsBlock (old new : Image) (was is : Card) (block sector : ℕ) : Type 0 where
+pub record FillsBlock (old new : Image) (was is : CachedNode) (block sector : ℕ) : Type 0 where
   pub files : AreFiles was is
   pub blocks : is.blocks ≡ set was.blocks block (Some sector)
   pub within : block < length was.blocks
@@ -80,29 +82,31 @@ pub record FillsBlock (old new : Image) (was is : Card) (block sector : ℕ) : T
 
 abbrev pub FillBlock : Type 0
 FillBlock =
-    (nodes : ℕ) (old new : Image) (marked mark : ℕ → ℕ) (cards : List (Option Card)) (place : ℕ)
-    (was is : Card)
+    (nodes : ℕ) (old new : Image) (marked mark : ℕ → ℕ) (cards : List (Option CachedNode))
+    (place : ℕ)
+    (was is : CachedNode)
     (block sector : ℕ) → Steps nodes old new marked mark cards place was is
     → FillsBlock old new was is block sector
     → Gives nodes new mark cards place is (tree_of old cards)
 
 -- a file is cut: its blocks from `count` on go, and zeros stand past its size in the last one that
 -- stays
-pub record CutsFile (old new : Image) (was is : Card) (count : ℕ) : Type 0 where
+pub record CutsFile (old new : Image) (was is : CachedNode) (count : ℕ) : Type 0 where
   pub files : AreFiles was is
   pub blocks : is.blocks ≡ take count was.blocks
   pub cuts : CutsBlocks old new was.blocks count is.fields.size
 
 abbrev pub CutFile : Type 0
 CutFile =
-    (nodes : ℕ) (old new : Image) (marked mark : ℕ → ℕ) (cards : List (Option Card)) (place : ℕ)
-    (was is : Card)
+    (nodes : ℕ) (old new : Image) (marked mark : ℕ → ℕ) (cards : List (Option CachedNode))
+    (place : ℕ)
+    (was is : CachedNode)
     (count : ℕ) → Steps nodes old new marked mark cards place was is → CutsFile old new was is count
     → Gives nodes new mark cards place is
     (done (SetSize was.fields.number is.fields.size) (tree_of old cards))
 
 -- a file grows by holes
-pub record GrowsFile (old new : Image) (was is : Card) (count : ℕ) : Type 0 where
+pub record GrowsFile (old new : Image) (was is : CachedNode) (count : ℕ) : Type 0 where
   pub files : AreFiles was is
   pub blocks : is.blocks ≡ with_holes was.blocks count
   pub longer : was.fields.size ≤ is.fields.size
@@ -110,8 +114,9 @@ pub record GrowsFile (old new : Image) (was is : Card) (count : ℕ) : Type 0 wh
 
 abbrev pub GrowFile : Type 0
 GrowFile =
-    (nodes : ℕ) (old new : Image) (marked mark : ℕ → ℕ) (cards : List (Option Card)) (place : ℕ)
-    (was is : Card)
+    (nodes : ℕ) (old new : Image) (marked mark : ℕ → ℕ) (cards : List (Option CachedNode))
+    (place : ℕ)
+    (was is : CachedNode)
     (count : ℕ) → Steps nodes old new marked mark cards place was is
     → GrowsFile old new was is count
     → Gives nodes new mark cards place is
@@ -120,7 +125,7 @@ GrowFile =
 -- Directories
 
 -- a directory before and after: nothing of it that the tree shows has changed but its names
-pub record AreDirectories (old : Image) (was is : Card) : Type 0 where
+pub record AreDirectories (old : Image) (was is : CachedNode) : Type 0 where
   pub was_directory : was.fields.kind ≡ kind.Directory
   pub is_directory : is.fields.kind ≡ kind.Directory
   pub held : HoldsNames old was
@@ -129,7 +134,7 @@ pub record AreDirectories (old : Image) (was is : Card) : Type 0 where
   pub shows : ShowsSame was.fields is.fields
 
 -- a name is put after the last one, or in the place of its record
-pub record PutsName (old new : Image) (was is : Card) (entry : Record) : Type 0 where
+pub record PutsName (old new : Image) (was is : CachedNode) (entry : Record) : Type 0 where
   pub directories : AreDirectories old was is
   pub stamped : AreStamped is.names
   pub names : is.names ≡ with_record was.names entry
@@ -139,15 +144,16 @@ pub record PutsName (old new : Image) (was is : Card) (entry : Record) : Type 0 
 
 abbrev pub PutOneName : Type 0
 PutOneName =
-    (nodes : ℕ) (old new : Image) (marked mark : ℕ → ℕ) (cards : List (Option Card)) (place : ℕ)
-    (was is : Card)
+    (nodes : ℕ) (old new : Image) (marked mark : ℕ → ℕ) (cards : List (Option CachedNode))
+    (place : ℕ)
+    (was is : CachedNode)
     (entry : Record) → Steps nodes old new marked mark cards place was is
     → PutsName old new was is entry
     → Gives nodes new mark cards place is
     (done (PutName was.fields.number entry.0 entry.1) (tree_of old cards))
 
 -- a name is dropped, and the last record moves into its place
-pub record DropsName (old new : Image) (was is : Card) (at stamp : ℕ) : Type 0 where
+pub record DropsName (old new : Image) (was is : CachedNode) (at stamp : ℕ) : Type 0 where
   pub directories : AreDirectories old was is
   pub within : at < length was.names
   pub names : is.names ≡ without_place was.names at
@@ -157,8 +163,9 @@ pub record DropsName (old new : Image) (was is : Card) (at stamp : ℕ) : Type 0
 
 abbrev pub DropOneName : Type 0
 DropOneName =
-    (nodes : ℕ) (old new : Image) (marked mark : ℕ → ℕ) (cards : List (Option Card)) (place : ℕ)
-    (was is : Card)
+    (nodes : ℕ) (old new : Image) (marked mark : ℕ → ℕ) (cards : List (Option CachedNode))
+    (place : ℕ)
+    (was is : CachedNode)
     (at stamp : ℕ) → Steps nodes old new marked mark cards place was is
     → DropsName old new was is at stamp
     → Gives nodes new mark cards place is
@@ -167,7 +174,7 @@ DropOneName =
 -- Nodes
 
 -- what a node shows beside its content changes, and nothing else does
-pub record ShowsOther (old new : Image) (was is : Card) (shown : Shown) : Type 0 where
+pub record ShowsOther (old new : Image) (was is : CachedNode) (shown : Shown) : Type 0 where
   pub kind : is.fields.kind ≡ was.fields.kind
   pub size : is.fields.size ≡ was.fields.size
   pub blocks : is.blocks ≡ was.blocks
@@ -181,16 +188,17 @@ pub record ShowsOther (old new : Image) (was is : Card) (shown : Shown) : Type 0
 
 abbrev pub ShowOther : Type 0
 ShowOther =
-    (nodes : ℕ) (old new : Image) (marked mark : ℕ → ℕ) (cards : List (Option Card)) (place : ℕ)
-    (was is : Card)
+    (nodes : ℕ) (old new : Image) (marked mark : ℕ → ℕ) (cards : List (Option CachedNode))
+    (place : ℕ)
+    (was is : CachedNode)
     (shown : Shown) → Steps nodes old new marked mark cards place was is
     → ShowsOther old new was is shown
     → Gives nodes new mark cards place is (done (Show was.fields.number shown) (tree_of old cards))
 
 -- a node is made at a free place
 pub record MakesNode (nodes : ℕ) (old new : Image) (marked mark : ℕ → ℕ)
-    (cards : List (Option Card)) (place : ℕ)
-    (is : Card) : Type 0 where
+    (cards : List (Option CachedNode)) (place : ℕ)
+    (is : CachedNode) : Type 0 where
   pub within : place < nodes
   pub free : slice_index_or cards place None ≡ None
   pub laid : AreLaid nodes old marked cards
@@ -201,32 +209,34 @@ pub record MakesNode (nodes : ℕ) (old new : Image) (marked mark : ℕ → ℕ)
 
 abbrev pub MakeNode : Type 0
 MakeNode =
-    (nodes : ℕ) (old new : Image) (marked mark : ℕ → ℕ) (cards : List (Option Card)) (place : ℕ)
-    (is : Card)
+    (nodes : ℕ) (old new : Image) (marked mark : ℕ → ℕ) (cards : List (Option CachedNode))
+    (place : ℕ)
+    (is : CachedNode)
     → MakesNode nodes old new marked mark cards place is
     → Gives nodes new mark cards place is
     (done (PutNode is.fields.number (node_of new is)) (tree_of old cards))
 
 -- a node is removed: its place is zero, and what it named is free
 pub record FreesNode (nodes : ℕ) (old new : Image) (marked mark : ℕ → ℕ)
-    (cards : List (Option Card)) (place : ℕ)
-    (was : Card) : Type 0 where
+    (cards : List (Option CachedNode)) (place : ℕ)
+    (was : CachedNode) : Type 0 where
   pub within : place < nodes
   pub there : slice_index_or cards place None ≡ Some was
   pub laid : AreLaid nodes old marked cards
   pub vacated : new (node_sector place) ≡ zero_sector
   pub own : ChangesOwn nodes old new marked mark place (Some was) None
 
-pub record IsFreed (nodes : ℕ) (old new : Image) (mark : ℕ → ℕ) (cards : List (Option Card))
+pub record IsFreed (nodes : ℕ) (old new : Image) (mark : ℕ → ℕ) (cards : List (Option CachedNode))
     (place : ℕ)
-    (was : Card) : Type 0 where
+    (was : CachedNode) : Type 0 where
   pub laid : AreLaid nodes new mark (set cards place None)
   pub tree_is : tree_of new (set cards place None)
       ≡ done (DropNode was.fields.number) (tree_of old cards)
 
 abbrev pub FreeNode : Type 0
 FreeNode =
-    (nodes : ℕ) (old new : Image) (marked mark : ℕ → ℕ) (cards : List (Option Card)) (place : ℕ)
-    (was : Card)
+    (nodes : ℕ) (old new : Image) (marked mark : ℕ → ℕ) (cards : List (Option CachedNode))
+    (place : ℕ)
+    (was : CachedNode)
     → FreesNode nodes old new marked mark cards place was
     → IsFreed nodes old new mark cards place was

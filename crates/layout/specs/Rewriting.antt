@@ -9,7 +9,7 @@ use Rattle.inode.specs.Spelling.{inode_sector}
 use Rattle.model.specs.Seats.{no_seats}
 use Rattle.model.specs.Tree.{Tree}
 use Rattle.disk.specs.Calls.{zero_sector}
-use Rattle.layout.specs.Cards.{Card, node_sector, cards_in, tree_of}
+use Rattle.layout.specs.CachedNodes.{CachedNode, node_sector, cards_in, tree_of}
 use Rattle.layout.specs.Known.{AreCards}
 use Rattle.layout.specs.Stands.{Version, HaveCurrentForms, IsLaid, Stands, current}
 use Rattle.layout.specs.Superblock.{superblock}
@@ -49,12 +49,12 @@ FormStays =
     → Stands version size nodes image run tree → place < nodes
     → in_form (version.form place) (image (node_sector place)) ≡ image (node_sector place)
 
--- The cards of a volume as they are once each of its nodes has form two
-abbrev pub in_second : Option Card → Option Card
+-- The cached nodes of a volume as they are once each of its nodes has form two
+abbrev pub in_second : Option CachedNode → Option CachedNode
 in_second None = None
 in_second (Some card) = Some (record card { form = Two })
 
-abbrev pub all_second : List (Option Card) → List (Option Card)
+abbrev pub all_second : List (Option CachedNode) → List (Option CachedNode)
 all_second cards = map in_second cards
 
 -- and its sectors
@@ -64,7 +64,7 @@ second_image nodes image n =
     else (if nat_le 100 n then zero_sector else image n)
 
 -- A volume that is laid is so in form two as well, with the same tree
-pub record IsLaidSecond (size nodes : ℕ) (image : Image) (cards : List (Option Card))
+pub record IsLaidSecond (size nodes : ℕ) (image : Image) (cards : List (Option CachedNode))
     : Type 0 where
   pub laid : IsLaid (current no_seats) size nodes (second_image nodes image) (all_second cards)
   pub tree : tree_of (second_image nodes image) (all_second cards) ≡ tree_of image cards
@@ -72,17 +72,17 @@ pub record IsLaidSecond (size nodes : ℕ) (image : Image) (cards : List (Option
 
 abbrev pub LaidSecond : Type 0
 LaidSecond =
-    (version : Version) (size nodes : ℕ) (image : Image) (cards : List (Option Card))
+    (version : Version) (size nodes : ℕ) (image : Image) (cards : List (Option CachedNode))
     → IsLaid version size nodes image cards → 148 + nodes ≤ size
     → IsLaidSecond size nodes image cards
 
--- so are cards, whatever the sectors hold
+-- so are cached nodes, whatever the sectors hold
 abbrev pub KnownSecond : Type 0
 KnownSecond =
-    (nodes : ℕ) (mark : ℕ → ℕ) (cards : List (Option Card))
+    (nodes : ℕ) (mark : ℕ → ℕ) (cards : List (Option CachedNode))
     → AreCards nodes mark cards → AreCards nodes mark (all_second cards)
 
--- and a rewritten volume has the same cards but for their forms
+-- and a rewritten volume has the same cached nodes but for their forms
 abbrev pub RewrittenCards : Type 0
 RewrittenCards =
     (was is : Version) (size nodes run later : ℕ) (old new : Image) (tree : Tree)
@@ -91,4 +91,5 @@ RewrittenCards =
 
 -- which are those of a volume in the current version
 abbrev pub CurrentSecond : Type 0
-CurrentSecond = (cards : List (Option Card)) → HaveCurrentForms cards → all_second cards ≡ cards
+CurrentSecond = (cards : List (Option CachedNode)) → HaveCurrentForms cards
+    → all_second cards ≡ cards

@@ -15,7 +15,7 @@ use Rattle.model.specs.Tree.{Tree}
 use Rattle.model.specs.WellFormed.{IsWellFormed, IsBefore}
 use Rattle.seats.specs.Reading.{seats_in}
 use Rattle.seats.specs.Spelling.{ArePlaces, seats_sector}
-use Rattle.layout.specs.Cards.{Card, cards_in, tree_in}
+use Rattle.layout.specs.CachedNodes.{CachedNode, cards_in, tree_in}
 use Rattle.layout.specs.Laid.{AreLaid}
 use Rattle.layout.specs.Marks.{mark_in}
 use Rattle.layout.specs.Superblock.{superblock, is_size}
@@ -106,27 +106,27 @@ pub record AreKept (run : ℕ) (seats : Seats) : Type 0 where
   pub of_runs : AreOfRuns run seats
 
 -- each node has its place's form
-abbrev pub HaveForms : Version → List (Option Card) → Type 0
+abbrev pub HaveForms : Version → List (Option CachedNode) → Type 0
 HaveForms version cards =
-    (place : ℕ) (card : Card) → slice_index_or cards place None ≡ Some card
+    (place : ℕ) (card : CachedNode) → slice_index_or cards place None ≡ Some card
     → card.form ≡ version.form place
 
 -- in the current version, whatever seats it keeps
-abbrev pub HaveCurrentForms : List (Option Card) → Type 0
+abbrev pub HaveCurrentForms : List (Option CachedNode) → Type 0
 HaveCurrentForms cards = HaveForms (current no_seats) cards
 
--- The sectors from 98 on hold these cards: the bitmap marks what they name, and nothing past the
--- last sector
+-- The sectors from 98 on hold these cached nodes: the bitmap marks what they name, and nothing past
+-- the last sector
 pub record IsLaid (version : Version) (size nodes : ℕ) (image : Image)
-    (cards : List (Option Card)) : Type 0 where
+    (cards : List (Option CachedNode)) : Type 0 where
   pub laid : AreLaid nodes image (mark_in nodes image) cards
   pub forms : HaveForms version cards
   pub within : (n : ℕ) → size ≤ n → mark_in nodes image n ≡ 0
   pub spare : (n : ℕ) → 100 ≤ n → n < 148 → image n ≡ version.spare n
 
 -- The sectors of a volume of so many sectors and nodes, mounted `run` times, stand for the tree:
--- they hold the cards that are read of them, the tree is that of these cards, it is well formed,
--- and no stamp in it is of a later run.
+-- they hold the cached nodes that are read of them, the tree is that of these cached nodes, it is
+-- well formed, and no stamp in it is of a later run.
 pub record Stands (version : Version) (size nodes : ℕ) (image : Image) (run : ℕ)
     (tree : Tree) : Type 0 where
   pub sized : IsTrue (is_size size nodes)

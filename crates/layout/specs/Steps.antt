@@ -1,4 +1,4 @@
--- Steps on one card, and the trees that they give.
+-- Steps on one cached node, and the trees that they give.
 use Rattle.std.specs.Prelude.{◌≡◌, ◌≢◌, ◌≤◌, ◌<◌, ◌+◌, ◌==◌, ℕ, List, [], Option, Some, None, length, take, drop, set, slice_index_or}
 use Rattle.disk.specs.Moments.{Image}
 use Rattle.directory.specs.Listing.{by_stamp}
@@ -7,17 +7,18 @@ use Rattle.inode.specs.Fields.{Fields}
 use Rattle.model.specs.declared.node.NodeKind.TheVariants as kind
 use Rattle.model.specs.Keyed.{Keyed, with}
 use Rattle.model.specs.Tree.{Tree, File, Directory, DirEntry}
-use Rattle.layout.specs.Cards.{Card, bytes_in, node_with, tree_of}
+use Rattle.layout.specs.CachedNodes.{CachedNode, bytes_in, node_with, tree_of}
 use Rattle.layout.specs.ChangeLaws.{ChangesOwn}
 use Rattle.layout.specs.Files.{HoldBytes, HoldOthers}
 use Rattle.layout.specs.Laid.{AreLaid, HoldsNode, HoldsNames}
 use Rattle.layout.specs.Marks.{once_if, times_set}
 
--- The card `was` at a place becomes `is`, of the same number: the node's sectors are written, and
--- its own alone have changed
-pub record Steps (nodes : ℕ) (old new : Image) (marked mark : ℕ → ℕ) (cards : List (Option Card))
+-- The cached node `was` at a place becomes `is`, of the same number: the node's sectors are
+-- written, and its own alone have changed
+pub record Steps (nodes : ℕ) (old new : Image) (marked mark : ℕ → ℕ)
+    (cards : List (Option CachedNode))
     (place : ℕ)
-    (was is : Card) : Type 0 where
+    (was is : CachedNode) : Type 0 where
   pub within : place < nodes
   pub there : slice_index_or cards place None ≡ Some was
   pub number : is.fields.number ≡ was.fields.number
@@ -25,9 +26,10 @@ pub record Steps (nodes : ℕ) (old new : Image) (marked mark : ℕ → ℕ) (ca
   pub node : HoldsNode new place is
   pub own : ChangesOwn nodes old new marked mark place (Some was) (Some is)
 
--- Then the cards are laid, and the tree is this one
-pub record Gives (nodes : ℕ) (new : Image) (mark : ℕ → ℕ) (cards : List (Option Card)) (place : ℕ)
-    (is : Card)
+-- Then the cached nodes are laid, and the tree is this one
+pub record Gives (nodes : ℕ) (new : Image) (mark : ℕ → ℕ) (cards : List (Option CachedNode))
+    (place : ℕ)
+    (is : CachedNode)
     (tree : Tree) : Type 0 where
   pub laid : AreLaid nodes new mark (set cards place (Some is))
   pub tree_is : tree_of new (set cards place (Some is)) ≡ tree
@@ -35,8 +37,9 @@ pub record Gives (nodes : ℕ) (new : Image) (mark : ℕ → ℕ) (cards : List 
 -- a file gets these bytes
 abbrev pub FileStep : Type 0
 FileStep =
-    (nodes : ℕ) (old new : Image) (marked mark : ℕ → ℕ) (cards : List (Option Card)) (place : ℕ)
-    (was is : Card)
+    (nodes : ℕ) (old new : Image) (marked mark : ℕ → ℕ) (cards : List (Option CachedNode))
+    (place : ℕ)
+    (was is : CachedNode)
     (bytes : List ℕ) → Steps nodes old new marked mark cards place was is
     → is.fields.kind ≡ kind.File → is.names ≡ []
     → is.fields.size ≡ length bytes → HoldBytes new is.blocks bytes
@@ -46,8 +49,9 @@ FileStep =
 -- a directory gets these names
 abbrev pub NamesStep : Type 0
 NamesStep =
-    (nodes : ℕ) (old new : Image) (marked mark : ℕ → ℕ) (cards : List (Option Card)) (place : ℕ)
-    (was is : Card)
+    (nodes : ℕ) (old new : Image) (marked mark : ℕ → ℕ) (cards : List (Option CachedNode))
+    (place : ℕ)
+    (was is : CachedNode)
     (names : Keyed DirEntry) → Steps nodes old new marked mark cards place was is
     → is.fields.kind ≡ kind.Directory
     → HoldsNames new is → by_stamp is.names ≡ names
@@ -65,8 +69,9 @@ pub record ShowsSame (was is : Fields) : Type 0 where
 
 abbrev pub SameStep : Type 0
 SameStep =
-    (nodes : ℕ) (old new : Image) (marked mark : ℕ → ℕ) (cards : List (Option Card)) (place : ℕ)
-    (was is : Card)
+    (nodes : ℕ) (old new : Image) (marked mark : ℕ → ℕ) (cards : List (Option CachedNode))
+    (place : ℕ)
+    (was is : CachedNode)
     (bytes : List ℕ) → Steps nodes old new marked mark cards place was is
     → was.fields.kind ≡ kind.File
     → is.fields.kind ≡ kind.File → is.names ≡ [] → was.fields.size ≡ length bytes
@@ -78,8 +83,8 @@ SameStep =
 -- a file of a laid volume holds the bytes that are read, and zeros past them
 abbrev pub FileThere : Type 0
 FileThere =
-    (nodes : ℕ) (image : Image) (mark : ℕ → ℕ) (cards : List (Option Card)) (place : ℕ)
-    (card : Card)
+    (nodes : ℕ) (image : Image) (mark : ℕ → ℕ) (cards : List (Option CachedNode)) (place : ℕ)
+    (card : CachedNode)
     → AreLaid nodes image mark cards → place < nodes → slice_index_or cards place None ≡ Some card
     → card.fields.kind ≡ kind.File
     → HoldBytes image card.blocks (bytes_in image card.blocks card.fields.size)

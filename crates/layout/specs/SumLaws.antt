@@ -1,5 +1,5 @@
--- Sums over the tree are sums over the cards: what the nodes are charged, how many they are, and
--- how many names lead to a number.
+-- Sums over the tree are sums over the cached nodes: what the nodes are charged, how many they are,
+-- and how many names lead to a number.
 use Rattle.std.specs.Prelude.{◌≡◌, ◌+◌, ◌==◌, ◌<◌, ◌++◌, ℕ, List, [], ◌∷◌, Option, Some, None, All, map, length, if◌then◌else◌}
 use Rattle.disk.specs.Moments.{Image}
 use Rattle.directory.specs.Listing.{by_stamp}
@@ -8,11 +8,11 @@ use Rattle.model.specs.Charge.{charge, charge_of_blocks}
 use Rattle.model.specs.Keyed.{total}
 use Rattle.model.specs.Tree.{Node, DirEntry, root}
 use Rattle.model.specs.WellFormed.{links_to, links_owed}
-use Rattle.layout.specs.Cards.{Card, tree_of, node_of, bytes_in}
+use Rattle.layout.specs.CachedNodes.{CachedNode, tree_of, node_of, bytes_in}
 use Rattle.layout.specs.Laid.{AreLaid}
 use Rattle.layout.specs.Marks.{times}
 
-abbrev pub sum_over : (Card → ℕ) → List (Option Card) → ℕ
+abbrev pub sum_over : (CachedNode → ℕ) → List (Option CachedNode) → ℕ
 sum_over worth [] = 0
 sum_over worth (None ∷ cards) = sum_over worth cards
 sum_over worth (Some card ∷ cards) = worth card + sum_over worth cards
@@ -21,13 +21,13 @@ sum_over worth (Some card ∷ cards) = worth card + sum_over worth cards
 abbrev pub numbers_of : List Record → List ℕ
 numbers_of names = map (λ entry. entry.1.number) names
 
-abbrev pub entry_numbers : List (Option Card) → List ℕ
+abbrev pub entry_numbers : List (Option CachedNode) → List ℕ
 entry_numbers [] = []
 entry_numbers (None ∷ cards) = entry_numbers cards
 entry_numbers (Some card ∷ cards) = numbers_of card.names ++ entry_numbers cards
 
 -- the numbers of the nodes but the root
-abbrev pub other_numbers : List (Option Card) → List ℕ
+abbrev pub other_numbers : List (Option CachedNode) → List ℕ
 other_numbers [] = []
 other_numbers (None ∷ cards) = other_numbers cards
 other_numbers (Some card ∷ cards) =
@@ -40,7 +40,7 @@ NamesTotal =
     (worth : DirEntry → ℕ) (names : List Record) → AreStamped names
     → total worth (by_stamp names) ≡ total worth names
 
-pub record Sums (image : Image) (cards : List (Option Card)) : Type 0 where
+pub record Sums (image : Image) (cards : List (Option CachedNode)) : Type 0 where
   pub any : (worth : Node → ℕ)
       → total worth (tree_of image cards) ≡ sum_over (λ card. worth (node_of image card)) cards
   pub charges : total charge (tree_of image cards)
@@ -49,19 +49,19 @@ pub record Sums (image : Image) (cards : List (Option Card)) : Type 0 where
 
 abbrev pub EachSum : Type 0
 EachSum =
-    (nodes : ℕ) (image : Image) (mark : ℕ → ℕ) (cards : List (Option Card))
+    (nodes : ℕ) (image : Image) (mark : ℕ → ℕ) (cards : List (Option CachedNode))
     → AreLaid nodes image mark cards
     → Sums image cards
 
 -- so each node has the one name that it is owed exactly where each number is as often among those
 -- that names lead to as among those of the nodes but the root
-pub record Links (image : Image) (cards : List (Option Card)) (number : ℕ) : Type 0 where
+pub record Links (image : Image) (cards : List (Option CachedNode)) (number : ℕ) : Type 0 where
   pub to : links_to (tree_of image cards) number ≡ times number (entry_numbers cards)
   pub owed : links_owed (tree_of image cards) number ≡ times number (other_numbers cards)
 
 abbrev pub EachLink : Type 0
 EachLink =
-    (nodes : ℕ) (image : Image) (mark : ℕ → ℕ) (cards : List (Option Card))
+    (nodes : ℕ) (image : Image) (mark : ℕ → ℕ) (cards : List (Option CachedNode))
     → AreLaid nodes image mark cards
     → (number : ℕ) → Links image cards number
 

@@ -1,10 +1,10 @@
-//! Changes of one card.
+//! Changes of one cached node.
 
 ghost use Rattle.layout.specs.ChangeLaws.{OneChange};
 ghost use Rattle.layout.specs.Steps.{FileStep, NamesStep, SameStep, FileThere, OthersHold, EachOwn, EachChange};
 
-/// Where one card changes, the cards are laid with it changed, and the tree is the one with its
-/// node changed.
+/// Where one cached node changes, the cached nodes are laid with it changed, and the tree is the
+/// one with its node changed.
 pub fn one_change()
     ensures { OneChange }
 {}

@@ -2,7 +2,7 @@
 //! that does nothing.
 #![tactic(auto)]
 
-pub mod cards;
+pub mod cached_nodes;
 pub mod changes;
 pub mod directories;
 pub mod examples;

@@ -2,7 +2,7 @@
 
 ghost use Rattle.layout.specs.SumLaws.{NamesTotal, EachSum, EachLink, BytesFit};
 
-/// Sums over the tree are sums over the cards.
+/// Sums over the tree are sums over the cached nodes.
 pub fn sums()
     ensures names { NamesTotal }
     ensures each { EachSum }

@@ -1,6 +1,6 @@
 //! What a volume stands for.
 
-ghost use Rattle.layout.specs.CardLaws.{OneTree, OneKept, OneProof};
+ghost use Rattle.layout.specs.CachedNodeLaws.{OneTree, OneKept, OneProof};
 ghost use Rattle.layout.specs.FreshLaws.{FreshStands};
 ghost use Rattle.layout.specs.MarkLaws.{KeptAlone, StandsAlone};
 ghost use Rattle.layout.specs.Rewriting.{RewrittenStands, RewrittenCards, FormStays};
@@ -33,7 +33,7 @@ pub fn rewritten()
     ensures stays { FormStays }
 {}
 
-/// The cards of a volume are those of one in the current version, but for their forms.
+/// The cached nodes of a volume are those of one in the current version, but for their forms.
 pub fn second()
     ensures laid { LaidSecond }
     ensures known { KnownSecond }

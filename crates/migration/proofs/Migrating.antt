@@ -8,7 +8,7 @@ use Rattle.disk.proofs.MomentLemmas.{AddsOnly-weaken}
 use Rattle.journal.specs.Log.{Log, StandsForFront, applied_all}
 use Rattle.journal.specs.Settled.{AreSame}
 use Rattle.journal.proofs.Images.{put_same, put_other}
-use Rattle.layout.specs.Cards.{Card, node_sector, cards_in}
+use Rattle.layout.specs.CachedNodes.{CachedNode, node_sector, cards_in}
 use Rattle.layout.specs.Rewriting.{all_second, IsRewritten}
 use Rattle.layout.specs.Stands.{By, Version, IsMark, MayKeep, Stands, StandsAs, bare, current, version_1, version_2}
 use Rattle.layout.specs.declared.versions.VersionNumber.TheVariants as numbers
@@ -38,7 +38,7 @@ module _ (version : Version) (size nodes run : ℕ) (a b : Image) (tree : Tree) 
   cards_same : cards_in nodes b ≡ cards_in nodes a
   cards_same = (kept_alone version size nodes a b (cards_in nodes a) (room size nodes stands.sized) stands.laid behind).same_cards
 
-reached_same : (size run : ℕ) (tree : Tree) (cards : List (Option Card)) (moved : ℕ) (a b : Image) → AreSame size a b
+reached_same : (size run : ℕ) (tree : Tree) (cards : List (Option CachedNode)) (moved : ℕ) (a b : Image) → AreSame size a b
     → Reached size run tree cards moved a → Reached size run tree cards moved b
 reached_same size run tree cards moved a b same reached = record {
   mark = reached.mark;
@@ -50,10 +50,10 @@ reached_same size run tree cards moved a b same reached = record {
 
 -- The nodes
 
-pub plan_takes : (size : ℕ) (cards : List (Option Card)) (moved : ℕ) → 148 + length cards ≤ size → moved ≤ length cards → AreTransactions size (plan cards moved)
+pub plan_takes : (size : ℕ) (cards : List (Option CachedNode)) (moved : ℕ) → 148 + length cards ≤ size → moved ≤ length cards → AreTransactions size (plan cards moved)
 plan_takes size cards moved below within = steps_take size cards moved (in_all (length cards) moved) 0 below (omega arith)
 
-module _ (keeps_word : Type 0) (moved : ℕ) (cards : List (Option Card)) (old new : Log) (within : moved ≤ length cards) where
+module _ (keeps_word : Type 0) (moved : ℕ) (cards : List (Option CachedNode)) (old new : Log) (within : moved ≤ length cards) where
   pub moves_safely : Commits keeps_word (plan cards moved) old new → keeps_word → MovesSafely moved cards old new
   moves_safely commits word mark run tree begins =
       let first = begins_reached mark moved run old.size tree cards old.base begins.marked begins.told begins.stands begins.read within in

@@ -10,7 +10,7 @@ use Rattle.journal.proofs.Images.{put_same}
 use Rattle.inode.specs.declared.node.Form.{Form}
 use Rattle.inode.specs.declared.node.Form.TheVariants.{One, Two}
 use Rattle.inode.specs.Spelling.{inode_sector}
-use Rattle.layout.specs.Cards.{Card, node_sector, cards_in}
+use Rattle.layout.specs.CachedNodes.{CachedNode, node_sector, cards_in}
 use Rattle.layout.specs.Laid.{HoldsPlace}
 use Rattle.layout.specs.Rewriting.{in_form, in_second, all_second, IsRewritten}
 use Rattle.layout.specs.Stands.{By, IsMark, Stands, StandsAs, bare, mark_sector, moved_by, spare_by, Version, version_1}
@@ -24,7 +24,7 @@ use Rattle.migration.specs.Plans.{moved_node, step, step_at, plan}
 use Rattle.migration.proofs.Transactions.{mark_written, far_stays, node_written}
 
 -- the tree stands, and the mark tells so many places
-pub record Reached (size run : ℕ) (tree : Tree) (cards : List (Option Card)) (moved : ℕ) (image : Image) : Type 0 where
+pub record Reached (size run : ℕ) (tree : Tree) (cards : List (Option CachedNode)) (moved : ℕ) (image : Image) : Type 0 where
   pub mark : Option ℕ
   pub marked : IsMark numbers.One (length cards) mark
   pub told : moved_by mark ≡ moved
@@ -43,14 +43,14 @@ spare_at : (moved n : ℕ) → n ≡ 147 → spare_by no_seats (Some moved) n �
 spare_at moved n same = rw (eq-eqb n 147 same) refl
 
 -- the node of a place that holds this, in form two
-node_becomes : (image : Image) (place : ℕ) (card : Option Card) → HoldsPlace image place card
+node_becomes : (image : Image) (place : ℕ) (card : Option CachedNode) → HoldsPlace image place card
     → applied (moved_node place (in_second card)) image (node_sector place) ≡ in_form Two (image (node_sector place))
 node_becomes image place None holds = holds ∙ sym (ap (in_form Two) holds ∙ free_in_form Two)
 node_becomes image place (Some card) holds =
     put_same image (record { target = node_sector place; content = inode_sector Two card.fields }) (node_sector place) refl
     ∙ sym (ap (in_form Two) holds.node.sector ∙ node_in_form Two card.form card.fields holds.node.fits)
 
-module _ (size run : ℕ) (tree : Tree) (cards : List (Option Card)) (moved count : ℕ) (image : Image) (reached : Reached size run tree cards moved image)
+module _ (size run : ℕ) (tree : Tree) (cards : List (Option CachedNode)) (moved count : ℕ) (image : Image) (reached : Reached size run tree cards moved image)
     (some : 0 < count) (within : moved + count ≤ length cards) where
   abbrev new : Image
   new = applied (step cards moved count) image
@@ -86,8 +86,9 @@ module _ (size run : ℕ) (tree : Tree) (cards : List (Option Card)) (moved coun
   node_moves place low high =
       let before = cards_in (length cards) image in
       node_written cards moved count place image low high
-      ∙ ap (λ (card : Option Card). applied (moved_node place card) image (node_sector place))
-      (ap (λ (l : List (Option Card)). get_or l place None) reached.read ∙ second_at before place)
+      ∙ ap (λ (card : Option CachedNode). applied (moved_node place card) image (node_sector place))
+      (ap (λ (l : List (Option CachedNode)). get_or l place None) reached.read
+      ∙ second_at before place)
       ∙ node_becomes image place (get_or before place None) (reached.stands.laid.laid.held place (omega arith))
       ∙ ap (λ (form : Form). in_form form (image (node_sector place))) (sym (form_moved (Some (moved + count)) place high))
 
@@ -132,7 +133,7 @@ module _ (size run : ℕ) (tree : Tree) (cards : List (Option Card)) (moved coun
   }
 
 -- Fronts of the transactions from one on
-pub front_reaches : (size run : ℕ) (tree : Tree) (cards : List (Option Card)) (moved k i c : ℕ) (image : Image) → c ≤ k → moved + 47 * (i + k) < length cards + 47
+pub front_reaches : (size run : ℕ) (tree : Tree) (cards : List (Option CachedNode)) (moved k i c : ℕ) (image : Image) → c ≤ k → moved + 47 * (i + k) < length cards + 47
     → Reached size run tree cards (min (length cards) (moved + 47 * i)) image
     → Reached size run tree cards (min (length cards) (moved + 47 * (i + c))) (applied_all (take c (map (step_at cards moved) (range_with_len i k))) image)
 front_reaches size run tree cards moved k i zero image front within reached =
@@ -154,14 +155,14 @@ front_reaches size run tree cards moved (suc k) i (suc c) image front within rea
 abbrev pub in_all : (nodes moved : ℕ) → ℕ
 in_all nodes moved = (nodes - moved + 46) / 47
 
-pub begins_reached : (mark : Option ℕ) (moved run size : ℕ) (tree : Tree) (cards : List (Option Card)) (image : Image) → IsMark numbers.One (length cards) mark → moved_by mark ≡ moved
+pub begins_reached : (mark : Option ℕ) (moved run size : ℕ) (tree : Tree) (cards : List (Option CachedNode)) (image : Image) → IsMark numbers.One (length cards) mark → moved_by mark ≡ moved
     → Stands (version_1 mark) size (length cards) image run tree → cards ≡ all_second (cards_in (length cards) image) → moved ≤ length cards
     → Reached size run tree cards (min (length cards) (moved + 47 * 0)) image
 begins_reached mark moved run size tree cards image marked told stands read within =
     subst (λ (m : ℕ). Reached size run tree cards m image) (let q : moved ≡ min (length cards) (moved + 47 * 0) = omega arith in q)
     (record { mark = mark; marked = marked; told = told; stands = stands; read = read })
 
-pub reached_stands : (size run : ℕ) (tree : Tree) (cards : List (Option Card)) (moved : ℕ) (image : Image) → Reached size run tree cards moved image
+pub reached_stands : (size run : ℕ) (tree : Tree) (cards : List (Option CachedNode)) (moved : ℕ) (image : Image) → Reached size run tree cards moved image
     → (is : StandsAs size (length cards) image run (bare tree)) × (is.version.number ≡ 1)
 reached_stands size run tree cards moved image reached = (
   record {
@@ -173,7 +174,7 @@ reached_stands size run tree cards moved image reached = (
   refl,
 )
 
-module _ (size run : ℕ) (tree : Tree) (cards : List (Option Card)) (moved : ℕ) (image : Image) (within : moved ≤ length cards)
+module _ (size run : ℕ) (tree : Tree) (cards : List (Option CachedNode)) (moved : ℕ) (image : Image) (within : moved ≤ length cards)
     (first : Reached size run tree cards (min (length cards) (moved + 47 * 0)) image) where
   fits : moved + 47 * (0 + in_all (length cards) moved) < length cards + 47
   fits = omega arith
@@ -201,7 +202,7 @@ all_marked : (nodes : ℕ) (mark : Option ℕ) → 2 ≤ nodes → moved_by mark
 all_marked nodes None some told = absurd (omega arith)
 all_marked nodes (Some moved) some told = ap Some told
 
-pub reached_all : (size run : ℕ) (tree : Tree) (cards : List (Option Card)) (image : Image) → Reached size run tree cards (length cards) image
+pub reached_all : (size run : ℕ) (tree : Tree) (cards : List (Option CachedNode)) (image : Image) → Reached size run tree cards (length cards) image
     → Stands (version_1 (Some (length cards))) size (length cards) image run tree
 reached_all size run tree cards image reached =
     let parts = sized_parts size (length cards) reached.stands.sized in

@@ -8,13 +8,13 @@ use Rattle.disk.specs.Moments.{Image, put, applied}
 use Rattle.journal.specs.Layout.{targets}
 use Rattle.journal.proofs.Images.{Out, Fit, Out-join, put_same, put_other, applied_out}
 use Rattle.journal.proofs.Lists.{applied_at, applied-push, targets-push, targets_of-Fit}
-use Rattle.layout.specs.Cards.{Card, node_sector}
+use Rattle.layout.specs.CachedNodes.{CachedNode, node_sector}
 use Rattle.layout.specs.Stands.{mark_sector}
 use Rattle.migration.specs.Commits.{AreTransactions, IsTransaction}
 use Rattle.migration.specs.Plans.{moved_node, mark_update, step, step_at}
 
 -- the nodes of so many places
-abbrev pub nodes_of : List (Option Card) → (from count : ℕ) → List Update
+abbrev pub nodes_of : List (Option CachedNode) → (from count : ℕ) → List Update
 nodes_of cards from count = flat_map (λ place. moved_node place (get_or cards place None)) (range_with_len from count)
 
 applied-append : (a b : List Update) (image : Image) → applied (a ++ b) image ≡ applied b (applied a image)
@@ -27,15 +27,15 @@ targets-append (u ∷ a) b = ap (λ (ts : List ℕ). u.target ∷ ts) (targets-a
 
 -- Which sectors
 
-node_out : (place : ℕ) (card : Option Card) (n : ℕ) → (node_sector place ≡ n → ⊥) → Out (targets (moved_node place card)) n
+node_out : (place : ℕ) (card : Option CachedNode) (n : ℕ) → (node_sector place ≡ n → ⊥) → Out (targets (moved_node place card)) n
 node_out place None n other = tt
 node_out place (Some card) n other = (other, tt)
 
-node_short : (place : ℕ) (card : Option Card) → length (moved_node place card) ≤ 1
+node_short : (place : ℕ) (card : Option CachedNode) → length (moved_node place card) ≤ 1
 node_short place None = omega arith
 node_short place (Some card) = omega arith
 
-nodes_out : (cards : List (Option Card)) (from count n : ℕ) → (n < node_sector from) ⊎ (node_sector (from + count) ≤ n) → Out (targets (nodes_of cards from count)) n
+nodes_out : (cards : List (Option CachedNode)) (from count n : ℕ) → (n < node_sector from) ⊎ (node_sector (from + count) ≤ n) → Out (targets (nodes_of cards from count)) n
 nodes_out cards from zero n far = tt
 nodes_out cards from (suc count) n far =
     let node = moved_node from (get_or cards from None) in
@@ -45,7 +45,7 @@ nodes_out cards from (suc count) n far =
     (nodes_out cards (from + 1) count n
     (⊎_elim (λ (low : n < node_sector from). inl (omega arith)) (λ (high : node_sector (from + suc count) ≤ n). inr (omega arith)) far)))
 
-nodes_short : (cards : List (Option Card)) (from count : ℕ) → length (nodes_of cards from count) ≤ count
+nodes_short : (cards : List (Option CachedNode)) (from count : ℕ) → length (nodes_of cards from count) ≤ count
 nodes_short cards from zero = omega arith
 nodes_short cards from (suc count) =
     let node = moved_node from (get_or cards from None) in
@@ -56,12 +56,12 @@ nodes_short cards from (suc count) =
       nodes_short cards (from + 1) count,
     )
 
-node_fit : (size place : ℕ) (card : Option Card) (rest : List Update) → node_sector place < size → Out (targets rest) (node_sector place) → Fit size (targets rest)
+node_fit : (size place : ℕ) (card : Option CachedNode) (rest : List Update) → node_sector place < size → Out (targets rest) (node_sector place) → Fit size (targets rest)
     → Fit size (targets (moved_node place card ++ rest))
 node_fit size place None rest below out fit = fit
 node_fit size place (Some card) rest below out fit = (omega arith, below, out, fit)
 
-nodes_fit : (size : ℕ) (cards : List (Option Card)) (from count : ℕ) → node_sector (from + count) ≤ size → Fit size (targets (nodes_of cards from count))
+nodes_fit : (size : ℕ) (cards : List (Option CachedNode)) (from count : ℕ) → node_sector (from + count) ≤ size → Fit size (targets (nodes_of cards from count))
 nodes_fit size cards from zero below = tt
 nodes_fit size cards from (suc count) below =
     node_fit size from (get_or cards from None) (nodes_of cards (from + 1) count) (omega arith)
@@ -72,7 +72,7 @@ Fit-push size [] x low high fit out = (low, high, tt, tt)
 Fit-push size (t ∷ ts) x low high fit out =
     (fit.0, fit.1, Out-join ts (x ∷ []) t fit.2 ((λ same. out.0 (sym same)), tt), Fit-push size ts x low high fit.3 out.1)
 
-pub step_takes : (size : ℕ) (cards : List (Option Card)) (from count : ℕ) → count ≤ 47 → 148 ≤ size → node_sector (from + count) ≤ size
+pub step_takes : (size : ℕ) (cards : List (Option CachedNode)) (from count : ℕ) → count ≤ 47 → 148 ≤ size → node_sector (from + count) ≤ size
     → IsTransaction size (step cards from count)
 step_takes size cards from count few large below =
     let nodes = nodes_of cards from count in
@@ -84,7 +84,7 @@ step_takes size cards from count few large below =
     }
 
 -- all transactions from one on
-pub steps_take : (size : ℕ) (cards : List (Option Card)) (moved k i : ℕ) → node_sector (length cards) ≤ size → moved + 47 * (i + k) < length cards + 47
+pub steps_take : (size : ℕ) (cards : List (Option CachedNode)) (moved k i : ℕ) → node_sector (length cards) ≤ size → moved + 47 * (i + k) < length cards + 47
     → AreTransactions size (map (step_at cards moved) (range_with_len i k))
 steps_take size cards moved zero i below within = tt
 steps_take size cards moved (suc k) i below within = (
@@ -94,7 +94,7 @@ steps_take size cards moved (suc k) i below within = (
 
 -- What they hold then
 
-module _ (cards : List (Option Card)) (from count : ℕ) (image : Image) where
+module _ (cards : List (Option CachedNode)) (from count : ℕ) (image : Image) where
   with_nodes : Image
   with_nodes = applied (nodes_of cards from count) image
 
@@ -110,7 +110,7 @@ module _ (cards : List (Option Card)) (from count : ℕ) (image : Image) where
   pub far_stays : (n : ℕ) → (147 ≡ n → ⊥) → (n < node_sector from) ⊎ (node_sector (from + count) ≤ n) → applied (step cards from count) image n ≡ image n
   far_stays n other far = unmarked n other ∙ applied_out (nodes_of cards from count) image n (nodes_out cards from count n far)
 
-node_at : (cards : List (Option Card)) (from count place : ℕ) (image : Image) → from ≤ place → place < from + count
+node_at : (cards : List (Option CachedNode)) (from count place : ℕ) (image : Image) → from ≤ place → place < from + count
     → applied (nodes_of cards from count) image (node_sector place) ≡ applied (moved_node place (get_or cards place None)) image (node_sector place)
 node_at cards from zero place image low high = absurd (omega arith)
 node_at cards from (suc count) place image low high =
@@ -131,13 +131,13 @@ node_at cards from (suc count) place image low high =
     ne_less : (a b : ℕ) → (a ≡ b → ⊥) → b ≤ a → b < a
     ne_less a b other le = omega arith
 
-pub node_written : (cards : List (Option Card)) (from count place : ℕ) (image : Image) → from ≤ place → place < from + count
+pub node_written : (cards : List (Option CachedNode)) (from count place : ℕ) (image : Image) → from ≤ place → place < from + count
     → applied (step cards from count) image (node_sector place) ≡ applied (moved_node place (get_or cards place None)) image (node_sector place)
 node_written cards from count place image low high =
     unmarked cards from count image (node_sector place) (λ e. omega arith) ∙ node_at cards from count place image low high
 
 -- one place more
-pub nodes_more : (cards : List (Option Card)) (from count : ℕ) → nodes_of cards from (suc count) ≡ nodes_of cards from count ++ moved_node (from + count) (get_or cards (from + count) None)
+pub nodes_more : (cards : List (Option CachedNode)) (from count : ℕ) → nodes_of cards from (suc count) ≡ nodes_of cards from count ++ moved_node (from + count) (get_or cards (from + count) None)
 nodes_more cards from zero =
     append-nil (moved_node from (get_or cards from None))
     ∙ ap (λ (p : ℕ). moved_node p (get_or cards p None)) (let q : from ≡ from + 0 = omega arith in q)

@@ -3,7 +3,7 @@ use Rattle.std.specs.Prelude.{◌≡◌, ℕ, false, List, [], Option, Some, len
 use Rattle.disk.specs.Moments.{Image, AddsOnly}
 use Rattle.journal.specs.Log.{Log}
 use Rattle.journal.specs.Settled.{Settles}
-use Rattle.layout.specs.Cards.{Card, cards_in}
+use Rattle.layout.specs.CachedNodes.{CachedNode, cards_in}
 use Rattle.layout.specs.Rewriting.{all_second}
 use Rattle.layout.specs.Stands.{Version, IsMark, Stands, StandsAs, bare, current, moved_by, version_1, version_2}
 use Rattle.layout.specs.declared.versions.VersionNumber.TheVariants as numbers
@@ -26,8 +26,8 @@ abbrev pub AddsStill : (number nodes run : ℕ) → Tree → (old new : Log) →
 AddsStill number nodes run tree old new =
     AddsOnly (StandsStill number old.size nodes run tree) old.history new.history
 
--- What stood in one version stands in the other: the same tree, with the same cards but for their
--- forms
+-- What stood in one version stands in the other: the same tree, with the same cached nodes but for
+-- their forms
 pub record IsMoved (is : Version) (nodes run : ℕ) (tree : Tree) (old new : Log) : Type 0 where
   pub stands : Stands is old.size nodes new.base run tree
   pub cards : all_second (cards_in nodes new.base) ≡ all_second (cards_in nodes old.base)
@@ -39,7 +39,7 @@ pub record Rests (log : Log) : Type 0 where
 
 -- What a migration begins with: the tree stands in version 1, whose mark tells so many places, and
 -- the nodes are those of its sectors
-pub record Begins (mark : Option ℕ) (moved run : ℕ) (tree : Tree) (cards : List (Option Card))
+pub record Begins (mark : Option ℕ) (moved run : ℕ) (tree : Tree) (cards : List (Option CachedNode))
     (log : Log) : Type 0 where
   pub marked : IsMark numbers.One (length cards) mark
   pub told : moved_by mark ≡ moved
@@ -47,13 +47,13 @@ pub record Begins (mark : Option ℕ) (moved run : ℕ) (tree : Tree) (cards : L
   pub read : cards ≡ all_second (cards_in (length cards) log.base)
 
 -- At each moment the tree stands in version 1, under the count that it had
-abbrev pub MovesSafely : (moved : ℕ) → List (Option Card) → (old new : Log) → Type 0
+abbrev pub MovesSafely : (moved : ℕ) → List (Option CachedNode) → (old new : Log) → Type 0
 MovesSafely moved cards old new =
     (mark : Option ℕ) (run : ℕ) (tree : Tree) → Begins mark moved run tree cards old
     → AddsStill 1 (length cards) run tree old new
 
 -- and in the end the mark tells all places
-abbrev pub HasMovedAll : (moved : ℕ) → List (Option Card) → (old new : Log) → Type 0
+abbrev pub HasMovedAll : (moved : ℕ) → List (Option CachedNode) → (old new : Log) → Type 0
 HasMovedAll moved cards old new =
     (mark : Option ℕ) (run : ℕ) (tree : Tree) → Begins mark moved run tree cards old
     → IsMoved (version_1 (Some (length cards))) (length cards) run tree old new

@@ -6,16 +6,16 @@ use Rattle.disk.specs.declared.update.Update.{Update}
 use Rattle.inode.specs.declared.node.Form.TheVariants.{Two}
 use Rattle.inode.specs.Fields.{IsInode}
 use Rattle.inode.specs.Spelling.{inode_sector}
-use Rattle.layout.specs.Cards.{Card, node_sector}
+use Rattle.layout.specs.CachedNodes.{CachedNode, node_sector}
 use Rattle.layout.specs.Stands.{mark_sector}
 
 -- each node has an encoding in form two
-abbrev pub FitSecond : List (Option Card) → Type 0
-FitSecond cards = (place : ℕ) (card : Card) → slice_index_or cards place None ≡ Some card
+abbrev pub FitSecond : List (Option CachedNode) → Type 0
+FitSecond cards = (place : ℕ) (card : CachedNode) → slice_index_or cards place None ≡ Some card
     → IsInode Two card.fields
 
 -- a node in form two; nothing is written where the place is free
-abbrev pub moved_node : (place : ℕ) → Option Card → List Update
+abbrev pub moved_node : (place : ℕ) → Option CachedNode → List Update
 moved_node place None = []
 moved_node place (Some card) =
     record { target = node_sector place; content = inode_sector Two card.fields } ∷ []
@@ -24,19 +24,19 @@ abbrev pub mark_update : (moved : ℕ) → Update
 mark_update moved = record { target = 147; content = mark_sector moved }
 
 -- One transaction: the nodes of so many places, and the mark of their end
-abbrev pub step : List (Option Card) → (from count : ℕ) → List Update
+abbrev pub step : List (Option CachedNode) → (from count : ℕ) → List Update
 step cards from count =
     flat_map (λ place. moved_node place (slice_index_or cards place None))
     (range_with_len from count)
     ++ mark_update (from + count) ∷ []
 
 -- Transaction i: 47 places, or those that are left
-abbrev pub step_at : List (Option Card) → (moved i : ℕ) → List Update
+abbrev pub step_at : List (Option CachedNode) → (moved i : ℕ) → List Update
 step_at cards moved i =
     step cards (moved + 47 * i) (min 47 (length cards - (moved + 47 * i)))
 
 -- All of them, where the nodes of so many places are moved already
-abbrev pub plan : List (Option Card) → (moved : ℕ) → List (List Update)
+abbrev pub plan : List (Option CachedNode) → (moved : ℕ) → List (List Update)
 plan cards moved =
     map (step_at cards moved) (range_with_len 0 ((length cards - moved + 46) / 47))
 

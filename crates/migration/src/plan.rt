@@ -10,7 +10,7 @@ use disk::{SECTOR, Update};
 use inode::{Form, to_sector};
 use layout::places::{MARK, NODES};
 use layout::versions::mark_sector;
-use node_table::{Card, Table};
+use node_table::{CachedNode, Table};
 use std::alloc::{AllocError, Global};
 
 /// How many places of the node table one transaction moves: with the mark they are the 48 sectors
@@ -18,7 +18,7 @@ use std::alloc::{AllocError, Global};
 const PLACES_AT_ONCE: u32 = 47;
 
 /// A node in form two.
-fn moved_node(place: u32, card: &Card) -> Update
+fn moved_node(place: u32, card: &CachedNode) -> Update
     requires fit { IsInode Two card.now.fields }
     requires small { NODES + place < 2 ^ 32 }
     ensures { plans.moved_node place (Some card.now) ≡ result ∷ [] }

@@ -1,4 +1,4 @@
--- A table of cards that are there already.
+-- A table of cached nodes that are there already.
 use Rattle.std.proofs.Common.{true, false, true≢false, ◌≡◌, ◌≢◌, ◌≤◌, ◌<◌, ◌+◌, ◌-◌, ℕ, zero, suc, List, [], ◌∷◌, ◌++◌, Option, Some, None, length, take, get_or, inl, inr, refl, sym, ap, ◌∙◌, subst, arith, eqb}
 use Rattle.std.specs.Prelude.{is_some}
 use Rattle.std.specs.List.{Contains, sum_by}
@@ -12,7 +12,7 @@ use Rattle.std.proofs.lemmas.Option.{same_Some}
 use Rattle.model.specs.Keyed.{Keyed, at, IsAbove}
 use Rattle.model.proofs.KeyedLaws.{at-first, at-rest}
 use Rattle.model.proofs.OptionLaws.{some≢none}
-use Rattle.layout.specs.Cards.{Card}
+use Rattle.layout.specs.CachedNodes.{CachedNode}
 use Rattle.layout.specs.Marks.{once_if, times}
 use Rattle.layout.specs.SumLaws.{sum_over}
 use Rattle.layout.proofs.NumberLaws.{once-off, once-at}
@@ -21,13 +21,13 @@ use Rattle.node_table.specs.Tables.{number_at, HaveOwnPlaces, AreNumbered, AreFe
 use Rattle.node_table.proofs.IndexLaws.{at-entry}
 use Rattle.node_table.proofs.TableLaws.{times-push}
 
--- ---- one card more
+-- ---- one cached node more
 
-abbrev pub entry_from : (place : ℕ) → Option Card → Keyed ℕ
+abbrev pub entry_from : (place : ℕ) → Option CachedNode → Keyed ℕ
 entry_from place None = []
 entry_from place (Some card) = (card.fields.number, place) ∷ []
 
-pub entries-push : (first : ℕ) (cards : List (Option Card)) (card : Option Card) → entries_from first (cards ++ card ∷ []) ≡ entries_from first cards ++ entry_from (first + length cards) card
+pub entries-push : (first : ℕ) (cards : List (Option CachedNode)) (card : Option CachedNode) → entries_from first (cards ++ card ∷ []) ≡ entries_from first cards ++ entry_from (first + length cards) card
 entries-push first [] None = refl
 entries-push first [] (Some card) = let e : first ≡ first + 0 = omega arith in ap (λ (place : ℕ). (card.fields.number, place) ∷ []) e
 entries-push first (None ∷ cards) card =
@@ -37,11 +37,11 @@ entries-push first (Some one ∷ cards) card =
     let e : first + 1 + length cards ≡ first + suc (length cards) = omega arith in
     ap (λ (l : Keyed ℕ). (one.fields.number, first) ∷ l) (entries-push (first + 1) cards card ∙ ap (λ (place : ℕ). entries_from (first + 1) cards ++ entry_from place card) e)
 
-abbrev pub worth_of : (Card → ℕ) → Option Card → ℕ
+abbrev pub worth_of : (CachedNode → ℕ) → Option CachedNode → ℕ
 worth_of worth None = 0
 worth_of worth (Some card) = worth card
 
-pub sum-push : (worth : Card → ℕ) (cards : List (Option Card)) (card : Option Card) → sum_over worth (cards ++ card ∷ []) ≡ sum_over worth cards + worth_of worth card
+pub sum-push : (worth : CachedNode → ℕ) (cards : List (Option CachedNode)) (card : Option CachedNode) → sum_over worth (cards ++ card ∷ []) ≡ sum_over worth cards + worth_of worth card
 sum-push worth [] None = refl
 sum-push worth [] (Some card) = omega arith
 sum-push worth (None ∷ cards) card = sum-push worth cards card
@@ -53,13 +53,13 @@ once-suc n m = elim (cases_eq n m) [
   | inr off ↦ once-off n m off ∙ sym (once-off (suc n) (suc m) (λ e. off (omega arith)))
 ]
 
-pub vacant-push_none : (n : ℕ) (cards : List (Option Card)) → vacant n (cards ++ None ∷ []) ≡ vacant n cards + once_if (eqb n (length cards))
+pub vacant-push_none : (n : ℕ) (cards : List (Option CachedNode)) → vacant n (cards ++ None ∷ []) ≡ vacant n cards + once_if (eqb n (length cards))
 vacant-push_none zero [] = refl
 vacant-push_none (suc n) [] = omega (arith, once-off (suc n) 0 (λ e. omega arith))
 vacant-push_none zero (card ∷ cards) = omega (arith, once-off 0 (suc (length cards)) (λ e. omega arith))
 vacant-push_none (suc n) (card ∷ cards) = vacant-push_none n cards ∙ ap (λ (k : ℕ). vacant n cards + k) (once-suc n (length cards))
 
-pub vacant-push_some : (n : ℕ) (cards : List (Option Card)) (one : Card) → vacant n (cards ++ Some one ∷ []) ≡ vacant n cards
+pub vacant-push_some : (n : ℕ) (cards : List (Option CachedNode)) (one : CachedNode) → vacant n (cards ++ Some one ∷ []) ≡ vacant n cards
 vacant-push_some zero [] one = refl
 vacant-push_some (suc n) [] one = refl
 vacant-push_some zero (card ∷ cards) one = refl
@@ -67,9 +67,9 @@ vacant-push_some (suc n) (card ∷ cards) one = vacant-push_some n cards one
 
 -- ---- one place more
 
-module _ (cards : List (Option Card)) (place : ℕ) (there : Option Card) (within : place < length cards) (is : there ≡ get_or cards place there) where
+module _ (cards : List (Option CachedNode)) (place : ℕ) (there : Option CachedNode) (within : place < length cards) (is : there ≡ get_or cards place there) where
   took : take (place + 1) cards ≡ take place cards ++ there ∷ []
-  took = take_more cards place there within ∙ ap (λ (card : Option Card). take place cards ++ card ∷ []) (sym is)
+  took = take_more cards place there within ∙ ap (λ (card : Option CachedNode). take place cards ++ card ∷ []) (sym is)
 
   long : length (take place cards) ≡ place
   long = length-take-le place cards (omega arith)
@@ -80,28 +80,28 @@ module _ (cards : List (Option Card)) (place : ℕ) (there : Option Card) (withi
       ap (λ (l : Keyed ℕ). l ++ entry_from place there) so_far ∙ ap (λ (p : ℕ). entries_from 0 (take place cards) ++ entry_from p there) e
       ∙ sym (entries-push 0 (take place cards) there) ∙ ap (entries_from 0) (sym took)
 
-  pub sum-step : (worth : Card → ℕ) → sum_over worth (take (place + 1) cards) ≡ sum_over worth (take place cards) + worth_of worth there
+  pub sum-step : (worth : CachedNode → ℕ) → sum_over worth (take (place + 1) cards) ≡ sum_over worth (take place cards) + worth_of worth there
   sum-step worth = ap (sum_over worth) took ∙ sum-push worth (take place cards) there
 
   pub free-step_none : (n : ℕ) (items : List ℕ) → there ≡ None → times n items ≡ vacant n (take place cards) → times n (items ++ place ∷ []) ≡ vacant n (take (place + 1) cards)
   free-step_none n items none so_far =
-      let end = ap (vacant n) took ∙ ap (λ (card : Option Card). vacant n (take place cards ++ card ∷ [])) none ∙ vacant-push_none n (take place cards) in
+      let end = ap (vacant n) took ∙ ap (λ (card : Option CachedNode). vacant n (take place cards ++ card ∷ [])) none ∙ vacant-push_none n (take place cards) in
       omega (arith, times-push n items place, so_far, end, ap (λ (k : ℕ). once_if (eqb n k)) long)
 
-  pub free-step_some : (n : ℕ) (one : Card) → there ≡ Some one → vacant n (take (place + 1) cards) ≡ vacant n (take place cards)
-  free-step_some n one some = ap (vacant n) took ∙ ap (λ (card : Option Card). vacant n (take place cards ++ card ∷ [])) some ∙ vacant-push_some n (take place cards) one
+  pub free-step_some : (n : ℕ) (one : CachedNode) → there ≡ Some one → vacant n (take (place + 1) cards) ≡ vacant n (take place cards)
+  free-step_some n one some = ap (vacant n) took ∙ ap (λ (card : Option CachedNode). vacant n (take place cards ++ card ∷ [])) some ∙ vacant-push_some n (take place cards) one
 
-pub none-from : (there : Option Card) → is_some there ≡ false → there ≡ None
+pub none-from : (there : Option CachedNode) → is_some there ≡ false → there ≡ None
 none-from None is = refl
 none-from (Some card) is = absurd (true≢false is)
 
-pub some-from : (there : Option Card) → is_some there ≡ true → record { one : Card; is : there ≡ Some one }
+pub some-from : (there : Option CachedNode) → is_some there ≡ true → record { one : CachedNode; is : there ≡ Some one }
 some-from None is = absurd (true≢false (sym is))
 some-from (Some card) is = record { one = card; is = refl }
 
 -- ---- the entries
 
-told-later : (first : ℕ) (card : Option Card) (cards : List (Option Card)) (entry : ℕ × ℕ) → (first + 1 ≤ entry.1) × (number_at cards (entry.1 - (first + 1)) ≡ Some entry.0)
+told-later : (first : ℕ) (card : Option CachedNode) (cards : List (Option CachedNode)) (entry : ℕ × ℕ) → (first + 1 ≤ entry.1) × (number_at cards (entry.1 - (first + 1)) ≡ Some entry.0)
     → (first ≤ entry.1) × (number_at (card ∷ cards) (entry.1 - first) ≡ Some entry.0)
 told-later first card cards entry told =
     let low = told.0 in
@@ -109,7 +109,7 @@ told-later first card cards entry told =
     (omega arith, ap (number_at (card ∷ cards)) e ∙ told.1)
 
 -- each is of a node
-entries-told : (first : ℕ) (cards : List (Option Card)) (i : ℕ) → i < length (entries_from first cards)
+entries-told : (first : ℕ) (cards : List (Option CachedNode)) (i : ℕ) → i < length (entries_from first cards)
     → (first ≤ (get_or (entries_from first cards) i (0, 0)).1) × (number_at cards ((get_or (entries_from first cards) i (0, 0)).1 - first) ≡ Some (get_or (entries_from first cards) i (0, 0)).0)
 entries-told first [] i h = absurd (omega arith)
 entries-told first (None ∷ cards) i h = told-later first None cards (get_or (entries_from (first + 1) cards) i (0, 0)) (entries-told (first + 1) cards i h)
@@ -117,7 +117,7 @@ entries-told first (Some one ∷ cards) zero h = let e : first - first ≡ 0 = o
 entries-told first (Some one ∷ cards) (suc i) h = told-later first (Some one) cards (get_or (entries_from (first + 1) cards) i (0, 0)) (entries-told (first + 1) cards i (omega arith))
 
 -- each node has one
-entries-listed : (first : ℕ) (cards : List (Option Card)) (place number : ℕ) → number_at cards place ≡ Some number → Contains (entries_from first cards) (number, first + place)
+entries-listed : (first : ℕ) (cards : List (Option CachedNode)) (place number : ℕ) → number_at cards place ≡ Some number → Contains (entries_from first cards) (number, first + place)
 entries-listed first [] place number is = absurd (some≢none number (sym is))
 entries-listed first (None ∷ cards) zero number is = absurd (some≢none number (sym is))
 entries-listed first (None ∷ cards) (suc place) number is =
@@ -131,7 +131,7 @@ entries-listed first (Some one ∷ cards) (suc place) number is =
     let found = subst (λ (p : ℕ). Contains (entries_from (first + 1) cards) (number, p)) e (entries-listed (first + 1) cards place number is) in
     (suc found.0, omega (arith, found.1), found.2)
 
-entries-count : (first : ℕ) (cards : List (Option Card)) → length (entries_from first cards) ≡ count_of_all cards
+entries-count : (first : ℕ) (cards : List (Option CachedNode)) → length (entries_from first cards) ≡ count_of_all cards
 entries-count first [] = refl
 entries-count first (None ∷ cards) = entries-count (first + 1) cards
 entries-count first (Some one ∷ cards) = omega (arith, entries-count (first + 1) cards)
@@ -141,13 +141,13 @@ entries-count first (Some one ∷ cards) = omega (arith, entries-count (first + 
 abbrev is_for : (place : ℕ) → ℕ × ℕ → ℕ
 is_for place entry = once_if (eqb place entry.1)
 
-entries-none : (first : ℕ) (cards : List (Option Card)) (place : ℕ) → place < first → sum_by (is_for place) (entries_from first cards) ≡ 0
+entries-none : (first : ℕ) (cards : List (Option CachedNode)) (place : ℕ) → place < first → sum_by (is_for place) (entries_from first cards) ≡ 0
 entries-none first [] place low = refl
 entries-none first (None ∷ cards) place low = entries-none (first + 1) cards place (omega arith)
 entries-none first (Some one ∷ cards) place low =
     omega (arith, sum_by-cons (is_for place) (one.fields.number, first) (entries_from (first + 1) cards), once-off place first (omega arith), entries-none (first + 1) cards place (omega arith))
 
-entries-once : (first : ℕ) (cards : List (Option Card)) (place : ℕ) → sum_by (is_for place) (entries_from first cards) ≤ 1
+entries-once : (first : ℕ) (cards : List (Option CachedNode)) (place : ℕ) → sum_by (is_for place) (entries_from first cards) ≤ 1
 entries-once first [] place = omega arith
 entries-once first (None ∷ cards) place = entries-once (first + 1) cards place
 entries-once first (Some one ∷ cards) place = elim (cases_eq place first) [
@@ -190,7 +190,7 @@ rising-above least (entry ∷ index) rise first =
         let e : suc i + 1 ≡ suc (i + 1) = omega arith in
         subst (λ (j : ℕ). key_at index i < key_at (entry ∷ index) j) e low
 
-module _ (cards : List (Option Card)) (index : Keyed ℕ) (moved : IsPermutation (entries_from 0 cards) index) where
+module _ (cards : List (Option CachedNode)) (index : Keyed ℕ) (moved : IsPermutation (entries_from 0 cards) index) where
   told : (number place : ℕ) → Contains index (number, place) → number_at cards place ≡ Some number
   told number place has =
       let found = Contains-permutation index (entries_from 0 cards) (number, place) (IsPermutation-sym (entries_from 0 cards) index moved) has in

@@ -1,4 +1,4 @@
--- Cards with changes, and what changes keep.
+-- Cached nodes with changes, and what changes keep.
 use Rattle.std.proofs.Common.{◌≡◌, ◌≢◌, ◌<◌, ◌⊎◌, ℕ, zero, suc, List, [], ◌∷◌, ◌++◌, Option, Some, None, length, get_or, set, inl, inr, refl, sym, ap, ◌∙◌, subst, arith}
 use Rattle.std.proofs.lemmas.Bool.{cases_eq, cases_lt}
 use Rattle.std.proofs.lemmas.List.{length-set, get_or-set_same, get_or-set_other, get_or_past, get_or_default, set-set, set_comm}
@@ -9,7 +9,7 @@ use Rattle.std.proofs.lemmas.Option.{same_Some}
 use Rattle.model.specs.Keyed.{Keyed, at}
 use Rattle.model.proofs.KeyedLaws.{at-first, at-rest}
 use Rattle.model.proofs.OptionLaws.{some≢none}
-use Rattle.layout.specs.Cards.{Card}
+use Rattle.layout.specs.CachedNodes.{CachedNode}
 use Rattle.node_table.specs.Tables.{number_of, number_at, HaveOwnPlaces, HasNot}
 use Rattle.node_table.specs.Overlays.{changed, HaveOwnPlace, AreWithin, change_at, Overlaid, IsMade, IsFresh, CanBecome}
 
@@ -19,137 +19,137 @@ number_same (Some other) number = elim (cases_eq other number) [ inl e ↦ inl (
 
 -- ---- which places have changes
 
-pub at-off : (changes : Keyed (Option Card)) (place : ℕ) → ((i : ℕ) → i < length changes → (change_at changes i).0 ≢ place) → at place changes ≡ None
+pub at-off : (changes : Keyed (Option CachedNode)) (place : ℕ) → ((i : ℕ) → i < length changes → (change_at changes i).0 ≢ place) → at place changes ≡ None
 at-off [] place off = refl
 at-off (change ∷ changes) place off = at-rest change.0 place change.1 changes (λ e. off 0 (omega arith) (sym e)) ∙ at-off changes place (λ i h. off (suc i) (omega arith))
 
 -- of a place without a change no change is
-other-place : (change : ℕ × Option Card) (changes : Keyed (Option Card)) (place : ℕ) → at place (change ∷ changes) ≡ None → place ≢ change.0
+other-place : (change : ℕ × Option CachedNode) (changes : Keyed (Option CachedNode)) (place : ℕ) → at place (change ∷ changes) ≡ None → place ≢ change.0
 other-place change changes place none e = some≢none change.1 (sym (at-first change.0 place change.1 changes e) ∙ none)
 
-rest-none : (change : ℕ × Option Card) (changes : Keyed (Option Card)) (place : ℕ) → at place (change ∷ changes) ≡ None → at place changes ≡ None
+rest-none : (change : ℕ × Option CachedNode) (changes : Keyed (Option CachedNode)) (place : ℕ) → at place (change ∷ changes) ≡ None → at place changes ≡ None
 rest-none change changes place none = sym (at-rest change.0 place change.1 changes (other-place change changes place none)) ∙ none
 
-none-more : (change : ℕ × Option Card) (changes : Keyed (Option Card)) (place : ℕ) → place ≢ change.0 → at place changes ≡ None → at place (change ∷ changes) ≡ None
+none-more : (change : ℕ × Option CachedNode) (changes : Keyed (Option CachedNode)) (place : ℕ) → place ≢ change.0 → at place changes ≡ None → at place (change ∷ changes) ≡ None
 none-more change changes place off none = at-rest change.0 place change.1 changes off ∙ none
 
-off-each : (changes : Keyed (Option Card)) (place i : ℕ) → at place changes ≡ None → i < length changes → (change_at changes i).0 ≢ place
+off-each : (changes : Keyed (Option CachedNode)) (place i : ℕ) → at place changes ≡ None → i < length changes → (change_at changes i).0 ≢ place
 off-each [] place i none h e = absurd (omega arith)
 off-each (change ∷ changes) place zero none h e = other-place change changes place none (sym e)
 off-each (change ∷ changes) place (suc i) none h e = off-each changes place i (rest-none change changes place none) (omega arith) e
 
-pub at-some : (changes : Keyed (Option Card)) (place i : ℕ) → i < length changes → (change_at changes i).0 ≡ place → at place changes ≢ None
+pub at-some : (changes : Keyed (Option CachedNode)) (place i : ℕ) → i < length changes → (change_at changes i).0 ≡ place → at place changes ≢ None
 at-some changes place i h key none = off-each changes place i none h key
 
--- ---- the cards with changes
+-- ---- the cached nodes with changes
 
-pub changed-length : (cards : List (Option Card)) (changes : Keyed (Option Card)) → length (changed cards changes) ≡ length cards
+pub changed-length : (cards : List (Option CachedNode)) (changes : Keyed (Option CachedNode)) → length (changed cards changes) ≡ length cards
 changed-length cards [] = refl
 changed-length cards (change ∷ changes) = length-set (changed cards changes) change.0 change.1 ∙ changed-length cards changes
 
-pub changed-off : (cards : List (Option Card)) (changes : Keyed (Option Card)) (place : ℕ) → at place changes ≡ None → get_or (changed cards changes) place None ≡ get_or cards place None
+pub changed-off : (cards : List (Option CachedNode)) (changes : Keyed (Option CachedNode)) (place : ℕ) → at place changes ≡ None → get_or (changed cards changes) place None ≡ get_or cards place None
 changed-off cards [] place none = refl
 changed-off cards (change ∷ changes) place none =
     get_or-set_other (changed cards changes) change.0 place change.1 None (other-place change changes place none) ∙ changed-off cards changes place (rest-none change changes place none)
 
-pub changed-here : (cards : List (Option Card)) (changes : Keyed (Option Card)) (i : ℕ) → HaveOwnPlace changes → AreWithin (length cards) changes → i < length changes
+pub changed-here : (cards : List (Option CachedNode)) (changes : Keyed (Option CachedNode)) (i : ℕ) → HaveOwnPlace changes → AreWithin (length cards) changes → i < length changes
     → get_or (changed cards changes) (change_at changes i).0 None ≡ (change_at changes i).1
 changed-here cards [] i own within h = absurd (omega arith)
 changed-here cards (change ∷ changes) zero own within h = get_or-set_same (changed cards changes) change.0 change.1 None (omega (arith, changed-length cards changes, within.0))
 changed-here cards (change ∷ changes) (suc i) own within h =
     get_or-set_other (changed cards changes) change.0 (change_at changes i).0 change.1 None (off-each changes change.0 i own.0 (omega arith)) ∙ changed-here cards changes i own.1 within.1 (omega arith)
 
--- a change that is read tells the card of its place
-pub read-change : (cards : List (Option Card)) (changes : Keyed (Option Card)) (i place : ℕ) (read : ℕ × Option Card) → HaveOwnPlace changes → AreWithin (length cards) changes → i < length changes
+-- a change that is read tells the cached node of its place
+pub read-change : (cards : List (Option CachedNode)) (changes : Keyed (Option CachedNode)) (i place : ℕ) (read : ℕ × Option CachedNode) → HaveOwnPlace changes → AreWithin (length cards) changes → i < length changes
     → (change_at changes i).0 ≡ place → read ≡ get_or changes i read → get_or (changed cards changes) place None ≡ read.1
 read-change cards changes i place read own within h key is =
     ap (λ (k : ℕ). get_or (changed cards changes) k None) (sym key) ∙ changed-here cards changes i own within h
-    ∙ ap (λ (change : ℕ × Option Card). change.1) (sym (is ∙ get_or_default changes i read (0, None) h))
+    ∙ ap (λ (change : ℕ × Option CachedNode). change.1) (sym (is ∙ get_or_default changes i read (0, None) h))
 
-pub copied-some : (found : Option (Bor Card)) (there : Option Card) → there ≡ option_copied found → IfSome found (λ card. there ≡ Some card.now)
+pub copied-some : (found : Option (Bor CachedNode)) (there : Option CachedNode) → there ≡ option_copied found → IfSome found (λ card. there ≡ Some card.now)
 copied-some None there is = tt
 copied-some (Some card) there is = is
 
-pub copied-none : (found : Option (Bor Card)) (there : Option Card) → there ≡ option_copied found → IfNone found (there ≡ None)
+pub copied-none : (found : Option (Bor CachedNode)) (there : Option CachedNode) → there ≡ option_copied found → IfNone found (there ≡ None)
 copied-none None there is = is
 copied-none (Some card) there is = tt
 
--- no change is for the place, so the table's card stands there
-pub unchanged : (table : List (Option Card)) (changes : Keyed (Option Card)) (looked : Keyed (Option Card)) (seen : Overlaid) (place : ℕ) → looked ≡ changes → record { table = table; cards = changed table changes } ≡ seen
+-- no change is for the place, so the table's cached node stands there
+pub unchanged : (table : List (Option CachedNode)) (changes : Keyed (Option CachedNode)) (looked : Keyed (Option CachedNode)) (seen : Overlaid) (place : ℕ) → looked ≡ changes → record { table = table; cards = changed table changes } ≡ seen
     → ((i : ℕ) → i < length looked → (change_at looked i).0 ≢ place) → record { none : at place changes ≡ None; same : get_or seen.cards place None ≡ get_or table place None }
 unchanged table changes looked seen place is view off =
-    let none = at-off changes place (subst (λ (l : Keyed (Option Card)). (i : ℕ) → i < length l → (change_at l i).0 ≢ place) is off) in
+    let none = at-off changes place (subst (λ (l : Keyed (Option CachedNode)). (i : ℕ) → i < length l → (change_at l i).0 ≢ place) is off) in
     record { none = none; same = ap (λ (overlay : Overlaid). get_or overlay.cards place None) (sym view) ∙ changed-off table changes place none }
 
--- ---- another card in a change
+-- ---- another cached node in a change
 
-pub changed-exchange : (cards : List (Option Card)) (changes : Keyed (Option Card)) (i : ℕ) (card : Option Card) → HaveOwnPlace changes → i < length changes
+pub changed-exchange : (cards : List (Option CachedNode)) (changes : Keyed (Option CachedNode)) (i : ℕ) (card : Option CachedNode) → HaveOwnPlace changes → i < length changes
     → changed cards (set changes i ((change_at changes i).0, card)) ≡ set (changed cards changes) (change_at changes i).0 card
 changed-exchange cards [] i card own h = absurd (omega arith)
 changed-exchange cards (change ∷ changes) zero card own h = sym (set-set (changed cards changes) change.0 change.1 card)
 changed-exchange cards (change ∷ changes) (suc i) card own h =
-    ap (λ (l : List (Option Card)). set l change.0 change.1) (changed-exchange cards changes i card own.1 (omega arith))
+    ap (λ (l : List (Option CachedNode)). set l change.0 change.1) (changed-exchange cards changes i card own.1 (omega arith))
     ∙ set_comm (changed cards changes) (change_at changes i).0 change.0 card change.1 (off-each changes change.0 i own.0 (omega arith))
 
-at-exchange : (changes : Keyed (Option Card)) (place i : ℕ) (card : Option Card) → at place changes ≡ None → at place (set changes i ((change_at changes i).0, card)) ≡ None
+at-exchange : (changes : Keyed (Option CachedNode)) (place i : ℕ) (card : Option CachedNode) → at place changes ≡ None → at place (set changes i ((change_at changes i).0, card)) ≡ None
 at-exchange [] place i card none = none
 at-exchange (change ∷ changes) place zero card none = none-more (change.0, card) changes place (other-place change changes place none) (rest-none change changes place none)
 at-exchange (change ∷ changes) place (suc i) card none =
     none-more change (set changes i ((change_at changes i).0, card)) place (other-place change changes place none) (at-exchange changes place i card (rest-none change changes place none))
 
-pub own-exchange : (changes : Keyed (Option Card)) (i : ℕ) (card : Option Card) → HaveOwnPlace changes → HaveOwnPlace (set changes i ((change_at changes i).0, card))
+pub own-exchange : (changes : Keyed (Option CachedNode)) (i : ℕ) (card : Option CachedNode) → HaveOwnPlace changes → HaveOwnPlace (set changes i ((change_at changes i).0, card))
 own-exchange [] i card own = tt
 own-exchange (change ∷ changes) zero card own = own
 own-exchange (change ∷ changes) (suc i) card own = (at-exchange changes change.0 i card own.0, own-exchange changes i card own.1)
 
-pub within-exchange : (count : ℕ) (changes : Keyed (Option Card)) (i : ℕ) (card : Option Card) → AreWithin count changes → AreWithin count (set changes i ((change_at changes i).0, card))
+pub within-exchange : (count : ℕ) (changes : Keyed (Option CachedNode)) (i : ℕ) (card : Option CachedNode) → AreWithin count changes → AreWithin count (set changes i ((change_at changes i).0, card))
 within-exchange count [] i card within = tt
 within-exchange count (change ∷ changes) zero card within = within
 within-exchange count (change ∷ changes) (suc i) card within = (within.0, within-exchange count changes i card within.1)
 
 -- ---- a further change
 
-changed-first : (cards : List (Option Card)) (changes : Keyed (Option Card)) (place : ℕ) (card : Option Card) → at place changes ≡ None
+changed-first : (cards : List (Option CachedNode)) (changes : Keyed (Option CachedNode)) (place : ℕ) (card : Option CachedNode) → at place changes ≡ None
     → changed (set cards place card) changes ≡ set (changed cards changes) place card
 changed-first cards [] place card none = refl
 changed-first cards (change ∷ changes) place card none =
-    ap (λ (l : List (Option Card)). set l change.0 change.1) (changed-first cards changes place card (rest-none change changes place none))
+    ap (λ (l : List (Option CachedNode)). set l change.0 change.1) (changed-first cards changes place card (rest-none change changes place none))
     ∙ set_comm (changed cards changes) place change.0 card change.1 (other-place change changes place none)
 
 -- the last change may be made first
-pub changed-last : (cards : List (Option Card)) (changes : Keyed (Option Card)) (place : ℕ) (card : Option Card)
+pub changed-last : (cards : List (Option CachedNode)) (changes : Keyed (Option CachedNode)) (place : ℕ) (card : Option CachedNode)
     → changed cards (changes ++ (place, card) ∷ []) ≡ changed (set cards place card) changes
 changed-last cards [] place card = refl
-changed-last cards (change ∷ changes) place card = ap (λ (l : List (Option Card)). set l change.0 change.1) (changed-last cards changes place card)
+changed-last cards (change ∷ changes) place card = ap (λ (l : List (Option CachedNode)). set l change.0 change.1) (changed-last cards changes place card)
 
-pub changed-push : (cards : List (Option Card)) (changes : Keyed (Option Card)) (place : ℕ) (card : Option Card) → at place changes ≡ None
+pub changed-push : (cards : List (Option CachedNode)) (changes : Keyed (Option CachedNode)) (place : ℕ) (card : Option CachedNode) → at place changes ≡ None
     → changed cards (changes ++ (place, card) ∷ []) ≡ set (changed cards changes) place card
 changed-push cards changes place card none = changed-last cards changes place card ∙ changed-first cards changes place card none
 
-at-push : (changes : Keyed (Option Card)) (other place : ℕ) (card : Option Card) → at other changes ≡ None → other ≢ place → at other (changes ++ (place, card) ∷ []) ≡ None
+at-push : (changes : Keyed (Option CachedNode)) (other place : ℕ) (card : Option CachedNode) → at other changes ≡ None → other ≢ place → at other (changes ++ (place, card) ∷ []) ≡ None
 at-push [] other place card none off = at-rest place other card [] off
 at-push (change ∷ changes) other place card none off =
     none-more change (changes ++ (place, card) ∷ []) other (other-place change changes other none) (at-push changes other place card (rest-none change changes other none) off)
 
-pub own-push : (changes : Keyed (Option Card)) (place : ℕ) (card : Option Card) → HaveOwnPlace changes → at place changes ≡ None → HaveOwnPlace (changes ++ (place, card) ∷ [])
+pub own-push : (changes : Keyed (Option CachedNode)) (place : ℕ) (card : Option CachedNode) → HaveOwnPlace changes → at place changes ≡ None → HaveOwnPlace (changes ++ (place, card) ∷ [])
 own-push [] place card own none = (refl, tt)
 own-push (change ∷ changes) place card own none =
     (at-push changes change.0 place card own.0 (λ e. other-place change changes place none (sym e)), own-push changes place card own.1 (rest-none change changes place none))
 
-pub within-push : (count : ℕ) (changes : Keyed (Option Card)) (place : ℕ) (card : Option Card) → AreWithin count changes → place < count → AreWithin count (changes ++ (place, card) ∷ [])
+pub within-push : (count : ℕ) (changes : Keyed (Option CachedNode)) (place : ℕ) (card : Option CachedNode) → AreWithin count changes → place < count → AreWithin count (changes ++ (place, card) ∷ [])
 within-push count [] place card within h = (h, tt)
 within-push count (change ∷ changes) place card within h = (within.0, within-push count changes place card within.1 h)
 
 -- ---- without the last change
 
-at-front : (changes : Keyed (Option Card)) (other place : ℕ) (card : Option Card) → at other (changes ++ (place, card) ∷ []) ≡ None → (at other changes ≡ None) × (other ≢ place)
+at-front : (changes : Keyed (Option CachedNode)) (other place : ℕ) (card : Option CachedNode) → at other (changes ++ (place, card) ∷ []) ≡ None → (at other changes ≡ None) × (other ≢ place)
 at-front [] other place card none = (refl, other-place (place, card) [] other none)
 at-front (change ∷ changes) other place card none =
     let off = other-place change (changes ++ (place, card) ∷ []) other none in
     let rest = at-front changes other place card (rest-none change (changes ++ (place, card) ∷ []) other none) in
     (none-more change changes other off rest.0, rest.1)
 
-pub own-front : (changes : Keyed (Option Card)) (place : ℕ) (card : Option Card) → HaveOwnPlace (changes ++ (place, card) ∷ []) → HaveOwnPlace changes × (at place changes ≡ None)
+pub own-front : (changes : Keyed (Option CachedNode)) (place : ℕ) (card : Option CachedNode) → HaveOwnPlace (changes ++ (place, card) ∷ []) → HaveOwnPlace changes × (at place changes ≡ None)
 own-front [] place card own = (tt, refl)
 own-front (change ∷ changes) place card own =
     let rest = own-front changes place card own.1 in
@@ -159,7 +159,7 @@ own-front (change ∷ changes) place card own =
 -- ---- the place of a number
 
 -- where no change puts the number, a node has it only at a place without a change
-there-unchanged : (cards : List (Option Card)) (changes : Keyed (Option Card)) (place number : ℕ) → ((i : ℕ) → i < length changes → number_of (change_at changes i).1 ≢ Some number)
+there-unchanged : (cards : List (Option CachedNode)) (changes : Keyed (Option CachedNode)) (place number : ℕ) → ((i : ℕ) → i < length changes → number_of (change_at changes i).1 ≢ Some number)
     → number_at (changed cards changes) place ≡ Some number → (at place changes ≡ None) × (number_at cards place ≡ Some number)
 there-unchanged cards [] place number none is = (refl, is)
 there-unchanged cards (change ∷ changes) place number none is = elim (cases_eq place change.0) [
@@ -173,11 +173,11 @@ there-unchanged cards (change ∷ changes) place number none is = elim (cases_eq
       (none-more change changes place off rest.0, rest.1)
 ]
 
-pub has-not : (cards : List (Option Card)) (changes : Keyed (Option Card)) (number : ℕ) → ((i : ℕ) → i < length changes → number_of (change_at changes i).1 ≢ Some number)
+pub has-not : (cards : List (Option CachedNode)) (changes : Keyed (Option CachedNode)) (number : ℕ) → ((i : ℕ) → i < length changes → number_of (change_at changes i).1 ≢ Some number)
     → HasNot cards number → HasNot (changed cards changes) number
 has-not cards changes number none absent place is = absent place (there-unchanged cards changes place number none is).1
 
-pub has-not_changed : (cards : List (Option Card)) (changes : Keyed (Option Card)) (number place : ℕ) → ((i : ℕ) → i < length changes → number_of (change_at changes i).1 ≢ Some number)
+pub has-not_changed : (cards : List (Option CachedNode)) (changes : Keyed (Option CachedNode)) (number place : ℕ) → ((i : ℕ) → i < length changes → number_of (change_at changes i).1 ≢ Some number)
     → HaveOwnPlaces cards → number_at cards place ≡ Some number → at place changes ≢ None → HasNot (changed cards changes) number
 has-not_changed cards changes number place none own there put other is =
     let left = there-unchanged cards changes other number none is in
@@ -185,7 +185,7 @@ has-not_changed cards changes number place none own there put other is =
 
 -- ---- a table becomes another, place by place
 
-module _ (cards target : List (Option Card)) (place : ℕ) (card : Option Card) (here : place < length cards → get_or target place None ≡ card) (long : length target ≡ length cards) where
+module _ (cards target : List (Option CachedNode)) (place : ℕ) (card : Option CachedNode) (here : place < length cards → get_or target place None ≡ card) (long : length target ≡ length cards) where
   -- the place has the target's number
   same-here : number_at (set cards place card) place ≡ number_at target place
   same-here = elim (cases_lt place (length cards)) [
@@ -218,12 +218,12 @@ module _ (cards target : List (Option Card)) (place : ℕ) (card : Option Card) 
 
 -- ---- changes go into a table one by one, from the last one back
 
-pub record IsSettling (cards target : List (Option Card)) (left : Keyed (Option Card)) : Type 0 where
+pub record IsSettling (cards target : List (Option CachedNode)) (left : Keyed (Option CachedNode)) : Type 0 where
   pub can : CanBecome cards target
   pub leads : changed cards left ≡ target
   pub own : HaveOwnPlace left
 
-module _ (cards target : List (Option Card)) (left : Keyed (Option Card)) (place : ℕ) (card : Option Card) (settling : IsSettling cards target (left ++ (place, card) ∷ [])) where
+module _ (cards target : List (Option CachedNode)) (left : Keyed (Option CachedNode)) (place : ℕ) (card : Option CachedNode) (settling : IsSettling cards target (left ++ (place, card) ∷ [])) where
   front : HaveOwnPlace left × (at place left ≡ None)
   front = own-front left place card settling.own
 
@@ -231,7 +231,7 @@ module _ (cards target : List (Option Card)) (left : Keyed (Option Card)) (place
   led = sym (changed-last cards left place card) ∙ settling.leads
 
   target-here : place < length cards → get_or target place None ≡ card
-  target-here low = ap (λ (l : List (Option Card)). get_or l place None) (sym led) ∙ changed-off (set cards place card) left place front.1 ∙ get_or-set_same cards place card None low
+  target-here low = ap (λ (l : List (Option CachedNode)). get_or l place None) (sym led) ∙ changed-off (set cards place card) left place front.1 ∙ get_or-set_same cards place card None low
 
   pub settle-fresh : (number : ℕ) → number_of card ≡ Some number → place < length cards → number_at cards place ≢ Some number → IsFresh cards number
   settle-fresh number is low before = settling.can.fresh place number (record { now = ap number_of (target-here low) ∙ is; before = before })

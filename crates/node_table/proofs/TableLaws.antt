@@ -1,4 +1,4 @@
--- What a table keeps beside its cards, after each change.
+-- What a table keeps beside its cached nodes, after each change.
 use Rattle.std.proofs.Common.{◌≡◌, ◌≢◌, ◌≤◌, ◌<◌, ◌+◌, ◌*◌, ℕ, zero, suc, List, [], ◌∷◌, ◌++◌, Option, Some, None, length, get_or, set, replicate, inl, inr, refl, sym, ap, ◌∙◌, subst, arith, eqb, eq-eqb, ne_eqb}
 use Rattle.std.specs.List.{remove}
 use Rattle.std.proofs.lemmas.Bool.{cases_eq, cases_lt}
@@ -9,7 +9,7 @@ use Rattle.std.proofs.lemmas.List.Edits.{length-remove}
 use Rattle.model.specs.Keyed.{Keyed, at, with, without, IsAbove}
 use Rattle.model.proofs.KeyedLaws.{at-with_same, at-with_other, at-without_same, at-without_other, IsAbove-with, IsAbove-without}
 use Rattle.model.proofs.OptionLaws.{some≢none}
-use Rattle.layout.specs.Cards.{Card}
+use Rattle.layout.specs.CachedNodes.{CachedNode}
 use Rattle.layout.specs.Marks.{once_if, times}
 use Rattle.layout.specs.SumLaws.{sum_over}
 use Rattle.layout.proofs.Formatted.{nones-at}
@@ -19,11 +19,11 @@ use Rattle.node_table.proofs.IndexLaws.{with-last, without-entry}
 
 -- ---- sums
 
-abbrev worth_there : (Card → ℕ) → Option Card → ℕ
+abbrev worth_there : (CachedNode → ℕ) → Option CachedNode → ℕ
 worth_there worth None = 0
 worth_there worth (Some card) = worth card
 
-sum-set : (worth : Card → ℕ) (cards : List (Option Card)) (place : ℕ) (card : Option Card) → place < length cards
+sum-set : (worth : CachedNode → ℕ) (cards : List (Option CachedNode)) (place : ℕ) (card : Option CachedNode) → place < length cards
     → sum_over worth (set cards place card) + worth_there worth (get_or cards place None) ≡ sum_over worth cards + worth_there worth card
 sum-set worth [] place card h = absurd (omega arith)
 sum-set worth (None ∷ cards) zero None h = refl
@@ -33,24 +33,24 @@ sum-set worth (Some one ∷ cards) zero (Some card) h = omega arith
 sum-set worth (None ∷ cards) (suc place) card h = sum-set worth cards place card (omega arith)
 sum-set worth (Some one ∷ cards) (suc place) card h = omega (arith, sum-set worth cards place card (omega arith))
 
-charge-there : (card : Option Card) → worth_there charge_of card ≡ charge_there card
+charge-there : (card : Option CachedNode) → worth_there charge_of card ≡ charge_there card
 charge-there None = refl
 charge-there (Some card) = refl
 
-pub charge-set : (cards : List (Option Card)) (place : ℕ) (card : Option Card) → place < length cards
+pub charge-set : (cards : List (Option CachedNode)) (place : ℕ) (card : Option CachedNode) → place < length cards
     → charge_of_all (set cards place card) + charge_there (get_or cards place None) ≡ charge_of_all cards + charge_there card
 charge-set cards place card h = omega (arith, sum-set charge_of cards place card h, charge-there (get_or cards place None), charge-there card)
 
-pub charge-most : (card : Card) → length card.blocks ≤ 4096 → charge_of card ≤ 4105
+pub charge-most : (card : CachedNode) → length card.blocks ≤ 4096 → charge_of card ≤ 4105
 charge-most card few = omega arith
 
-pub charges-most : (cards : List (Option Card)) → ((place : ℕ) (card : Card) → get_or cards place None ≡ Some card → length card.blocks ≤ 4096) → charge_of_all cards ≤ 4105 * length cards
+pub charges-most : (cards : List (Option CachedNode)) → ((place : ℕ) (card : CachedNode) → get_or cards place None ≡ Some card → length card.blocks ≤ 4096) → charge_of_all cards ≤ 4105 * length cards
 charges-most [] each = omega arith
 charges-most (None ∷ cards) each = omega (arith, charges-most cards (λ place card is. each (suc place) card is))
 charges-most (Some one ∷ cards) each = omega (arith, charge-most one (each 0 one refl), charges-most cards (λ place card is. each (suc place) card is))
 
 -- what is there is part of the sum
-pub charge-within : (cards : List (Option Card)) (place : ℕ) → charge_there (get_or cards place None) ≤ charge_of_all cards
+pub charge-within : (cards : List (Option CachedNode)) (place : ℕ) → charge_there (get_or cards place None) ≤ charge_of_all cards
 charge-within [] place = omega arith
 charge-within (None ∷ cards) zero = omega arith
 charge-within (Some one ∷ cards) zero = omega arith
@@ -59,12 +59,12 @@ charge-within (Some one ∷ cards) (suc place) = omega (arith, charge-within car
 
 -- ---- free places
 
-vacant-here : (cards : List (Option Card)) (place : ℕ) (card : Option Card) → place < length cards → vacant place (set cards place card) ≡ vacancy card
+vacant-here : (cards : List (Option CachedNode)) (place : ℕ) (card : Option CachedNode) → place < length cards → vacant place (set cards place card) ≡ vacancy card
 vacant-here [] place card h = absurd (omega arith)
 vacant-here (one ∷ cards) zero card h = refl
 vacant-here (one ∷ cards) (suc place) card h = vacant-here cards place card (omega arith)
 
-vacant-elsewhere : (cards : List (Option Card)) (place : ℕ) (card : Option Card) (n : ℕ) → n ≢ place → vacant n (set cards place card) ≡ vacant n cards
+vacant-elsewhere : (cards : List (Option CachedNode)) (place : ℕ) (card : Option CachedNode) (n : ℕ) → n ≢ place → vacant n (set cards place card) ≡ vacant n cards
 vacant-elsewhere [] place card n off = refl
 vacant-elsewhere (one ∷ cards) zero card zero off = absurd (off refl)
 vacant-elsewhere (one ∷ cards) zero card (suc n) off = refl
@@ -80,18 +80,18 @@ pub times-push : (n : ℕ) (numbers : List ℕ) (one : ℕ) → times n (numbers
 times-push n [] one = omega arith
 times-push n (x ∷ numbers) one = omega (arith, times-push n numbers one)
 
-pub vacant-free : (cards : List (Option Card)) (place : ℕ) → IsFree cards place → vacant place cards ≡ 1
+pub vacant-free : (cards : List (Option CachedNode)) (place : ℕ) → IsFree cards place → vacant place cards ≡ 1
 vacant-free [] place free = absurd (omega (arith, free.within))
 vacant-free (one ∷ cards) zero free = ap vacancy free.free
 vacant-free (one ∷ cards) (suc place) free = vacant-free cards place (record { within = omega (arith, free.within); free = free.free })
 
-pub free-vacant : (cards : List (Option Card)) (place : ℕ) → 0 < vacant place cards → IsFree cards place
+pub free-vacant : (cards : List (Option CachedNode)) (place : ℕ) → 0 < vacant place cards → IsFree cards place
 free-vacant [] place some = absurd (omega arith)
 free-vacant (None ∷ cards) zero some = record { within = omega arith; free = refl }
 free-vacant (Some one ∷ cards) zero some = absurd (omega arith)
 free-vacant (one ∷ cards) (suc place) some = let rest = free-vacant cards place some in record { within = omega (arith, rest.within); free = rest.free }
 
-vacant-taken : (cards : List (Option Card)) (place number : ℕ) → number_at cards place ≡ Some number → vacant place cards ≡ 0
+vacant-taken : (cards : List (Option CachedNode)) (place number : ℕ) → number_at cards place ≡ Some number → vacant place cards ≡ 0
 vacant-taken [] place number is = refl
 vacant-taken (None ∷ cards) zero number is = absurd (some≢none number (sym is))
 vacant-taken (Some one ∷ cards) zero number is = refl
@@ -99,36 +99,37 @@ vacant-taken (one ∷ cards) (suc place) number is = vacant-taken cards place nu
 
 -- ---- numbers
 
-pub within-numbered : (cards : List (Option Card)) (place number : ℕ) → number_at cards place ≡ Some number → place < length cards
+pub within-numbered : (cards : List (Option CachedNode)) (place number : ℕ) → number_at cards place ≡ Some number → place < length cards
 within-numbered cards place number is = elim (cases_lt place (length cards)) [
   | inl low ↦ low
   | inr high ↦ absurd (some≢none number (sym is ∙ ap number_of (get_or_past cards place None high)))
 ]
 
-number-here : (cards : List (Option Card)) (place : ℕ) (card : Option Card) → place < length cards → number_at (set cards place card) place ≡ number_of card
+number-here : (cards : List (Option CachedNode)) (place : ℕ) (card : Option CachedNode) → place < length cards → number_at (set cards place card) place ≡ number_of card
 number-here cards place card h = ap number_of (get_or-set_same cards place card None h)
 
-number-elsewhere : (cards : List (Option Card)) (place : ℕ) (card : Option Card) (n : ℕ) → n ≢ place → number_at (set cards place card) n ≡ number_at cards n
+number-elsewhere : (cards : List (Option CachedNode)) (place : ℕ) (card : Option CachedNode) (n : ℕ) → n ≢ place → number_at (set cards place card) n ≡ number_at cards n
 number-elsewhere cards place card n off = ap number_of (get_or-set_other cards place n card None off)
 
-each-set : (cards : List (Option Card)) (place : ℕ) (card : Option Card) → place < length cards → ((one : Card) → card ≡ Some one → length one.blocks ≤ 4096)
-    → ((p : ℕ) (one : Card) → get_or cards p None ≡ Some one → length one.blocks ≤ 4096) → (p : ℕ) (one : Card) → get_or (set cards place card) p None ≡ Some one → length one.blocks ≤ 4096
+each-set : (cards : List (Option CachedNode)) (place : ℕ) (card : Option CachedNode) → place < length cards → ((one : CachedNode) → card ≡ Some one → length one.blocks ≤ 4096)
+    → ((p : ℕ) (one : CachedNode) → get_or cards p None ≡ Some one → length one.blocks ≤ 4096) → (p : ℕ) (one : CachedNode) → get_or (set cards place card) p None ≡ Some one → length one.blocks ≤ 4096
 each-set cards place card h few each p one is = elim (cases_eq p place) [
   | inl here ↦ few one (sym (get_or-set_same cards place card None h) ∙ ap (λ (n : ℕ). get_or (set cards place card) n None) (sym here) ∙ is)
   | inr off ↦ each p one (sym (get_or-set_other cards place p card None off) ∙ is)
 ]
 
-counts : (cards : List (Option Card)) (place : ℕ) (card : Option Card) → place < length cards
+counts : (cards : List (Option CachedNode)) (place : ℕ) (card : Option CachedNode)
+    → place < length cards
     → count_of_all (set cards place card) + worth_there (λ c. 1) (get_or cards place None) ≡ count_of_all cards + worth_there (λ c. 1) card
 counts = sum-set (λ c. 1)
 
-count-there : (card : Option Card) (number : ℕ) → number_of card ≡ Some number → worth_there (λ c. 1) card ≡ 1
+count-there : (card : Option CachedNode) (number : ℕ) → number_of card ≡ Some number → worth_there (λ c. 1) card ≡ 1
 count-there None number is = absurd (some≢none number (sym is))
 count-there (Some card) number is = refl
 
 -- ---- a node is made
 
-module _ (cards : List (Option Card)) (index : Keyed ℕ) (free : List ℕ) (charge place : ℕ) (card : Card) (kept : IsKept cards index free charge) (is_free : IsFree cards place) (some : 0 < card.fields.number) (below : AreBelow cards card.fields.number) where
+module _ (cards : List (Option CachedNode)) (index : Keyed ℕ) (free : List ℕ) (charge place : ℕ) (card : CachedNode) (kept : IsKept cards index free charge) (is_free : IsFree cards place) (some : 0 < card.fields.number) (below : AreBelow cards card.fields.number) where
   number_of_none : number_at cards place ≡ None
   number_of_none = ap number_of is_free.free
 
@@ -167,7 +168,7 @@ module _ (cards : List (Option Card)) (index : Keyed ℕ) (free : List ℕ) (cha
       let longer = length-append index ((card.fields.number, place) ∷ []) in
       record {
         few = omega (arith, length-set cards place (Some card), kept.few);
-        each = each-set cards place (Some card) is_free.within (λ one is. subst (λ (c : Card). length c.blocks ≤ 4096) (same_Some card one is) few) kept.each;
+        each = each-set cards place (Some card) is_free.within (λ one is. subst (λ (c : CachedNode). length c.blocks ≤ 4096) (same_Some card one is) few) kept.each;
         rising = subst (IsAbove 0) pushed (IsAbove-with index card.fields.number 0 place kept.rising some);
         found = λ number n is. found_made number n (ap (at number) pushed ∙ is);
         indexed = λ number n is. ap (at number) (sym pushed) ∙ indexed_made number n is;
@@ -182,7 +183,7 @@ module _ (cards : List (Option Card)) (index : Keyed ℕ) (free : List ℕ) (cha
 
 -- ---- a node is replaced
 
-pub replaced : (cards : List (Option Card)) (index : Keyed ℕ) (free : List ℕ) (charge place charged : ℕ) (card : Card) → IsKept cards index free charge → number_at cards place ≡ Some card.fields.number
+pub replaced : (cards : List (Option CachedNode)) (index : Keyed ℕ) (free : List ℕ) (charge place charged : ℕ) (card : CachedNode) → IsKept cards index free charge → number_at cards place ≡ Some card.fields.number
     → length card.blocks ≤ 4096 → charged + charge_there (get_or cards place None) ≡ charge + charge_of card → IsKept (set cards place (Some card)) index free charged
 replaced cards index free charge place charged card kept there few charged_is =
     let within = within-numbered cards place card.fields.number there in
@@ -192,7 +193,7 @@ replaced cards index free charge place charged card kept there few charged_is =
     ] in
     record {
       few = omega (arith, length-set cards place (Some card), kept.few);
-      each = each-set cards place (Some card) within (λ one is. subst (λ (c : Card). length c.blocks ≤ 4096) (same_Some card one is) few) kept.each;
+      each = each-set cards place (Some card) within (λ one is. subst (λ (c : CachedNode). length c.blocks ≤ 4096) (same_Some card one is) few) kept.each;
       rising = kept.rising;
       found = λ number n is. same n ∙ kept.found number n is;
       indexed = λ number n is. kept.indexed number n (sym (same n) ∙ is);
@@ -207,7 +208,7 @@ replaced cards index free charge place charged card kept there few charged_is =
 
 -- ---- a node is removed
 
-module _ (cards : List (Option Card)) (index : Keyed ℕ) (free : List ℕ) (charge place number : ℕ) (kept : IsKept cards index free charge) (there : number_at cards place ≡ Some number) where
+module _ (cards : List (Option CachedNode)) (index : Keyed ℕ) (free : List ℕ) (charge place number : ℕ) (kept : IsKept cards index free charge) (there : number_at cards place ≡ Some number) where
   within : place < length cards
   within = within-numbered cards place number there
 
@@ -288,35 +289,35 @@ first-more done free are n =
       | inr off ↦ omega (arith, times-push n free done, are n, named, ap once_if (ne_eqb n done off), vacant-off done n off)
     ]
 
-pub nones-more : (count : ℕ) → replicate {A = Option Card} count None ++ None ∷ [] ≡ replicate (count + 1) None
+pub nones-more : (count : ℕ) → replicate {A = Option CachedNode} count None ++ None ∷ [] ≡ replicate (count + 1) None
 nones-more zero = refl
-nones-more (suc count) = let next : suc count + 1 ≡ suc (count + 1) = omega arith in ap (λ (l : List (Option Card)). None ∷ l) (nones-more count) ∙ ap (λ (n : ℕ). replicate n None) (sym next)
+nones-more (suc count) = let next : suc count + 1 ≡ suc (count + 1) = omega arith in ap (λ (l : List (Option CachedNode)). None ∷ l) (nones-more count) ∙ ap (λ (n : ℕ). replicate n None) (sym next)
 
 -- the last free place, if there is one
-pub free_found : (cards : List (Option Card)) (index : Keyed ℕ) (free : List ℕ) (charge i : ℕ) (found : Option ℕ) → IsKept cards index free charge → found ≡ slice_get free i → IfSome found (IsFree cards)
+pub free_found : (cards : List (Option CachedNode)) (index : Keyed ℕ) (free : List ℕ) (charge i : ℕ) (found : Option ℕ) → IsKept cards index free charge → found ≡ slice_get free i → IfSome found (IsFree cards)
 free_found cards index free charge i None kept is = tt
 free_found cards index free charge i (Some place) kept is =
     let there = times-some place free i 0 (slice_get_within free i place (sym is)) (get_or_from_slice_get free i place 0 (sym is)) in
     free-vacant cards place (omega (arith, kept.places place))
 
-none-worth : (worth : Card → ℕ) (count : ℕ) → sum_over worth (replicate count None) ≡ 0
+none-worth : (worth : CachedNode → ℕ) (count : ℕ) → sum_over worth (replicate count None) ≡ 0
 none-worth worth zero = refl
 none-worth worth (suc count) = none-worth worth count
 
 pub kept_none : (count : ℕ) (free : List ℕ) → count ≤ 16384 → AreFirst count free → length free ≡ count → IsKept (replicate count None) [] free 0
 kept_none count free few are len = record {
-  few = omega (arith, length-replicate {A = Option Card} count None);
+  few = omega (arith, length-replicate {A = Option CachedNode} count None);
   each = λ place card is. absurd (some≢none card (sym is ∙ nones-at count place));
   rising = tt;
   found = λ number place is. absurd (some≢none place (sym is));
   indexed = λ number place is. absurd (some≢none number (sym is ∙ ap number_of (nones-at count place)));
   places = are;
-  whole = omega (arith, length-replicate {A = Option Card} count None);
+  whole = omega (arith, length-replicate {A = Option CachedNode} count None);
   count_is = sym (none-worth (λ c. 1) count);
   charge_is = sym (none-worth charge_of count);
 }
 
--- each number has one place, also among the cards by their other name
-pub own-places : (cards : List (Option Card)) (index : Keyed ℕ) (free : List ℕ) (charge : ℕ) (seen : List (Option Card)) → IsKept cards index free charge → cards ≡ seen → HaveOwnPlaces seen
+-- each number has one place, also among the cached nodes by their other name
+pub own-places : (cards : List (Option CachedNode)) (index : Keyed ℕ) (free : List ℕ) (charge : ℕ) (seen : List (Option CachedNode)) → IsKept cards index free charge → cards ≡ seen → HaveOwnPlaces seen
 own-places cards index free charge seen kept is =
     subst HaveOwnPlaces is (λ place other number here there. same_Some place other (sym (kept.indexed number place here) ∙ kept.indexed number other there))

@@ -1,7 +1,7 @@
 -- Numbers and places by rising number, as they stand in memory.
 use Rattle.std.specs.Prelude.{◌≡◌, ◌≢◌, ◌<◌, ◌+◌, ℕ, List, [], ◌∷◌, Option, Some, None, length, slice_index_or}
 use Rattle.model.specs.Keyed.{Keyed}
-use Rattle.layout.specs.Cards.{Card}
+use Rattle.layout.specs.CachedNodes.{CachedNode}
 
 abbrev pub key_at : Keyed ℕ → ℕ → ℕ
 key_at index i = let entry = slice_index_or index i (0, 0) in entry.0
@@ -12,7 +12,7 @@ pub record IsAt (index : Keyed ℕ) (number i : ℕ) : Type 0 where
   pub is : key_at index i ≡ number
 
 -- the entries of the nodes in the order of their places, of which this is the first one
-abbrev pub entries_from : (first : ℕ) → List (Option Card) → Keyed ℕ
+abbrev pub entries_from : (first : ℕ) → List (Option CachedNode) → Keyed ℕ
 entries_from first [] = []
 entries_from first (None ∷ cards) = entries_from (first + 1) cards
 entries_from first (Some card ∷ cards) =

@@ -1,50 +1,50 @@
--- Cards in place of some of a table's.
+-- Cached nodes in place of some of a table's.
 use Rattle.std.specs.Prelude.{◌≡◌, ◌≢◌, ◌<◌, ℕ, List, [], ◌∷◌, Option, Some, None, set}
 use Rattle.std.specs.Prelude.{slice_index_or}
 use Rattle.model.specs.Keyed.{Keyed, at}
-use Rattle.layout.specs.Cards.{Card}
+use Rattle.layout.specs.CachedNodes.{CachedNode}
 use Rattle.node_table.specs.Tables.{number_at, AreBelow}
 
--- the cards of a table, and the ones that stand now
+-- the cached nodes of a table, and the ones that stand now
 pub record Overlaid : Type 0 where
-  pub table : List (Option Card)
-  pub cards : List (Option Card)
+  pub table : List (Option CachedNode)
+  pub cards : List (Option CachedNode)
 
--- Changes: cards, or none, by the places that they are for
+-- Changes: cached nodes, or none, by the places that they are for
 
--- the cards with these changes
-abbrev pub changed : List (Option Card) → Keyed (Option Card) → List (Option Card)
+-- the cached nodes with these changes
+abbrev pub changed : List (Option CachedNode) → Keyed (Option CachedNode) → List (Option CachedNode)
 changed cards [] = cards
 changed cards (change ∷ changes) = set (changed cards changes) change.0 change.1
 
 -- no place has two
-abbrev pub HaveOwnPlace : Keyed (Option Card) → Type 0
+abbrev pub HaveOwnPlace : Keyed (Option CachedNode) → Type 0
 HaveOwnPlace [] = Unit {0}
 HaveOwnPlace (change ∷ changes) = (at change.0 changes ≡ None) × HaveOwnPlace changes
 
 -- each is for one of so many places
-abbrev pub AreWithin : (count : ℕ) → Keyed (Option Card) → Type 0
+abbrev pub AreWithin : (count : ℕ) → Keyed (Option CachedNode) → Type 0
 AreWithin count [] = Unit {0}
 AreWithin count (change ∷ changes) = (change.0 < count) × AreWithin count changes
 
 -- change i
-abbrev pub change_at : Keyed (Option Card) → (i : ℕ) → ℕ × Option Card
+abbrev pub change_at : Keyed (Option CachedNode) → (i : ℕ) → ℕ × Option CachedNode
 change_at changes i = slice_index_or changes i (0, None)
 
 -- What a table may become
 
 -- a node stands at a place where none of its number stood
-pub record IsMade (old new : List (Option Card)) (place number : ℕ) : Type 0 where
+pub record IsMade (old new : List (Option CachedNode)) (place number : ℕ) : Type 0 where
   pub now : number_at new place ≡ Some number
   pub before : number_at old place ≢ Some number
 
 -- a number above 0 and above those of all nodes
-pub record IsFresh (cards : List (Option Card)) (number : ℕ) : Type 0 where
+pub record IsFresh (cards : List (Option CachedNode)) (number : ℕ) : Type 0 where
   pub some : 0 < number
   pub above : AreBelow cards number
 
 -- nodes are removed and replaced, and one at most is made, of a fresh number
-pub record CanBecome (old new : List (Option Card)) : Type 0 where
+pub record CanBecome (old new : List (Option CachedNode)) : Type 0 where
   pub fresh : (place number : ℕ) → IsMade old new place number → IsFresh old number
   pub one : (place number other another : ℕ) → IsMade old new place number
       → IsMade old new other another → place ≡ other

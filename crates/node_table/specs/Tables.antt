@@ -1,78 +1,78 @@
--- A table of cards, and what is kept beside it.
+-- A table of cached nodes, and what is kept beside it.
 use Rattle.std.specs.Prelude.{◌≡◌, ◌≢◌, ◌≤◌, ◌<◌, ◌+◌, ℕ, zero, suc, List, [], ◌∷◌, Option, Some, None, length, slice_index_or}
 use Rattle.model.specs.Charge.{charge_of_blocks}
 use Rattle.model.specs.Keyed.{Keyed, at, IsAbove}
-use Rattle.layout.specs.Cards.{Card}
+use Rattle.layout.specs.CachedNodes.{CachedNode}
 use Rattle.layout.specs.Marks.{times}
 use Rattle.layout.specs.SumLaws.{sum_over}
 
 -- the number of a node, and of the one at a place
 
-abbrev pub number_of : Option Card → Option ℕ
+abbrev pub number_of : Option CachedNode → Option ℕ
 number_of None = None
 number_of (Some card) = Some card.fields.number
 
-abbrev pub number_at : List (Option Card) → (place : ℕ) → Option ℕ
+abbrev pub number_at : List (Option CachedNode) → (place : ℕ) → Option ℕ
 number_at cards place = number_of (slice_index_or cards place None)
 
 -- each number has one place
-abbrev pub HaveOwnPlaces : List (Option Card) → Type 0
+abbrev pub HaveOwnPlaces : List (Option CachedNode) → Type 0
 HaveOwnPlaces cards = (place other number : ℕ) → number_at cards place ≡ Some number
     → number_at cards other ≡ Some number → place ≡ other
 
 -- no node has the number, and each one has a lower one
-abbrev pub HasNot : List (Option Card) → (number : ℕ) → Type 0
+abbrev pub HasNot : List (Option CachedNode) → (number : ℕ) → Type 0
 HasNot cards number = (place : ℕ) → number_at cards place ≢ Some number
 
-abbrev pub AreBelow : List (Option Card) → (number : ℕ) → Type 0
+abbrev pub AreBelow : List (Option CachedNode) → (number : ℕ) → Type 0
 AreBelow cards number = (place other : ℕ) → number_at cards place ≡ Some other → other < number
 
 -- each number is above 0
-abbrev pub AreNumbered : List (Option Card) → Type 0
+abbrev pub AreNumbered : List (Option CachedNode) → Type 0
 AreNumbered cards = (place number : ℕ) → number_at cards place ≡ Some number → 0 < number
 
 -- a place that is there and free
-pub record IsFree (cards : List (Option Card)) (place : ℕ) : Type 0 where
+pub record IsFree (cards : List (Option CachedNode)) (place : ℕ) : Type 0 where
   pub within : place < length cards
   pub free : slice_index_or cards place None ≡ None
 
 -- no place is free
-abbrev pub AreTaken : List (Option Card) → Type 0
+abbrev pub AreTaken : List (Option CachedNode) → Type 0
 AreTaken cards = (place : ℕ) → place < length cards → slice_index_or cards place None ≢ None
 
 -- what a node takes of the data region, and what all of them take; how many they are
 
-abbrev pub charge_of : Card → ℕ
+abbrev pub charge_of : CachedNode → ℕ
 charge_of card = charge_of_blocks (length card.blocks)
 
-abbrev pub charge_there : Option Card → ℕ
+abbrev pub charge_there : Option CachedNode → ℕ
 charge_there None = 0
 charge_there (Some card) = charge_of card
 
-abbrev pub charge_of_all : List (Option Card) → ℕ
+abbrev pub charge_of_all : List (Option CachedNode) → ℕ
 charge_of_all cards = sum_over charge_of cards
 
-abbrev pub count_of_all : List (Option Card) → ℕ
+abbrev pub count_of_all : List (Option CachedNode) → ℕ
 count_of_all cards = sum_over (λ card. 1) cards
 
 -- no node has more than 4,096 blocks
-abbrev pub AreFew : List (Option Card) → Type 0
-AreFew cards = (place : ℕ) (card : Card) → slice_index_or cards place None ≡ Some card
+abbrev pub AreFew : List (Option CachedNode) → Type 0
+AreFew cards = (place : ℕ) (card : CachedNode) → slice_index_or cards place None ≡ Some card
     → length card.blocks ≤ 4096
 
 -- how often a place is free
 
-abbrev pub vacancy : Option Card → ℕ
+abbrev pub vacancy : Option CachedNode → ℕ
 vacancy None = 1
 vacancy (Some card) = 0
 
-abbrev pub vacant : (place : ℕ) → List (Option Card) → ℕ
+abbrev pub vacant : (place : ℕ) → List (Option CachedNode) → ℕ
 vacant place [] = 0
 vacant zero (card ∷ cards) = vacancy card
 vacant (suc place) (card ∷ cards) = vacant place cards
 
--- The places by number, the free places, and the sum of the charges, beside the cards
-pub record IsKept (cards : List (Option Card)) (index : Keyed ℕ) (free : List ℕ) (charge : ℕ)
+-- The places by number, the free places, and the sum of the charges, beside the cached nodes
+pub record IsKept (cards : List (Option CachedNode)) (index : Keyed ℕ) (free : List ℕ) (charge : ℕ)
     : Type 0 where
   pub few : length cards ≤ 16384
   pub each : AreFew cards
@@ -87,6 +87,6 @@ pub record IsKept (cards : List (Option Card)) (index : Keyed ℕ) (free : List 
   pub charge_is : charge ≡ charge_of_all cards
 
 -- and room for as many of each as there are places
-pub record HasCapacity (cards : List (Option Card)) (index_room free_room : ℕ) : Type 0 where
+pub record HasCapacity (cards : List (Option CachedNode)) (index_room free_room : ℕ) : Type 0 where
   pub index : length cards ≤ index_room
   pub free : length cards ≤ free_room

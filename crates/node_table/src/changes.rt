@@ -4,23 +4,23 @@ ghost use Rattle.std.specs.Prelude.{◌≡◌, ◌≢◌, ◌<◌, Some, None, l
 ghost use Rattle.node_table.specs.Overlays.{changed, HaveOwnPlace, IsFresh, CanBecome};
 ghost use Rattle.node_table.specs.Tables.{number_at};
 
-use crate::card::Card;
+use crate::cached_node::CachedNode;
 use crate::table::Table;
 use std::marker::Model;
 
-/// A card, or none, for each of some places. Contracts see their list.
+/// A cached node, or none, for each of some places. Contracts see their list.
 #[derive(Drop)]
 pub struct Changes {
-    list: Vec<(u32, Option<Card>)>,
+    list: Vec<(u32, Option<CachedNode>)>,
 }
 
 impl Model for Changes {
     ghost use Rattle.std.specs.Prelude.{Option};
     ghost use Rattle.model.specs.Keyed.{Keyed};
-    ghost use Rattle.layout.specs.Cards as layout;
+    ghost use Rattle.layout.specs.CachedNodes as layout;
     ghost use Rattle.node_table.specs.Overlays.{HaveOwnPlace};
 
-    ghost Value = { Keyed (Option layout.Card) };
+    ghost Value = { Keyed (Option layout.CachedNode) };
 
     ghost view = { λ changes. changes.list.items };
 
@@ -28,7 +28,7 @@ impl Model for Changes {
 }
 
 impl Changes {
-    pub(crate) fn new(list: Vec<(u32, Option<Card>)>) -> Changes
+    pub(crate) fn new(list: Vec<(u32, Option<CachedNode>)>) -> Changes
         requires { HaveOwnPlace list.items }
         ensures { result ≡ list.items }
     {
@@ -53,7 +53,7 @@ impl Table {
     }
 
     /// Puts a node into a place, as the next version of the one there or in its stead.
-    fn put(&mut self, place: u32, card: Card)
+    fn put(&mut self, place: u32, card: CachedNode)
         requires { place < length self.old → number_at self.old place ≢ Some card.fields.number
             → IsFresh self.old card.fields.number }
         ensures { self.new ≡ set self.old place (Some card) }

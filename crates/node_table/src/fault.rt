@@ -1,4 +1,4 @@
-//! Why cards make no table.
+//! Why cached nodes make no table.
 
 ghost use Rattle.std.specs.Prelude.{◌≡◌};
 ghost use Rattle.node_table.specs.declared.fault.TableFault.TheVariants.{Memory};
@@ -6,7 +6,7 @@ ghost use Rattle.node_table.specs.declared.fault.TableFault.TheVariants.{Memory}
 use std::alloc::AllocError;
 use thiserror::Error;
 
-/// Why cards make no table.
+/// Why cached nodes make no table.
 #[derive(Clone, Copy, Debug, PartialEq, Eq, Error)]
 pub enum TableFault {
     /// Two nodes have one number.

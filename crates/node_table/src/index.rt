@@ -5,7 +5,7 @@ ghost use Rattle.std.specs.List.Sorted.{IsPermutation, IsNonDecreasingBy};
 ghost use Rattle.model.specs.Keyed.{at, IsAbove};
 ghost use Rattle.node_table.specs.Index.{IsAt, entries_from, AreDifferent};
 
-use crate::card::Card;
+use crate::cached_node::CachedNode;
 use crate::table::Table;
 use std::alloc::{AllocError, Global};
 
@@ -20,7 +20,10 @@ pub(crate) fn entry_of(index: &[(u64, u32)], number: u64) -> Option<usize>
 
 /// The numbers of the nodes and their places, in the order of the places, with room for as many as
 /// there are places.
-pub(crate) fn entries(alloc: Global, cards: &[Option<Card>]) -> Result<Vec<(u64, u32)>, AllocError>
+pub(crate) fn entries(
+    alloc: Global,
+    cards: &[Option<CachedNode>],
+) -> Result<Vec<(u64, u32)>, AllocError>
     requires { length cards.now ≤ Table.MAX_NODES }
     ensures entries { IfOk result (λ index. index.items ≡ entries_from 0 cards.now) }
     ensures room { IfOk result (λ index. vec_capacity index ≡ length cards.now) }

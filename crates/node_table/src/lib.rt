@@ -1,14 +1,14 @@
 //! The nodes of a volume in memory: all of them but the bytes of files.
 #![tactic(auto)]
 
-mod card;
+mod cached_node;
 mod changes;
 mod fault;
 mod index;
 mod overlay;
 mod table;
 
-pub use card::Card;
+pub use cached_node::CachedNode;
 pub use changes::Changes;
 pub use fault::TableFault;
 pub use overlay::Overlay;

@@ -1,24 +1,25 @@
-//! Cards in place of some of a table's, for the time of a change.
+//! Cached nodes in place of some of a table's, for the time of a change.
 
 ghost use Rattle.std.specs.Prelude.{◌≡◌, ◌≢◌, ◌<◌, ℕ, Some, None, length, set, slice_index_or, IfOk, IfSome, IfNone, OnOk, OnErr, IsOk};
 ghost use Rattle.node_table.specs.Overlays.{changed, change_at};
 ghost use Rattle.node_table.specs.Tables.{number_of, number_at, HasNot, IsFree, AreTaken};
 
-use crate::card::Card;
+use crate::cached_node::CachedNode;
 use crate::changes::Changes;
 use crate::table::Table;
 use std::alloc::{AllocError, Global};
 use std::marker::Model;
 
-/// A table with other cards, or none, at some of its places. The table itself stays as it is.
+/// A table with other cached nodes, or none, at some of its places. The table itself stays as it
+/// is.
 ///
-/// Contracts see the table's cards, and those that stand now. Each call takes a step for each
-/// changed place, of which there are few.
+/// Contracts see the table's cached nodes, and those that stand now. Each call takes a step for
+/// each changed place, of which there are few.
 #[derive(Drop)]
 pub struct Overlay<'a> {
     alloc: Global,
     table: &'a Table,
-    changes: Vec<(u32, Option<Card>)>,
+    changes: Vec<(u32, Option<CachedNode>)>,
 }
 
 impl<'a> Model for Overlay<'a> {
@@ -40,7 +41,7 @@ impl<'a> Overlay<'a> {
     /// The places for which there is room from the start.
     const ROOM: usize = 8;
 
-    /// A table's cards, none of them changed.
+    /// A table's cached nodes, none of them changed.
     pub fn new(alloc: Global, table: &'a Table) -> Result<Overlay<'a>, AllocError>
         ensures table { IfOk result (λ overlay. overlay.table ≡ table.now) }
         ensures cards { IfOk result (λ overlay. overlay.cards ≡ table.now) }
@@ -60,8 +61,8 @@ impl<'a> Overlay<'a> {
         self.table.places()
     }
 
-    /// The card at a place.
-    pub fn card(&self, place: u32) -> Option<&Card>
+    /// The cached node at a place.
+    pub fn card(&self, place: u32) -> Option<&CachedNode>
         ensures some { IfSome result (λ card.
             slice_index_or self.now.cards place None ≡ Some card.now) }
         ensures none { IfNone result (slice_index_or self.now.cards place None ≡ None) }
@@ -112,9 +113,9 @@ impl<'a> Overlay<'a> {
         None
     }
 
-    /// Takes the card of a place out: none stands there then. It is a copy where it was the
+    /// Takes the cached node of a place out: none stands there then. It is a copy where it was the
     /// table's. An `Err` changes nothing.
-    pub fn take(&mut self, place: u32) -> Result<Option<Card>, AllocError>
+    pub fn take(&mut self, place: u32) -> Result<Option<CachedNode>, AllocError>
         ensures card { IfOk result (λ card. card ≡ slice_index_or self.old.cards place None) }
         ensures cards { OnOk result (self.new.cards ≡ set self.old.cards place None) }
         ensures table { self.new.table ≡ self.old.table }
@@ -131,12 +132,13 @@ impl<'a> Overlay<'a> {
         Ok(Some(card))
     }
 
-    /// Puts a card, or none, into a place. An `Err` changes nothing.
+    /// Puts a cached node, or none, into a place. An `Err` changes nothing.
     ///
     /// # Errors
     ///
-    /// `AllocError`, never where another card than the table's stands there, or none in its place.
-    pub fn put(&mut self, place: u32, card: Option<Card>) -> Result<(), AllocError>
+    /// `AllocError`, never where another cached node than the table's stands there, or none in its
+    /// place.
+    pub fn put(&mut self, place: u32, card: Option<CachedNode>) -> Result<(), AllocError>
         requires { place < length self.old.cards }
         ensures cards { OnOk result (self.new.cards ≡ set self.old.cards place card) }
         ensures table { self.new.table ≡ self.old.table }
@@ -161,7 +163,7 @@ impl<'a> Overlay<'a> {
 }
 
 /// Where the change of a place stands.
-fn change_of(changes: &[(u32, Option<Card>)], place: u32) -> Option<usize>
+fn change_of(changes: &[(u32, Option<CachedNode>)], place: u32) -> Option<usize>
     ensures within { IfSome result (λ i. i < length changes.now) }
     ensures some { IfSome result (λ i. (change_at changes.now i).0 ≡ place) }
     ensures none { IfNone result ((i : ℕ)
@@ -171,7 +173,7 @@ fn change_of(changes: &[(u32, Option<Card>)], place: u32) -> Option<usize>
 }
 
 /// Where a change stands that puts a node of this number.
-fn change_to(changes: &[(u32, Option<Card>)], number: u64) -> Option<usize>
+fn change_to(changes: &[(u32, Option<CachedNode>)], number: u64) -> Option<usize>
     ensures within { IfSome result (λ i. i < length changes.now) }
     ensures some { IfSome result (λ i. number_of (change_at changes.now i).1 ≡ Some number) }
     ensures none { IfNone result ((i : ℕ)
@@ -183,8 +185,8 @@ fn change_to(changes: &[(u32, Option<Card>)], number: u64) -> Option<usize>
         .is_some_and(|card| card.inode.number == number))
 }
 
-/// Takes the card out of a change.
-fn take_from(changes: &mut Vec<(u32, Option<Card>)>, i: usize) -> Option<Card>
+/// Takes the cached node out of a change.
+fn take_from(changes: &mut Vec<(u32, Option<CachedNode>)>, i: usize) -> Option<CachedNode>
     requires { i < length changes.old.items }
     ensures card { result ≡ (change_at changes.old.items i).1 }
     ensures changes { changes.new.items
@@ -193,8 +195,8 @@ fn take_from(changes: &mut Vec<(u32, Option<Card>)>, i: usize) -> Option<Card>
     changes[i].1.take()
 }
 
-/// Puts a card, or none, into a change.
-fn put_into(changes: &mut Vec<(u32, Option<Card>)>, i: usize, card: Option<Card>)
+/// Puts a cached node, or none, into a change.
+fn put_into(changes: &mut Vec<(u32, Option<CachedNode>)>, i: usize, card: Option<CachedNode>)
     requires { i < length changes.old.items }
     ensures { changes.new.items
         ≡ set changes.old.items i ((change_at changes.old.items i).0, card) }

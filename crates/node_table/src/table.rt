@@ -1,24 +1,24 @@
-//! The cards of a volume by their places.
+//! The cached nodes of a volume by their places.
 
 ghost use Rattle.std.specs.Prelude.{◌≡◌, ◌≤◌, ◌<◌, ◌+◌, ℕ, List, [], ◌∷◌, Some, None, length, vec_capacity, replicate, set, slice_index_or, IfOk, IfSome, IfNone, OnOk, IsErrOf};
 ghost use Rattle.layout.specs.Marks.{times};
 ghost use Rattle.node_table.specs.Tables.{number_at, HasNot, HaveOwnPlaces, AreNumbered, AreBelow, IsFree, AreFew, charge_there, charge_of_all, count_of_all, vacant};
 ghost use Rattle.model.specs.Charge.{charge_of_blocks};
 
-use crate::card::Card;
+use crate::cached_node::CachedNode;
 use crate::fault::TableFault;
 use crate::index::{self, entry_of};
 use extents::BlockList;
 use std::alloc::{AllocError, Global};
 use std::marker::Model;
 
-/// A card, or none, at each place of a volume's node table. Contracts see their list.
+/// A cached node, or none, at each place of a volume's node table. Contracts see their list.
 ///
 /// Finding a number takes one step for each doubling of the table. A node that is made or replaced
 /// changes one place of each list; of the numbers after one that is removed each moves.
 #[derive(Drop)]
 pub struct Table {
-    cards: Vec<Option<Card>>,
+    cards: Vec<Option<CachedNode>>,
     /// The numbers of the nodes and their places, by rising number.
     index: Vec<(u64, u32)>,
     /// The free places; the last one is the next to be taken.
@@ -29,10 +29,10 @@ pub struct Table {
 
 impl Model for Table {
     ghost use Rattle.std.specs.Prelude.{List, Option, vec_capacity};
-    ghost use Rattle.layout.specs.Cards as layout;
+    ghost use Rattle.layout.specs.CachedNodes as layout;
     ghost use Rattle.node_table.specs.Tables.{IsKept, HasCapacity};
 
-    ghost Value = { List (Option layout.Card) };
+    ghost Value = { List (Option layout.CachedNode) };
 
     ghost view = { λ table. table.cards.items };
 
@@ -65,13 +65,14 @@ impl Table {
         })
     }
 
-    /// A table of the cards of all places, in their order. Sorting them by number takes as many
-    /// steps as there are places, times 14 at most.
+    /// A table of the cached nodes of all places, in their order. Sorting them by number takes as
+    /// many steps as there are places, times 14 at most.
     ///
     /// # Errors
     ///
-    /// [`TableFault::SameNumber`] exactly where two cards have one number; [`TableFault::Memory`].
-    pub fn from_cards(alloc: Global, cards: Vec<Option<Card>>) -> Result<Table, TableFault>
+    /// [`TableFault::SameNumber`] exactly where two cached nodes have one number;
+    /// [`TableFault::Memory`].
+    pub fn from_cards(alloc: Global, cards: Vec<Option<CachedNode>>) -> Result<Table, TableFault>
         requires few { length cards.items ≤ Table.MAX_NODES }
         requires numbered { AreNumbered cards.items }
         ensures table { IfOk result (λ table. table ≡ cards.items) }
@@ -101,8 +102,8 @@ impl Table {
         self.cards.len() as u32
     }
 
-    /// The card at a place.
-    pub fn card(&self, place: u32) -> Option<&Card>
+    /// The cached node at a place.
+    pub fn card(&self, place: u32) -> Option<&CachedNode>
         ensures some { IfSome result (λ card. slice_index_or self.now place None ≡ Some card.now) }
         ensures none { IfNone result (slice_index_or self.now place None ≡ None) }
     {
@@ -146,7 +147,7 @@ impl Table {
     }
 
     /// Puts a node whose number is above all others into a free place.
-    pub fn make(&mut self, place: u32, card: Card)
+    pub fn make(&mut self, place: u32, card: CachedNode)
         requires free { IsFree self.old place }
         requires some { 0 < card.fields.number }
         requires above { AreBelow self.old card.fields.number }
@@ -158,8 +159,8 @@ impl Table {
         put_card(&mut self.cards, place, Some(card));
     }
 
-    /// Puts a card into the place of the one of its number.
-    pub fn replace(&mut self, place: u32, card: Card)
+    /// Puts a cached node into the place of the one of its number.
+    pub fn replace(&mut self, place: u32, card: CachedNode)
         requires { number_at self.old place ≡ Some card.fields.number }
         ensures { self.new ≡ set self.old place (Some card) }
     {
@@ -183,8 +184,8 @@ impl Table {
     }
 }
 
-/// The places without a card, with room for all places.
-fn free_places(alloc: Global, cards: &[Option<Card>]) -> Result<Vec<u32>, AllocError>
+/// The places without a cached node, with room for all places.
+fn free_places(alloc: Global, cards: &[Option<CachedNode>]) -> Result<Vec<u32>, AllocError>
     requires { length cards.now ≤ Table.MAX_NODES }
     ensures times { IfOk result (λ free. (n : ℕ) → times n free.items ≡ vacant n cards.now) }
     ensures count { IfOk result (λ free.
@@ -200,8 +201,8 @@ fn free_places(alloc: Global, cards: &[Option<Card>]) -> Result<Vec<u32>, AllocE
     Ok(free)
 }
 
-/// What cards take of the data region.
-fn charge_of_cards(cards: &[Option<Card>]) -> u64
+/// What cached nodes take of the data region.
+fn charge_of_cards(cards: &[Option<CachedNode>]) -> u64
     requires { length cards.now ≤ Table.MAX_NODES }
     ensures charge { result ≡ charge_of_all cards.now }
     ensures few { AreFew cards.now }
@@ -253,8 +254,8 @@ fn blocks_charge(blocks: &BlockList) -> u64
     count + (count + 499) / 500
 }
 
-/// What the card at a place takes of the data region.
-fn charge_at(cards: &[Option<Card>], place: u32) -> u64
+/// What the cached node at a place takes of the data region.
+fn charge_at(cards: &[Option<CachedNode>], place: u32) -> u64
     ensures { result ≡ charge_there (slice_index_or cards.now place None) }
 {
     match cards.get(place as usize) {
@@ -263,8 +264,8 @@ fn charge_at(cards: &[Option<Card>], place: u32) -> u64
     }
 }
 
-/// Puts a card, or none, into a place.
-fn put_card(cards: &mut Vec<Option<Card>>, place: u32, card: Option<Card>)
+/// Puts a cached node, or none, into a place.
+fn put_card(cards: &mut Vec<Option<CachedNode>>, place: u32, card: Option<CachedNode>)
     requires { place < length cards.old.items }
     ensures { cards.new.items ≡ set cards.old.items place card }
 {

@@ -5,14 +5,14 @@ use Rattle.std.proofs.lemmas.List.{length-set, get_or-set_same, get_or-set_other
 use Rattle.std.proofs.lemmas.Option.{same_Some}
 use Rattle.node_table.specs.Tables.{number_at, HaveOwnPlaces}
 use Rattle.node_table.proofs.TableLaws.{within-numbered}
-use Rattle.layout.specs.Cards.{Card}
+use Rattle.layout.specs.CachedNodes.{CachedNode}
 use Rattle.model.specs.Tree.{root}
 use Rattle.tree_check.specs.Trees.{IsOneTree}
 use Rattle.parents.specs.ParentLaws.{MovesName, EachMove, EachKept}
 use Rattle.parents.specs.Parents.{LeadsTo, HasName, AreParents}
 use Rattle.parents.proofs.LinkLaws.{no_root, one_name}
 
-module _ (old new : List (Option Card)) (parents : List ℕ) (moved place directory : ℕ) (are : AreParents old parents) (own : HaveOwnPlaces new) (tree : IsOneTree new)
+module _ (old new : List (Option CachedNode)) (parents : List ℕ) (moved place directory : ℕ) (are : AreParents old parents) (own : HaveOwnPlaces new) (tree : IsOneTree new)
     (moves : MovesName old new moved place directory) where
   inside : place < length parents
   inside = omega (arith, within-numbered new place moved moves.node, moves.count, are.count)

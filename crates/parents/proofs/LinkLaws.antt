@@ -3,7 +3,7 @@ use Rattle.std.proofs.Common.{◌≡◌, ◌≢◌, ◌≤◌, ◌<◌, ◌+◌,
 use Rattle.std.proofs.lemmas.Bool.{cases_eq}
 use Rattle.std.proofs.lemmas.Option.{same_Some}
 use Rattle.node_table.specs.Tables.{number_at, number_of, HaveOwnPlaces, HasNot}
-use Rattle.layout.specs.Cards.{Card}
+use Rattle.layout.specs.CachedNodes.{CachedNode}
 use Rattle.layout.specs.Marks.{times}
 use Rattle.layout.specs.Laid.{AreNumbered}
 use Rattle.layout.specs.SumLaws.{entry_numbers, other_numbers, numbers_of}
@@ -17,14 +17,14 @@ use Rattle.parents.specs.Parents.{LeadsTo, HasName}
 
 -- Names at places, and all names
 
-led-one : (n : ℕ) (cards : List (Option Card)) (p : ℕ) → times n (led_at cards p) ≤ times n (entry_numbers cards)
+led-one : (n : ℕ) (cards : List (Option CachedNode)) (p : ℕ) → times n (led_at cards p) ≤ times n (entry_numbers cards)
 led-one n [] p = omega arith
 led-one n (None ∷ cards) zero = omega arith
 led-one n (Some card ∷ cards) zero = omega (arith, times-append n (numbers_of card.names) (entry_numbers cards))
 led-one n (None ∷ cards) (suc p) = led-one n cards p
 led-one n (Some card ∷ cards) (suc p) = omega (arith, times-append n (numbers_of card.names) (entry_numbers cards), led-one n cards p)
 
-led-two : (n : ℕ) (cards : List (Option Card)) (p q : ℕ) → p ≢ q → times n (led_at cards p) + times n (led_at cards q) ≤ times n (entry_numbers cards)
+led-two : (n : ℕ) (cards : List (Option CachedNode)) (p q : ℕ) → p ≢ q → times n (led_at cards p) + times n (led_at cards q) ≤ times n (entry_numbers cards)
 led-two n [] p q off = omega arith
 led-two n (card ∷ cards) zero zero off = absurd (off refl)
 led-two n (None ∷ cards) zero (suc q) off = omega (arith, led-one n cards q)
@@ -35,7 +35,7 @@ led-two n (None ∷ cards) (suc p) (suc q) off = led-two n cards p q (omega arit
 led-two n (Some card ∷ cards) (suc p) (suc q) off = omega (arith, times-append n (numbers_of card.names) (entry_numbers cards), led-two n cards p q (omega arith))
 
 -- where a name leads to a number
-led-where : (n : ℕ) (cards : List (Option Card)) → 0 < times n (entry_numbers cards) → (p : ℕ) × LeadsTo cards p n
+led-where : (n : ℕ) (cards : List (Option CachedNode)) → 0 < times n (entry_numbers cards) → (p : ℕ) × LeadsTo cards p n
 led-where n [] some = absurd (omega arith)
 led-where n (None ∷ cards) some = let found = led-where n cards some in (suc found.0, found.1)
 led-where n (Some card ∷ cards) some = elim (cases_eq (times n (numbers_of card.names)) 0) [
@@ -47,7 +47,7 @@ led-where n (Some card ∷ cards) some = elim (cases_eq (times n (numbers_of car
 
 -- The numbers of the nodes but the root
 
-others-lack : (n : ℕ) (cards : List (Option Card)) → HasNot cards n → times n (other_numbers cards) ≡ 0
+others-lack : (n : ℕ) (cards : List (Option CachedNode)) → HasNot cards n → times n (other_numbers cards) ≡ 0
 others-lack n [] lack = refl
 others-lack n (None ∷ cards) lack = others-lack n cards (λ p. lack (suc p))
 others-lack n (Some card ∷ cards) lack =
@@ -58,10 +58,10 @@ others-lack n (Some card ∷ cards) lack =
       | inr off ↦ rw (ne_eqb card.fields.number root off) (omega (arith, here, rest))
     ]
 
-own-rest : (card : Option Card) (cards : List (Option Card)) → HaveOwnPlaces (card ∷ cards) → HaveOwnPlaces cards
+own-rest : (card : Option CachedNode) (cards : List (Option CachedNode)) → HaveOwnPlaces (card ∷ cards) → HaveOwnPlaces cards
 own-rest card cards own p q n here there = let same : suc p ≡ suc q = own (suc p) (suc q) n here there in omega arith
 
-others-few : (n : ℕ) (cards : List (Option Card)) → HaveOwnPlaces cards → times n (other_numbers cards) ≤ 1
+others-few : (n : ℕ) (cards : List (Option CachedNode)) → HaveOwnPlaces cards → times n (other_numbers cards) ≤ 1
 others-few n [] own = omega arith
 others-few n (None ∷ cards) own = others-few n cards (own-rest None cards own)
 others-few n (Some card ∷ cards) own =
@@ -76,7 +76,7 @@ others-few n (Some card ∷ cards) own =
       ]
     ]
 
-others-have : (n : ℕ) (cards : List (Option Card)) (p : ℕ) → n ≢ root → number_at cards p ≡ Some n → 0 < times n (other_numbers cards)
+others-have : (n : ℕ) (cards : List (Option CachedNode)) (p : ℕ) → n ≢ root → number_at cards p ≡ Some n → 0 < times n (other_numbers cards)
 others-have n [] p off there = absurd (some≢none n (sym there))
 others-have n (None ∷ cards) zero off there = absurd (some≢none n (sym there))
 others-have n (None ∷ cards) (suc p) off there = others-have n cards p off there
@@ -91,15 +91,15 @@ others-have n (Some card ∷ cards) (suc p) off there =
     ]
 
 -- a name stands in a directory that has a number
-pub led-number : (cards : List (Option Card)) (p n : ℕ) → LeadsTo cards p n → (directory : ℕ) × (number_at cards p ≡ Some directory)
+pub led-number : (cards : List (Option CachedNode)) (p n : ℕ) → LeadsTo cards p n → (directory : ℕ) × (number_at cards p ≡ Some directory)
 led-number cards p n leads = from (get_or cards p None) leads
   where
-    from : (card : Option Card) → 0 < times n (led_by card) → (directory : ℕ) × (number_of card ≡ Some directory)
+    from : (card : Option CachedNode) → 0 < times n (led_by card) → (directory : ℕ) × (number_of card ≡ Some directory)
     from None some = absurd (omega arith)
     from (Some card) some = (card.fields.number, refl)
 
 -- numbers that are apart have places of their own
-pub own-places : (cards : List (Option Card)) → AreNumbered cards → HaveOwnPlaces cards
+pub own-places : (cards : List (Option CachedNode)) → AreNumbered cards → HaveOwnPlaces cards
 own-places cards apart p q n here there = elim (cases_eq p q) [
   | inl same ↦ same
   | inr off ↦
@@ -108,7 +108,7 @@ own-places cards apart p q n here there = elim (cases_eq p q) [
       absurd (apart p q a.0 b.0 off a.1.0 b.1.0 (a.1.1 ∙ sym b.1.1))
 ]
 
-module _ (cards : List (Option Card)) (tree : IsOneTree cards) where
+module _ (cards : List (Option CachedNode)) (tree : IsOneTree cards) where
   pub no_root : (p : ℕ) → LeadsTo cards p root → ⊥
   no_root p leads = omega (arith, leads, led-one root cards p, tree.linked root, root-others cards)
 

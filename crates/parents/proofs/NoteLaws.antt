@@ -6,7 +6,7 @@ use Rattle.std.proofs.lemmas.Option.{same_Some}
 use Rattle.directory.specs.Records.{Record}
 use Rattle.node_table.specs.Tables.{number_at, HasNot, HaveOwnPlaces}
 use Rattle.node_table.proofs.TableLaws.{within-numbered}
-use Rattle.layout.specs.Cards.{Card}
+use Rattle.layout.specs.CachedNodes.{CachedNode}
 use Rattle.layout.specs.Marks.{once_if, times}
 use Rattle.layout.specs.SumLaws.{numbers_of}
 use Rattle.layout.proofs.NumberLaws.{times-append}
@@ -19,7 +19,7 @@ use Rattle.parents.proofs.LinkLaws.{no_root, one_place}
 
 -- One name
 
-module _ (cards : List (Option Card)) (old now numbers : List ℕ) (directory number : ℕ) (noted : IsNoted cards old now numbers directory) where
+module _ (cards : List (Option CachedNode)) (old now numbers : List ℕ) (directory number : ℕ) (noted : IsNoted cards old now numbers directory) where
   times-one : (n : ℕ) → times n (numbers ++ number ∷ []) ≡ times n numbers + once_if (eqb n number)
   times-one n = omega (arith, times-append n numbers (number ∷ []))
 
@@ -59,7 +59,7 @@ module _ (cards : List (Option Card)) (old now numbers : List ℕ) (directory nu
     others = λ p n there none. noted.others p n there (omega (arith, none, times-one n));
   }
 
-module _ (cards : List (Option Card)) (old now : List ℕ) (directory i : ℕ) (names : List Record) (one : Record) (inside : i < length names) (is : (d : Record) → get_or names i d ≡ one)
+module _ (cards : List (Option CachedNode)) (old now : List ℕ) (directory i : ℕ) (names : List Record) (one : Record) (inside : i < length names) (is : (d : Record) → get_or names i d ≡ one)
     (noted : IsNoted cards old now (take i (numbers_of names)) directory) where
   number-is : get_or (numbers_of names) i 0 ≡ one.1.number
   number-is = get_or-map (λ (r : Record). r.1.number) names i one 0 inside ∙ ap (λ (r : Record). r.1.number) (is one)
@@ -86,14 +86,14 @@ module _ (cards : List (Option Card)) (old now : List ℕ) (directory i : ℕ) (
 
 -- One directory after the other: those in front of a place
 
-pub record AreNoted (cards : List (Option Card)) (parents : List ℕ) (front : ℕ) : Type 0 where
+pub record AreNoted (cards : List (Option CachedNode)) (parents : List ℕ) (front : ℕ) : Type 0 where
   pub count : length parents ≡ length cards
   pub named : (place number of directory : ℕ) → of < front → number_at cards place ≡ Some number
       → number_at cards of ≡ Some directory → LeadsTo cards of number → get_or parents place 0 ≡ directory
   pub nameless : (place number : ℕ) → number_at cards place ≡ Some number
       → ((of : ℕ) → of < front → times number (led_at cards of) ≡ 0) → get_or parents place 0 ≡ 0
 
-module _ (cards : List (Option Card)) (tree : IsOneTree cards) (own : HaveOwnPlaces cards) (front : ℕ) (now : List ℕ) (noted : AreNoted cards now front) where
+module _ (cards : List (Option CachedNode)) (tree : IsOneTree cards) (own : HaveOwnPlaces cards) (front : ℕ) (now : List ℕ) (noted : AreNoted cards now front) where
   pub free-place : led_at cards front ≡ [] → AreNoted cards now (front + 1)
   free-place none = record {
     count = noted.count;
@@ -125,7 +125,7 @@ module _ (cards : List (Option Card)) (tree : IsOneTree cards) (own : HaveOwnPla
         one.others p n there empty ∙ noted.nameless p n there (λ of low. all of (omega (arith, low))));
   }
 
-pub all-noted : (cards : List (Option Card)) (parents : List ℕ) (front : ℕ) → IsOneTree cards → length cards ≡ front → AreNoted cards parents front → AreParents cards parents
+pub all-noted : (cards : List (Option CachedNode)) (parents : List ℕ) (front : ℕ) → IsOneTree cards → length cards ≡ front → AreNoted cards parents front → AreParents cards parents
 all-noted cards parents front tree all noted = record {
   count = noted.count;
   named = λ p n directory there has.

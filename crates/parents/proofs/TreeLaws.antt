@@ -11,7 +11,7 @@ use Rattle.model.proofs.KeyedLaws.{at-first, at-rest, at-above}
 use Rattle.model.proofs.OptionLaws.{some≢none}
 use Rattle.model.proofs.BooleanLaws.{if_true, if_false}
 use Rattle.node_table.specs.Tables.{number_at, number_of, HasNot, count_of_all}
-use Rattle.layout.specs.Cards.{Card, tree_of, node_of}
+use Rattle.layout.specs.CachedNodes.{CachedNode, tree_of, node_of}
 use Rattle.layout.specs.Known.{AreCards}
 use Rattle.layout.specs.Marks.{times}
 use Rattle.layout.specs.SumLaws.{numbers_of}
@@ -67,7 +67,7 @@ parent_none (entry ∷ rest) least number above never =
     if_false _ entry.0 (parent_of rest number) (le-ltb 0 (links_from number entry.1) (omega arith))
     ∙ parent_none rest entry.0 number above.1 (λ key node is. let low = at-above rest entry.0 key node above.1 is in never key node (at-rest entry.0 key entry.1 rest (omega arith) ∙ is))
 
-module _ (nodes : ℕ) (mark : ℕ → ℕ) (cards : List (Option Card)) (known : AreCards nodes mark cards) where
+module _ (nodes : ℕ) (mark : ℕ → ℕ) (cards : List (Option CachedNode)) (known : AreCards nodes mark cards) where
   is_card : AreEach cards
   is_card = each_card nodes mark cards known
 
@@ -75,13 +75,13 @@ module _ (nodes : ℕ) (mark : ℕ → ℕ) (cards : List (Option Card)) (known 
   above image = tree-above image cards (each_above cards is_card)
 
   module _ (image : Image) (number : ℕ) where
-    -- a name in the tree is one of the cards
+    -- a name in the tree is one of the cached nodes
     pub name_of_card : (key : ℕ) (node : Node) → at key (tree_of image cards) ≡ Some node → 0 < links_from number node → HasName cards key number
     name_of_card key node is leads = elim (find cards key) [
       | There p card there same ↦
           let node_is : node_of image card ≡ node = same_Some (node_of image card) node (sym (tree-has image cards p card known.apart there) ∙ ap (λ n. at n (tree_of image cards)) same ∙ is) in
           let links : links_from number node ≡ times number (numbers_of card.names) = ap (links_from number) (sym node_is) ∙ links-card number image card (is_card p card there) in
-          let led : times number (led_at cards p) ≡ times number (numbers_of card.names) = ap (λ (found : Option Card). times number (led_by found)) there in
+          let led : times number (led_at cards p) ≡ times number (numbers_of card.names) = ap (λ (found : Option CachedNode). times number (led_by found)) there in
           record { place = p; there = ap number_of there ∙ ap Some same; leads = omega arith }
       | Nowhere none ↦ absurd (some≢none node (sym is ∙ tree-lacks image cards key none))
     ]
@@ -92,7 +92,7 @@ module _ (nodes : ℕ) (mark : ℕ → ℕ) (cards : List (Option Card)) (known 
         let found = numbered cards has.place directory has.there in
         let card = found.0 in
         let there = found.1.0 in
-        let led : times number (led_at cards has.place) ≡ times number (numbers_of card.names) = ap (λ (o : Option Card). times number (led_by o)) there in (
+        let led : times number (led_at cards has.place) ≡ times number (numbers_of card.names) = ap (λ (o : Option CachedNode). times number (led_by o)) there in (
           node_of image card,
           (
             ap (λ n. at n (tree_of image cards)) (sym found.1.1) ∙ tree-has image cards has.place card known.apart there,
@@ -129,5 +129,5 @@ each_parent nodes mark cards parents known tree are image place number there = p
 
 -- How many nodes the tree has
 
-pub known-count : (nodes : ℕ) (mark : ℕ → ℕ) (cards : List (Option Card)) → AreCards nodes mark cards → (image : Image) → length (tree_of image cards) ≡ count_of_all cards
+pub known-count : (nodes : ℕ) (mark : ℕ → ℕ) (cards : List (Option CachedNode)) → AreCards nodes mark cards → (image : Image) → length (tree_of image cards) ≡ count_of_all cards
 known-count nodes mark cards known image = (known_sum nodes mark cards known image).nodes

@@ -1,12 +1,12 @@
 -- Names of one directory after the other are noted at the places of what they lead to.
 use Rattle.std.specs.Prelude.{◌≡◌, ◌<◌, ℕ, List, Option, Some, length, slice_index_or}
 use Rattle.node_table.specs.Tables.{number_at}
-use Rattle.layout.specs.Cards.{Card}
+use Rattle.layout.specs.CachedNodes.{CachedNode}
 use Rattle.layout.specs.Marks.{times}
 
 -- the directory's number stands at the place of each node of one of these numbers, and at the
 -- places of the others what stood there
-pub record IsNoted (cards : List (Option Card)) (old new numbers : List ℕ) (directory : ℕ)
+pub record IsNoted (cards : List (Option CachedNode)) (old new numbers : List ℕ) (directory : ℕ)
     : Type 0 where
   pub count : length new ≡ length old
   pub led : (place number : ℕ) → number_at cards place ≡ Some number

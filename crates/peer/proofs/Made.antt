@@ -13,7 +13,7 @@ use Rattle.server.specs.declared.fault.ServerFault.{ServerFault}
 use Rattle.server.specs.declared.fault.ServerFault.TheVariants as faults
 use Rattle.server.specs.declared.server.Server.{Server}
 use Rattle.server.specs.declared.turn.Turn.{Turn}
-use Rattle.volume.specs.Held.{IsRecent}
+use Rattle.volume.specs.VolumeState.{IsRecent}
 use Rattle.peer.specs.Calls.{Makes, Goes, IsNone, IsOne, AreTurns, IsHangUp, IsEnd, HasGone, RefusesBytes, RefusesOutput}
 
 -- Calls after calls

@@ -10,7 +10,7 @@ use Rattle.server.specs.Views.{seen_with, volume_of}
 use Rattle.server.specs.declared.fault.ServerFault.{ServerFault}
 use Rattle.server.specs.declared.fault.ServerFault.TheVariants as faults
 use Rattle.server.specs.declared.server.Server.{Server}
-use Rattle.volume.specs.Held.{IsRecent}
+use Rattle.volume.specs.VolumeState.{IsRecent}
 
 -- Calls of a kind, the newest first, each as the server has it: from the trees that a crash might
 -- leave before them to those that it may leave after them.

@@ -4,7 +4,7 @@ use Rattle.std.proofs.lemmas.Bool.{cases_lt}
 use Rattle.std.proofs.lemmas.List.{ext_get_or, take_all, take-append-le, length-append, length-take, length-drop, length-replicate, get_or-take, get_or-drop, get_or_append_left, get_or-append_right}
 use Rattle.std.proofs.lemmas.List.FromFn.{length-map-range_with_len, get_or-map-range_with_len}
 use Rattle.disk.specs.Moments.{Image}
-use Rattle.layout.specs.Cards.{Card, content_at, byte_at, bytes_in}
+use Rattle.layout.specs.CachedNodes.{CachedNode, content_at, byte_at, bytes_in}
 use Rattle.layout.proofs.FileLaws.{in-block, zeros-at}
 use Rattle.reading.specs.Files.{GetsMore}
 use Rattle.reading.specs.Parts.{Appends, IsFront}
@@ -87,19 +87,20 @@ whole_part word image blocks size offset len old new appends w =
     ∙ sym (get_or-take len (drop offset all) k 0 (omega arith) ∙ get_or-drop offset all k 0 ∙ get_or-map-range_with_len (byte_at image blocks) 0 size (offset + k) (offset + k) 0 (omega arith) (omega arith))) in
     appends.is ∙ ap (λ (s : List ℕ). old ++ s) same
 
--- of a card as it is seen, after room was made
+-- of a cached node as it is seen, after room was made
 
-pub read_whole : (word : Type 0) (image : Image) (inside card : Card) (offset len count : ℕ) (old mid new : List ℕ) → inside ≡ card → mid ≡ old → count ≡ min len (inside.fields.size - offset)
+pub read_whole : (word : Type 0) (image : Image) (inside card : CachedNode) (offset len count : ℕ) (old mid new : List ℕ) → inside ≡ card → mid ≡ old → count ≡ min len (inside.fields.size - offset)
     → Appends word image inside.blocks offset count mid new → word → new ≡ old ++ take len (drop offset (bytes_in image card.blocks card.fields.size))
 read_whole word image inside card offset len count old mid new seen same count_is appends w =
     whole_part word image inside.blocks inside.fields.size offset len mid new (subst (λ (n : ℕ). Appends word image inside.blocks offset n mid new) count_is appends) w
-    ∙ ap (λ (x : Card). mid ++ take len (drop offset (bytes_in image x.blocks x.fields.size))) seen
+    ∙ ap (λ (x : CachedNode). mid ++ take len (drop offset (bytes_in image x.blocks x.fields.size)))
+    seen
     ∙ ap (λ (s : List ℕ). s ++ take len (drop offset (bytes_in image card.blocks card.fields.size))) same
 
-pub read_more : (word : Type 0) (image : Image) (inside card : Card) (offset len count : ℕ) (old mid new : List ℕ) → inside ≡ card → mid ≡ old → count ≡ min len (inside.fields.size - offset)
+pub read_more : (word : Type 0) (image : Image) (inside card : CachedNode) (offset len count : ℕ) (old mid new : List ℕ) → inside ≡ card → mid ≡ old → count ≡ min len (inside.fields.size - offset)
     → Appends word image inside.blocks offset count mid new → GetsMore old new (min len (card.fields.size - offset))
 read_more word image inside card offset len count old mid new seen same count_is appends =
-    let whole : count ≡ min len (card.fields.size - offset) = count_is ∙ ap (λ (x : Card). min len (x.fields.size - offset)) seen in
+    let whole : count ≡ min len (card.fields.size - offset) = count_is ∙ ap (λ (x : CachedNode). min len (x.fields.size - offset)) seen in
     subst (λ (n : ℕ). GetsMore old new n) whole (subst (λ (s : List ℕ). GetsMore s new count) same (gets_more word image inside.blocks offset count mid new appends))
 
 pub on_ok : {A E P Q : Type 0} (r : Result A E) → OnOk r P → (P → Q) → OnOk r Q

@@ -1,7 +1,7 @@
 -- Bytes that are appended part by part.
 use Rattle.std.specs.Prelude.{◌≡◌, ◌<◌, ◌+◌, ◌++◌, ℕ, List, Option, length, take, slice_index}
 use Rattle.disk.specs.Moments.{Image}
-use Rattle.layout.specs.Cards.{byte_at}
+use Rattle.layout.specs.CachedNodes.{byte_at}
 
 -- the old bytes stand in front
 abbrev pub IsFront : (old new : List ℕ) → Type 0

@@ -2,7 +2,7 @@
 
 ghost use Rattle.std.specs.Prelude.{◌≡◌, ◌≤◌, ◌<◌, ◌+◌, ◌-◌, ◌*◌, ◌^◌, ◌++◌, None};
 ghost use Rattle.std.specs.Prelude.{length, take, drop, min, slice_index_or, OnOk, OnErr, IsErrOf};
-ghost use Rattle.layout.specs.Cards.{bytes_in};
+ghost use Rattle.layout.specs.CachedNodes.{bytes_in};
 ghost use Rattle.layout.specs.Health.{Reads};
 ghost use Rattle.reading.specs.Files.{AreWithin, GetsMore};
 ghost use Rattle.reading.specs.Parts.{Appends, IsFront};
@@ -11,7 +11,7 @@ use crate::fault::ReadingFault;
 use disk::SECTOR;
 use extents::BlockList;
 use layout::sectors::Sectors;
-use node_table::Card;
+use node_table::CachedNode;
 use std::alloc::AllocError;
 
 /// How many bytes of a file stand from `offset` on, of which `len` are wanted.
@@ -117,7 +117,7 @@ fn read_blocks<S: Sectors>(
 /// was.
 pub fn read_bytes<S: Sectors>(
     base: &mut S,
-    card: &Card,
+    card: &CachedNode,
     offset: u64,
     len: usize,
     out: &mut Vec<u8>,

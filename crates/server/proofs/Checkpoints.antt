@@ -11,7 +11,7 @@ use Rattle.fs.specs.declared.fault.FsFault.TheVariants as faults
 use Rattle.volume.proofs.FrontLaws.{among_more}
 use Rattle.layout.specs.Stands.{Kept}
 use Rattle.volume.specs.Changes.{Stays}
-use Rattle.volume.specs.Held.{Held, IsSameVolume, IsRecent, KeepsRecent, AddsTrees, StandsForOne, IsLeft, MayAdd, kept_of}
+use Rattle.volume.specs.VolumeState.{VolumeState, IsSameVolume, IsRecent, KeepsRecent, AddsTrees, StandsForOne, IsLeft, MayAdd, kept_of}
 use Rattle.model.specs.Keyed.{Keyed}
 use Rattle.model.specs.Opens.{Opens}
 use Rattle.model.specs.Runs.{Serving, Event}
@@ -26,7 +26,7 @@ use Rattle.server.proofs.ServedTurns.{broken}
 use Rattle.server.proofs.Turning.{agrees_on}
 
 -- whichever event it is taken for
-keeping_moments : (old : Serving) (held : Held) (new : History) → IsRecent held old.recent → IsAmong old.held held.seats → AddsTrees held (kept_of held) new → (event : Event)
+keeping_moments : (old : Serving) (held : VolumeState) (new : History) → IsRecent held old.recent → IsAmong old.held held.seats → AddsTrees held (kept_of held) new → (event : Event)
     → AddsOnly (StandsForOne held (MayKeep old event)) held.history new
 keeping_moments old held new is seated adds event = AddsOnly-weaken
     (StandsForOne held (MayAdd held old.recent (kept_of held))) (StandsForOne held (MayKeep old event)) held.history new
@@ -51,7 +51,7 @@ agrees_still keeps_word old new before after table (Ok done) changes keeps agree
     agrees_on old new table changes.volume_changes.same.run (changes.volume_changes.ends.seats keeps (kept_of old.volume) false (refl, refl)) agrees
 agrees_still keeps_word old new before after table (Err faults.Device) changes keeps agrees up =
     absurd (true≢false (sym changes.volume_changes.ends.down ∙ up))
-agrees_still keeps_word old new before after table (Err fault) changes keeps agrees up = agrees_on old new table changes.volume_changes.same.run (ap (λ (h : Held). h.seats) changes.volume_changes.ends) agrees
+agrees_still keeps_word old new before after table (Err fault) changes keeps agrees up = agrees_on old new table changes.volume_changes.same.run (ap (λ (h : VolumeState). h.seats) changes.volume_changes.ends) agrees
 
 module _ (old new : FileSystem) (table : Table) (opens : Opens) (connections : Keyed Connection)
     (same : IsSameVolume old.volume new.volume) (changes : new.changes ≡ old.changes) where

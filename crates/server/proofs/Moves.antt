@@ -16,7 +16,7 @@ use Rattle.compound.specs.States.{shared}
 use Rattle.compound.proofs.QuietLaws.{same_volume}
 use Rattle.fs.specs.FileSystem.{FileSystem}
 use Rattle.layout.specs.Stands.{Kept}
-use Rattle.volume.specs.Held.{Held, IsSameVolume, StandsForOne, LeavesOne, IsRecent, Holds, IsLeft, MayAdd, AddsTrees, kept_of}
+use Rattle.volume.specs.VolumeState.{VolumeState, IsSameVolume, StandsForOne, LeavesOne, IsRecent, Holds, IsLeft, MayAdd, AddsTrees, kept_of}
 use Rattle.volume.specs.Stands.{StandsFor}
 use Rattle.model.specs.Runs.{Serving, Event, executed_of, effect_of}
 use Rattle.model.specs.Opens.{Opens, no_opens}
@@ -48,7 +48,7 @@ left_now h image left = ⊎_elim
     left
 
 -- a call that does not touch the device
-pub moves_none : (old new : Serving) (event : Event) (held : Held) → LeavesNow (record { serving = new; volume = held })
+pub moves_none : (old new : Serving) (event : Event) (held : VolumeState) → LeavesNow (record { serving = new; volume = held })
     → Moves (record { serving = old; volume = held }) event (record { serving = new; volume = held })
 moves_none old new event held leaves = record {
   moments = AddsOnly-same (StandsForOne held (MayKeep old event)) held.history;
@@ -56,7 +56,7 @@ moves_none old new event held leaves = record {
   same = same_volume held held refl;
 }
 
-stands_on : (old new : Held) (kept : Kept) (image : Image) → IsSameVolume old new
+stands_on : (old new : VolumeState) (kept : Kept) (image : Image) → IsSameVolume old new
     → StandsFor old.sectors old.limits.nodes old.run kept image → StandsFor new.sectors new.limits.nodes new.run kept image
 stands_on old new kept image same stands =
     subst (λ (s : ℕ). StandsFor s new.limits.nodes new.run kept image) (sym same.sectors)
@@ -64,14 +64,14 @@ stands_on old new kept image same stands =
     (subst (λ (r : ℕ). StandsFor old.sectors old.limits.nodes r kept image) (sym same.run) stands))
 
 -- a volume leaves one list of seats, its own
-pub leaves_now : (held : Held) (recent : List Tree) → LeavesOne held recent
+pub leaves_now : (held : VolumeState) (recent : List Tree) → LeavesOne held recent
     → (image : Image) → Left held.history.now image → StandsForOne held (λ kept. IsAmong recent kept.tree × IsAmong (held.seats ∷ []) kept.seats) image
 leaves_now held recent leaves image left =
     let one = leaves image left in
     (one.0, (one.1.0, (0, (omega arith, one.1.1))), one.2)
 
 -- after a failure a stop leaves one of the trees before the call, or the one after it, and so the seats
-pub broken_leaves : (held after_held : Held) (after : Kept) (recent : List Tree) → IsRecent held recent → AddsTrees held after after_held.history → IsSameVolume held after_held
+pub broken_leaves : (held after_held : VolumeState) (after : Kept) (recent : List Tree) → IsRecent held recent → AddsTrees held after after_held.history → IsSameVolume held after_held
     → (image : Image) → Left after_held.history.now image → StandsForOne after_held (λ kept. IsAmong (after.tree ∷ recent) kept.tree × IsAmong (after.seats ∷ held.seats ∷ []) kept.seats) image
 broken_leaves held after_held after recent is adds same image left = ⊎_elim
     (λ (earlier : LeftSince held.history (moment held.history) image).
@@ -92,7 +92,7 @@ broken_leaves held after_held after recent is adds same image left = ⊎_elim
     stays kept among stands = (kept, (among_rest after.tree recent kept.tree among.0, (1, (omega arith, among.1))), stands_on held after_held kept image same stands)
 
 -- a call that does an event without the device
-pub does_quietly : (held : Held) (old new : World) (down : Bool) (event : Event) (said : Said) → executed_of old event ≡ None → down ≡ false → new ≡ effect_of old event
+pub does_quietly : (held : VolumeState) (old new : World) (down : Bool) (event : Event) (said : Said) → executed_of old event ≡ None → down ≡ false → new ≡ effect_of old event
     → new.table.seats ≡ held.seats → said ≡ told old event → (recent : List Tree) → IsRecent held recent → (after : List Tree)
     × Does (record { serving = serving_by old recent (held.seats ∷ []) down; volume = held }) event said (record { serving = serving_by new after (held.seats ∷ []) down; volume = held })
 does_quietly held old new down event said none up is seated says recent ready = (
@@ -152,7 +152,7 @@ module _ (fs : FileSystem) (table : Table) (opens : Opens) (connections : Keyed 
   }
 
 -- the tree that was found is one with which this run may begin
-pub found_start : (sectors : ℕ) (old : moments.History) (held : Held) → IsFound sectors old held → held.limits ≡ limits_of sectors held.limits.nodes
+pub found_start : (sectors : ℕ) (old : moments.History) (held : VolumeState) → IsFound sectors old held → held.limits ≡ limits_of sectors held.limits.nodes
     → ∥ IsStart held.limits held.run held.tree ∥₁
 found_start sectors old held found limits = ∥∥₁_elim found.stood ∥∥₁_prop (λ base. ∥∥₁_map base.stands.stands.well_formed (λ well. record {
   well_formed = subst (λ (l : Limits). IsWellFormed l held.tree) (sym limits) well;
@@ -160,12 +160,12 @@ found_start sectors old held found limits = ∥∥₁_elim found.stood ∥∥₁
       (subst (λ (r : ℕ). IsBefore (stamp r 0) held.tree) (sym found.raised) base.stands.stands.before) (omega arith);
 }))
 
-pub limits_room : (sectors : ℕ) (held : Held) → held.limits ≡ limits_of sectors held.limits.nodes → held.limits.aces_set + 5 ≤ held.limits.aces
+pub limits_room : (sectors : ℕ) (held : VolumeState) → held.limits ≡ limits_of sectors held.limits.nodes → held.limits.aces_set + 5 ≤ held.limits.aces
 limits_room sectors held limits = subst (λ (l : Limits). l.aces_set + 5 ≤ l.aces) (sym limits) (omega arith)
 
-pub same_seen : (old new : World) (recent : List Tree) (old_held new_held : Held) → new ≡ old → new_held ≡ old_held
+pub same_seen : (old new : World) (recent : List Tree) (old_held new_held : VolumeState) → new ≡ old → new_held ≡ old_held
     → (let one : Seen = record { serving = serving_by old recent (old_held.seats ∷ []) old_held.is_down; volume = old_held } in one)
     ≡ record { serving = serving_by new recent (new_held.seats ∷ []) new_held.is_down; volume = new_held }
 same_seen old new recent old_held new_held worlds volumes =
     ap (λ (w : World). let one : Seen = record { serving = serving_by w recent (old_held.seats ∷ []) old_held.is_down; volume = old_held } in one) (sym worlds)
-    ∙ ap (λ (h : Held). let one : Seen = record { serving = serving_by new recent (h.seats ∷ []) h.is_down; volume = h } in one) (sym volumes)
+    ∙ ap (λ (h : VolumeState). let one : Seen = record { serving = serving_by new recent (h.seats ∷ []) h.is_down; volume = h } in one) (sym volumes)

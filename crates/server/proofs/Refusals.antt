@@ -4,7 +4,7 @@ use Rattle.disk.specs.Cause.{IsCounted}
 use Rattle.model.specs.Keyed.{at}
 use Rattle.model.specs.World.{World, is_busy}
 use Rattle.std.specs.Result.{IsErrAnd}
-use Rattle.volume.specs.Held.{Held, IsSameVolume}
+use Rattle.volume.specs.VolumeState.{VolumeState, IsSameVolume}
 use Rattle.volume.proofs.KeepLaws.{counted_later}
 use Rattle.compound.specs.declared.fault.Fault.{Fault}
 use Rattle.compound.specs.declared.fault.Fault.TheVariants as turns
@@ -58,8 +58,8 @@ hang_up_refused first old new number faults.Closed on later busy refused =
 hang_up_refused first old new number faults.Memory on later busy refused =
     let world : new.world ≡ old.world = refused.0 in
     let volume : new.volume ≡ old.volume = refused.1 in (
-      same_on first old new number (ap (λ (held : Held). held.is_down) volume ∙ on.still_up) refused.2
-          (record { sectors = ap (λ (held : Held). held.sectors) volume; limits = ap (λ (held : Held). held.limits) volume; run = ap (λ (held : Held). held.run) volume })
+      same_on first old new number (ap (λ (held : VolumeState). held.is_down) volume ∙ on.still_up) refused.2
+          (record { sectors = ap (λ (held : VolumeState). held.sectors) volume; limits = ap (λ (held : VolumeState). held.limits) volume; run = ap (λ (held : VolumeState). held.run) volume })
           (λ other apart. ap (λ (w : World). at other w.connections) world) on,
       λ none.
           let gone : connection_at old number ≡ None = sym (ap (λ (w : World). at number w.connections) world) ∙ none in

@@ -10,7 +10,8 @@ use Rattle.fs.specs.Changes.{Changes}
 use Rattle.fs.specs.FileSystem.{FileSystem}
 use Rattle.layout.specs.Stands.{Kept}
 use Rattle.volume.specs.Changes.{Given}
-use Rattle.volume.specs.Held.{Held, IsSameVolume, AddsTrees, StandsForOne, IsRecent, MayAdd}
+use Rattle.volume.specs.VolumeState.{VolumeState, IsSameVolume, AddsTrees, StandsForOne, IsRecent}
+use Rattle.volume.specs.VolumeState.{MayAdd}
 use Rattle.model.specs.declared.limits.Limits.{Limits}
 use Rattle.model.specs.Tree.{Tree}
 use Rattle.model.specs.Keyed.{Keyed, at, with}
@@ -123,4 +124,4 @@ agrees_after keeps_word given old new before after was is (Ok done) changes agre
 agrees_after keeps_word given old new before after was is (Err faults.Device) changes agreed same agrees up =
     absurd (true≢false (sym changes.volume_changes.ends.down ∙ up))
 agrees_after keeps_word given old new before after was is (Err faults.Memory) changes agreed same agrees up =
-    subst (Agrees new) (sym same) (agrees_on old new was changes.volume_changes.same.run (ap (λ (h : Held). h.seats) changes.volume_changes.ends) agrees)
+    subst (Agrees new) (sym same) (agrees_on old new was changes.volume_changes.same.run (ap (λ (h : VolumeState). h.seats) changes.volume_changes.ends) agrees)

@@ -7,7 +7,7 @@ use Rattle.disk.specs.Moments.{Image, History, LeftSince, moment, seen}
 use Rattle.layout.specs.Stands.{Kept, bare}
 use Rattle.model.specs.Fresh.{fresh_tree}
 use Rattle.volume.specs.MountAnswers.{NoTree}
-use Rattle.volume.specs.Held.{Held, IsSameVolume, kept_of}
+use Rattle.volume.specs.VolumeState.{VolumeState, IsSameVolume, kept_of}
 use Rattle.volume.specs.Stands.{StandsFor, IsBase}
 use Rattle.volume.specs.Superblock.{last_run}
 use Rattle.volume.proofs.FormatLaws.{fresh_stands_for}
@@ -23,7 +23,7 @@ use Rattle.volume.proofs.RemountLaws.{seen_left, rests_left, lasting, served_goo
 use Rattle.volume.specs.Formats.{IsFresh}
 use Rattle.volume.specs.Remounts.{StandsForGood, LeavesGood}
 use Rattle.server.specs.Headline.{IsMounted, IsGood, EveryStop, EveryRun, EveryFirst, IsNewVolume, Formatted, Powers, NeverLost, IsNotLost, EveryTrace, Stopped, executed_in, Follows, IsLater, Next, Then, EveryLife, EveryStamping}
-use Rattle.volume.specs.Held.{StandsForOne}
+use Rattle.volume.specs.VolumeState.{StandsForOne}
 use Rattle.server.specs.Seen.{Seen, LeavesNow, MayKeep, Moves, Call, IsServed, Begins, Goes_on, Fails_at, Stays_down, Keeps_on, world_after, history_of, AreTold, told}
 use Rattle.server.specs.Views.{server_limits}
 use Rattle.server.proofs.Moves.{left_now}
@@ -46,7 +46,7 @@ pub record IsJoined (first : Seen) (calls : List Call) (last : Seen) : Type 0 wh
   pub leaves : LeavesNow last
   pub same : IsSameVolume first.volume last.volume
 
-same_on : (a b c : Held) → IsSameVolume a b → IsSameVolume b c → IsSameVolume a c
+same_on : (a b c : VolumeState) → IsSameVolume a b → IsSameVolume b c → IsSameVolume a c
 same_on a b c ab bc = record {
   sectors = bc.sectors ∙ ab.sectors;
   limits = bc.limits ∙ ab.limits;

@@ -10,7 +10,7 @@ use Rattle.model.specs.StampRuns.{AreGiven}
 use Rattle.model.specs.Tree.{Tree}
 use Rattle.model.specs.World.{Entry}
 use Rattle.volume.specs.Formats.{IsFresh, LeavesFresh}
-use Rattle.volume.specs.Held.{Held, IsRecent, kept_of}
+use Rattle.volume.specs.VolumeState.{VolumeState, IsRecent, kept_of}
 use Rattle.volume.specs.MountAnswers.{IsMountRefused}
 use Rattle.volume.specs.Remounts.{Remounts, IsFound, LeavesGood}
 use Rattle.volume.specs.Stands.{StandsFor}
@@ -103,7 +103,7 @@ abbrev pub EveryStop : Type 0
 EveryStop = (stopped : Stopped) (image : Image) → LeftBy stopped image → IsKept stopped image
 
 -- a later mount has such a pair, on a volume of as many nodes, under a greater restart count
-pub record HasGoodTree (stopped : Stopped) (again : Held) : Type 0 where
+pub record HasGoodTree (stopped : Stopped) (again : VolumeState) : Type 0 where
   pub good : ∥ IsGood stopped (kept_of again) ∥₁
   pub nodes : again.limits.nodes ≡ stopped.first.volume.limits.nodes
   pub counted : stopped.run < again.run
@@ -112,7 +112,7 @@ pub record HasGoodTree (stopped : Stopped) (again : Held) : Type 0 where
 -- further stops, the next mount that serves has such a pair.
 abbrev pub EveryRun : Type 0
 EveryRun =
-    (stopped : Stopped) (device : History) (from : ℕ) (again : Held)
+    (stopped : Stopped) (device : History) (from : ℕ) (again : VolumeState)
     → IsMountedAfter stopped device from
     → IsFound stopped.first.volume.sectors device again → HasGoodTree stopped again
 
@@ -126,14 +126,15 @@ pub data IsNewVolume (sectors nodes : ℕ) : History → ℕ → Type 0 where
 
 -- Before the first run: however often a new volume was mounted, and those mounts refused or stopped,
 -- the next one that serves has the empty root and no seats, under a count above 0.
-pub record BeginsFresh (nodes : ℕ) (first : Held) : Type 0 where
+pub record BeginsFresh (nodes : ℕ) (first : VolumeState) : Type 0 where
   pub empty : kept_of first ≡ bare fresh_tree
   pub nodes_are : first.limits.nodes ≡ nodes
   pub counted : 0 < first.run
 
 abbrev pub EveryFirst : Type 0
 EveryFirst =
-    (sectors nodes : ℕ) (new : History) (since : ℕ) (device : History) (from : ℕ) (first : Held)
+    (sectors nodes : ℕ) (new : History) (since : ℕ) (device : History) (from : ℕ)
+    (first : VolumeState)
     → IsNewVolume sectors nodes new since → Remounts sectors new since device from
     → IsFound sectors device first → BeginsFresh nodes first
 

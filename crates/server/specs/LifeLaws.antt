@@ -15,7 +15,7 @@ use Rattle.model.specs.ServedOnce.{numbers_in}
 use Rattle.model.specs.Session.{Table, Replays, begin}
 use Rattle.model.specs.SessionRuns.{CountsFrom, OthersBetween}
 use Rattle.model.specs.World.{one}
-use Rattle.volume.specs.Held.{Held}
+use Rattle.volume.specs.VolumeState.{VolumeState}
 use Rattle.volume.specs.Remounts.{IsFound}
 use Rattle.volume.specs.Stands.{StandsFor}
 use Rattle.server.specs.Headline.{Stopped, LeftBy, IsMountedAfter, Follows, executed_in}
@@ -42,7 +42,7 @@ freed_in stopped = (history_in stopped).freed
 pub data Leaves (stopped : Stopped) : Seats → Type 0 where
   OnMap : {image : Image} {nodes run : ℕ} {kept : Kept} → LeftBy stopped image
       → StandsFor stopped.first.volume.sectors nodes run kept image → Leaves stopped kept.seats
-  OnMount : {device : History} {from : ℕ} {again : Held} → IsMountedAfter stopped device from
+  OnMount : {device : History} {from : ℕ} {again : VolumeState} → IsMountedAfter stopped device from
       → IsFound stopped.first.volume.sectors device again → Leaves stopped again.seats
 
 -- the table of its server when the call began within which it was stopped

@@ -4,7 +4,7 @@ use Rattle.disk.specs.Cause.{IsCounted}
 use Rattle.disk.specs.declared.device.Device.{Ghosts}
 use Rattle.model.specs.Keyed.{at}
 use Rattle.model.specs.World.{World, Connection, Closed, one}
-use Rattle.volume.specs.Held.{Held, IsSameVolume}
+use Rattle.volume.specs.VolumeState.{VolumeState, IsSameVolume}
 use Rattle.server.specs.Connections.{HasGoneOn}
 use Rattle.server.specs.declared.fault.ServerFault.{ServerFault}
 use Rattle.server.specs.declared.fault.ServerFault.TheVariants as faults
@@ -14,7 +14,7 @@ use Rattle.server.specs.Views.{world_of, volume_of, failures_of}
 -- what a caller can tell of a server between two calls
 pub record View : Type 0 where
   pub world : World
-  pub volume : Held
+  pub volume : VolumeState
   pub failures : ℕ
 
 abbrev pub view : {D : Type 0} {g : Ghosts D} → Server D g → View

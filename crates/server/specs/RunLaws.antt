@@ -4,7 +4,7 @@ use Rattle.layout.specs.Stands.{Kept}
 use Rattle.model.specs.Keyed.{at}
 use Rattle.model.specs.Rpc.{NoCall, read_call}
 use Rattle.model.specs.World.{World, Connection, Waiting, Busy, Idle, one}
-use Rattle.volume.specs.Held.{IsRecent}
+use Rattle.volume.specs.VolumeState.{IsRecent}
 use Rattle.server.specs.Headline.{IsMounted}
 use Rattle.server.specs.Seen.{Seen, Call, IsServed, IsTurned}
 

@@ -4,7 +4,7 @@ use Rattle.std.specs.Prelude.{ℕ, true, List, [], ◌∷◌, Option, Some, None
 use Rattle.std.specs.List.{IsAmong}
 use Rattle.disk.specs.Moments.{Image, AddsOnly, Left}
 use Rattle.layout.specs.Stands.{Kept}
-use Rattle.volume.specs.Held.{Held, IsSameVolume, StandsForOne, IsRecent}
+use Rattle.volume.specs.VolumeState.{VolumeState, IsSameVolume, StandsForOne, IsRecent}
 use Rattle.model.specs.Keyed.{at}
 use Rattle.model.specs.Runs.{Serving, Event, Arrives, Turns, HangsUp, Connects, Takes, Happens, Fails, StaysDown, MayLeave, MayHold, History, no_history, history_after, history_failing, effect_of}
 use Rattle.model.specs.World as world
@@ -12,7 +12,7 @@ use Rattle.model.specs.World.{World, Turn, one, taken_at, reply_at, is_busy}
 
 pub record Seen : Type 0 where
   pub serving : Serving
-  pub volume : Held
+  pub volume : VolumeState
 
 -- a tree and seats that the machine leaves now
 abbrev pub IsLeftBy : Serving → Kept → Type 0

@@ -14,7 +14,7 @@ use Rattle.model.specs.World as world
 use Rattle.model.specs.World.{World, ServerLimits, mounted_world}
 use Rattle.rpc.specs.Assembly.{record_limits}
 use Rattle.session.specs.Limits.{served}
-use Rattle.volume.specs.Held.{Held, IsRecent}
+use Rattle.volume.specs.VolumeState.{VolumeState, IsRecent}
 use Rattle.server.specs.Connections.{connections_of}
 use Rattle.server.specs.declared.server.Server.{Server}
 use Rattle.server.specs.Seen.{Seen, LeavesNow, Said, Gave, Does, Breaks, Checkpoints, GivesDown, IsTurned}
@@ -56,7 +56,7 @@ unfoldable pub files_of : {D : Type 0} {g : Ghosts D} → Server D g → FileSys
 files_of server = fs_of server.fs
 
 -- and the volume below it: whether that is down, and what a stop may leave
-unfoldable pub volume_of : {D : Type 0} {g : Ghosts D} → Server D g → Held
+unfoldable pub volume_of : {D : Type 0} {g : Ghosts D} → Server D g → VolumeState
 volume_of server = (fs_of server.fs).volume
 
 -- it has the tree of its volume and the seats that its mount read, and no client, session or

@@ -1,4 +1,4 @@
--- Cards from before a stamp are a tree from before it.
+-- Cached nodes from before a stamp are a tree from before it.
 use Rattle.std.proofs.Common.{◌≡◌, ◌≤◌, ◌<◌, ◌↔◌, ℕ, zero, suc, List, [], ◌∷◌, Option, Some, None, length, get_or, refl, sym, ap, subst, ◌∙◌, arith, inl, inr, ne_eqb}
 use Rattle.std.proofs.lemmas.Bool.{cases_eq}
 use Rattle.disk.specs.Moments.{Image}
@@ -6,7 +6,7 @@ use Rattle.model.specs.Keyed.{at, here_or}
 use Rattle.model.specs.Tree.{Tree, Node, DirEntry, names_of}
 use Rattle.model.specs.WellFormed.{IsBefore}
 use Rattle.directory.specs.Records.{Record}
-use Rattle.layout.specs.Cards.{Card, tree_of, node_of}
+use Rattle.layout.specs.CachedNodes.{CachedNode, tree_of, node_of}
 use Rattle.layout.specs.Known.{AreCards}
 use Rattle.layout.proofs.Answering.{tree_answers}
 use Rattle.layout.proofs.Knowing.{laid_are_cards}
@@ -41,11 +41,11 @@ all-before : (stamp : ℕ) (names : List Record) → ((i : ℕ) (d : Record) →
 all-before stamp [] each = tt
 all-before stamp (x ∷ names) each = (each 0 x (omega arith), all-before stamp names (λ i d h. each (suc i) d (omega arith)))
 
-module _ (nodes : ℕ) (image : Image) (mark : ℕ → ℕ) (cards : List (Option Card)) (known : AreCards nodes mark cards) (stamp : ℕ) where
+module _ (nodes : ℕ) (image : Image) (mark : ℕ → ℕ) (cards : List (Option CachedNode)) (known : AreCards nodes mark cards) (stamp : ℕ) where
   abbrev tree : Tree
   tree = tree_of image cards
 
-  pub node-is : (number : ℕ) (node : Node) (place : ℕ) (card : Card) → at number tree ≡ Some node → get_or cards place None ≡ Some card → card.fields.number ≡ number → node ≡ node_of image card
+  pub node-is : (number : ℕ) (node : Node) (place : ℕ) (card : CachedNode) → at number tree ≡ Some node → get_or cards place None ≡ Some card → card.fields.number ≡ number → node ≡ node_of image card
   node-is number node place card e there is = some_node node (node_of image card) (sym e ∙ (tree_answers image cards known.apart number).found place card there is)
     where
       some_node : (a b : Node) → (let one : Option Node = Some a in one ≡ Some b) → a ≡ b
@@ -57,11 +57,11 @@ module _ (nodes : ℕ) (image : Image) (mark : ℕ → ℕ) (cards : List (Optio
       none_some : (node : Node) → (let none : Option Node = None in none ≡ Some node) → ⊥
       none_some node e = cc
 
-  change-is : (card : Card) → (node_of image card).change ≡ card.fields.change
+  change-is : (card : CachedNode) → (node_of image card).change ≡ card.fields.change
   unfolding node_of
   change-is card = refl
 
-  names-are : (place : ℕ) (card : Card) → get_or cards place None ≡ Some card → (key : ℕ) → at key (names_of (node_of image card).content) ≡ at key card.names
+  names-are : (place : ℕ) (card : CachedNode) → get_or cards place None ≡ Some card → (key : ℕ) → at key (names_of (node_of image card).content) ≡ at key card.names
   unfolding node_of
   names-are place card there key = node-names nodes image mark cards known card.fields.kind card (is_card nodes image mark cards known place card there).content key
 
@@ -95,7 +95,7 @@ module _ (nodes : ℕ) (image : Image) (mark : ℕ → ℕ) (cards : List (Optio
             (names-are place card there (get_or card.names i d).0 ∙ at-stamp card.names stamped i d h));
       }
 
-pub known_age : (nodes : ℕ) (image : Image) (mark : ℕ → ℕ) (cards : List (Option Card)) → AreCards nodes mark cards → (stamp : ℕ) → AreBefore stamp cards ↔ IsBefore stamp (tree_of image cards)
+pub known_age : (nodes : ℕ) (image : Image) (mark : ℕ → ℕ) (cards : List (Option CachedNode)) → AreCards nodes mark cards → (stamp : ℕ) → AreBefore stamp cards ↔ IsBefore stamp (tree_of image cards)
 known_age nodes image mark cards known stamp = (before-tree nodes image mark cards known stamp, tree-before nodes image mark cards known stamp)
 
 pub each_age : EachAge

@@ -15,7 +15,7 @@ use Rattle.model.specs.WellFormed.{one_if, times_named, AreNames, IsContent, IsN
 use Rattle.directory.specs.Listing.{by_stamp}
 use Rattle.directory.specs.Records.{Record, name_of, AreApart, AreStamped}
 use Rattle.directory.proofs.ByStamp.{at-by_stamp}
-use Rattle.layout.specs.Cards.{Card, tree_of, node_of, content_of, bytes_in, byte_at}
+use Rattle.layout.specs.CachedNodes.{CachedNode, tree_of, node_of, content_of, bytes_in, byte_at}
 use Rattle.layout.specs.Known.{HasContent, AreCards}
 use Rattle.layout.specs.Marks.{times, times_set, named_by}
 use Rattle.layout.proofs.Answering.{tree_answers}
@@ -102,18 +102,18 @@ marked-same : (n : ℕ) (content : List ℕ) → 0 < n → content ≡ marked_by
 marked-same zero content h = absurd (omega arith)
 marked-same (suc n) content h = refl
 
-module _ (nodes : ℕ) (image : Image) (mark : ℕ → ℕ) (cards : List (Option Card)) (known : AreCards nodes mark cards) (bytes : HoldBytes image mark) where
+module _ (nodes : ℕ) (image : Image) (mark : ℕ → ℕ) (cards : List (Option CachedNode)) (known : AreCards nodes mark cards) (bytes : HoldBytes image mark) where
   abbrev marked : Image
   marked n = marked_by (mark n) (image n)
 
-  named_there : (n place : ℕ) (card : Card) → get_or cards place None ≡ Some card → 0 < times_set n card.blocks → 0 < mark n
+  named_there : (n place : ℕ) (card : CachedNode) → get_or cards place None ≡ Some card → 0 < times_set n card.blocks → 0 < mark n
   unfolding named_by
   named_there n place card there some =
       let least = named-at n cards place in
       let is : named_by n (get_or cards place None) ≡ times n card.fields.run_sectors + times_set n card.blocks = ap (named_by n) there in
       omega (arith, known.marks n)
 
-  file-bytes : (place : ℕ) (card : Card) → get_or cards place None ≡ Some card → All (λ byte. byte < 256) (bytes_in image card.blocks card.fields.size)
+  file-bytes : (place : ℕ) (card : CachedNode) → get_or cards place None ≡ Some card → All (λ byte. byte < 256) (bytes_in image card.blocks card.fields.size)
   file-bytes place card there =
       let same : bytes_in image card.blocks card.fields.size ≡ bytes_in marked card.blocks card.fields.size =
       bytes-kept marked image card.blocks (λ n some. marked-same (mark n) (image n) (named_there n place card there some)) card.fields.size in
@@ -123,55 +123,56 @@ module _ (nodes : ℕ) (image : Image) (mark : ℕ → ℕ) (cards : List (Optio
 -- One node
 
 module _ (image : Image) (limits : Limits) where
-  kind-is : (kind : NodeKind) (card : Card) → kind_of (content_of image kind card) ≡ kind
+  kind-is : (kind : NodeKind) (card : CachedNode) → kind_of (content_of image kind card) ≡ kind
   kind-is kind.File card = refl
   kind-is kind.Directory card = refl
 
-  size-is : (card : Card) → length (bytes_in image card.blocks card.fields.size) ≡ card.fields.size
+  size-is : (card : CachedNode)
+      → length (bytes_in image card.blocks card.fields.size) ≡ card.fields.size
   unfolding bytes_in
   size-is card = length-map-range_with_len (byte_at image card.blocks) 0 card.fields.size
 
-  content-allowed : (kind : NodeKind) (card : Card) → All (λ byte. byte < 256) (bytes_in image card.blocks card.fields.size) → HasContent kind card → IsContentAllowed limits kind card → IsContent limits (content_of image kind card)
+  content-allowed : (kind : NodeKind) (card : CachedNode) → All (λ byte. byte < 256) (bytes_in image card.blocks card.fields.size) → HasContent kind card → IsContentAllowed limits kind card → IsContent limits (content_of image kind card)
   content-allowed kind.File card bytes has allowed = (bytes, omega (arith, size-is card))
   content-allowed kind.Directory card bytes has allowed = names-allowed limits card.names has.stamped has.names.apart allowed
 
-  allowed-content : (kind : NodeKind) (card : Card) → HasContent kind card → IsContent limits (content_of image kind card) → IsContentAllowed limits kind card
+  allowed-content : (kind : NodeKind) (card : CachedNode) → HasContent kind card → IsContent limits (content_of image kind card) → IsContentAllowed limits kind card
   allowed-content kind.File card has is = let few = is.1 in omega (arith, size-is card)
   allowed-content kind.Directory card has is = allowed-names limits card.names has.stamped is
 
-  node-allowed : (card : Card) → All (λ byte. byte < 256) (bytes_in image card.blocks card.fields.size) → HasContent card.fields.kind card → IsNodeAllowed limits card → IsNode limits (node_of image card)
+  node-allowed : (card : CachedNode) → All (λ byte. byte < 256) (bytes_in image card.blocks card.fields.size) → HasContent card.fields.kind card → IsNodeAllowed limits card → IsNode limits (node_of image card)
   unfolding node_of
   node-allowed card bytes has allowed = record {
     entries = subst (λ (kind : NodeKind). IsTrue (is_list_for limits.aces_set limits.aces kind card.fields.acl)) (sym (kind-is card.fields.kind card)) allowed.entries;
     content = content-allowed card.fields.kind card bytes has allowed.content;
   }
 
-  allowed-node : (card : Card) → HasContent card.fields.kind card → IsNode limits (node_of image card) → IsNodeAllowed limits card
+  allowed-node : (card : CachedNode) → HasContent card.fields.kind card → IsNode limits (node_of image card) → IsNodeAllowed limits card
   unfolding node_of
   allowed-node card has is = record {
     entries = subst (λ (kind : NodeKind). IsTrue (is_list_for limits.aces_set limits.aces kind card.fields.acl)) (kind-is card.fields.kind card) is.entries;
     content = allowed-content card.fields.kind card has is.content;
   }
 
-  directory-content : (of : NodeKind) (card : Card) → of ≡ kind.Directory → is_directory (content_of image of card) ≡ true
+  directory-content : (of : NodeKind) (card : CachedNode) → of ≡ kind.Directory → is_directory (content_of image of card) ≡ true
   directory-content kind.File card is = absurd cc
   directory-content kind.Directory card is = refl
 
-  content-directory : (of : NodeKind) (card : Card) → is_directory (content_of image of card) ≡ true → of ≡ kind.Directory
+  content-directory : (of : NodeKind) (card : CachedNode) → is_directory (content_of image of card) ≡ true → of ≡ kind.Directory
   content-directory kind.File card is = absurd (true≢false (sym is))
   content-directory kind.Directory card is = refl
 
-  directory-is : (card : Card) → card.fields.kind ≡ kind.Directory → is_directory_node (Some (node_of image card)) ≡ true
+  directory-is : (card : CachedNode) → card.fields.kind ≡ kind.Directory → is_directory_node (Some (node_of image card)) ≡ true
   unfolding node_of
   directory-is card is = directory-content card.fields.kind card is
 
-  is-directory : (card : Card) → is_directory_node (Some (node_of image card)) ≡ true → card.fields.kind ≡ kind.Directory
+  is-directory : (card : CachedNode) → is_directory_node (Some (node_of image card)) ≡ true → card.fields.kind ≡ kind.Directory
   unfolding node_of
   is-directory card is = content-directory card.fields.kind card is
 
 -- The tree
 
-module _ (nodes : ℕ) (image : Image) (mark : ℕ → ℕ) (cards : List (Option Card)) (known : AreCards nodes mark cards) (bytes : HoldBytes image mark) (limits : Limits) where
+module _ (nodes : ℕ) (image : Image) (mark : ℕ → ℕ) (cards : List (Option CachedNode)) (known : AreCards nodes mark cards) (bytes : HoldBytes image mark) (limits : Limits) where
   abbrev tree : Tree
   tree = tree_of image cards
 

@@ -4,7 +4,7 @@ use Rattle.std.proofs.lemmas.Bool.{cases_eq, eqb-true}
 use Rattle.std.proofs.lemmas.List.{get_or-map, length-map, get_or_past}
 use Rattle.node_table.specs.Tables.{number_of, number_at, HaveOwnPlaces, count_of_all}
 use Rattle.node_table.proofs.TableLaws.{within-numbered}
-use Rattle.layout.specs.Cards.{Card}
+use Rattle.layout.specs.CachedNodes.{CachedNode}
 use Rattle.layout.specs.Marks.{once_if, times}
 use Rattle.layout.specs.SumLaws.{entry_numbers, other_numbers, numbers_of}
 use Rattle.layout.proofs.NumberLaws.{place-of, once-here, once-off, times-append, times-at}
@@ -53,7 +53,7 @@ is_node-le (Some m) = omega arith
 
 -- Sums over all places
 
-entries-sum : (n : ℕ) (cards : List (Option Card)) → times n (entry_numbers cards) ≡ sum_below (λ p. times n (led_at cards p)) (length cards)
+entries-sum : (n : ℕ) (cards : List (Option CachedNode)) → times n (entry_numbers cards) ≡ sum_below (λ p. times n (led_at cards p)) (length cards)
 entries-sum n [] = refl
 entries-sum n (None ∷ cards) = omega (arith, entries-sum n cards)
 entries-sum n (Some card ∷ cards) =
@@ -65,7 +65,7 @@ others-step n number rest true e off =
     omega (arith, once-off n number (λ h. off (h ∙ same)))
 others-step n number rest false e off = refl
 
-others-sum : (n : ℕ) (cards : List (Option Card)) → n ≢ root → times n (other_numbers cards) ≡ sum_below (λ p. is_it n (number_at cards p)) (length cards)
+others-sum : (n : ℕ) (cards : List (Option CachedNode)) → n ≢ root → times n (other_numbers cards) ≡ sum_below (λ p. is_it n (number_at cards p)) (length cards)
 others-sum n [] off = refl
 others-sum n (None ∷ cards) off = omega (arith, others-sum n cards off)
 others-sum n (Some card ∷ cards) off =
@@ -76,21 +76,21 @@ root-step number rest true e = refl
 root-step number rest false e =
     omega (arith, once-off root number (λ same. true≢false (sym (eq-eqb number root (sym same)) ∙ e)))
 
-pub root-others : (cards : List (Option Card)) → times root (other_numbers cards) ≡ 0
+pub root-others : (cards : List (Option CachedNode)) → times root (other_numbers cards) ≡ 0
 root-others [] = refl
 root-others (None ∷ cards) = root-others cards
 root-others (Some card ∷ cards) = root-step card.fields.number (other_numbers cards) (eqb card.fields.number root) refl ∙ root-others cards
 
-count-sum : (cards : List (Option Card)) → count_of_all cards ≡ sum_below (λ p. is_node (number_at cards p)) (length cards)
+count-sum : (cards : List (Option CachedNode)) → count_of_all cards ≡ sum_below (λ p. is_node (number_at cards p)) (length cards)
 count-sum [] = refl
 count-sum (None ∷ cards) = omega (arith, count-sum cards)
 count-sum (Some card ∷ cards) = omega (arith, count-sum cards)
 
-own-rest : (card : Option Card) (cards : List (Option Card)) → HaveOwnPlaces (card ∷ cards) → HaveOwnPlaces cards
+own-rest : (card : Option CachedNode) (cards : List (Option CachedNode)) → HaveOwnPlaces (card ∷ cards) → HaveOwnPlaces cards
 own-rest card cards own p q n here there = let same : suc p ≡ suc q = own (suc p) (suc q) n here there in omega arith
 
 -- one node at most has a number
-own-sum : (n : ℕ) (cards : List (Option Card)) → HaveOwnPlaces cards → sum_below (λ p. is_it n (number_at cards p)) (length cards) ≤ 1
+own-sum : (n : ℕ) (cards : List (Option CachedNode)) → HaveOwnPlaces cards → sum_below (λ p. is_it n (number_at cards p)) (length cards) ≤ 1
 own-sum n [] own = omega arith
 own-sum n (card ∷ cards) own = elim (cases_eq (is_it n (number_of card)) 0) [
   | inl none ↦ omega (arith, none, own-sum n cards (own-rest card cards own))
@@ -103,24 +103,24 @@ own-sum n (card ∷ cards) own = elim (cases_eq (is_it n (number_of card)) 0) [
       )
 ]
 
-node-there : (card : Option Card) (n : ℕ) → 0 < times n (led_by card) → number_of card ≡ Some (number_or (number_of card))
+node-there : (card : Option CachedNode) (n : ℕ) → 0 < times n (led_by card) → number_of card ≡ Some (number_or (number_of card))
 node-there None n some = absurd (omega arith)
 node-there (Some card) n some = refl
 
 -- Sums over the places that were met
 
-led-sum : (n : ℕ) (cards : List (Option Card)) (ps : List ℕ) → times n (led_from cards ps) ≡ sum_of (λ p. times n (led_at cards p)) ps
+led-sum : (n : ℕ) (cards : List (Option CachedNode)) (ps : List ℕ) → times n (led_from cards ps) ≡ sum_of (λ p. times n (led_at cards p)) ps
 led-sum n cards [] = refl
 led-sum n cards (p ∷ ps) = omega (arith, times-append n (led_at cards p) (led_from cards ps), led-sum n cards ps)
 
-numbers-sum : (n : ℕ) (cards : List (Option Card)) (ps : List ℕ) → ((i : ℕ) → i < length ps → number_at cards (get_or ps i 0) ≡ Some (number_in cards (get_or ps i 0)))
+numbers-sum : (n : ℕ) (cards : List (Option CachedNode)) (ps : List ℕ) → ((i : ℕ) → i < length ps → number_at cards (get_or ps i 0) ≡ Some (number_in cards (get_or ps i 0)))
     → times n (numbers_at cards ps) ≡ sum_of (λ p. is_it n (number_at cards p)) ps
 numbers-sum n cards [] there = refl
 numbers-sum n cards (p ∷ ps) there =
     let here : is_it n (number_at cards p) ≡ once_if (eqb n (number_in cards p)) = ap (is_it n) (there 0 (omega arith)) in
     omega (arith, here, numbers-sum n cards ps (λ i h. there (suc i) (omega arith)))
 
-module _ (cards : List (Option Card)) (seen : List Bool) (order : List ℕ) (walk : IsWalk cards seen order) where
+module _ (cards : List (Option CachedNode)) (seen : List Bool) (order : List ℕ) (walk : IsWalk cards seen order) where
   few : (p : ℕ) → times p order ≤ 1
   few p = rw (walk.once p) (once-le (get_or seen p false))
 

@@ -1,4 +1,4 @@
--- Whether a tree fits is told by the sums over the cards.
+-- Whether a tree fits is told by the sums over the cached nodes.
 use Rattle.std.proofs.Common.{◌≡◌, ◌≤◌, ◌&&◌, ℕ, Bool, true, false, List, [], ◌∷◌, Option, Some, length, refl, sym, ap, ap₂, ◌∙◌, arith}
 use Rattle.std.proofs.lemmas.Bool.{le-leb}
 use Rattle.std.specs.Prelude.{nat_le}
@@ -13,7 +13,7 @@ use Rattle.model.specs.Tree.{Tree, Node, names_of}
 use Rattle.model.proofs.KeyedLaws.{at-above, at-first, at-rest}
 use Rattle.model.proofs.OpensLaws.{total-ones}
 use Rattle.directory.specs.Listing.{by_stamp}
-use Rattle.layout.specs.Cards.{Card, tree_of, node_of, content_of}
+use Rattle.layout.specs.CachedNodes.{CachedNode, tree_of, node_of, content_of}
 use Rattle.layout.specs.Known.{HasContent, AreCards}
 use Rattle.layout.proofs.Answering.{tree_answers}
 use Rattle.layout.proofs.Changing.{tree-above}
@@ -38,8 +38,8 @@ and-true true true c is = is
 and-true true false c is = refl
 and-true false b c is = refl
 
-module _ (nodes : ℕ) (image : Image) (mark : ℕ → ℕ) (cards : List (Option Card)) (known : AreCards nodes mark cards) where
-  few-names : (kind : NodeKind) (card : Card) → HasContent kind card → length (names_of (content_of image kind card)) ≤ 1024
+module _ (nodes : ℕ) (image : Image) (mark : ℕ → ℕ) (cards : List (Option CachedNode)) (known : AreCards nodes mark cards) where
+  few-names : (kind : NodeKind) (card : CachedNode) → HasContent kind card → length (names_of (content_of image kind card)) ≤ 1024
   few-names kind.File card has = omega arith
   few-names kind.Directory card has =
       let same : length (by_stamp card.names) ≡ length card.names =
@@ -47,7 +47,7 @@ module _ (nodes : ℕ) (image : Image) (mark : ℕ → ℕ) (cards : List (Optio
       let few = has.names.few in
       omega arith
 
-  few-node : (card : Card) → HasContent card.fields.kind card → length (names_of (node_of image card).content) ≤ 1024
+  few-node : (card : CachedNode) → HasContent card.fields.kind card → length (names_of (node_of image card).content) ≤ 1024
   unfolding node_of
   few-node card has = few-names card.fields.kind card has
 

@@ -4,14 +4,14 @@ use Rattle.std.proofs.lemmas.Bool.{cases_eq, cases_lt}
 use Rattle.std.proofs.lemmas.List.{length-append, length-set, get_or-set_same, get_or-set_other, get_or_append_left, get_or-append_right, map_push, get_or-map, length-map, length-replicate, get_or_default}
 use Rattle.node_table.specs.Tables.{number_at}
 use Rattle.node_table.proofs.TableLaws.{within-numbered}
-use Rattle.layout.specs.Cards.{Card}
+use Rattle.layout.specs.CachedNodes.{CachedNode}
 use Rattle.layout.specs.Marks.{once_if, times}
 use Rattle.layout.proofs.NumberLaws.{place-of, times-append, times-at}
 use Rattle.model.specs.Tree.{root}
 use Rattle.tree_check.specs.Trees.{IsReached, Root}
 use Rattle.tree_check.specs.Walks.{number_or, number_in, numbers_at, IsWalk, Meets}
 
-module _ (cards : List (Option Card)) (seen : List Bool) (order : List ℕ) (walk : IsWalk cards seen order) (number place : ℕ)
+module _ (cards : List (Option CachedNode)) (seen : List Bool) (order : List ℕ) (walk : IsWalk cards seen order) (number place : ℕ)
     (there : number_at cards place ≡ Some number) where
   is_number : number_in cards place ≡ number
   is_number = ap number_or there
@@ -79,7 +79,7 @@ replicate-none zero i = refl
 replicate-none (suc n) zero = refl
 replicate-none (suc n) (suc i) = replicate-none n i
 
-pub starts : (cards : List (Option Card)) (seen marks : List Bool) (none order : List ℕ) (place : ℕ) → seen ≡ replicate (length cards) false → marks ≡ set seen place true
+pub starts : (cards : List (Option CachedNode)) (seen marks : List Bool) (none order : List ℕ) (place : ℕ) → seen ≡ replicate (length cards) false → marks ≡ set seen place true
     → none ≡ [] → order ≡ none ++ place ∷ [] → number_at cards place ≡ Some root → Meets cards marks [] order (root ∷ [])
 starts cards seen marks none order place unseen marked empty first there =
     let walk : IsWalk cards seen [] = record {

@@ -6,7 +6,7 @@ use Rattle.std.proofs.lemmas.List.{get_or_past, take_more}
 use Rattle.std.specs.List.{AllByRecursion}
 use Rattle.sector.specs.Written.{each_push}
 use Rattle.directory.specs.Records.{Record}
-use Rattle.layout.specs.Cards.{Card}
+use Rattle.layout.specs.CachedNodes.{CachedNode}
 
 pub each_entry : (P : Record → Type 0) (names : List Record) (i : ℕ) (one : Record) → ((d : Record) → get_or names i d ≡ one) → i < length names
     → AllByRecursion P names → P one
@@ -19,14 +19,15 @@ pub each_more : (P : Record → Type 0) (names : List Record) (i : ℕ) (one : R
 each_more P names i one is h all its =
     subst (AllByRecursion P) (sym (take_more names i one h ∙ ap (λ r. take i names ++ r ∷ []) (is one))) (each_push P (take i names) one all its)
 
--- what holds of all cards below a place that is past the last holds of all
-pub each_place : (P : Card → Type 0) (cards : List (Option Card)) (end : ℕ) → length cards ≤ end
-    → ((place : ℕ) (card : Card) → place < end → get_or cards place None ≡ Some card → P card)
-    → (place : ℕ) (card : Card) → get_or cards place None ≡ Some card → P card
+-- what holds of all cached nodes below a place that is past the last holds of all
+pub each_place : (P : CachedNode → Type 0) (cards : List (Option CachedNode)) (end : ℕ)
+    → length cards ≤ end
+    → ((place : ℕ) (card : CachedNode) → place < end → get_or cards place None ≡ Some card → P card)
+    → (place : ℕ) (card : CachedNode) → get_or cards place None ≡ Some card → P card
 each_place P cards end past each place card there = elim (cases_lt place end) [
   | inl before ↦ each place card before there
   | inr behind ↦ absurd (none_some card (sym (get_or_past cards place None (omega arith)) ∙ there))
 ]
   where
-    none_some : (card : Card) → (let none : Option Card = None in none ≡ Some card) → ⊥
+    none_some : (card : CachedNode) → (let none : Option CachedNode = None in none ≡ Some card) → ⊥
     none_some card e = cc

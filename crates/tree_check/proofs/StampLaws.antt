@@ -3,18 +3,18 @@ use Rattle.std.proofs.Common.{◌≡◌, ◌<◌, ◌+◌, ◌++◌, ℕ, zero, 
 use Rattle.std.proofs.lemmas.List.{append_assoc, append-nil, map-append, take_more}
 use Rattle.std.specs.List.Sorted.{IsPermutation, IsNonDecreasing}
 use Rattle.directory.specs.Records.{Record}
-use Rattle.layout.specs.Cards.{Card}
+use Rattle.layout.specs.CachedNodes.{CachedNode}
 use Rattle.layout.specs.Marks.{once_if, times}
 use Rattle.layout.proofs.NumberLaws.{times-moved, rising, once-each, once-here, times-append}
 use Rattle.tree_check.specs.Stamps.{stamps_of, stamped_by, entry_stamps, AreDifferent}
 use Rattle.tree_check.specs.Stamps.{AreStampsApart}
 use Rattle.tree_check.proofs.Sums.{times-split, take-one}
 
-pub apart_sorted : (cards : List (Option Card)) (sorted : List ℕ) → IsPermutation (entry_stamps cards) sorted → IsNonDecreasing sorted → AreDifferent sorted → AreStampsApart cards
+pub apart_sorted : (cards : List (Option CachedNode)) (sorted : List ℕ) → IsPermutation (entry_stamps cards) sorted → IsNonDecreasing sorted → AreDifferent sorted → AreStampsApart cards
 apart_sorted cards sorted moved up differ stamp =
     omega (arith, times-moved stamp (entry_stamps cards) sorted moved, once-each stamp sorted (rising sorted up differ))
 
-pub sorted_apart : (cards : List (Option Card)) (sorted : List ℕ) → IsPermutation (entry_stamps cards) sorted → AreStampsApart cards → AreDifferent sorted
+pub sorted_apart : (cards : List (Option CachedNode)) (sorted : List ℕ) → IsPermutation (entry_stamps cards) sorted → AreStampsApart cards → AreDifferent sorted
 sorted_apart cards sorted moved apart i h same =
     let n = get_or sorted (i + 1) 0 in
     let second = times-split n sorted (i + 1) 0 h in
@@ -26,7 +26,7 @@ sorted_apart cards sorted moved apart i h same =
 
 -- The stamps of the first places
 
-pub stamps-take : (cards : List (Option Card)) (p : ℕ) → p < length cards → entry_stamps (take (suc p) cards) ≡ entry_stamps (take p cards) ++ stamped_by (get_or cards p None)
+pub stamps-take : (cards : List (Option CachedNode)) (p : ℕ) → p < length cards → entry_stamps (take (suc p) cards) ≡ entry_stamps (take p cards) ++ stamped_by (get_or cards p None)
 stamps-take [] p h = absurd (omega arith)
 stamps-take (card ∷ cards) zero h = append-nil (stamped_by card)
 stamps-take (card ∷ cards) (suc p) h =

@@ -1,4 +1,4 @@
--- What is decided of cards holds of the tree that they are.
+-- What is decided of cached nodes holds of the tree that they are.
 use Rattle.std.proofs.Common.{◌≡◌, ◌≢◌, ◌≤◌, ◌<◌, ◌↔◌, ℕ, zero, suc, List, [], ◌∷◌, Option, Some, None, length, get_or, refl, sym, ap, subst, ◌∙◌, arith, inl, inr, eqb, eq-eqb, ne_eqb, IsTrue, true≢false}
 use Rattle.std.proofs.lemmas.Bool.{cases_eq}
 use Rattle.std.proofs.lemmas.List.{get_or-map, length-map}
@@ -13,8 +13,8 @@ use Rattle.model.specs.WellFormed.{one_if, is_stamped, stamped_in, IsFrom, Start
 use Rattle.directory.specs.Records.{Record, AreStamped}
 use Rattle.directory.proofs.ByStamp.{at-by_stamp}
 use Rattle.node_table.specs.Tables.{number_of, number_at}
-use Rattle.layout.specs.Cards.{Card, tree_of, node_of, content_of}
-use Rattle.layout.specs.CardLaws.{Answers}
+use Rattle.layout.specs.CachedNodes.{CachedNode, tree_of, node_of, content_of}
+use Rattle.layout.specs.CachedNodeLaws.{Answers}
 use Rattle.layout.specs.Known.{HasContent, IsCard, AreCards}
 use Rattle.layout.specs.Marks.{once_if, times}
 use Rattle.layout.specs.SumLaws.{sum_over}
@@ -80,24 +80,24 @@ key-times key (x ∷ names) stamped = elim (cases_eq key x.0) [
       omega (arith, is, key-times key names (stamped-rest x names stamped))
 ]
 
--- Cards by their numbers
+-- Cached nodes by their numbers
 
-pub data Finds (cards : List (Option Card)) (number : ℕ) : Type 0 where
-  There : (place : ℕ) (card : Card) → get_or cards place None ≡ Some card → card.fields.number ≡ number → Finds cards number
-  Nowhere : ((place : ℕ) (card : Card) → get_or cards place None ≡ Some card → card.fields.number ≢ number) → Finds cards number
+pub data Finds (cards : List (Option CachedNode)) (number : ℕ) : Type 0 where
+  There : (place : ℕ) (card : CachedNode) → get_or cards place None ≡ Some card → card.fields.number ≡ number → Finds cards number
+  Nowhere : ((place : ℕ) (card : CachedNode) → get_or cards place None ≡ Some card → card.fields.number ≢ number) → Finds cards number
 
-abbrev HaveNone : List (Option Card) → ℕ → Type 0
-HaveNone cards number = (place : ℕ) (card : Card) → get_or cards place None ≡ Some card → card.fields.number ≢ number
+abbrev HaveNone : List (Option CachedNode) → ℕ → Type 0
+HaveNone cards number = (place : ℕ) (card : CachedNode) → get_or cards place None ≡ Some card → card.fields.number ≢ number
 
-none-front : (cards : List (Option Card)) (number : ℕ) → HaveNone cards number → HaveNone (None ∷ cards) number
+none-front : (cards : List (Option CachedNode)) (number : ℕ) → HaveNone cards number → HaveNone (None ∷ cards) number
 none-front cards number none zero card e = absurd (none-some card e)
 none-front cards number none (suc place) card e = none place card e
 
-some-front : (one : Card) (cards : List (Option Card)) (number : ℕ) → one.fields.number ≢ number → HaveNone cards number → HaveNone (Some one ∷ cards) number
-some-front one cards number off none zero card e = λ same. off (ap (λ (c : Card). c.fields.number) (same_Some one card e) ∙ same)
+some-front : (one : CachedNode) (cards : List (Option CachedNode)) (number : ℕ) → one.fields.number ≢ number → HaveNone cards number → HaveNone (Some one ∷ cards) number
+some-front one cards number off none zero card e = λ same. off (ap (λ (c : CachedNode). c.fields.number) (same_Some one card e) ∙ same)
 some-front one cards number off none (suc place) card e = none place card e
 
-pub find : (cards : List (Option Card)) (number : ℕ) → Finds cards number
+pub find : (cards : List (Option CachedNode)) (number : ℕ) → Finds cards number
 find [] number = Nowhere (λ place card e. absurd (none-some card e))
 find (None ∷ cards) number = elim (find cards number) [
   | There place card e is ↦ There (suc place) card e is
@@ -111,20 +111,20 @@ find (Some one ∷ cards) number = elim (cases_eq one.fields.number number) [
   ]
 ]
 
-pub numbered : (cards : List (Option Card)) (place number : ℕ) → number_at cards place ≡ Some number → (card : Card) × ((get_or cards place None ≡ Some card) × (card.fields.number ≡ number))
+pub numbered : (cards : List (Option CachedNode)) (place number : ℕ) → number_at cards place ≡ Some number → (card : CachedNode) × ((get_or cards place None ≡ Some card) × (card.fields.number ≡ number))
 numbered cards place number is = from (get_or cards place None) refl is
   where
     number_is : (a b : ℕ) → (let one : Option ℕ = Some a in one ≡ Some b) → a ≡ b
     number_is a b e = cc
 
-    from : (found : Option Card) → get_or cards place None ≡ found → number_of found ≡ Some number → (card : Card) × ((get_or cards place None ≡ Some card) × (card.fields.number ≡ number))
+    from : (found : Option CachedNode) → get_or cards place None ≡ found → number_of found ≡ Some number → (card : CachedNode) × ((get_or cards place None ≡ Some card) × (card.fields.number ≡ number))
     from None e is = absurd (none_number number is)
       where
         none_number : (n : ℕ) → (let none : Option ℕ = None in none ≡ Some n) → ⊥
         none_number n e = cc
     from (Some card) e is = (card, (e, number_is card.fields.number number is))
 
-module _ (nodes : ℕ) (image : Image) (mark : ℕ → ℕ) (cards : List (Option Card)) (known : AreCards nodes mark cards) where
+module _ (nodes : ℕ) (image : Image) (mark : ℕ → ℕ) (cards : List (Option CachedNode)) (known : AreCards nodes mark cards) where
   abbrev tree : Tree
   tree = tree_of image cards
 
@@ -134,27 +134,27 @@ module _ (nodes : ℕ) (image : Image) (mark : ℕ → ℕ) (cards : List (Optio
   pub is_card : AreEach cards
   is_card = each_card nodes mark cards known
 
-  pub node-names : (kind : NodeKind) (card : Card) → HasContent kind card → (key : ℕ) → at key (names_of (content_of image kind card)) ≡ at key card.names
+  pub node-names : (kind : NodeKind) (card : CachedNode) → HasContent kind card → (key : ℕ) → at key (names_of (content_of image kind card)) ≡ at key card.names
   node-names kind.File card has key = sym (ap (at key) has)
   node-names kind.Directory card has key = at-by_stamp key card.names
 
-  names-there : (place : ℕ) (card : Card) → get_or cards place None ≡ Some card → (key : ℕ) → at key (names_at tree card.fields.number) ≡ at key card.names
+  names-there : (place : ℕ) (card : CachedNode) → get_or cards place None ≡ Some card → (key : ℕ) → at key (names_at tree card.fields.number) ≡ at key card.names
   unfolding node_of
   names-there place card there key =
       let is = is_card place card there in
       ap (λ (node : Option Node). at key (names_of_node node)) ((answers card.fields.number).found place card there refl)
       ∙ node-names card.fields.kind card is.content key
 
-  pub stamped-content : (kind : NodeKind) (card : Card) → HasContent kind card → AreStamped card.names
+  pub stamped-content : (kind : NodeKind) (card : CachedNode) → HasContent kind card → AreStamped card.names
   stamped-content kind.File card has = subst AreStamped (sym has) (record { above = tt; apart = λ i j d low h. absurd (omega arith) })
   stamped-content kind.Directory card has = has.stamped
 
-  led-index : (place : ℕ) (card : Card) → get_or cards place None ≡ Some card → (i : ℕ) (d : Record) → i < length card.names → get_or (led_at cards place) i 0 ≡ (get_or card.names i d).1.number
+  led-index : (place : ℕ) (card : CachedNode) → get_or cards place None ≡ Some card → (i : ℕ) (d : Record) → i < length card.names → get_or (led_at cards place) i 0 ≡ (get_or card.names i d).1.number
   led-index place card there i d h =
-      ap (λ (found : Option Card). get_or (led_by found) i 0) there ∙ get_or-map (λ (entry : Record). entry.1.number) card.names i d 0 h
+      ap (λ (found : Option CachedNode). get_or (led_by found) i 0) there ∙ get_or-map (λ (entry : Record). entry.1.number) card.names i d 0 h
 
-  led-length : (place : ℕ) (card : Card) → get_or cards place None ≡ Some card → length (led_at cards place) ≡ length card.names
-  led-length place card there = ap (λ (found : Option Card). length (led_by found)) there ∙ length-map card.names (λ (entry : Record). entry.1.number)
+  led-length : (place : ℕ) (card : CachedNode) → get_or cards place None ≡ Some card → length (led_at cards place) ≡ length card.names
+  led-length place card there = ap (λ (found : Option CachedNode). length (led_by found)) there ∙ length-map card.names (λ (entry : Record). entry.1.number)
 
   nameless : Record
   nameless = (0, record { name = []; number = 0 })
@@ -192,7 +192,7 @@ module _ (nodes : ℕ) (image : Image) (mark : ℕ → ℕ) (cards : List (Optio
     | Nowhere none ↦ absurd (none-there directory stamp entry ((answers directory).none none) has)
   ]
 
-  is-key : (place : ℕ) (card : Card) → get_or cards place None ≡ Some card → IsTrue (is_key card.fields.number tree)
+  is-key : (place : ℕ) (card : CachedNode) → get_or cards place None ≡ Some card → IsTrue (is_key card.fields.number tree)
   is-key place card there = subst IsTrue (sym (ap is_some ((answers card.fields.number).found place card there refl))) refl
 
   key-place : (number : ℕ) → IsTrue (is_key number tree) → (place : ℕ) × (number_at cards place ≡ Some number)
@@ -217,18 +217,18 @@ module _ (nodes : ℕ) (image : Image) (mark : ℕ → ℕ) (cards : List (Optio
 
   -- Stamps
 
-  stamped-card : (stamp : ℕ) (kind : NodeKind) (card : Card) → HasContent kind card → one_if (is_key stamp (names_of (content_of image kind card))) ≡ times stamp (stamps_of card.names)
+  stamped-card : (stamp : ℕ) (kind : NodeKind) (card : CachedNode) → HasContent kind card → one_if (is_key stamp (names_of (content_of image kind card))) ≡ times stamp (stamps_of card.names)
   stamped-card stamp kind card has =
       ap (λ (found : Option DirEntry). one_if (is_some found)) (node-names kind card has stamp) ∙ key-times stamp card.names (stamped-content kind card has)
 
-  stamped-node : (stamp : ℕ) (card : Card) → IsCard card → is_stamped stamp (node_of image card) ≡ times stamp (stamps_of card.names)
+  stamped-node : (stamp : ℕ) (card : CachedNode) → IsCard card → is_stamped stamp (node_of image card) ≡ times stamp (stamps_of card.names)
   unfolding node_of
   stamped-node stamp card is = stamped-card stamp card.fields.kind card is.content
 
   stamps-sum : (stamp : ℕ) → stamped_in tree stamp ≡ times stamp (entry_stamps cards)
   stamps-sum stamp = (known_sum nodes mark cards known image).any (is_stamped stamp) ∙ from cards is_card
     where
-      from : (cards : List (Option Card)) → AreEach cards → sum_over (λ card. is_stamped stamp (node_of image card)) cards ≡ times stamp (entry_stamps cards)
+      from : (cards : List (Option CachedNode)) → AreEach cards → sum_over (λ card. is_stamped stamp (node_of image card)) cards ≡ times stamp (entry_stamps cards)
       from [] each = refl
       from (None ∷ cards) each = from cards (λ place card e. each (suc place) card e)
       from (Some card ∷ cards) each =

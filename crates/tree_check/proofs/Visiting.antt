@@ -3,14 +3,14 @@ use Rattle.std.proofs.Common.{◌≡◌, ◌≤◌, ◌<◌, ◌++◌, ◌+◌, 
 use Rattle.std.proofs.lemmas.List.{get_or-map, length-map, append_assoc, append-nil, length-append}
 use Rattle.node_table.specs.Tables.{number_at}
 use Rattle.directory.specs.Records.{Record}
-use Rattle.layout.specs.Cards.{Card}
+use Rattle.layout.specs.CachedNodes.{CachedNode}
 use Rattle.layout.specs.SumLaws.{numbers_of}
 use Rattle.model.specs.Tree.{root}
 use Rattle.tree_check.specs.Trees.{led_at, led_by, IsReached, Named}
 use Rattle.tree_check.specs.Walks.{numbers_at, led_from, IsMissing, IsStuck, Meets}
 use Rattle.tree_check.proofs.Sums.{take-one}
 
-module _ (cards : List (Option Card)) (place : ℕ) (card : Card) (names : List Record) (there : get_or cards place None ≡ Some card) (same : names ≡ card.names) where
+module _ (cards : List (Option CachedNode)) (place : ℕ) (card : CachedNode) (names : List Record) (there : get_or cards place None ≡ Some card) (same : names ≡ card.names) where
   led-is : led_at cards place ≡ numbers_of names
   led-is = ap led_by there ∙ ap numbers_of (sym same)
 
@@ -60,11 +60,11 @@ take-front xs ys zero h = refl
 take-front [] ys (suc i) h = absurd (omega arith)
 take-front (x ∷ xs) ys (suc i) h = ap (λ rest. x ∷ rest) (take-front xs ys i (omega arith))
 
-led-push : (cards : List (Option Card)) (ps : List ℕ) (p : ℕ) → led_from cards (ps ++ p ∷ []) ≡ led_from cards ps ++ led_at cards p
+led-push : (cards : List (Option CachedNode)) (ps : List ℕ) (p : ℕ) → led_from cards (ps ++ p ∷ []) ≡ led_from cards ps ++ led_at cards p
 led-push cards [] p = append-nil (led_at cards p)
 led-push cards (q ∷ ps) p = ap (λ l. led_at cards q ++ l) (led-push cards ps p) ∙ sym (append_assoc (led_at cards q) (led_from cards ps) (led_at cards p))
 
-module _ (cards : List (Option Card)) (order : List ℕ) (i : ℕ) (inside : i < length order) (met : numbers_at cards order ≡ root ∷ led_from cards (take i order)) where
+module _ (cards : List (Option CachedNode)) (order : List ℕ) (i : ℕ) (inside : i < length order) (met : numbers_at cards order ≡ root ∷ led_from cards (take i order)) where
   pub one-more : (seen : List Bool) (new : List ℕ) → Meets cards seen order new (led_at cards (get_or order i 0))
       → (i + 1 ≤ length new) × (numbers_at cards new ≡ root ∷ led_from cards (take (i + 1) new))
   one-more seen new visited =

@@ -1,4 +1,4 @@
--- All that is decided of the cards makes a well-formed tree.
+-- All that is decided of the cached nodes makes a well-formed tree.
 use Rattle.std.proofs.Common.{◌≡◌, ◌≤◌, ◌↔◌, ◌&&◌, ℕ, true, List, [], Option, Some, None, true≢false, refl, sym, ap₂, ◌∙◌, arith}
 use Rattle.std.proofs.lemmas.Bool.{and_parts, le-leb, leb-true}
 use Rattle.std.specs.Prelude.{is_some, nat_le}
@@ -8,7 +8,7 @@ use Rattle.model.specs.Keyed.{at}
 use Rattle.model.specs.Tree.{Node, root, is_directory_node}
 use Rattle.model.specs.WellFormed.{IsBefore, IsWellFormed}
 use Rattle.node_table.specs.Tables.{charge_of_all, count_of_all}
-use Rattle.layout.specs.Cards.{Card, tree_of}
+use Rattle.layout.specs.CachedNodes.{CachedNode, tree_of}
 use Rattle.layout.specs.Known.{AreCards}
 use Rattle.layout.proofs.Changing.{tree-above}
 use Rattle.layout.proofs.Knowing.{each_above, each_card, laid_are_cards}
@@ -24,7 +24,7 @@ there : (node : Option Node) → is_directory_node node ≡ true → is_some nod
 there None is = absurd (true≢false (sym is))
 there (Some node) is = refl
 
-known_bytes : (nodes : ℕ) (image : Image) (mark : ℕ → ℕ) (cards : List (Option Card)) → AreCards nodes mark cards → HoldBytes image mark
+known_bytes : (nodes : ℕ) (image : Image) (mark : ℕ → ℕ) (cards : List (Option CachedNode)) → AreCards nodes mark cards → HoldBytes image mark
     → (limits : Limits) → 1024 ≤ limits.names → (stamp : ℕ)
     → AreWellFormed limits stamp cards ↔ (IsWellFormed limits (tree_of image cards) × IsBefore stamp (tree_of image cards))
 known_bytes nodes image mark cards known bytes limits most stamp =

@@ -9,7 +9,7 @@ use Rattle.model.specs.Name.{name_refusals}
 use Rattle.model.specs.Refusal.{first_refusal}
 use Rattle.model.specs.Tree.{root}
 use Rattle.directory.specs.Records.{Record, name_of}
-use Rattle.layout.specs.Cards.{Card}
+use Rattle.layout.specs.CachedNodes.{CachedNode}
 
 -- a name passes the tests of names, and so does each
 
@@ -19,27 +19,27 @@ IsNameAllowed limits name = first_refusal (name_refusals limits name) ≡ None
 abbrev pub AreNamesAllowed : Limits → List Record → Type 0
 AreNamesAllowed limits names = AllByRecursion (λ entry. IsNameAllowed limits (name_of entry)) names
 
-abbrev pub IsContentAllowed : Limits → NodeKind → Card → Type 0
+abbrev pub IsContentAllowed : Limits → NodeKind → CachedNode → Type 0
 IsContentAllowed limits kind.File card = card.fields.size ≤ limits.file_bytes
 IsContentAllowed limits kind.Directory card = AreNamesAllowed limits card.names
 
-pub record IsNodeAllowed (limits : Limits) (card : Card) : Type 0 where
+pub record IsNodeAllowed (limits : Limits) (card : CachedNode) : Type 0 where
   pub entries : IsTrue (is_list_for limits.aces_set limits.aces card.fields.kind card.fields.acl)
   pub content : IsContentAllowed limits card.fields.kind card
 
 -- the root's number is a directory's
 
-pub record IsRootDirectory (card : Card) : Type 0 where
+pub record IsRootDirectory (card : CachedNode) : Type 0 where
   pub number : card.fields.number ≡ root
   pub directory : card.fields.kind ≡ kind.Directory
 
-pub record HasRootDirectory (cards : List (Option Card)) : Type 0 where
+pub record HasRootDirectory (cards : List (Option CachedNode)) : Type 0 where
   pub place : ℕ
-  pub card : Card
+  pub card : CachedNode
   pub there : slice_index_or cards place None ≡ Some card
   pub is : IsRootDirectory card
 
-pub record AreNodesAllowed (limits : Limits) (cards : List (Option Card)) : Type 0 where
-  pub each : (place : ℕ) (card : Card) → slice_index_or cards place None ≡ Some card
+pub record AreNodesAllowed (limits : Limits) (cards : List (Option CachedNode)) : Type 0 where
+  pub each : (place : ℕ) (card : CachedNode) → slice_index_or cards place None ≡ Some card
       → IsNodeAllowed limits card
   pub rooted : HasRootDirectory cards

@@ -1,4 +1,4 @@
--- What is decided of cards, said of the tree that they are.
+-- What is decided of cached nodes, said of the tree that they are.
 use Rattle.std.specs.Prelude.{◌≡◌, ◌≤◌, ◌↔◌, ◌<◌, ◌&&◌, nat_le, ℕ, List, [], Option, Some, All, IsTrue}
 use Rattle.disk.specs.Moments.{Image}
 use Rattle.node_table.specs.Tables.{charge_of_all, count_of_all}
@@ -7,7 +7,7 @@ use Rattle.model.specs.Charge.{fits}
 use Rattle.model.specs.Keyed.{at, is_key}
 use Rattle.model.specs.Tree.{Tree, Node, root, is_directory_at}
 use Rattle.model.specs.WellFormed.{links_to, links_owed, stamped_in, IsBefore, IsFrom, IsNode, IsWellFormed}
-use Rattle.layout.specs.Cards.{Card, tree_of}
+use Rattle.layout.specs.CachedNodes.{CachedNode, tree_of}
 use Rattle.layout.specs.Known.{AreCards}
 use Rattle.layout.specs.Laid.{AreLaid}
 use Rattle.tree_check.specs.Ages.{AreBefore}
@@ -25,21 +25,21 @@ pub record IsLinked (tree : Tree) : Type 0 where
 
 abbrev pub EachWalk : Type 0
 EachWalk =
-    (nodes : ℕ) (image : Image) (mark : ℕ → ℕ) (cards : List (Option Card))
+    (nodes : ℕ) (image : Image) (mark : ℕ → ℕ) (cards : List (Option CachedNode))
     → AreLaid nodes image mark cards
     → IsOneTree cards ↔ IsLinked (tree_of image cards)
 
 -- and one more: no stamp is in two directories
 abbrev pub EachStamp : Type 0
 EachStamp =
-    (nodes : ℕ) (image : Image) (mark : ℕ → ℕ) (cards : List (Option Card))
+    (nodes : ℕ) (image : Image) (mark : ℕ → ℕ) (cards : List (Option CachedNode))
     → AreLaid nodes image mark cards
     → AreStampsApart cards ↔ ((stamp : ℕ) → stamped_in (tree_of image cards) stamp ≤ 1)
 
 -- and all of its stamps are from before one exactly where those of the nodes are
 abbrev pub EachAge : Type 0
 EachAge =
-    (nodes : ℕ) (image : Image) (mark : ℕ → ℕ) (cards : List (Option Card))
+    (nodes : ℕ) (image : Image) (mark : ℕ → ℕ) (cards : List (Option CachedNode))
     → AreLaid nodes image mark cards
     → (stamp : ℕ) → AreBefore stamp cards ↔ IsBefore stamp (tree_of image cards)
 
@@ -47,7 +47,7 @@ EachAge =
 -- 1,024 names
 abbrev pub EachFit : Type 0
 EachFit =
-    (nodes : ℕ) (image : Image) (mark : ℕ → ℕ) (cards : List (Option Card))
+    (nodes : ℕ) (image : Image) (mark : ℕ → ℕ) (cards : List (Option CachedNode))
     → AreLaid nodes image mark cards
     → (limits : Limits) → 1024 ≤ limits.names
     → fits limits (tree_of image cards)
@@ -64,22 +64,23 @@ pub record HasAllowedNodes (limits : Limits) (tree : Tree) : Type 0 where
   pub rooted : IsTrue (is_directory_at tree root)
 
 abbrev pub EachNode : Type 0
-EachNode = (nodes : ℕ) (image : Image) (mark : ℕ → ℕ) (cards : List (Option Card))
+EachNode = (nodes : ℕ) (image : Image) (mark : ℕ → ℕ) (cards : List (Option CachedNode))
     → AreLaid nodes image mark cards → HoldBytes image mark → (limits : Limits)
     → AreNodesAllowed limits cards ↔ HasAllowedNodes limits (tree_of image cards)
 
 -- So all of it together decides whether the tree is well formed, and from before a stamp
 abbrev pub EachTree : Type 0
-EachTree = (nodes : ℕ) (image : Image) (mark : ℕ → ℕ) (cards : List (Option Card))
+EachTree = (nodes : ℕ) (image : Image) (mark : ℕ → ℕ) (cards : List (Option CachedNode))
     → AreLaid nodes image mark cards → HoldBytes image mark
     → (limits : Limits) → 1024 ≤ limits.names → (stamp : ℕ)
     → AreWellFormed limits stamp cards
     ↔ (IsWellFormed limits (tree_of image cards) × IsBefore stamp (tree_of image cards))
 
--- And it decides it of cards that are known whatever the sectors hold: then it is the tree with
--- zeros for the bytes of files, as sectors without content are
+-- And it decides it of cached nodes that are known whatever the sectors hold: then it is the tree
+-- with zeros for the bytes of files, as sectors without content are
 abbrev pub EachKnownTree : Type 0
-EachKnownTree = (nodes : ℕ) (mark : ℕ → ℕ) (cards : List (Option Card)) → AreCards nodes mark cards
+EachKnownTree = (nodes : ℕ) (mark : ℕ → ℕ) (cards : List (Option CachedNode))
+    → AreCards nodes mark cards
     → (limits : Limits) → 1024 ≤ limits.names → (stamp : ℕ)
     → AreWellFormed limits stamp cards
     ↔ (IsWellFormed limits (tree_of (λ n. []) cards) × IsBefore stamp (tree_of (λ n. []) cards))

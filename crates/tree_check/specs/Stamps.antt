@@ -1,22 +1,22 @@
 -- The stamps of the names at the places of a table.
 use Rattle.std.specs.Prelude.{◌≢◌, ◌≤◌, ◌<◌, ◌+◌, ◌++◌, ℕ, List, [], ◌∷◌, Option, Some, None, length, map, slice_index_or}
 use Rattle.directory.specs.Records.{Record}
-use Rattle.layout.specs.Cards.{Card}
+use Rattle.layout.specs.CachedNodes.{CachedNode}
 use Rattle.layout.specs.Marks.{times}
 
 abbrev pub stamps_of : List Record → List ℕ
 stamps_of names = map (λ entry. entry.0) names
 
-abbrev pub stamped_by : Option Card → List ℕ
+abbrev pub stamped_by : Option CachedNode → List ℕ
 stamped_by None = []
 stamped_by (Some card) = stamps_of card.names
 
-abbrev pub entry_stamps : List (Option Card) → List ℕ
+abbrev pub entry_stamps : List (Option CachedNode) → List ℕ
 entry_stamps [] = []
 entry_stamps (card ∷ cards) = stamped_by card ++ entry_stamps cards
 
 -- none stands twice
-abbrev pub AreStampsApart : List (Option Card) → Type 0
+abbrev pub AreStampsApart : List (Option CachedNode) → Type 0
 AreStampsApart cards = (stamp : ℕ) → times stamp (entry_stamps cards) ≤ 1
 
 -- each differs from the next one

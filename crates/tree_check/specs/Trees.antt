@@ -3,27 +3,27 @@
 use Rattle.std.specs.Prelude.{◌≡◌, ◌<◌, ℕ, List, [], Option, Some, None, length, slice_index_or}
 use Rattle.model.specs.Tree.{root}
 use Rattle.node_table.specs.Tables.{number_at}
-use Rattle.layout.specs.Cards.{Card}
+use Rattle.layout.specs.CachedNodes.{CachedNode}
 use Rattle.layout.specs.Marks.{times}
 use Rattle.layout.specs.SumLaws.{entry_numbers, other_numbers, numbers_of}
 
 -- the numbers that the names of the node at a place lead to: none, where the place is free
 
-abbrev pub led_by : Option Card → List ℕ
+abbrev pub led_by : Option CachedNode → List ℕ
 led_by None = []
 led_by (Some card) = numbers_of card.names
 
-abbrev pub led_at : List (Option Card) → (place : ℕ) → List ℕ
+abbrev pub led_at : List (Option CachedNode) → (place : ℕ) → List ℕ
 led_at cards place = led_by (slice_index_or cards place None)
 
 -- reached: the root, and what a name in a reached directory leads to
-pub data IsReached (cards : List (Option Card)) : ℕ → Type 0 where
+pub data IsReached (cards : List (Option CachedNode)) : ℕ → Type 0 where
   Root : IsReached cards root
   Named : (place number i : ℕ) → number_at cards place ≡ Some number → IsReached cards number
       → i < length (led_at cards place)
       → IsReached cards (slice_index_or (led_at cards place) i 0)
 
-pub record IsOneTree (cards : List (Option Card)) : Type 0 where
+pub record IsOneTree (cards : List (Option CachedNode)) : Type 0 where
   -- there is a root
   pub rooted : (place : ℕ) × (number_at cards place ≡ Some root)
   -- each other node has one name, and neither the root nor a number without a node has one

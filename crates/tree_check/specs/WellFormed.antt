@@ -2,20 +2,21 @@
 use Rattle.std.specs.Prelude.{◌≤◌, ℕ, List, Option}
 use Rattle.node_table.specs.Tables.{charge_of_all, count_of_all}
 use Rattle.model.specs.declared.limits.Limits.{Limits}
-use Rattle.layout.specs.Cards.{Card}
+use Rattle.layout.specs.CachedNodes.{CachedNode}
 use Rattle.tree_check.specs.Ages.{AreBefore}
 use Rattle.tree_check.specs.Nodes.{AreNodesAllowed}
 use Rattle.tree_check.specs.Stamps.{AreStampsApart}
 use Rattle.tree_check.specs.Trees.{IsOneTree}
 
 -- what they take of the data region, and how many they are, is within the limits
-pub record DoFit (limits : Limits) (cards : List (Option Card)) : Type 0 where
+pub record DoFit (limits : Limits) (cards : List (Option CachedNode)) : Type 0 where
   pub charge : charge_of_all cards ≤ limits.data_sectors
   pub count : count_of_all cards ≤ limits.nodes
 
 -- one tree of allowed nodes that fit, with its stamps apart and below this one: what else a
--- well-formed tree has, laid cards have
-pub record AreWellFormed (limits : Limits) (stamp : ℕ) (cards : List (Option Card)) : Type 0 where
+-- well-formed tree has, laid cached nodes have
+pub record AreWellFormed (limits : Limits) (stamp : ℕ) (cards : List (Option CachedNode))
+    : Type 0 where
   pub tree : IsOneTree cards
   pub stamps : AreStampsApart cards
   pub nodes : AreNodesAllowed limits cards

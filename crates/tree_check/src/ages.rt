@@ -4,7 +4,7 @@ ghost use Rattle.std.specs.Prelude.{◌+◌, ◌↔◌, IsTrue};
 ghost use Rattle.tree_check.specs.Ages.{AreBefore, AreNamesBefore, IsCardBefore};
 
 use directory::Names;
-use node_table::{Card, Table};
+use node_table::{CachedNode, Table};
 
 fn are_names_before(names: &Names, last: u64) -> bool
     ensures { IsTrue result ↔ AreNamesBefore (last + 1) names.now }
@@ -17,7 +17,7 @@ fn are_names_before(names: &Names, last: u64) -> bool
     true
 }
 
-fn is_card_before(card: &Card, last: u64) -> bool
+fn is_card_before(card: &CachedNode, last: u64) -> bool
     ensures { IsTrue result ↔ IsCardBefore (last + 1) card.now }
 {
     card.inode.number <= last && card.inode.change <= last && are_names_before(&card.names, last)

@@ -1,4 +1,5 @@
-//! Whether the nodes of a volume make one tree: what a mount asks of the cards that it has read.
+//! Whether the nodes of a volume make one tree: what a mount asks of the cached nodes that it has
+//! read.
 #![tactic(auto)]
 
 mod ages;

@@ -9,7 +9,7 @@ use directory::Names;
 use model::limits::Limits;
 use model::node::{NodeKind, ROOT};
 use names::check_name;
-use node_table::{Card, Table};
+use node_table::{CachedNode, Table};
 
 fn is_name_allowed(name: &[u8], limits: &Limits) -> bool
     ensures { IsTrue result ↔ IsNameAllowed limits.now name.now }
@@ -28,7 +28,7 @@ fn are_names_allowed(names: &Names, limits: &Limits) -> bool
     true
 }
 
-fn is_content_allowed(card: &Card, limits: &Limits) -> bool
+fn is_content_allowed(card: &CachedNode, limits: &Limits) -> bool
     ensures { IsTrue result ↔ IsContentAllowed limits.now card.now.fields.kind card.now }
 {
     match card.inode.kind {
@@ -37,14 +37,14 @@ fn is_content_allowed(card: &Card, limits: &Limits) -> bool
     }
 }
 
-fn is_node_allowed(card: &Card, limits: &Limits) -> bool
+fn is_node_allowed(card: &CachedNode, limits: &Limits) -> bool
     ensures { IsTrue result ↔ IsNodeAllowed limits.now card.now }
 {
     is_list_for(card.inode.kind, card.inode.acl.as_slice(), limits)
         && is_content_allowed(card, limits)
 }
 
-fn is_root_directory(card: &Card) -> bool
+fn is_root_directory(card: &CachedNode) -> bool
     ensures { IsTrue result ↔ IsRootDirectory card.now }
 {
     card.inode.number == ROOT && matches!(card.inode.kind, NodeKind::Directory)

@@ -5,7 +5,8 @@ use Rattle.std.specs.List.{range_with_len}
 use Rattle.std.proofs.lemmas.List.{length-append, length-replicate, length-drop}
 use Rattle.std.proofs.lemmas.List.FromFn.{length-range_with_len}
 use Rattle.disk.specs.Moments.{Image}
-use Rattle.layout.specs.Cards.{Card, byte_at, bytes_in, content_at, content_of, node_of, tree_of}
+use Rattle.layout.specs.CachedNodes.{CachedNode, byte_at, bytes_in, content_at, content_of, node_of}
+use Rattle.layout.specs.CachedNodes.{tree_of}
 use Rattle.layout.proofs.StepLaws.{length-bytes_in}
 use Rattle.model.specs.declared.node.NodeKind.{NodeKind}
 use Rattle.model.specs.declared.node.NodeKind.TheVariants as kind
@@ -15,7 +16,8 @@ use Rattle.model.specs.Keyed.{Keyed, at, with, without, is_key, total, here_or, 
 use Rattle.model.specs.Tree.{Tree, Node, Content, File, Directory, DirEntry, names_of, names_at, names_of_node, bytes_of, is_directory_at, is_directory, is_directory_node}
 use Rattle.model.proofs.NodeChangeLaws.{length-resized}
 use Rattle.tree_edits.specs.Edits.{size_of}
-use Rattle.tree_edits.specs.Outlines.{zeros, blank, blank_node, blanked, EachOutline, EditsBlanked}
+use Rattle.tree_edits.specs.Outlines.{zeros, blank, blank_node, without_data, EachOutline}
+use Rattle.tree_edits.specs.Outlines.{EditsBlanked}
 
 -- Lists of zeros
 
@@ -35,42 +37,43 @@ blank-twice (Directory names) = refl
 pub node-twice : (node : Node) → blank_node (blank_node node) ≡ blank_node node
 node-twice node = ap (with_content node) (blank-twice node.content)
 
-pub at-blanked : (tree : Tree) (number : ℕ) → at number (blanked tree) ≡ option_map blank_node (at number tree)
-at-blanked [] number = refl
-at-blanked (entry ∷ rest) number = by_key (at-blanked rest number) (eqb number entry.0)
+pub at-without_data : (tree : Tree) (number : ℕ) → at number (without_data tree) ≡ option_map blank_node (at number tree)
+at-without_data [] number = refl
+at-without_data (entry ∷ rest) number = by_key (at-without_data rest number) (eqb number entry.0)
   where
-    by_key : at number (blanked rest) ≡ option_map blank_node (at number rest)
-        → (b : Bool) → here_or b (blank_node entry.1) (at number (blanked rest)) ≡ option_map blank_node (here_or b entry.1 (at number rest))
+    by_key : at number (without_data rest) ≡ option_map blank_node (at number rest)
+        → (b : Bool) → here_or b (blank_node entry.1) (at number (without_data rest)) ≡ option_map blank_node (here_or b entry.1 (at number rest))
     by_key others true = refl
     by_key others false = others
 
-pub blanked-with : (tree : Tree) (number : ℕ) (node : Node) → blanked (with tree number node) ≡ with (blanked tree) number (blank_node node)
-blanked-with [] number node = refl
-blanked-with (entry ∷ rest) number node = by_key (blanked-with rest number node) (eqb number entry.0) (ltb number entry.0)
+pub without_data-with : (tree : Tree) (number : ℕ) (node : Node) → without_data (with tree number node) ≡ with (without_data tree) number (blank_node node)
+without_data-with [] number node = refl
+without_data-with (entry ∷ rest) number node = by_key (without_data-with rest number node) (eqb number entry.0) (ltb number entry.0)
   where
-    by_key : blanked (with rest number node) ≡ with (blanked rest) number (blank_node node) → (same less : Bool)
-        → blanked (in_place_of same (number, node) rest (before_or_behind less (number, node) entry rest (with rest number node)))
-        ≡ in_place_of same (number, blank_node node) (blanked rest)
-        (before_or_behind less (number, blank_node node) (entry.0, blank_node entry.1) (blanked rest) (with (blanked rest) number (blank_node node)))
+    by_key : without_data (with rest number node) ≡ with (without_data rest) number (blank_node node) → (same less : Bool)
+        → without_data (in_place_of same (number, node) rest (before_or_behind less (number, node) entry rest (with rest number node)))
+        ≡ in_place_of same (number, blank_node node) (without_data rest)
+        (before_or_behind less (number, blank_node node) (entry.0, blank_node entry.1) (without_data rest) (with (without_data rest) number (blank_node node)))
     by_key others true less = refl
     by_key others false true = refl
     by_key others false false = ap (λ (t : Tree). (entry.0, blank_node entry.1) ∷ t) others
 
-pub blanked-without : (tree : Tree) (number : ℕ) → blanked (without tree number) ≡ without (blanked tree) number
-blanked-without [] number = refl
-blanked-without (entry ∷ rest) number = by_key (blanked-without rest number) (eqb number entry.0)
+pub without_data-without : (tree : Tree) (number : ℕ) → without_data (without tree number) ≡ without (without_data tree) number
+without_data-without [] number = refl
+without_data-without (entry ∷ rest) number =
+    by_key (without_data-without rest number) (eqb number entry.0)
   where
-    by_key : blanked (without rest number) ≡ without (blanked rest) number → (same : Bool) → blanked (kept_or_not same entry (without rest number)) ≡ kept_or_not same (entry.0, blank_node entry.1) (without (blanked rest) number)
+    by_key : without_data (without rest number) ≡ without (without_data rest) number → (same : Bool) → without_data (kept_or_not same entry (without rest number)) ≡ kept_or_not same (entry.0, blank_node entry.1) (without (without_data rest) number)
     by_key others true = others
     by_key others false = ap (λ (t : Tree). (entry.0, blank_node entry.1) ∷ t) others
 
-pub blanked-twice : (tree : Tree) → blanked (blanked tree) ≡ blanked tree
-blanked-twice [] = refl
-blanked-twice (entry ∷ rest) = ap₂ (λ (node : Node) (t : Tree). (entry.0, node) ∷ t) (node-twice entry.1) (blanked-twice rest)
+pub without_data-twice : (tree : Tree) → without_data (without_data tree) ≡ without_data tree
+without_data-twice [] = refl
+without_data-twice (entry ∷ rest) = ap₂ (λ (node : Node) (t : Tree). (entry.0, node) ∷ t) (node-twice entry.1) (without_data-twice rest)
 
-pub length-blanked : (tree : Tree) → length (blanked tree) ≡ length tree
-length-blanked [] = refl
-length-blanked (entry ∷ rest) = ap suc (length-blanked rest)
+pub length-without_data : (tree : Tree) → length (without_data tree) ≡ length tree
+length-without_data [] = refl
+length-without_data (entry ∷ rest) = ap suc (length-without_data rest)
 
 -- What the tests of a tree see of it
 
@@ -86,36 +89,39 @@ names-blank : (content : Content) → names_of (blank content) ≡ names_of cont
 names-blank (File bytes) = refl
 names-blank (Directory names) = refl
 
-pub key-blanked : (tree : Tree) (number : ℕ) → is_key number (blanked tree) ≡ is_key number tree
-key-blanked tree number = ap is_some (at-blanked tree number) ∙ mapped (at number tree)
+pub key-without_data : (tree : Tree) (number : ℕ)
+    → is_key number (without_data tree) ≡ is_key number tree
+key-without_data tree number = ap is_some (at-without_data tree number) ∙ mapped (at number tree)
   where
     mapped : (option : Option Node) → is_some (option_map blank_node option) ≡ is_some option
     mapped None = refl
     mapped (Some node) = refl
 
-pub directory-blanked : (tree : Tree) (number : ℕ) → is_directory_at (blanked tree) number ≡ is_directory_at tree number
-directory-blanked tree number = ap is_directory_node (at-blanked tree number) ∙ mapped (at number tree)
+pub directory-without_data : (tree : Tree) (number : ℕ) → is_directory_at (without_data tree) number ≡ is_directory_at tree number
+directory-without_data tree number = ap is_directory_node (at-without_data tree number) ∙ mapped (at number tree)
   where
     mapped : (option : Option Node) → is_directory_node (option_map blank_node option) ≡ is_directory_node option
     mapped None = refl
     mapped (Some node) = directory-blank node.content
 
-pub names-blanked : (tree : Tree) (number : ℕ) → names_at (blanked tree) number ≡ names_at tree number
-names-blanked tree number = ap names_of_node (at-blanked tree number) ∙ mapped (at number tree)
+pub names-without_data : (tree : Tree) (number : ℕ) → names_at (without_data tree) number ≡ names_at tree number
+names-without_data tree number = ap names_of_node (at-without_data tree number)
+    ∙ mapped (at number tree)
   where
     mapped : (option : Option Node) → names_of_node (option_map blank_node option) ≡ names_of_node option
     mapped None = refl
     mapped (Some node) = names-blank node.content
 
-pub charge-blanked : (tree : Tree) → total charge (blanked tree) ≡ total charge tree
-charge-blanked [] = refl
-charge-blanked (entry ∷ rest) = ap₂ (λ (n m : ℕ). n + m) (ap charge_of_blocks (blocks-blank entry.1.content)) (charge-blanked rest)
+pub charge-without_data : (tree : Tree) → total charge (without_data tree) ≡ total charge tree
+charge-without_data [] = refl
+charge-without_data (entry ∷ rest) = ap₂ (λ (n m : ℕ). n + m) (ap charge_of_blocks (blocks-blank entry.1.content)) (charge-without_data rest)
 
-pub few-blanked : (most : ℕ) (tree : Tree) → few_names most (blanked tree) ≡ few_names most tree
-few-blanked most [] = refl
-few-blanked most (entry ∷ rest) = ap₂ (λ (names : Keyed DirEntry) (few : Bool). nat_le (length names) most && few) (names-blank entry.1.content) (few-blanked most rest)
+pub few-without_data : (most : ℕ) (tree : Tree)
+    → few_names most (without_data tree) ≡ few_names most tree
+few-without_data most [] = refl
+few-without_data most (entry ∷ rest) = ap₂ (λ (names : Keyed DirEntry) (few : Bool). nat_le (length names) most && few) (names-blank entry.1.content) (few-without_data most rest)
 
--- The tree of cards
+-- The tree of cached nodes
 
 byte-none : (blocks : List (Option ℕ)) (k : ℕ) → byte_at (λ n. []) blocks k ≡ 0
 unfolding byte_at
@@ -130,19 +136,19 @@ unfolding bytes_in
 bytes-none blocks size = zeros-map (byte_at (λ n. []) blocks) (range_with_len 0 size) (byte-none blocks)
     ∙ ap zeros (length-range_with_len 0 size)
 
-pub content-blank : (image : Image) (kind : NodeKind) (card : Card) → blank (content_of image kind card) ≡ content_of (λ n. []) kind card
+pub content-blank : (image : Image) (kind : NodeKind) (card : CachedNode) → blank (content_of image kind card) ≡ content_of (λ n. []) kind card
 content-blank image kind.File card = ap File
     (ap zeros (length-bytes_in image card.blocks card.fields.size) ∙ sym (bytes-none card.blocks card.fields.size))
 content-blank image kind.Directory card = refl
 
-pub node-blank : (image : Image) (card : Card) → blank_node (node_of image card) ≡ node_of (λ n. []) card
+pub node-blank : (image : Image) (card : CachedNode) → blank_node (node_of image card) ≡ node_of (λ n. []) card
 unfolding node_of
 node-blank image card = ap (with_content (node_of image card)) (content-blank image card.fields.kind card)
 
 pub each_outline : EachOutline
 each_outline image [] = refl
 each_outline image (None ∷ cards) = each_outline image cards
-each_outline image (Some card ∷ cards) = blanked-with (tree_of image cards) card.fields.number (node_of image card)
+each_outline image (Some card ∷ cards) = without_data-with (tree_of image cards) card.fields.number (node_of image card)
     ∙ ap₂ (λ (t : Tree) (node : Node). with t card.fields.number node) (each_outline image cards) (node-blank image card)
 
 -- Edits
@@ -155,8 +161,8 @@ bytes-blank : (content : Content) → length (bytes_of (blank content)) ≡ leng
 bytes-blank (File bytes) = length-zeros (length bytes)
 bytes-blank (Directory names) = refl
 
-pub size-blanked : (tree : Tree) (number : ℕ) → size_of (at number (blanked tree)) ≡ size_of (at number tree)
-size-blanked tree number = ap size_of (at-blanked tree number) ∙ mapped (at number tree)
+pub size-without_data : (tree : Tree) (number : ℕ) → size_of (at number (without_data tree)) ≡ size_of (at number tree)
+size-without_data tree number = ap size_of (at-without_data tree number) ∙ mapped (at number tree)
   where
     mapped : (option : Option Node) → size_of (option_map blank_node option) ≡ size_of option
     mapped None = refl
@@ -165,37 +171,39 @@ size-blanked tree number = ap size_of (at-blanked tree number) ∙ mapped (at nu
 abbrev Respects : (Node → Node) → Type 0
 Respects change = (node : Node) → blank_node (change (blank_node node)) ≡ blank_node (change node)
 
-altered-blanked : (change : Node → Node) → Respects change → (tree : Tree) (number : ℕ) → blanked (altered change (blanked tree) number) ≡ blanked (altered change tree number)
-altered-blanked change respects tree number =
-    ap (λ (there : Option Node). blanked (altered_at change (blanked tree) number there)) (at-blanked tree number) ∙ by_node (at number tree)
+altered-without_data : (change : Node → Node) → Respects change → (tree : Tree) (number : ℕ) → without_data (altered change (without_data tree) number) ≡ without_data (altered change tree number)
+altered-without_data change respects tree number =
+    ap (λ (there : Option Node). without_data (altered_at change (without_data tree) number there)) (at-without_data tree number) ∙ by_node (at number tree)
   where
-    by_node : (there : Option Node) → blanked (altered_at change (blanked tree) number (option_map blank_node there)) ≡ blanked (altered_at change tree number there)
-    by_node None = blanked-twice tree
-    by_node (Some node) = blanked-with (blanked tree) number (change (blank_node node))
-        ∙ ap₂ (λ (t : Tree) (one : Node). with t number one) (blanked-twice tree) (respects node)
-        ∙ sym (blanked-with tree number (change node))
+    by_node : (there : Option Node) → without_data (altered_at change (without_data tree) number (option_map blank_node there)) ≡ without_data (altered_at change tree number there)
+    by_node None = without_data-twice tree
+    by_node (Some node) = without_data-with (without_data tree) number (change (blank_node node))
+        ∙ ap₂ (λ (t : Tree) (one : Node). with t number one) (without_data-twice tree)
+        (respects node)
+        ∙ sym (without_data-with tree number (change node))
 
-pub done-blanked : (edit : Edit) (tree : Tree) → blanked (done edit (blanked tree)) ≡ blanked (done edit tree)
-done-blanked (PutNode number node) tree = blanked-with (blanked tree) number node
-    ∙ ap (λ (t : Tree). with t number (blank_node node)) (blanked-twice tree) ∙ sym (blanked-with tree number node)
-done-blanked (DropNode number) tree = blanked-without (blanked tree) number
-    ∙ ap (λ (t : Tree). without t number) (blanked-twice tree) ∙ sym (blanked-without tree number)
-done-blanked (Show number shown) tree =
-    altered-blanked (showing shown) (λ node. ap (with_content (showing shown node)) (blank-twice node.content)) tree number
-done-blanked (PutName directory stamp entry) tree = altered-blanked (name_put stamp entry)
+pub done-without_data : (edit : Edit) (tree : Tree) → without_data (done edit (without_data tree)) ≡ without_data (done edit tree)
+done-without_data (PutNode number node) tree = without_data-with (without_data tree) number node
+    ∙ ap (λ (t : Tree). with t number (blank_node node)) (without_data-twice tree) ∙ sym (without_data-with tree number node)
+done-without_data (DropNode number) tree = without_data-without (without_data tree) number
+    ∙ ap (λ (t : Tree). without t number) (without_data-twice tree)
+    ∙ sym (without_data-without tree number)
+done-without_data (Show number shown) tree =
+    altered-without_data (showing shown) (λ node. ap (with_content (showing shown node)) (blank-twice node.content)) tree number
+done-without_data (PutName directory stamp entry) tree = altered-without_data (name_put stamp entry)
     (λ node. ap (λ (names : Keyed DirEntry). with_content node (Directory (with names stamp entry))) (names-blank node.content)) tree directory
-done-blanked (DropName directory stamp) tree = altered-blanked (name_dropped stamp)
+done-without_data (DropName directory stamp) tree = altered-without_data (name_dropped stamp)
     (λ node. ap (λ (names : Keyed DirEntry). with_content node (Directory (without names stamp))) (names-blank node.content)) tree directory
-done-blanked (PutBytes file offset part) tree = altered-blanked (λ node. with_content node (File (overwritten (bytes_of node.content) offset part)))
+done-without_data (PutBytes file offset part) tree = altered-without_data (λ node. with_content node (File (overwritten (bytes_of node.content) offset part)))
     (λ node. ap (λ (n : ℕ). with_content node (File (zeros n)))
     (overwritten-length (bytes_of (blank node.content)) part offset
     ∙ ap (λ (n : ℕ). offset + (length part + (n - (offset + length part)))) (bytes-blank node.content)
     ∙ sym (overwritten-length (bytes_of node.content) part offset))) tree file
-done-blanked (SetSize file size) tree = altered-blanked (λ node. with_content node (File (resized (bytes_of node.content) size)))
+done-without_data (SetSize file size) tree = altered-without_data (λ node. with_content node (File (resized (bytes_of node.content) size)))
     (λ node. ap (λ (n : ℕ). with_content node (File (zeros n)))
     (length-resized (bytes_of (blank node.content)) size ∙ sym (length-resized (bytes_of node.content) size))) tree file
 
 pub edits_blanked : EditsBlanked
-edits_blanked [] tree = blanked-twice tree
-edits_blanked (edit ∷ edits) tree = sym (edits_blanked edits (done edit (blanked tree)))
-    ∙ ap (λ (t : Tree). blanked (edited edits t)) (done-blanked edit tree) ∙ edits_blanked edits (done edit tree)
+edits_blanked [] tree = without_data-twice tree
+edits_blanked (edit ∷ edits) tree = sym (edits_blanked edits (done edit (without_data tree)))
+    ∙ ap (λ (t : Tree). without_data (edited edits t)) (done-without_data edit tree) ∙ edits_blanked edits (done edit tree)

@@ -5,8 +5,8 @@ use Rattle.tree_edits.specs.declared.edit.Edit.{Edit}
 use Rattle.tree_edits.specs.declared.edit.Edit.TheVariants as declared
 use Rattle.tree_edits.specs.Edits.{edit_of, size_of, CanDo, DoableAlike, FewAlike}
 use Rattle.tree_edits.specs.Making.{IsMaking}
-use Rattle.tree_edits.specs.Outlines.{blanked}
-use Rattle.tree_edits.proofs.BlankLaws.{key-blanked, directory-blanked, names-blanked, size-blanked, few-blanked, done-blanked}
+use Rattle.tree_edits.specs.Outlines.{without_data}
+use Rattle.tree_edits.proofs.BlankLaws.{key-without_data, directory-without_data, names-without_data, size-without_data, few-without_data, done-without_data}
 use Rattle.model.specs.Charge.{few_names}
 use Rattle.model.specs.declared.node.NodeKind.{NodeKind}
 use Rattle.model.specs.Edit.{done}
@@ -14,18 +14,18 @@ use Rattle.model.specs.Edit as model
 use Rattle.model.specs.Keyed.{at, is_key}
 use Rattle.model.specs.Tree.{Tree, Node, names_at, is_directory_at, entry_of}
 
-module _ (tree other : Tree) (alike : blanked other ≡ blanked tree) where
+module _ (tree other : Tree) (alike : without_data other ≡ without_data tree) where
   key_alike : (number : ℕ) → is_key number other ≡ is_key number tree
-  key_alike number = sym (key-blanked other number) ∙ ap (is_key number) alike ∙ key-blanked tree number
+  key_alike number = sym (key-without_data other number) ∙ ap (is_key number) alike ∙ key-without_data tree number
 
   pub directory_alike : (number : ℕ) → is_directory_at other number ≡ is_directory_at tree number
-  directory_alike number = sym (directory-blanked other number) ∙ ap (λ (t : Tree). is_directory_at t number) alike ∙ directory-blanked tree number
+  directory_alike number = sym (directory-without_data other number) ∙ ap (λ (t : Tree). is_directory_at t number) alike ∙ directory-without_data tree number
 
   names_alike : (number : ℕ) → names_at other number ≡ names_at tree number
-  names_alike number = sym (names-blanked other number) ∙ ap (λ (t : Tree). names_at t number) alike ∙ names-blanked tree number
+  names_alike number = sym (names-without_data other number) ∙ ap (λ (t : Tree). names_at t number) alike ∙ names-without_data tree number
 
   size_alike : (number : ℕ) → size_of (at number other) ≡ size_of (at number tree)
-  size_alike number = sym (size-blanked other number) ∙ ap (λ (t : Tree). size_of (at number t)) alike ∙ size-blanked tree number
+  size_alike number = sym (size-without_data other number) ∙ ap (λ (t : Tree). size_of (at number t)) alike ∙ size-without_data tree number
 
   none : (there : Option Node) → is_some there ≡ false → there ≡ None
   none None e = refl
@@ -86,14 +86,14 @@ doable_alike tree other [] alike can = tt
 doable_alike tree other (edit ∷ edits) alike can = (
   can_alike tree other alike edit can.0,
   doable_alike (done (edit_of edit) tree) (done (edit_of edit) other) edits
-      (sym (done-blanked (edit_of edit) other) ∙ ap (λ (t : Tree). blanked (done (edit_of edit) t)) alike ∙ done-blanked (edit_of edit) tree) can.1,
+      (sym (done-without_data (edit_of edit) other) ∙ ap (λ (t : Tree). without_data (done (edit_of edit) t)) alike ∙ done-without_data (edit_of edit) tree) can.1,
 )
 
 pub few_alike : FewAlike
 few_alike tree other [] alike few = tt
 few_alike tree other (edit ∷ edits) alike few =
-    let next : blanked (done (edit_of edit) other) ≡ blanked (done (edit_of edit) tree) =
-    sym (done-blanked (edit_of edit) other) ∙ ap (λ (t : Tree). blanked (done (edit_of edit) t)) alike ∙ done-blanked (edit_of edit) tree in (
-      subst IsTrue (sym (few-blanked 1024 (done (edit_of edit) tree)) ∙ ap (few_names 1024) (sym next) ∙ few-blanked 1024 (done (edit_of edit) other)) few.0,
+    let next : without_data (done (edit_of edit) other) ≡ without_data (done (edit_of edit) tree) =
+    sym (done-without_data (edit_of edit) other) ∙ ap (λ (t : Tree). without_data (done (edit_of edit) t)) alike ∙ done-without_data (edit_of edit) tree in (
+      subst IsTrue (sym (few-without_data 1024 (done (edit_of edit) tree)) ∙ ap (few_names 1024) (sym next) ∙ few-without_data 1024 (done (edit_of edit) other)) few.0,
       few_alike (done (edit_of edit) tree) (done (edit_of edit) other) edits next few.1,
     )

@@ -1,10 +1,10 @@
--- What calls of a draft make of its outline.
+-- What calls of a transaction make of its outline.
 use Rattle.std.proofs.Common.{◌≡◌, ◌<◌, ◌+◌, ◌^◌, max, ℕ, List, [], Option, Some, None, length, get_or, set, refl, sym, ap, ap₂, ◌∙◌, arith, inl, subst}
 use Rattle.std.specs.Prelude.{Result, Ok, Err, OnOk}
 use Rattle.node_table.specs.Tables.{number_of, number_at, HasNot}
 use Rattle.disk.specs.Moments.{Image}
-use Rattle.tree_transaction.specs.declared.draft.Draft.{Draft}
-use Rattle.tree_transaction.specs.Drafts.{cards_of, IsKnown, MakesOver, EditsOver, HasNow}
+use Rattle.tree_transaction.specs.declared.transaction.Transaction.{Transaction}
+use Rattle.tree_transaction.specs.Transactions.{cards_of, IsKnown, MakesOver, EditsOver, HasNow}
 use Rattle.tree_transaction.specs.Grown.{reaching, sized}
 use Rattle.tree_transaction.specs.Laying.{fields_with}
 use Rattle.tree_transaction.specs.declared.nodes.Shown as declared_shown
@@ -13,13 +13,13 @@ use Rattle.tree_transaction.specs.Nodes.{shown_of, new_card, new_node, no_conten
 use Rattle.tree_transaction.proofs.KnownLaws.{place-within}
 use Rattle.tree_edits.specs.Doing.{AreMade}
 use Rattle.tree_edits.specs.Edits.{fresh_fields, fresh_node, AreEntries}
-use Rattle.tree_edits.specs.Outlines.{zeros, blank_node, blanked, outline_of}
-use Rattle.tree_edits.proofs.BlankLaws.{blanked-with, blanked-without, bytes-none, content-blank, each_outline, overwritten-length}
+use Rattle.tree_edits.specs.Outlines.{zeros, blank_node, without_data, tree_without_data}
+use Rattle.tree_edits.proofs.BlankLaws.{without_data-with, without_data-without, bytes-none, content-blank, each_outline, overwritten-length}
 use Rattle.tree_edits.proofs.PlaceLaws.{put_forms, IsThere, there_is, outline_put, outline_made, outline_dropped, made_put}
 use Rattle.inode.specs.declared.node.Form.{Form}
 use Rattle.inode.specs.declared.node.Form.TheVariants.{Two}
 use Rattle.inode.specs.Fields.{Fields, IsInode, most_entries}
-use Rattle.layout.specs.Cards.{Card, node_of, node_with, content_of, bytes_in}
+use Rattle.layout.specs.CachedNodes.{CachedNode, node_of, node_with, content_of, bytes_in}
 use Rattle.layout.specs.Known.{IsCard}
 use Rattle.layout.specs.Marks.{mark_by}
 use Rattle.layout.specs.Stands.{HaveCurrentForms}
@@ -43,47 +43,50 @@ pub all_four : {T E A B C D F : Type 0} (result : Result T E) → OnOk result A 
 all_four (Ok done) a b c d then = then a b c d
 all_four (Err fault) a b c d then = tt
 
-pub outline_fixed : (cards : List (Option Card)) → blanked (outline_of cards) ≡ outline_of cards
+pub outline_fixed : (cards : List (Option CachedNode))
+    → without_data (tree_without_data cards) ≡ tree_without_data cards
 outline_fixed cards = each_outline (λ n. []) cards
 
--- Where a card's content stands is nothing of the outline
+-- Where a cached node's content stands is nothing of the outline
 
-content_now : (of : NodeKind) (is card : Card) → is.fields.size ≡ card.fields.size → is.names ≡ card.names
+content_now : (of : NodeKind) (is card : CachedNode) → is.fields.size ≡ card.fields.size → is.names ≡ card.names
     → content_of (λ n. []) of is ≡ content_of (λ n. []) of card
 content_now kind.File is card size names = ap File (bytes-none is.blocks is.fields.size ∙ ap zeros size ∙ sym (bytes-none card.blocks card.fields.size))
 content_now kind.Directory is card size names = ap (λ (l : List Record). Directory (by_stamp l)) names
 
-pub node_now : (is card : Card) (runs : ℕ) (run_sectors : List ℕ) → is.fields ≡ fields_with card.fields runs run_sectors → is.names ≡ card.names
+pub node_now : (is card : CachedNode) (runs : ℕ) (run_sectors : List ℕ) → is.fields ≡ fields_with card.fields runs run_sectors → is.names ≡ card.names
     → node_of (λ n. []) is ≡ node_of (λ n. []) card
 unfolding node_of
 node_now is card runs run_sectors fields names =
     ap (λ (f : Fields). node_with f (content_of (λ n. []) f.kind is)) fields
     ∙ ap (node_with card.fields) (content_now card.fields.kind is card (ap (λ (f : Fields). f.size) fields) names)
 
--- A card is turned
+-- A cached node is turned
 
-module _ (old new : Draft) (known : IsKnown old) (place number : ℕ) (it : IsThere (cards_of old) place number) where
-  abbrev cards : List (Option Card)
+module _ (old new : Transaction) (known : IsKnown old) (place number : ℕ) (it : IsThere (cards_of old) place number) where
+  abbrev cards : List (Option CachedNode)
   cards = cards_of old
 
-  module _ (change : Card → Card) (turns : HasNow old new place (change it.card))
+  module _ (change : CachedNode → CachedNode) (turns : HasNow old new place (change it.card))
       (same : (change it.card).fields.number ≡ it.card.fields.number) where
     is_number : turns.is.fields.number ≡ number
     is_number = ap (λ (f : Fields). f.number) turns.fields ∙ same ∙ it.number_is
 
     pub turned : (alter : Node → Node) → node_of (λ n. []) (change it.card) ≡ blank_node (alter (node_of (λ n. []) it.card))
-        → outline_of (cards_of new) ≡ blanked (altered alter (outline_of cards) number)
+        → tree_without_data (cards_of new)
+        ≡ without_data (altered alter (tree_without_data cards) number)
     turned alter node =
-        ap outline_of turns.cards
+        ap tree_without_data turns.cards
         ∙ outline_put old.nodes (mark_by (148 + old.nodes) old.places) cards known.cards place it.card turns.is it.there (is_number ∙ sym it.number_is)
-        ∙ ap₂ (λ (n : ℕ) (one : Node). with (outline_of cards) n one) is_number
+        ∙ ap₂ (λ (n : ℕ) (one : Node). with (tree_without_data cards) n one) is_number
         (node_now turns.is (change it.card) turns.is.fields.runs turns.is.fields.run_sectors turns.fields turns.names ∙ node)
         ∙ ap (λ (t : Tree). with t number (blank_node (alter (node_of (λ n. []) it.card)))) (sym (outline_fixed cards))
-        ∙ sym (blanked-with (outline_of cards) number (alter (node_of (λ n. []) it.card)))
-        ∙ ap (λ (there : Option Node). blanked (altered_at alter (outline_of cards) number there)) (sym (there_is cards known.cards.apart place number it))
+        ∙ sym (without_data-with (tree_without_data cards) number
+        (alter (node_of (λ n. []) it.card)))
+        ∙ ap (λ (there : Option Node). without_data (altered_at alter (tree_without_data cards) number there)) (sym (there_is cards known.cards.apart place number it))
 
     pub turned_made : (numbers : List ℕ) → AreMade cards (cards_of new) numbers
-    turned_made numbers = subst (λ (now : List (Option Card)). AreMade cards now numbers) (sym turns.cards)
+    turned_made numbers = subst (λ (now : List (Option CachedNode)). AreMade cards now numbers) (sym turns.cards)
         (made_put cards place turns.is numbers (place-within cards place it.card it.there)
         (inl (number_at_there ∙ ap (λ (n : ℕ). Some n) (sym is_number))))
       where
@@ -97,16 +100,16 @@ module _ (old new : Draft) (known : IsKnown old) (place number : ℕ) (it : IsTh
   pub over_number : (base : Image) (size : ℕ) (edit : ℕ → model.Edit) → EditsOver base size old new place edit → MakesOver base size old new (edit number)
   over_number base size edit edits = subst (λ (n : ℕ). MakesOver base size old new (edit n)) it.number_is (edits it.card it.there)
 
-  pub dropped : cards_of new ≡ set cards place None → outline_of (cards_of new) ≡ blanked (without (outline_of cards) number)
-  dropped now = ap outline_of now
+  pub dropped : cards_of new ≡ set cards place None → tree_without_data (cards_of new) ≡ without_data (without (tree_without_data cards) number)
+  dropped now = ap tree_without_data now
       ∙ outline_dropped old.nodes (mark_by (148 + old.nodes) old.places) cards known.cards place it.card it.there
-      ∙ ap (without (outline_of cards)) it.number_is
+      ∙ ap (without (tree_without_data cards)) it.number_is
       ∙ ap (λ (t : Tree). without t number) (sym (outline_fixed cards))
-      ∙ sym (blanked-without (outline_of cards) number)
+      ∙ sym (without_data-without (tree_without_data cards) number)
 
 -- What a node shows beside its content
 
-pub node_showing : (shown : Shown) (card : Card) → node_of (λ n. []) (showing_card shown card) ≡ blank_node (showing shown (node_of (λ n. []) card))
+pub node_showing : (shown : Shown) (card : CachedNode) → node_of (λ n. []) (showing_card shown card) ≡ blank_node (showing shown (node_of (λ n. []) card))
 unfolding node_of
 node_showing shown card = ap (node_with (fields_showing card.fields shown))
     (same card.fields.kind ∙ sym (content-blank (λ n. []) card.fields.kind card))
@@ -116,7 +119,7 @@ node_showing shown card = ap (node_with (fields_showing card.fields shown))
     same kind.Directory = refl
 
 -- and it has a spelling, where its entries have one
-pub shown_fits : (card : Card) (shown : declared_shown.Shown) → IsCard card → card.form ≡ Two → AreEntries (shown_of shown).acl
+pub shown_fits : (card : CachedNode) (shown : declared_shown.Shown) → IsCard card → card.form ≡ Two → AreEntries (shown_of shown).acl
     → IsInode card.form (fields_showing card.fields (shown_of shown))
 shown_fits card shown is form entries =
     let most : most_entries card.form ≡ 72 = ap most_entries form in
@@ -138,7 +141,7 @@ shown_fits card shown is form entries =
 
 -- Names
 
-pub node_named : (entry : Record) (card : Card) → card.fields.kind ≡ kind.Directory → by_stamp (with_record card.names entry) ≡ with (by_stamp card.names) entry.0 entry.1
+pub node_named : (entry : Record) (card : CachedNode) → card.fields.kind ≡ kind.Directory → by_stamp (with_record card.names entry) ≡ with (by_stamp card.names) entry.0 entry.1
     → node_of (λ n. []) (with_name entry card) ≡ blank_node (name_put entry.0 entry.1 (node_of (λ n. []) card))
 unfolding node_of
 node_named entry card is names =
@@ -146,7 +149,8 @@ node_named entry card is names =
     ∙ ap (λ (l : Keyed DirEntry). node_with card.fields (Directory l)) names
     ∙ ap (λ (k : NodeKind). node_with card.fields (Directory (with (names_of (content_of (λ n. []) k card)) entry.0 entry.1))) (sym is)
 
-pub node_unnamed : (name : List ℕ) (stamp : ℕ) (card : Card) → card.fields.kind ≡ kind.Directory
+pub node_unnamed : (name : List ℕ) (stamp : ℕ) (card : CachedNode)
+    → card.fields.kind ≡ kind.Directory
     → by_stamp (without_place card.names (place_of name card.names)) ≡ without (by_stamp card.names) stamp
     → node_of (λ n. []) (without_name name card) ≡ blank_node (name_dropped stamp (node_of (λ n. []) card))
 unfolding node_of
@@ -183,7 +187,7 @@ fresh_fits form is of number shown fits entries =
 
 -- Files
 
-pub node_written : (offset : ℕ) (part : List ℕ) (card : Card) → card.fields.kind ≡ kind.File
+pub node_written : (offset : ℕ) (part : List ℕ) (card : CachedNode) → card.fields.kind ≡ kind.File
     → node_of (λ n. []) (reaching (offset + length part) card)
     ≡ blank_node (with_content (node_of (λ n. []) card) (File (overwritten (bytes_of (node_of (λ n. []) card).content) offset part)))
 unfolding node_of
@@ -194,7 +198,7 @@ node_written offset part card is =
     (omega (arith, overwritten-length (bytes_in (λ n. []) card.blocks card.fields.size) part offset, length-bytes_in (λ n. []) card.blocks card.fields.size))
     ∙ ap (λ (k : NodeKind). node_with card.fields (File (zeros (length (overwritten (bytes_of (content_of (λ n. []) k card)) offset part))))) (sym is)
 
-pub node_sized : (size : ℕ) (card : Card) → card.fields.kind ≡ kind.File
+pub node_sized : (size : ℕ) (card : CachedNode) → card.fields.kind ≡ kind.File
     → node_of (λ n. []) (sized card size)
     ≡ blank_node (with_content (node_of (λ n. []) card) (File (resized (bytes_of (node_of (λ n. []) card).content) size)))
 unfolding node_of
@@ -204,24 +208,25 @@ node_sized size card is =
     ∙ ap (λ (n : ℕ). node_with card.fields (File (zeros n))) (sym (length-resized (bytes_in (λ n. []) card.blocks card.fields.size) size))
     ∙ ap (λ (k : NodeKind). node_with card.fields (File (zeros (length (resized (bytes_of (content_of (λ n. []) k card)) size))))) (sym is)
 
-pub new_is : (card : Card) → card ≡ new_card Two card.fields → card ≡ new_card card.form card.fields
-new_is card is = is ∙ ap (λ (form : Form). new_card form card.fields) (sym (ap (λ (one : Card). one.form) is))
+pub new_is : (card : CachedNode) → card ≡ new_card Two card.fields
+    → card ≡ new_card card.form card.fields
+new_is card is = is ∙ ap (λ (form : Form). new_card form card.fields) (sym (ap (λ (one : CachedNode). one.form) is))
 
-pub node_is : (of : NodeKind) (number : ℕ) (shown : Shown) (card : Card) → card.fields ≡ fresh_fields of number shown → new_node card ≡ fresh_node of shown
+pub node_is : (of : NodeKind) (number : ℕ) (shown : Shown) (card : CachedNode) → card.fields ≡ fresh_fields of number shown → new_node card ≡ fresh_node of shown
 node_is of number shown card fields = ap (λ (f : Fields). node_with f (no_content f.kind)) fields
 
-pub made_outline : (old new : Draft) (known : IsKnown old) (place : ℕ) (of : NodeKind) (number : ℕ) (shown : Shown) (card : Card)
+pub made_outline : (old new : Transaction) (known : IsKnown old) (place : ℕ) (of : NodeKind) (number : ℕ) (shown : Shown) (card : CachedNode)
     → place < length (cards_of old) → get_or (cards_of old) place None ≡ None → HasNot (cards_of old) number
     → card ≡ new_card Two card.fields → card.fields ≡ fresh_fields of number shown → cards_of new ≡ set (cards_of old) place (Some card)
-    → outline_of (cards_of new) ≡ blanked (with (outline_of (cards_of old)) number (fresh_node of shown))
+    → tree_without_data (cards_of new) ≡ without_data (with (tree_without_data (cards_of old)) number (fresh_node of shown))
 made_outline old new known place of number shown card within free fresh is fields now =
-    ap outline_of now
+    ap tree_without_data now
     ∙ outline_made old.nodes (mark_by (148 + old.nodes) old.places) (cards_of old) known.cards place card within free
     (subst (λ (f : Fields). HasNot (cards_of old) f.number) (sym fields) fresh)
-    ∙ ap₂ (λ (n : ℕ) (node : Node). with (outline_of (cards_of old)) n node) (ap (λ (f : Fields). f.number) fields)
+    ∙ ap₂ (λ (n : ℕ) (node : Node). with (tree_without_data (cards_of old)) n node) (ap (λ (f : Fields). f.number) fields)
     (ap (node_of (λ n. [])) (is ∙ ap (new_card Two) fields) ∙ node_fresh of number shown)
     ∙ ap (λ (t : Tree). with t number (blank_node (fresh_node of shown))) (sym (outline_fixed (cards_of old)))
-    ∙ sym (blanked-with (outline_of (cards_of old)) number (fresh_node of shown))
+    ∙ sym (without_data-with (tree_without_data (cards_of old)) number (fresh_node of shown))
 
 -- a clause under the device's word that speaks of what was answered Ok
 pub under : {T E word : Type 0} (P : Type 0) (result : Result T E) → (word → OnOk result P) → OnOk result (word → P)

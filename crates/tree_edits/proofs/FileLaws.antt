@@ -1,11 +1,11 @@
--- Files of the outline and files of cards.
+-- Files of the outline and files of cached nodes.
 use Rattle.std.proofs.Common.{◌≡◌, ◌≤◌, ◌+◌, ℕ, List, [], Option, length, ap, ◌∙◌, arith}
 use Rattle.tree_transaction.specs.Grown.{CanWrite, CanGrow, CanCut, blocks_to}
 use Rattle.tree_edits.specs.Edits.{IsFileTo, size_of}
-use Rattle.tree_edits.specs.Outlines.{outline_of}
+use Rattle.tree_edits.specs.Outlines.{tree_without_data}
 use Rattle.tree_edits.proofs.BlankLaws.{overwritten-length}
 use Rattle.tree_edits.proofs.PlaceLaws.{IsThere, there_is, file_there}
-use Rattle.layout.specs.Cards.{Card, bytes_in, content_of, node_of}
+use Rattle.layout.specs.CachedNodes.{CachedNode, bytes_in, content_of, node_of}
 use Rattle.layout.specs.Known.{AreCards}
 use Rattle.layout.proofs.StepLaws.{length-bytes_in}
 use Rattle.model.specs.declared.node.NodeKind.{NodeKind}
@@ -15,11 +15,11 @@ use Rattle.model.specs.Edit.{with_content, overwritten}
 use Rattle.model.specs.Keyed.{at}
 use Rattle.model.specs.Tree.{File, bytes_of}
 
-module _ (cards : List (Option Card)) (nodes : ℕ) (mark : ℕ → ℕ) (known : AreCards nodes mark cards) (place number end : ℕ) (it : IsThere cards place number) (file : IsFileTo (outline_of cards) number end) where
+module _ (cards : List (Option CachedNode)) (nodes : ℕ) (mark : ℕ → ℕ) (known : AreCards nodes mark cards) (place number end : ℕ) (it : IsThere cards place number) (file : IsFileTo (tree_without_data cards) number end) where
   pub is_file : it.card.fields.kind ≡ kind.File
   is_file = file_there cards known.apart place number it file.is_file
 
-  size_is : size_of (at number (outline_of cards)) ≡ it.card.fields.size
+  size_is : size_of (at number (tree_without_data cards)) ≡ it.card.fields.size
   unfolding node_of
   size_is = ap size_of (there_is cards known.apart place number it)
       ∙ ap (λ (k : NodeKind). length (bytes_of (content_of (λ n. []) k it.card))) is_file
@@ -38,7 +38,7 @@ module _ (cards : List (Option Card)) (nodes : ℕ) (mark : ℕ → ℕ) (known 
   can_cut shorter = record { card = it.card; there = it.there; file = is_file; shorter = shorter; few = small_there }
 
 -- a file that was written over is charged for the blocks that it reaches
-pub written_charge : (card : Card) (offset : ℕ) (part : List ℕ) → card.fields.kind ≡ kind.File
+pub written_charge : (card : CachedNode) (offset : ℕ) (part : List ℕ) → card.fields.kind ≡ kind.File
     → charge (with_content (node_of (λ n. []) card) (File (overwritten (bytes_of (node_of (λ n. []) card).content) offset part))) ≡ charge_of_blocks (blocks_to (offset + length part) card)
 unfolding node_of
 written_charge card offset part is = ap (λ (n : ℕ). charge_of_blocks (blocks_of kind.File n))

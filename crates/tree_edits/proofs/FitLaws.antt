@@ -2,25 +2,27 @@
 use Rattle.std.proofs.Common.{◌≡◌, ◌≤◌, ◌<◌, ℕ, Bool, true, false, length, refl, sym, ap, ap₂, ◌∙◌, le-leb}
 use Rattle.std.proofs.lemmas.Bool.{lt-leb}
 use Rattle.std.specs.Prelude.{nat_le, ◌&&◌}
-use Rattle.tree_edits.specs.Outlines.{blanked}
+use Rattle.tree_edits.specs.Outlines.{without_data}
 use Rattle.tree_edits.specs.Sizes.{FitsAlike}
-use Rattle.tree_edits.proofs.BlankLaws.{charge-blanked, length-blanked, few-blanked, edits_blanked}
+use Rattle.tree_edits.proofs.BlankLaws.{charge-without_data, length-without_data, few-without_data}
+use Rattle.tree_edits.proofs.BlankLaws.{edits_blanked}
 use Rattle.model.specs.Charge.{charge, few_names, fits}
 use Rattle.model.specs.Edit.{edited}
 use Rattle.model.specs.Keyed.{total}
 use Rattle.model.specs.declared.limits.Limits.{Limits}
 use Rattle.model.specs.Tree.{Tree}
 
-pub fits-blanked : (limits : Limits) (tree : Tree) → fits limits (blanked tree) ≡ fits limits tree
+pub fits-without_data : (limits : Limits) (tree : Tree)
+    → fits limits (without_data tree) ≡ fits limits tree
 unfolding fits
-fits-blanked limits tree = ap₂ (λ (low rest : Bool). low && rest) (ap (λ (n : ℕ). nat_le n limits.data_sectors) (charge-blanked tree))
-    (ap₂ (λ (few names : Bool). few && names) (ap (λ (n : ℕ). nat_le n limits.nodes) (length-blanked tree)) (few-blanked limits.names tree))
+fits-without_data limits tree = ap₂ (λ (low rest : Bool). low && rest) (ap (λ (n : ℕ). nat_le n limits.data_sectors) (charge-without_data tree))
+    (ap₂ (λ (few names : Bool). few && names) (ap (λ (n : ℕ). nat_le n limits.nodes) (length-without_data tree)) (few-without_data limits.names tree))
 
 pub fits_alike : FitsAlike
 fits_alike limits tree other edits alike =
-    sym (fits-blanked limits (edited edits other)) ∙ ap (fits limits) (sym (edits_blanked edits other))
-    ∙ ap (λ (t : Tree). fits limits (blanked (edited edits t))) alike
-    ∙ ap (fits limits) (edits_blanked edits tree) ∙ fits-blanked limits (edited edits tree)
+    sym (fits-without_data limits (edited edits other)) ∙ ap (fits limits) (sym (edits_blanked edits other))
+    ∙ ap (λ (t : Tree). fits limits (without_data (edited edits t))) alike
+    ∙ ap (fits limits) (edits_blanked edits tree) ∙ fits-without_data limits (edited edits tree)
 
 and_false : (a : Bool) → a && false ≡ false
 and_false true = refl

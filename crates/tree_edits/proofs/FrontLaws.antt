@@ -1,4 +1,4 @@
--- The trees after each front of a list of edits, from the outline of cards on.
+-- The trees after each front of a list of edits, from the outline of cached nodes on.
 use Rattle.std.proofs.Common.{◌≡◌, ◌≢◌, ◌≤◌, ◌<◌, ◌+◌, ◌⊎◌, ℕ, zero, suc, List, [], ◌∷◌, Option, Some, None, length, take, get_or, refl, sym, ap, ◌∙◌, arith, inl, inr, subst}
 use Rattle.std.proofs.lemmas.Bool.{cases_eq}
 use Rattle.std.proofs.Math.Seq.{take-length}
@@ -7,11 +7,11 @@ use Rattle.tree_transaction.proofs.KnownLaws.{card_at}
 use Rattle.tree_edits.specs.declared.edit.Edit.{Edit}
 use Rattle.tree_edits.specs.declared.room.Size.{Size}
 use Rattle.tree_edits.specs.Edits.{edit_of, edits_of, CanDo, AreDoable}
-use Rattle.tree_edits.specs.Outlines.{outline_of}
+use Rattle.tree_edits.specs.Outlines.{tree_without_data}
 use Rattle.tree_edits.specs.Sizes.{size_of_content, size_there, size_at, charge_of_size, nodes_in, IsBelow, number_of, resized_by}
 use Rattle.tree_edits.proofs.PlaceLaws.{IsThere, there_is, no_number}
 use Rattle.tree_edits.proofs.SizeLaws.{IsRising, behind, still_rising, charge_behind, nodes_behind}
-use Rattle.layout.specs.Cards.{Card, node_of, content_of}
+use Rattle.layout.specs.CachedNodes.{CachedNode, node_of, content_of}
 use Rattle.layout.specs.Known.{AreCards, HasContent}
 use Rattle.layout.proofs.Changing.{tree-above}
 use Rattle.layout.proofs.ChargeLaws.{length-by_stamp, above_by_stamp}
@@ -143,28 +143,29 @@ few_numbers tree edits most can rising low each number = by_edit (touched tree e
     by_edit (inl it) = subst (λ (n : ℕ). length (names_at (edited (edits_of edits) tree) n) ≤ most) it.same (each it.place it.edit it.within)
     by_edit (inr stays) = omega (arith, low number, ap (λ (found : Option Node). length (names_of_node found)) stays)
 
--- The outline of cards
+-- The outline of cached nodes
 
-module _ (nodes : ℕ) (mark : ℕ → ℕ) (cards : List (Option Card)) (known : AreCards nodes mark cards) where
-  content_size : (of : NodeKind) (card : Card) → HasContent of card → size_of_content (content_of (λ n. []) of card) ≡ record { kind = of; count = card.fields.size }
+module _ (nodes : ℕ) (mark : ℕ → ℕ) (cards : List (Option CachedNode)) (known : AreCards nodes mark cards) where
+  content_size : (of : NodeKind) (card : CachedNode) → HasContent of card → size_of_content (content_of (λ n. []) of card) ≡ record { kind = of; count = card.fields.size }
   content_size kind.File card has = ap (λ (n : ℕ). let size : Size = record { kind = kind.File; count = n } in size) (length-bytes_in (λ n. []) card.blocks card.fields.size)
   content_size kind.Directory card has =
       ap (λ (n : ℕ). let size : Size = record { kind = kind.Directory; count = n } in size) (length-by_stamp card.names has.stamped ∙ has.count)
 
-  -- a node there has what its card says
-  pub size_there_is : (place number : ℕ) (it : IsThere cards place number) → size_at (outline_of cards) number ≡ Some (record { kind = it.card.fields.kind; count = it.card.fields.size })
+  -- a node there has what its cached node says
+  pub size_there_is : (place number : ℕ) (it : IsThere cards place number) → size_at (tree_without_data cards) number ≡ Some (record { kind = it.card.fields.kind; count = it.card.fields.size })
   unfolding node_of
   size_there_is place number it =
       let is = card_at nodes mark cards place it.card known it.there in
       ap size_there (there_is cards known.apart place number it)
       ∙ ap (λ (size : Size). Some size) (content_size it.card.fields.kind it.card is.content)
 
-  pub size_nowhere : (number : ℕ) → HasNot cards number → size_at (outline_of cards) number ≡ None
+  pub size_nowhere : (number : ℕ) → HasNot cards number
+      → size_at (tree_without_data cards) number ≡ None
   size_nowhere number has_not = ap size_there (no_number cards number has_not)
 
--- what holds of the node of each card holds of each node
-each_node : (P : Node → Type 0) (cards : List (Option Card)) → ((place : ℕ) (card : Card) → get_or cards place None ≡ Some card → P (node_of (λ n. []) card))
-    → (number : ℕ) (node : Node) → at number (outline_of cards) ≡ Some node → P node
+-- what holds of the node of each cached node holds of each node
+each_node : (P : Node → Type 0) (cards : List (Option CachedNode)) → ((place : ℕ) (card : CachedNode) → get_or cards place None ≡ Some card → P (node_of (λ n. []) card))
+    → (number : ℕ) (node : Node) → at number (tree_without_data cards) ≡ Some node → P node
 each_node P [] each number node is = absurd cc
 each_node P (None ∷ cards) each number node is = each_node P cards (λ place card there. each (suc place) card there) number node is
 each_node P (Some card ∷ cards) each number node is =
@@ -173,44 +174,44 @@ each_node P (Some card ∷ cards) each number node is =
     some_is : {x y : Node} → (let one : Option Node = Some x in one ≡ Some y) → x ≡ y
     some_is e = cc
 
-    by_number : (at number (outline_of cards) ≡ Some node → P node) → (number ≡ card.fields.number) ⊎ (number ≢ card.fields.number) → P node
-    by_number others (inl same) = subst P (some_is (sym (at-with_same (outline_of cards) card.fields.number (node_of (λ n. []) card))
-        ∙ ap (λ (n : ℕ). at n (with (outline_of cards) card.fields.number (node_of (λ n. []) card))) (sym same) ∙ is)) (each 0 card refl)
-    by_number others (inr off) = others (sym (at-with_other (outline_of cards) card.fields.number number (node_of (λ n. []) card) off) ∙ is)
+    by_number : (at number (tree_without_data cards) ≡ Some node → P node) → (number ≡ card.fields.number) ⊎ (number ≢ card.fields.number) → P node
+    by_number others (inl same) = subst P (some_is (sym (at-with_same (tree_without_data cards) card.fields.number (node_of (λ n. []) card))
+        ∙ ap (λ (n : ℕ). at n (with (tree_without_data cards) card.fields.number (node_of (λ n. []) card))) (sym same) ∙ is)) (each 0 card refl)
+    by_number others (inr off) = others (sym (at-with_other (tree_without_data cards) card.fields.number number (node_of (λ n. []) card) off) ∙ is)
 
 -- a directory's names rise, and are 1,024 at most
 record HasFewNames (node : Node) : Type 0 where
   rising : IsAbove 0 (names_of node.content)
   few : length (names_of node.content) ≤ 1024
 
-module _ (nodes : ℕ) (mark : ℕ → ℕ) (cards : List (Option Card)) (known : AreCards nodes mark cards) where
-  content_rising : (of : NodeKind) (card : Card) → HasContent of card → IsAbove 0 (names_of (content_of (λ n. []) of card))
+module _ (nodes : ℕ) (mark : ℕ → ℕ) (cards : List (Option CachedNode)) (known : AreCards nodes mark cards) where
+  content_rising : (of : NodeKind) (card : CachedNode) → HasContent of card → IsAbove 0 (names_of (content_of (λ n. []) of card))
   content_rising kind.File card has = tt
   content_rising kind.Directory card has = above_by_stamp card.names has.stamped
 
-  content_few : (of : NodeKind) (card : Card) → HasContent of card → length (names_of (content_of (λ n. []) of card)) ≤ 1024
+  content_few : (of : NodeKind) (card : CachedNode) → HasContent of card → length (names_of (content_of (λ n. []) of card)) ≤ 1024
   content_few kind.File card has = omega arith
   content_few kind.Directory card has = (let names = has.names in omega (arith, length-by_stamp card.names has.stamped, names.few))
 
-  card_few : (place : ℕ) (card : Card) → get_or cards place None ≡ Some card → HasFewNames (node_of (λ n. []) card)
+  card_few : (place : ℕ) (card : CachedNode) → get_or cards place None ≡ Some card → HasFewNames (node_of (λ n. []) card)
   unfolding node_of
   card_few place card there =
       let is = card_at nodes mark cards place card known there in
       record { rising = content_rising card.fields.kind card is.content; few = content_few card.fields.kind card is.content }
 
-  pub rising_outline : IsRising (outline_of cards)
+  pub rising_outline : IsRising (tree_without_data cards)
   rising_outline = record {
     above = tree-above (λ n. []) cards (λ place card there. let is = card_at nodes mark cards place card known there in is.number);
-    names = λ number. by_node number (at number (outline_of cards)) refl;
+    names = λ number. by_node number (at number (tree_without_data cards)) refl;
   }
     where
-      by_node : (number : ℕ) (found : Option Node) → at number (outline_of cards) ≡ found → IsAbove 0 (names_of_node found)
+      by_node : (number : ℕ) (found : Option Node) → at number (tree_without_data cards) ≡ found → IsAbove 0 (names_of_node found)
       by_node number None is = tt
       by_node number (Some node) is = (let it = each_node HasFewNames cards card_few number node is in it.rising)
 
-  pub few_outline : (number : ℕ) → length (names_at (outline_of cards) number) ≤ 1024
-  few_outline number = by_node (at number (outline_of cards)) refl
+  pub few_outline : (number : ℕ) → length (names_at (tree_without_data cards) number) ≤ 1024
+  few_outline number = by_node (at number (tree_without_data cards)) refl
     where
-      by_node : (found : Option Node) → at number (outline_of cards) ≡ found → length (names_of_node found) ≤ 1024
+      by_node : (found : Option Node) → at number (tree_without_data cards) ≡ found → length (names_of_node found) ≤ 1024
       by_node None is = omega arith
       by_node (Some node) is = (let it = each_node HasFewNames cards card_few number node is in it.few)

@@ -3,14 +3,14 @@ use Rattle.std.proofs.Common.{◌≡◌, ◌≤◌, ◌<◌, ℕ, zero, suc, Lis
 use Rattle.std.specs.List.{IsAmong}
 use Rattle.disk.specs.Moments.{Image}
 use Rattle.node_table.specs.Tables.{number_at}
-use Rattle.tree_transaction.specs.declared.draft.Draft.{Draft}
-use Rattle.tree_transaction.specs.Drafts.{cards_of, IsKnown}
+use Rattle.tree_transaction.specs.declared.transaction.Transaction.{Transaction}
+use Rattle.tree_transaction.specs.Transactions.{cards_of, IsKnown}
 use Rattle.tree_edits.specs.declared.edit.Edit.{Edit}
 use Rattle.tree_edits.specs.declared.edit.Edit.TheVariants as declared
 use Rattle.tree_edits.specs.Doing.{Does, DoesAnywhere, made_by, FitsOn, Overfills}
 use Rattle.tree_edits.specs.Edits.{edit_of, edits_of, AreDoable, StayFew}
-use Rattle.tree_edits.specs.Outlines.{blanked, outline_of}
-use Rattle.tree_edits.proofs.BlankLaws.{edits_blanked, charge-blanked, length-blanked}
+use Rattle.tree_edits.specs.Outlines.{without_data, tree_without_data}
+use Rattle.tree_edits.proofs.BlankLaws.{edits_blanked, charge-without_data, length-without_data}
 use Rattle.tree_edits.proofs.DoableLaws.{doable_alike, few_alike}
 use Rattle.tree_edits.proofs.DoingLaws.{outline_fixed}
 use Rattle.model.specs.Charge.{charge}
@@ -48,41 +48,43 @@ made_later (declared.SetSize file size) edits number among = among
 
 -- What is charged does not depend on what stands in files
 
-same_charge : (tree other : Tree) (edits : List model.Edit) → blanked other ≡ blanked tree → total charge (edited edits other) ≡ total charge (edited edits tree)
+same_charge : (tree other : Tree) (edits : List model.Edit) → without_data other ≡ without_data tree → total charge (edited edits other) ≡ total charge (edited edits tree)
 same_charge tree other edits alike =
-    sym (charge-blanked (edited edits other)) ∙ ap (total charge) (sym (edits_blanked edits other))
-    ∙ ap (λ (t : Tree). total charge (blanked (edited edits t))) alike
-    ∙ ap (total charge) (edits_blanked edits tree) ∙ charge-blanked (edited edits tree)
+    sym (charge-without_data (edited edits other))
+    ∙ ap (total charge) (sym (edits_blanked edits other))
+    ∙ ap (λ (t : Tree). total charge (without_data (edited edits t))) alike
+    ∙ ap (total charge) (edits_blanked edits tree) ∙ charge-without_data (edited edits tree)
 
-same_length : (tree other : Tree) (edits : List model.Edit) → blanked other ≡ blanked tree → length (edited edits other) ≡ length (edited edits tree)
+same_length : (tree other : Tree) (edits : List model.Edit) → without_data other ≡ without_data tree → length (edited edits other) ≡ length (edited edits tree)
 same_length tree other edits alike =
-    sym (length-blanked (edited edits other)) ∙ ap (λ (t : Tree). length t) (sym (edits_blanked edits other))
-    ∙ ap (λ (t : Tree). length (blanked (edited edits t))) alike
-    ∙ ap (λ (t : Tree). length t) (edits_blanked edits tree) ∙ length-blanked (edited edits tree)
+    sym (length-without_data (edited edits other)) ∙ ap (λ (t : Tree). length t) (sym (edits_blanked edits other))
+    ∙ ap (λ (t : Tree). length (without_data (edited edits t))) alike
+    ∙ ap (λ (t : Tree). length t) (edits_blanked edits tree)
+    ∙ length-without_data (edited edits tree)
 
 -- Edits that were done, and none
 
-pub does_nothing : (word : Type 0) (base : Image) (size : ℕ) (draft : Draft) → IsKnown draft → Does word base size draft draft []
-does_nothing word base size draft known = record {
+pub does_nothing : (word : Type 0) (base : Image) (size : ℕ) (transaction : Transaction) → IsKnown transaction → Does word base size transaction transaction []
+does_nothing word base size transaction known = record {
   known = record { known = known; nodes = refl; places = refl };
-  outline = sym (outline_fixed (cards_of draft));
+  outline = sym (outline_fixed (cards_of transaction));
   forms = λ forms. forms;
   made = λ place number is. inl is;
   tree = λ k laid. (laid, refl);
   count = omega arith;
 }
 
-pub anywhere : (word : Type 0) (base : Image) (size : ℕ) (old new : Draft) (edit : Edit) → DoesAnywhere old new edit → Does word base size old new (edit ∷ [])
+pub anywhere : (word : Type 0) (base : Image) (size : ℕ) (old new : Transaction) (edit : Edit) → DoesAnywhere old new edit → Does word base size old new (edit ∷ [])
 anywhere word base size old new edit does =
     let it = does base size in
     record { known = it.known; outline = it.outline; forms = it.forms; made = it.made; tree = λ k. it.tree tt; count = it.count }
 
-module _ (word : Type 0) (base : Image) (size : ℕ) (old mid : Draft) (edit : Edit) (first : Does word base size old mid (edit ∷ [])) where
+module _ (word : Type 0) (base : Image) (size : ℕ) (old mid : Transaction) (edit : Edit) (first : Does word base size old mid (edit ∷ [])) where
   -- what memory tells of the tree in between
-  alike : blanked (outline_of (cards_of mid)) ≡ blanked (done (edit_of edit) (outline_of (cards_of old)))
+  alike : without_data (tree_without_data (cards_of mid)) ≡ without_data (done (edit_of edit) (tree_without_data (cards_of old)))
   alike = outline_fixed (cards_of mid) ∙ first.outline
 
-  pub goes_on : (new : Draft) (edits : List Edit) → Does word base size mid new edits → Does word base size old new (edit ∷ edits)
+  pub goes_on : (new : Transaction) (edits : List Edit) → Does word base size mid new edits → Does word base size old new (edit ∷ edits)
   goes_on new edits rest = record {
     known = record {
       known = rest.known.known;
@@ -90,9 +92,9 @@ module _ (word : Type 0) (base : Image) (size : ℕ) (old mid : Draft) (edit : E
       places = rest.known.places ∙ first.known.places;
     };
     outline = rest.outline
-        ∙ sym (edits_blanked (edits_of edits) (outline_of (cards_of mid)))
-        ∙ ap (λ (t : Tree). blanked (edited (edits_of edits) t)) alike
-        ∙ edits_blanked (edits_of edits) (done (edit_of edit) (outline_of (cards_of old)));
+        ∙ sym (edits_blanked (edits_of edits) (tree_without_data (cards_of mid)))
+        ∙ ap (λ (t : Tree). without_data (edited (edits_of edits) t)) alike
+        ∙ edits_blanked (edits_of edits) (done (edit_of edit) (tree_without_data (cards_of old)));
     forms = λ forms. rest.forms (first.forms forms);
     made = λ place number is. ⊎_elim
         (λ (stood : number_at (cards_of mid) place ≡ Some number). ⊎_elim
@@ -106,26 +108,26 @@ module _ (word : Type 0) (base : Image) (size : ℕ) (old mid : Draft) (edit : E
     count = omega (arith, first.count, rest.count);
   }
 
-  pub still_doable : (edits : List Edit) → AreDoable (outline_of (cards_of old)) (edit ∷ edits) → AreDoable (outline_of (cards_of mid)) edits
-  still_doable edits can = doable_alike (done (edit_of edit) (outline_of (cards_of old))) (outline_of (cards_of mid)) edits alike can.1
+  pub still_doable : (edits : List Edit) → AreDoable (tree_without_data (cards_of old)) (edit ∷ edits) → AreDoable (tree_without_data (cards_of mid)) edits
+  still_doable edits can = doable_alike (done (edit_of edit) (tree_without_data (cards_of old))) (tree_without_data (cards_of mid)) edits alike can.1
 
-  pub still_few : (edits : List Edit) → StayFew (outline_of (cards_of old)) (edit ∷ edits) → StayFew (outline_of (cards_of mid)) edits
-  still_few edits few = few_alike (done (edit_of edit) (outline_of (cards_of old))) (outline_of (cards_of mid)) edits alike few.1
+  pub still_few : (edits : List Edit) → StayFew (tree_without_data (cards_of old)) (edit ∷ edits) → StayFew (tree_without_data (cards_of mid)) edits
+  still_few edits few = few_alike (done (edit_of edit) (tree_without_data (cards_of old))) (tree_without_data (cards_of mid)) edits alike few.1
 
   pub overfills_later : (edits : List Edit) → Overfills mid edits → Overfills old (edit ∷ edits)
   overfills_later edits over = record {
     count = suc over.count;
     within = omega (arith, over.within);
     full = λ room. over.full (record {
-      charge = (let fits = room.charge in omega (arith, fits, first.known.places, same_charge (done (edit_of edit) (outline_of (cards_of old))) (outline_of (cards_of mid)) (take over.count (edits_of edits)) alike));
-      nodes = (let fits = room.nodes in omega (arith, fits, first.known.nodes, same_length (done (edit_of edit) (outline_of (cards_of old))) (outline_of (cards_of mid)) (take over.count (edits_of edits)) alike));
+      charge = (let fits = room.charge in omega (arith, fits, first.known.places, same_charge (done (edit_of edit) (tree_without_data (cards_of old))) (tree_without_data (cards_of mid)) (take over.count (edits_of edits)) alike));
+      nodes = (let fits = room.nodes in omega (arith, fits, first.known.nodes, same_length (done (edit_of edit) (tree_without_data (cards_of old))) (tree_without_data (cards_of mid)) (take over.count (edits_of edits)) alike));
     });
   }
 
-pub overfills_first : (draft : Draft) (edit : Edit) (edits : List Edit) → Overfills draft (edit ∷ []) → Overfills draft (edit ∷ edits)
-overfills_first draft edit edits over = by_count over.count over.within over.full
+pub overfills_first : (transaction : Transaction) (edit : Edit) (edits : List Edit) → Overfills transaction (edit ∷ []) → Overfills transaction (edit ∷ edits)
+overfills_first transaction edit edits over = by_count over.count over.within over.full
   where
-    by_count : (count : ℕ) → count ≤ 1 → (FitsOn (length draft.places) draft.nodes (edited (take count (edit_of edit ∷ [])) (outline_of (cards_of draft))) → ⊥) → Overfills draft (edit ∷ edits)
+    by_count : (count : ℕ) → count ≤ 1 → (FitsOn (length transaction.places) transaction.nodes (edited (take count (edit_of edit ∷ [])) (tree_without_data (cards_of transaction))) → ⊥) → Overfills transaction (edit ∷ edits)
     by_count zero within full = record { count = 0; within = omega arith; full = full }
     by_count (suc zero) within full = record { count = 1; within = omega arith; full = full }
     by_count (suc (suc count)) within full = absurd (omega (arith, within))

@@ -1,4 +1,4 @@
--- Names of the outline and names of cards.
+-- Names of the outline and names of cached nodes.
 use Rattle.std.proofs.Common.{◌≡◌, ◌<◌, ◌+◌, ◌≤◌, eqb, ℕ, Bool, true, false, List, [], ◌∷◌, Option, Some, None, length, refl, sym, ap, ◌∙◌, arith, subst}
 use Rattle.std.specs.Prelude.{bytes_eq, if◌then◌else◌, nat_le, IsTrue}
 use Rattle.std.proofs.lemmas.Bool.{and_parts, leb-true}
@@ -10,9 +10,9 @@ use Rattle.directory.proofs.RecordMaps.{puts_by_stamp, removes_by_stamp}
 use Rattle.tree_transaction.specs.Naming.{CanName, HasName, blocks_named}
 use Rattle.tree_transaction.proofs.KnownLaws.{card_at}
 use Rattle.tree_edits.specs.Edits.{IsNewName, IsName}
-use Rattle.tree_edits.specs.Outlines.{outline_of}
+use Rattle.tree_edits.specs.Outlines.{tree_without_data}
 use Rattle.tree_edits.proofs.PlaceLaws.{IsThere, there_is, names_there}
-use Rattle.layout.specs.Cards.{Card, node_of, content_of}
+use Rattle.layout.specs.CachedNodes.{CachedNode, node_of, content_of}
 use Rattle.layout.specs.Known.{AreCards, HasContent, HasNames}
 use Rattle.layout.proofs.ChargeLaws.{length-by_stamp, length-with, above_by_stamp}
 use Rattle.model.specs.declared.node.NodeKind.{NodeKind}
@@ -59,26 +59,26 @@ few-at most (entry ∷ rest) number node few there = by_key (few-at most rest nu
     by_key later true here = subst (λ (n : Node). length (names_of n.content) ≤ most) (some_is here) (leb-true (length (names_of entry.1.content)) most parts.0)
     by_key later false found = later parts.1 found
 
--- The names of a directory's card
+-- The names of a directory's cached node
 
-module _ (nodes : ℕ) (mark : ℕ → ℕ) (cards : List (Option Card)) (known : AreCards nodes mark cards) (place number : ℕ) (it : IsThere cards place number) (is : it.card.fields.kind ≡ kind.Directory) where
+module _ (nodes : ℕ) (mark : ℕ → ℕ) (cards : List (Option CachedNode)) (known : AreCards nodes mark cards) (place number : ℕ) (it : IsThere cards place number) (is : it.card.fields.kind ≡ kind.Directory) where
   pub has_names : HasNames it.card
   has_names = let card = card_at nodes mark cards place it.card known it.there in subst (λ (k : NodeKind). HasContent k it.card) is card.content
 
-  names_are : names_at (outline_of cards) number ≡ by_stamp it.card.names
+  names_are : names_at (tree_without_data cards) number ≡ by_stamp it.card.names
   names_are = names_there cards known.apart place number it is
 
-  pub count_is : length (names_at (outline_of cards) number) ≡ length it.card.names
+  pub count_is : length (names_at (tree_without_data cards) number) ≡ length it.card.names
   count_is = ap (λ (l : Keyed DirEntry). length l) names_are ∙ length-by_stamp it.card.names has_names.stamped
 
-  pub entry_is : (name : List ℕ) → entry_of name (names_at (outline_of cards) number) ≡ entry_of name it.card.names
+  pub entry_is : (name : List ℕ) → entry_of name (names_at (tree_without_data cards) number) ≡ entry_of name it.card.names
   entry_is name = ap (entry_of name) names_are ∙ entry_of-by_stamp name it.card.names has_names.names.apart has_names.stamped.apart
 
-  pub stamp_is : (stamp : ℕ) → at stamp (names_at (outline_of cards) number) ≡ at stamp it.card.names
+  pub stamp_is : (stamp : ℕ) → at stamp (names_at (tree_without_data cards) number) ≡ at stamp it.card.names
   stamp_is stamp = ap (at stamp) names_are ∙ at-by_stamp stamp it.card.names
 
   -- what a new name asks
-  module _ (stamp : ℕ) (name : List ℕ) (to : ℕ) (new : IsNewName (outline_of cards) number stamp (record { name = name; number = to })) where
+  module _ (stamp : ℕ) (name : List ℕ) (to : ℕ) (new : IsNewName (tree_without_data cards) number stamp (record { name = name; number = to })) where
     unnamed : entry_of name it.card.names ≡ None
     unnamed = sym (entry_is name) ∙ new.new_name
 
@@ -86,15 +86,15 @@ module _ (nodes : ℕ) (mark : ℕ → ℕ) (cards : List (Option Card)) (known 
     unstamped = sym (stamp_is stamp) ∙ new.new_stamp
 
     -- there is room for it where few names stand after it
-    pub room_there : IsTrue (few_names 1024 (altered (name_put stamp (record { name = name; number = to })) (outline_of cards) number)) → length it.card.names < 1024
+    pub room_there : IsTrue (few_names 1024 (altered (name_put stamp (record { name = name; number = to })) (tree_without_data cards) number)) → length it.card.names < 1024
     unfolding node_of
     room_there few =
         let entry : DirEntry = record { name = name; number = to } in
         let node = node_of (λ n. []) it.card in
-        let behind : at number (altered (name_put stamp entry) (outline_of cards) number) ≡ Some (name_put stamp entry node) =
-        ap (λ (found : Option Node). at number (altered_at (name_put stamp entry) (outline_of cards) number found)) (there_is cards known.apart place number it)
-        ∙ at-with_same (outline_of cards) number (name_put stamp entry node) in
-        let most = few-at 1024 (altered (name_put stamp entry) (outline_of cards) number) number (name_put stamp entry node) few behind in
+        let behind : at number (altered (name_put stamp entry) (tree_without_data cards) number) ≡ Some (name_put stamp entry node) =
+        ap (λ (found : Option Node). at number (altered_at (name_put stamp entry) (tree_without_data cards) number found)) (there_is cards known.apart place number it)
+        ∙ at-with_same (tree_without_data cards) number (name_put stamp entry node) in
+        let most = few-at 1024 (altered (name_put stamp entry) (tree_without_data cards) number) number (name_put stamp entry node) few behind in
         let names = ap (λ (k : NodeKind). length (with (names_of (content_of (λ n. []) k it.card)) stamp entry)) is in
         let more = length-with (by_stamp it.card.names) stamp 0 entry (above_by_stamp it.card.names has_names.stamped) (at-by_stamp stamp it.card.names ∙ unstamped) in
         omega (arith, most, names, more, length-by_stamp it.card.names has_names.stamped)
@@ -126,7 +126,8 @@ module _ (nodes : ℕ) (mark : ℕ → ℕ) (cards : List (Option Card)) (known 
         ∙ omega (arith, length-by_stamp it.card.names has_names.stamped))
 
   -- what a name that goes asks
-  module _ (stamp : ℕ) (name : List ℕ) (named : IsName (outline_of cards) number stamp name) where
+  module _ (stamp : ℕ) (name : List ℕ)
+      (named : IsName (tree_without_data cards) number stamp name) where
     pub entry_there : entry_of name it.card.names ≡ Some (record_from stamp name named.number)
     entry_there = sym (entry_is name) ∙ named.named
 

@@ -1,16 +1,16 @@
 -- What outlines are charged for.
 use Rattle.std.proofs.Common.{◌≡◌, ◌+◌, ℕ, suc, List, [], ◌∷◌, Option, Some, None, length, refl, ap, arith}
 use Rattle.node_table.specs.Tables.{AreTaken, charge_of, charge_of_all, count_of_all}
-use Rattle.tree_transaction.specs.declared.draft.Draft.{Draft}
-use Rattle.tree_transaction.specs.Drafts.{cards_of, IsKnown, IsOvercharged}
+use Rattle.tree_transaction.specs.declared.transaction.Transaction.{Transaction}
+use Rattle.tree_transaction.specs.Transactions.{cards_of, IsKnown, IsOvercharged}
 use Rattle.tree_edits.specs.Doing.{FitsOn, Overfills}
 use Rattle.tree_edits.specs.declared.edit.Edit.TheVariants as declared
 use Rattle.tree_edits.specs.Edits.{fresh_node}
 use Rattle.tree_transaction.specs.declared.nodes.Shown.{Shown}
 use Rattle.tree_transaction.specs.Nodes.{shown_of}
-use Rattle.tree_edits.specs.Outlines.{outline_of}
+use Rattle.tree_edits.specs.Outlines.{tree_without_data}
 use Rattle.tree_edits.proofs.PlaceLaws.{IsThere, there_is}
-use Rattle.layout.specs.Cards.{Card, node_of}
+use Rattle.layout.specs.CachedNodes.{CachedNode, node_of}
 use Rattle.layout.specs.Known.{AreCards, IsCard}
 use Rattle.layout.specs.Marks.{mark_by}
 use Rattle.layout.specs.SumLaws.{Sums}
@@ -25,10 +25,11 @@ use Rattle.model.specs.Keyed.{at, total, worth_at}
 use Rattle.model.specs.Tree.{Node}
 use Rattle.model.proofs.KeyedLaws.{total-with}
 
-pub charge_card : (card : Card) → IsCard card → charge (node_of (λ n. []) card) ≡ charge_of card
+pub charge_card : (card : CachedNode) → IsCard card
+    → charge (node_of (λ n. []) card) ≡ charge_of card
 charge_card = charge_is (λ n. [])
 
-module _ (nodes : ℕ) (mark : ℕ → ℕ) (cards : List (Option Card)) (known : AreCards nodes mark cards) where
+module _ (nodes : ℕ) (mark : ℕ → ℕ) (cards : List (Option CachedNode)) (known : AreCards nodes mark cards) where
   each : AreEach cards
   each = each_card nodes mark cards known
 
@@ -38,53 +39,55 @@ module _ (nodes : ℕ) (mark : ℕ → ℕ) (cards : List (Option Card)) (known 
   sums : Sums (λ n. []) cards
   sums = known_sum nodes mark cards known (λ n. [])
 
-  pub charge_all : total charge (outline_of cards) ≡ charge_of_all cards
+  pub charge_all : total charge (tree_without_data cards) ≡ charge_of_all cards
   charge_all = sums.charges
 
-  pub count_all : length (outline_of cards) ≡ count_of_all cards
+  pub count_all : length (tree_without_data cards) ≡ count_of_all cards
   count_all = sums.nodes
 
   -- a node is another one
   pub charge_altered : (place number : ℕ) (it : IsThere cards place number) (alter : Node → Node)
-      → total charge (altered alter (outline_of cards) number) + charge_of it.card ≡ charge_of_all cards + charge (alter (node_of (λ n. []) it.card))
+      → total charge (altered alter (tree_without_data cards) number) + charge_of it.card ≡ charge_of_all cards + charge (alter (node_of (λ n. []) it.card))
   charge_altered place number it alter =
       let there = there_is cards known.apart place number it in
       let node = node_of (λ n. []) it.card in
-      let sum = total-with charge (outline_of cards) number 0 (alter node) (tree-above (λ n. []) cards above) in
+      let sum = total-with charge (tree_without_data cards) number 0 (alter node) (tree-above (λ n. []) cards above) in
       omega (
         arith,
         sum,
-        ap (λ (found : Option Node). total charge (altered_at alter (outline_of cards) number found)) there,
+        ap (λ (found : Option Node). total charge (altered_at alter (tree_without_data cards) number found)) there,
         ap (worth_at charge) there,
         charge_card it.card (each place it.card it.there),
         charge_all,
       )
 
 -- a node that would be charged for so many blocks leaves no room
-pub no_room : (draft : Draft) (known : IsKnown draft) (place number : ℕ) (it : IsThere (cards_of draft) place number) (alter : Node → Node) (blocks : Card → ℕ)
-    → IsOvercharged draft place blocks → charge (alter (node_of (λ n. []) it.card)) ≡ charge_of_blocks (blocks it.card)
-    → FitsOn (length draft.places) draft.nodes (altered alter (outline_of (cards_of draft)) number) → ⊥
-no_room draft known place number it alter blocks over charged room =
-    let sum = charge_altered draft.nodes (mark_by (148 + draft.nodes) draft.places) (cards_of draft) known.cards place number it alter in
+pub no_room : (transaction : Transaction) (known : IsKnown transaction) (place number : ℕ) (it : IsThere (cards_of transaction) place number) (alter : Node → Node) (blocks : CachedNode → ℕ)
+    → IsOvercharged transaction place blocks → charge (alter (node_of (λ n. []) it.card)) ≡ charge_of_blocks (blocks it.card)
+    → FitsOn (length transaction.places) transaction.nodes (altered alter (tree_without_data (cards_of transaction)) number) → ⊥
+no_room transaction known place number it alter blocks over charged room =
+    let sum = charge_altered transaction.nodes (mark_by (148 + transaction.nodes) transaction.places) (cards_of transaction) known.cards place number it alter in
     let more = over it.card it.there in
     let fits = room.charge in
     omega (arith, sum, more, fits, charged)
 
 -- and where no place is free there is room for no node more
 
-taken_count : (cards : List (Option Card)) → AreTaken cards → count_of_all cards ≡ length cards
+taken_count : (cards : List (Option CachedNode)) → AreTaken cards
+    → count_of_all cards ≡ length cards
 taken_count [] taken = refl
 taken_count (None ∷ cards) taken = absurd (taken 0 (omega arith) refl)
 taken_count (Some card ∷ cards) taken = omega (arith, taken_count cards (λ place within. taken (suc place) (omega (arith, within))))
 
-pub no_place : (draft : Draft) → IsKnown draft → (of : NodeKind) (number : ℕ) (shown : Shown) → at number (outline_of (cards_of draft)) ≡ None
-    → AreTaken (cards_of draft) → Overfills draft (declared.PutNode number of shown ∷ [])
-no_place draft known of number shown fresh taken = record {
+pub no_place : (transaction : Transaction) → IsKnown transaction → (of : NodeKind) (number : ℕ) (shown : Shown) → at number (tree_without_data (cards_of transaction)) ≡ None
+    → AreTaken (cards_of transaction)
+    → Overfills transaction (declared.PutNode number of shown ∷ [])
+no_place transaction known of number shown fresh taken = record {
   count = 1;
   within = omega arith;
   full = λ room.
       let fits = room.nodes in
-      let mark = mark_by (148 + draft.nodes) draft.places in
-      let more = length-with (outline_of (cards_of draft)) number 0 (fresh_node of (shown_of shown)) (tree-above (λ n. []) (cards_of draft) (above draft.nodes mark (cards_of draft) known.cards)) fresh in
-      omega (arith, fits, more, count_all draft.nodes mark (cards_of draft) known.cards, taken_count (cards_of draft) taken, known.cards.count);
+      let mark = mark_by (148 + transaction.nodes) transaction.places in
+      let more = length-with (tree_without_data (cards_of transaction)) number 0 (fresh_node of (shown_of shown)) (tree-above (λ n. []) (cards_of transaction) (above transaction.nodes mark (cards_of transaction) known.cards)) fresh in
+      omega (arith, fits, more, count_all transaction.nodes mark (cards_of transaction) known.cards, taken_count (cards_of transaction) taken, known.cards.count);
 }

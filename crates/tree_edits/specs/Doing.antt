@@ -1,16 +1,16 @@
--- What edits make of a draft.
+-- What edits make of a transaction.
 use Rattle.std.specs.Prelude.{◌≡◌, ◌≤◌, ◌+◌, ◌/◌, ◌%◌, ◌⊎◌, ℕ, ⊤, List, [], ◌∷◌, Option, Some}
 use Rattle.std.specs.Prelude.{length, take}
 use Rattle.std.specs.List.{IsAmong}
 use Rattle.disk.specs.Moments.{Image}
 use Rattle.node_table.specs.Tables.{number_at}
-use Rattle.tree_transaction.specs.declared.draft.Draft.{Draft}
-use Rattle.tree_transaction.specs.Drafts.{cards_of, tree_of, IsDraft, StaysKnown}
+use Rattle.tree_transaction.specs.declared.transaction.Transaction.{Transaction}
+use Rattle.tree_transaction.specs.Transactions.{cards_of, tree_of, IsTransaction, StaysKnown}
 use Rattle.tree_edits.specs.declared.edit.Edit.{Edit}
 use Rattle.tree_edits.specs.declared.edit.Edit.TheVariants as declared
 use Rattle.tree_edits.specs.Edits.{edits_of}
-use Rattle.tree_edits.specs.Outlines.{blanked, outline_of}
-use Rattle.layout.specs.Cards.{Card}
+use Rattle.tree_edits.specs.Outlines.{without_data, tree_without_data}
+use Rattle.layout.specs.CachedNodes.{CachedNode}
 use Rattle.layout.specs.Stands.{HaveCurrentForms}
 use Rattle.model.specs.Charge.{charge}
 use Rattle.model.specs.Edit.{edited}
@@ -29,7 +29,7 @@ made_by (declared.PutBytes file offset bytes ∷ edits) = made_by edits
 made_by (declared.SetSize file size ∷ edits) = made_by edits
 
 -- each node stands where one of its number stood, or has one of these numbers
-abbrev pub AreMade : (old new : List (Option Card)) → (numbers : List ℕ) → Type 0
+abbrev pub AreMade : (old new : List (Option CachedNode)) → (numbers : List ℕ) → Type 0
 AreMade old new numbers = (place number : ℕ) → number_at new place ≡ Some number
     → (number_at old place ≡ Some number) ⊎ IsAmong numbers number
 
@@ -48,21 +48,23 @@ abbrev pub updates_of_all : List Edit → ℕ
 updates_of_all [] = 0
 updates_of_all (edit ∷ edits) = updates_of edit + updates_of_all edits
 
--- Edits are done: what is known of the draft stays known, on any device, and its outline is the one
--- of the tree with the edits; where the sectors keep their word the draft's tree is that tree.
-pub record Does (word : Type 0) (base : Image) (size : ℕ) (old new : Draft) (edits : List Edit)
+-- Edits are done: what is known of the transaction stays known, on any device, and its outline is
+-- the one of the tree with the edits; where the sectors keep their word the transaction's tree is
+-- that tree.
+pub record Does (word : Type 0) (base : Image) (size : ℕ) (old new : Transaction)
+    (edits : List Edit)
     : Type 0 where
   pub known : StaysKnown old new
-  pub outline : outline_of (cards_of new)
-      ≡ blanked (edited (edits_of edits) (outline_of (cards_of old)))
+  pub outline : tree_without_data (cards_of new)
+      ≡ without_data (edited (edits_of edits) (tree_without_data (cards_of old)))
   pub forms : HaveCurrentForms (cards_of old) → HaveCurrentForms (cards_of new)
   pub made : AreMade (cards_of old) (cards_of new) (made_by edits)
-  pub tree : word → IsDraft base size old → IsDraft base size new
+  pub tree : word → IsTransaction base size old → IsTransaction base size new
       × (tree_of base new ≡ edited (edits_of edits) (tree_of base old))
   pub count : length new.updates ≤ length old.updates + updates_of_all edits
 
 -- what reads nothing does its edit over any base
-abbrev pub DoesAnywhere : (old new : Draft) → Edit → Type 0
+abbrev pub DoesAnywhere : (old new : Transaction) → Edit → Type 0
 DoesAnywhere old new edit = (base : Image) (size : ℕ) → Does ⊤ base size old new (edit ∷ [])
 
 -- the charges come to so many sectors at most, and the nodes to so many places
@@ -71,8 +73,8 @@ pub record FitsOn (sectors places : ℕ) (tree : Tree) : Type 0 where
   pub nodes : length tree ≤ places
 
 -- for the tree after so many of the edits there is no room
-pub record Overfills (draft : Draft) (edits : List Edit) : Type 0 where
+pub record Overfills (transaction : Transaction) (edits : List Edit) : Type 0 where
   pub count : ℕ
   pub within : count ≤ length edits
-  pub full : FitsOn (length draft.places) draft.nodes
-      (edited (take count (edits_of edits)) (outline_of (cards_of draft))) → ⊥
+  pub full : FitsOn (length transaction.places) transaction.nodes
+      (edited (take count (edits_of edits)) (tree_without_data (cards_of transaction))) → ⊥

@@ -2,7 +2,7 @@
 use Rattle.std.specs.Prelude.{◌≡◌, ◌≤◌, ◌<◌, ◌+◌, ℕ, List, [], ◌∷◌, Option, Some, None, length}
 use Rattle.std.specs.Prelude.{IsTrue, IsFalse}
 use Rattle.std.specs.List.{AllByRecursion}
-use Rattle.tree_edits.specs.Outlines.{blanked}
+use Rattle.tree_edits.specs.Outlines.{without_data}
 use Rattle.inode.specs.Fields.{Fields, IsAce}
 use Rattle.tree_transaction.specs.Nodes.{no_content, shown_of}
 use Rattle.tree_edits.specs.declared.edit.Edit.{Edit}
@@ -125,9 +125,9 @@ StayFew tree (edit ∷ edits) = IsTrue (few_names 1024 (done (edit_of edit) tree
 -- what can be done to a tree can be done to each other one that is blanked alike, and as few names
 -- stand after it
 abbrev pub DoableAlike : Type 0
-DoableAlike = (tree other : Tree) (edits : List Edit) → blanked other ≡ blanked tree
+DoableAlike = (tree other : Tree) (edits : List Edit) → without_data other ≡ without_data tree
     → AreDoable tree edits → AreDoable other edits
 
 abbrev pub FewAlike : Type 0
-FewAlike = (tree other : Tree) (edits : List Edit) → blanked other ≡ blanked tree
+FewAlike = (tree other : Tree) (edits : List Edit) → without_data other ≡ without_data tree
     → StayFew tree edits → StayFew other edits

@@ -2,14 +2,14 @@
 use Rattle.std.specs.Prelude.{◌≡◌, ◌≤◌, ◌+◌, ℕ, Bool, List, Option, length, take}
 use Rattle.disk.specs.Moments.{Image, applied}
 use Rattle.node_table.specs.Overlays.{changed}
-use Rattle.tree_transaction.specs.declared.draft.Outcome.{Outcome}
+use Rattle.tree_transaction.specs.declared.transaction.PreparedTransaction.{PreparedTransaction}
 use Rattle.tree_transaction.specs.Updates.{AreTargets}
 use Rattle.tree_edits.specs.declared.edit.Edit.{Edit}
 use Rattle.tree_edits.specs.Doing.{AreMade, FitsOn, made_by, updates_of_all}
 use Rattle.tree_edits.specs.Edits.{edits_of}
-use Rattle.tree_edits.specs.Outlines.{blanked, outline_of}
+use Rattle.tree_edits.specs.Outlines.{without_data, tree_without_data}
 use Rattle.tree_edits.specs.Parts.{PartsAreBytes}
-use Rattle.layout.specs.Cards.{Card, tree_of}
+use Rattle.layout.specs.CachedNodes.{CachedNode, tree_of}
 use Rattle.layout.specs.Known.{AreCards}
 use Rattle.layout.specs.Marks.{mark_by}
 use Rattle.layout.specs.Stands.{current, HaveCurrentForms, IsLaid}
@@ -17,8 +17,10 @@ use Rattle.model.specs.Edit.{edited}
 use Rattle.model.specs.Seats.{Seats}
 use Rattle.model.specs.Tree.{Tree}
 
--- the cards of a whole volume, and the places of its data region, used as the cards name them
-pub record IsWholeVolume (size : ℕ) (table : List (Option Card)) (places : List Bool) : Type 0 where
+-- the cached nodes of a whole volume, and the places of its data region, used as the cached nodes
+-- name them
+pub record IsWholeVolume (size : ℕ) (table : List (Option CachedNode)) (places : List Bool)
+    : Type 0 where
   pub cards : AreCards (length table) (mark_by (148 + length table) places) table
   pub forms : HaveCurrentForms table
   pub size_is : size ≡ 148 + length table + length places
@@ -29,29 +31,30 @@ abbrev pub FrontsHaveRoom : (sectors places : ℕ) → Tree → List Edit → Ty
 FrontsHaveRoom sectors places tree edits = (count : ℕ) → count ≤ length edits
     → FitsOn sectors places (edited (take count (edits_of edits)) tree)
 
--- the cards that an outcome makes of a table's
-abbrev pub cards_after : List (Option Card) → Outcome → List (Option Card)
+-- the cached nodes that an outcome makes of a table's
+abbrev pub cards_after : List (Option CachedNode) → PreparedTransaction → List (Option CachedNode)
 cards_after table outcome = changed table outcome.changes
 
--- the sectors hold the outcome's cards and marks, and show the tree with the edits; the seats stay
-pub record LaysEdited (seats : Seats) (base : Image) (size : ℕ) (table : List (Option Card))
-    (edits : List Edit) (outcome : Outcome) : Type 0 where
+-- the sectors hold the outcome's cached nodes and marks, and show the tree with the edits; the
+-- seats stay
+pub record LaysEdited (seats : Seats) (base : Image) (size : ℕ) (table : List (Option CachedNode))
+    (edits : List Edit) (outcome : PreparedTransaction) : Type 0 where
   pub laid : IsLaid (current seats) size (length table) (applied outcome.updates.items base)
       (cards_after table outcome)
   pub tree_is : tree_of (applied outcome.updates.items base) (cards_after table outcome)
       ≡ edited (edits_of edits) (tree_of base table)
 
 -- What edits come to, of a volume of so many sectors
-pub record ComesTo (word : Type 0) (base : Image) (size : ℕ) (table : List (Option Card))
-    (places : List Bool) (edits : List Edit) (outcome : Outcome) : Type 0 where
-  -- its places are used as its cards name them, and are as many
+pub record ComesTo (word : Type 0) (base : Image) (size : ℕ) (table : List (Option CachedNode))
+    (places : List Bool) (edits : List Edit) (outcome : PreparedTransaction) : Type 0 where
+  -- its places are used as its cached nodes name them, and are as many
   pub cards : AreCards (length table) (mark_by (148 + length table) outcome.places)
       (cards_after table outcome)
   pub as_many : length outcome.places ≡ length places
   -- on any device the outline is that of the tree with the edits
-  pub outline : outline_of (cards_after table outcome)
-      ≡ blanked (edited (edits_of edits) (outline_of table))
-  -- each card keeps its form, and the edits' numbers alone are new
+  pub outline : tree_without_data (cards_after table outcome)
+      ≡ without_data (edited (edits_of edits) (tree_without_data table))
+  -- each cached node keeps its form, and the edits' numbers alone are new
   pub forms : HaveCurrentForms (cards_after table outcome)
   pub made : AreMade table (cards_after table outcome) (made_by edits)
   -- the updates are those of a transaction, and few

@@ -3,7 +3,7 @@ use Rattle.std.specs.Prelude.{◌≡◌, ℕ, List, [], ◌∷◌, Option, lengt
 use Rattle.disk.specs.Moments.{Image}
 use Rattle.model.specs.Edit.{Edit, edited, with_content}
 use Rattle.model.specs.Tree.{Tree, Node, Content, File, Directory}
-use Rattle.layout.specs.Cards.{Card, tree_of}
+use Rattle.layout.specs.CachedNodes.{CachedNode, tree_of}
 
 abbrev pub zeros : ℕ → List ℕ
 zeros count = replicate count 0
@@ -17,20 +17,20 @@ abbrev pub blank_node : Node → Node
 blank_node node = with_content node (blank node.content)
 
 -- the tree with zeros for the bytes of its files
-abbrev pub blanked : Tree → Tree
-blanked [] = []
-blanked (entry ∷ rest) = (entry.0, blank_node entry.1) ∷ blanked rest
+abbrev pub without_data : Tree → Tree
+without_data [] = []
+without_data (entry ∷ rest) = (entry.0, blank_node entry.1) ∷ without_data rest
 
--- the tree of cards with zeros for the bytes of its files: that of sectors without content
-abbrev pub outline_of : List (Option Card) → Tree
-outline_of cards = tree_of (λ n. []) cards
+-- the tree of cached nodes with zeros for the bytes of its files: that of sectors without content
+abbrev pub tree_without_data : List (Option CachedNode) → Tree
+tree_without_data cards = tree_of (λ n. []) cards
 
--- which is what every tree of these cards is, blanked
+-- which is what every tree of these cached nodes is, blanked
 abbrev pub EachOutline : Type 0
-EachOutline = (image : Image) (cards : List (Option Card))
-    → blanked (tree_of image cards) ≡ outline_of cards
+EachOutline = (image : Image) (cards : List (Option CachedNode))
+    → without_data (tree_of image cards) ≡ tree_without_data cards
 
 -- blanked trees are edited alike
 abbrev pub EditsBlanked : Type 0
 EditsBlanked = (edits : List Edit) (tree : Tree)
-    → blanked (edited edits (blanked tree)) ≡ blanked (edited edits tree)
+    → without_data (edited edits (without_data tree)) ≡ without_data (edited edits tree)

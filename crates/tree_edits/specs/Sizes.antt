@@ -3,7 +3,7 @@ use Rattle.std.specs.Prelude.{◌≡◌, ◌<◌, ◌+◌, ◌-◌, max, ℕ, Li
 use Rattle.tree_edits.specs.declared.edit.Edit.{Edit}
 use Rattle.tree_edits.specs.declared.edit.Edit.TheVariants as declared
 use Rattle.tree_edits.specs.declared.room.Size.{Size}
-use Rattle.tree_edits.specs.Outlines.{blanked}
+use Rattle.tree_edits.specs.Outlines.{without_data}
 use Rattle.model.specs.declared.node.NodeKind.{NodeKind}
 use Rattle.model.specs.declared.node.NodeKind.TheVariants as kind
 use Rattle.model.specs.Charge.{blocks_of, charge_of_blocks, fits}
@@ -86,5 +86,5 @@ resized_by (declared.SetSize file size) (Some was) =
 -- what fits does not depend on what stands in files
 abbrev pub FitsAlike : Type 0
 FitsAlike = (limits : Limits) (tree other : Tree) (edits : List model.Edit)
-    → blanked other ≡ blanked tree
+    → without_data other ≡ without_data tree
     → fits limits (edited edits other) ≡ fits limits (edited edits tree)

@@ -1,20 +1,20 @@
-//! Edits that are done on a draft.
+//! Edits that are done on a transaction.
 
 ghost use Rattle.std.specs.Prelude.{◌≡◌, ◌≤◌, ◌<◌, ◌+◌, [], ◌∷◌, Some, None, All, length, slice_index_or};
 ghost use Rattle.std.specs.Prelude.{IsTrue, OnOk, IsErrOf};
 ghost use Rattle.node_table.specs.Tables.{number_at};
-ghost use Rattle.tree_transaction.specs.Drafts.{cards_of, end_of, IsKnown};
+ghost use Rattle.tree_transaction.specs.Transactions.{cards_of, end_of, IsKnown};
 ghost use Rattle.tree_transaction.specs.Nodes.{shown_of, new_card, HasNode};
 ghost use Rattle.tree_edits.specs.declared.edit.Edit.TheVariants as edit;
 ghost use Rattle.tree_edits.specs.Doing.{Does, DoesAnywhere, Overfills};
 ghost use Rattle.tree_edits.specs.Edits.{IsNewNode, IsShown, IsNewName, IsName, IsFileTo};
 ghost use Rattle.tree_edits.specs.Edits.{CanDo, AreDoable, StayFew, edit_of, fresh_node};
 ghost use Rattle.tree_edits.specs.Edits.{fresh_fields};
-ghost use Rattle.tree_edits.specs.Outlines.{outline_of};
+ghost use Rattle.tree_edits.specs.Outlines.{tree_without_data};
 ghost use Rattle.tree_edits.specs.Parts.{PutsBytes, PartsAreBytes};
 ghost use Rattle.inode.specs.declared.node.Form.TheVariants.{Two};
 ghost use Rattle.layout.specs.Stands.{HaveCurrentForms};
-ghost use Rattle.layout.specs.Cards.{Card as LaidCard};
+ghost use Rattle.layout.specs.CachedNodes.{CachedNode as LaidCard};
 ghost use Rattle.layout.specs.Health.{Reads};
 ghost use Rattle.model.specs.Charge.{few_names};
 ghost use Rattle.model.specs.Edit.{PutName, done};
@@ -26,86 +26,89 @@ use extents::{BlockList, Runs};
 use inode::{Form, Inode};
 use layout::sectors::Sectors;
 use model::node::NodeKind;
-use node_table::Card;
+use node_table::CachedNode;
 use std::alloc::{AllocError, Global};
-use tree_transaction::{Draft, DraftFault, Shown, SpaceFault};
+use tree_transaction::{Shown, SpaceFault, Transaction, TransactionFault};
 
 /// The place of a node.
-fn place_of(draft: &Draft<'_>, number: u64) -> u32
-    requires { IsTrue (is_key number (outline_of (cards_of draft.now))) }
-    ensures { number_at (cards_of draft.now) result ≡ Some number }
+fn place_of(transaction: &Transaction<'_>, number: u64) -> u32
+    requires { IsTrue (is_key number (tree_without_data (cards_of transaction.now))) }
+    ensures { number_at (cards_of transaction.now) result ≡ Some number }
 {
-    draft.cards.find(number).unwrap()
+    transaction.cards.find(number).unwrap()
 }
 
-fn drop_node(draft: &mut Draft<'_>, number: u64) -> Result<(), AllocError>
-    requires known { IsKnown draft.old }
-    requires can { IsTrue (is_key number (outline_of (cards_of draft.old))) }
-    ensures done { OnOk result (DoesAnywhere draft.old draft.new (edit.DropNode number)) }
-    ensures table { draft.new.cards.table ≡ draft.old.cards.table }
+fn drop_node(transaction: &mut Transaction<'_>, number: u64) -> Result<(), AllocError>
+    requires known { IsKnown transaction.old }
+    requires can { IsTrue (is_key number (tree_without_data (cards_of transaction.old))) }
+    ensures done { OnOk result
+        (DoesAnywhere transaction.old transaction.new (edit.DropNode number)) }
+    ensures table { transaction.new.cards.table ≡ transaction.old.cards.table }
 {
-    let place = place_of(draft, number);
-    draft.free(place)
+    let place = place_of(transaction, number);
+    transaction.free(place)
 }
 
-fn show(draft: &mut Draft<'_>, number: u64, shown: Shown) -> Result<(), AllocError>
-    requires known { IsKnown draft.old }
-    requires forms { HaveCurrentForms (cards_of draft.old) }
-    requires can { IsShown (outline_of (cards_of draft.old)) number (shown_of shown) }
-    ensures done { OnOk result (DoesAnywhere draft.old draft.new (edit.Show number shown)) }
-    ensures table { draft.new.cards.table ≡ draft.old.cards.table }
+fn show(transaction: &mut Transaction<'_>, number: u64, shown: Shown) -> Result<(), AllocError>
+    requires known { IsKnown transaction.old }
+    requires forms { HaveCurrentForms (cards_of transaction.old) }
+    requires can { IsShown (tree_without_data (cards_of transaction.old)) number (shown_of shown) }
+    ensures done { OnOk result
+        (DoesAnywhere transaction.old transaction.new (edit.Show number shown)) }
+    ensures table { transaction.new.cards.table ≡ transaction.old.cards.table }
 {
-    let place = place_of(draft, number);
-    draft.show(place, shown)
+    let place = place_of(transaction, number);
+    transaction.show(place, shown)
 }
 
 fn put_name(
-    draft: &mut Draft<'_>,
+    transaction: &mut Transaction<'_>,
     directory: u64,
     stamp: u64,
     name: &[u8],
     number: u64,
 ) -> Result<(), SpaceFault>
     // An edit that can be done
-    requires known { IsKnown draft.old }
-    requires can { IsNewName (outline_of (cards_of draft.old)) directory stamp
+    requires known { IsKnown transaction.old }
+    requires can { IsNewName (tree_without_data (cards_of transaction.old)) directory stamp
         (record { name = name.now; number = number }) }
     requires few { IsTrue (few_names Names.MAX_NAMES (done (PutName directory stamp
-        (record { name = name.now; number = number })) (outline_of (cards_of draft.old)))) }
+        (record { name = name.now; number = number }))
+        (tree_without_data (cards_of transaction.old)))) }
     // Done, or full
-    ensures done { OnOk result (DoesAnywhere draft.old draft.new
+    ensures done { OnOk result (DoesAnywhere transaction.old transaction.new
         (edit.PutName directory stamp name.entry number)) }
     ensures full { IsErrOf result SpaceFault.Full
-        → Overfills draft.old (edit.PutName directory stamp name.entry number ∷ []) }
+        → Overfills transaction.old (edit.PutName directory stamp name.entry number ∷ []) }
     // In any case
-    ensures table { draft.new.cards.table ≡ draft.old.cards.table }
+    ensures table { transaction.new.cards.table ≡ transaction.old.cards.table }
 {
-    let place = place_of(draft, directory);
-    draft.put_name(place, name, stamp, number)
+    let place = place_of(transaction, directory);
+    transaction.put_name(place, name, stamp, number)
 }
 
 fn drop_name(
-    draft: &mut Draft<'_>,
+    transaction: &mut Transaction<'_>,
     directory: u64,
     stamp: u64,
     name: &[u8],
 ) -> Result<(), AllocError>
-    requires known { IsKnown draft.old }
-    requires can { IsName (outline_of (cards_of draft.old)) directory stamp name.now }
-    ensures done { OnOk result (DoesAnywhere draft.old draft.new
+    requires known { IsKnown transaction.old }
+    requires can { IsName (tree_without_data (cards_of transaction.old)) directory stamp name.now }
+    ensures done { OnOk result (DoesAnywhere transaction.old transaction.new
         (edit.DropName directory stamp name.entry)) }
-    ensures table { draft.new.cards.table ≡ draft.old.cards.table }
+    ensures table { transaction.new.cards.table ≡ transaction.old.cards.table }
 {
-    let place = place_of(draft, directory);
-    draft.drop_name(place, name)
+    let place = place_of(transaction, directory);
+    transaction.drop_name(place, name)
 }
 
-/// The card of a node without bytes or names.
-fn fresh_card(alloc: Global, number: u64, kind: NodeKind, shown: Shown) -> Card
+/// The cached node of a node without bytes or names.
+fn fresh_card(alloc: Global, number: u64, kind: NodeKind, shown: Shown) -> CachedNode
     ensures card { result ≡ new_card Two result.fields }
     ensures fields { result.fields ≡ fresh_fields kind number (shown_of shown) }
 {
-    Card {
+    CachedNode {
         form: Form::Two,
         inode: Inode {
             kind,
@@ -126,111 +129,113 @@ fn fresh_card(alloc: Global, number: u64, kind: NodeKind, shown: Shown) -> Card
 }
 
 fn put_node(
-    draft: &mut Draft<'_>,
+    transaction: &mut Transaction<'_>,
     number: u64,
     kind: NodeKind,
     shown: Shown,
 ) -> Result<(), SpaceFault>
-    requires known { IsKnown draft.old }
-    requires can { IsNewNode (outline_of (cards_of draft.old)) number
+    requires known { IsKnown transaction.old }
+    requires can { IsNewNode (tree_without_data (cards_of transaction.old)) number
         (fresh_node kind (shown_of shown)) }
-    ensures done { OnOk result (DoesAnywhere draft.old draft.new
+    ensures done { OnOk result (DoesAnywhere transaction.old transaction.new
         (edit.PutNode number kind shown)) }
     ensures full { IsErrOf result SpaceFault.Full
-        → Overfills draft.old (edit.PutNode number kind shown ∷ []) }
-    ensures table { draft.new.cards.table ≡ draft.old.cards.table }
+        → Overfills transaction.old (edit.PutNode number kind shown ∷ []) }
+    ensures table { transaction.new.cards.table ≡ transaction.old.cards.table }
 {
-    let Some(place) = draft.cards.free_place() else {
+    let Some(place) = transaction.cards.free_place() else {
         return Err(SpaceFault::Full);
     };
-    draft.make(place, fresh_card(draft.alloc, number, kind, shown))?;
+    transaction.make(place, fresh_card(transaction.alloc, number, kind, shown))?;
     Ok(())
 }
 
 /// The size of the file at a place.
-fn size_at(draft: &Draft<'_>, place: u32) -> u64
-    requires { HasNode (cards_of draft.now) place }
-    ensures { (card : LaidCard) → slice_index_or (cards_of draft.now) place None ≡ Some card
+fn size_at(transaction: &Transaction<'_>, place: u32) -> u64
+    requires { HasNode (cards_of transaction.now) place }
+    ensures { (card : LaidCard) → slice_index_or (cards_of transaction.now) place None ≡ Some card
         → result ≡ card.fields.size }
 {
-    draft.cards.card(place).unwrap().inode.size
+    transaction.cards.card(place).unwrap().inode.size
 }
 
 fn put_bytes<S: Sectors>(
-    draft: &mut Draft<'_>,
+    transaction: &mut Transaction<'_>,
     base: &mut S,
     file: u64,
     offset: usize,
     bytes: &[u8],
-) -> Result<(), DraftFault>
+) -> Result<(), TransactionFault>
     // An edit that can be done
-    requires known { IsKnown draft.old × (end_of draft.old ≤ S.size (S.kept base.old)) }
-    requires can { IsFileTo (outline_of (cards_of draft.old)) file (offset + length bytes.now) }
+    requires known { IsKnown transaction.old × (end_of transaction.old ≤ S.size (S.kept base.old)) }
+    requires can { IsFileTo (tree_without_data (cards_of transaction.old)) file
+        (offset + length bytes.now) }
     // Done, or full
     ensures done { OnOk result (Does S.keeps_word (S.image (S.kept base.old))
-        (S.size (S.kept base.old)) draft.old draft.new
+        (S.size (S.kept base.old)) transaction.old transaction.new
         (edit.PutBytes file offset bytes.entry ∷ [])) }
-    ensures full { IsErrOf result DraftFault.Full
-        → Overfills draft.old (edit.PutBytes file offset bytes.entry ∷ []) }
+    ensures full { IsErrOf result TransactionFault.Full
+        → Overfills transaction.old (edit.PutBytes file offset bytes.entry ∷ []) }
     // In any case
     ensures kept { (S.kept base.new ≡ S.kept base.old)
-        × (draft.new.cards.table ≡ draft.old.cards.table) }
+        × (transaction.new.cards.table ≡ transaction.old.cards.table) }
     ensures health { Reads (S.health base.old) (S.health base.new)
-        (IsErrOf result DraftFault.Device) }
+        (IsErrOf result TransactionFault.Device) }
     ensures bytes { All (λ byte. byte < 256) bytes.entry.now }
 {
-    let place = place_of(draft, file);
-    draft.write(base, place, offset, bytes)
+    let place = place_of(transaction, file);
+    transaction.write(base, place, offset, bytes)
 }
 
 fn set_size<S: Sectors>(
-    draft: &mut Draft<'_>,
+    transaction: &mut Transaction<'_>,
     base: &mut S,
     file: u64,
     size: u64,
-) -> Result<(), DraftFault>
+) -> Result<(), TransactionFault>
     // An edit that can be done
-    requires known { IsKnown draft.old × (end_of draft.old ≤ S.size (S.kept base.old)) }
-    requires can { IsFileTo (outline_of (cards_of draft.old)) file size }
+    requires known { IsKnown transaction.old × (end_of transaction.old ≤ S.size (S.kept base.old)) }
+    requires can { IsFileTo (tree_without_data (cards_of transaction.old)) file size }
     // Done, or full
     ensures done { OnOk result (Does S.keeps_word (S.image (S.kept base.old))
-        (S.size (S.kept base.old)) draft.old draft.new (edit.SetSize file size ∷ [])) }
-    ensures full { IsErrOf result DraftFault.Full → ⊥ }
+        (S.size (S.kept base.old)) transaction.old transaction.new (edit.SetSize file size ∷ [])) }
+    ensures full { IsErrOf result TransactionFault.Full → ⊥ }
     // In any case
     ensures kept { (S.kept base.new ≡ S.kept base.old)
-        × (draft.new.cards.table ≡ draft.old.cards.table) }
+        × (transaction.new.cards.table ≡ transaction.old.cards.table) }
     ensures health { Reads (S.health base.old) (S.health base.new)
-        (IsErrOf result DraftFault.Device) }
+        (IsErrOf result TransactionFault.Device) }
 {
-    let place = place_of(draft, file);
-    if size < size_at(draft, place) {
-        return draft.cut(base, place, size);
+    let place = place_of(transaction, file);
+    if size < size_at(transaction, place) {
+        return transaction.cut(base, place, size);
     }
-    draft.grow(place, size)?;
+    transaction.grow(place, size)?;
     Ok(())
 }
 
 /// Does an edit.
 fn edit_one<S: Sectors>(
-    draft: &mut Draft<'_>,
+    transaction: &mut Transaction<'_>,
     base: &mut S,
     edit: Edit<'_>,
-) -> Result<(), DraftFault>
+) -> Result<(), TransactionFault>
     // An edit that can be done
-    requires known { IsKnown draft.old × (end_of draft.old ≤ S.size (S.kept base.old)) }
-    requires forms { HaveCurrentForms (cards_of draft.old) }
-    requires can { CanDo (outline_of (cards_of draft.old)) edit }
+    requires known { IsKnown transaction.old × (end_of transaction.old ≤ S.size (S.kept base.old)) }
+    requires forms { HaveCurrentForms (cards_of transaction.old) }
+    requires can { CanDo (tree_without_data (cards_of transaction.old)) edit }
     requires few { IsTrue (few_names Names.MAX_NAMES
-        (done (edit_of edit) (outline_of (cards_of draft.old)))) }
+        (done (edit_of edit) (tree_without_data (cards_of transaction.old)))) }
     // Done, or full
     ensures done { OnOk result (Does S.keeps_word (S.image (S.kept base.old))
-        (S.size (S.kept base.old)) draft.old draft.new (edit.entry ∷ [])) }
-    ensures full { IsErrOf result DraftFault.Full → Overfills draft.old (edit.entry ∷ []) }
+        (S.size (S.kept base.old)) transaction.old transaction.new (edit.entry ∷ [])) }
+    ensures full { IsErrOf result TransactionFault.Full
+        → Overfills transaction.old (edit.entry ∷ []) }
     // In any case
     ensures kept { (S.kept base.new ≡ S.kept base.old)
-        × (draft.new.cards.table ≡ draft.old.cards.table) }
+        × (transaction.new.cards.table ≡ transaction.old.cards.table) }
     ensures health { Reads (S.health base.old) (S.health base.new)
-        (IsErrOf result DraftFault.Device) }
+        (IsErrOf result TransactionFault.Device) }
     ensures parts { OnOk result (PutsBytes edit.entry) }
 {
     match edit {
@@ -238,26 +243,26 @@ fn edit_one<S: Sectors>(
             number,
             kind,
             shown,
-        } => put_node(draft, number, kind, shown)?,
-        Edit::DropNode { number } => drop_node(draft, number)?,
-        Edit::Show { number, shown } => show(draft, number, shown)?,
+        } => put_node(transaction, number, kind, shown)?,
+        Edit::DropNode { number } => drop_node(transaction, number)?,
+        Edit::Show { number, shown } => show(transaction, number, shown)?,
         Edit::PutName {
             directory,
             stamp,
             name,
             number,
-        } => put_name(draft, directory, stamp, name, number)?,
+        } => put_name(transaction, directory, stamp, name, number)?,
         Edit::DropName {
             directory,
             stamp,
             name,
-        } => drop_name(draft, directory, stamp, name)?,
+        } => drop_name(transaction, directory, stamp, name)?,
         Edit::PutBytes {
             file,
             offset,
             bytes,
-        } => put_bytes(draft, base, file, offset, bytes)?,
-        Edit::SetSize { file, size } => set_size(draft, base, file, size)?,
+        } => put_bytes(transaction, base, file, offset, bytes)?,
+        Edit::SetSize { file, size } => set_size(transaction, base, file, size)?,
     }
     Ok(())
 }
@@ -267,32 +272,33 @@ fn edit_one<S: Sectors>(
 ///
 /// # Errors
 ///
-/// The draft is to be dropped then. [`DraftFault::Device`] where the device failed,
-/// [`DraftFault::Memory`], and [`DraftFault::Full`], only where the tree after one of the edits
-/// has no room.
+/// The transaction is to be dropped then. [`TransactionFault::Device`] where the device failed,
+/// [`TransactionFault::Memory`], and [`TransactionFault::Full`], only where the tree after one of
+/// the edits has no room.
 pub(crate) fn edit_all<S: Sectors>(
-    draft: &mut Draft<'_>,
+    transaction: &mut Transaction<'_>,
     base: &mut S,
     edits: Vec<Edit<'_>>,
-) -> Result<(), DraftFault>
+) -> Result<(), TransactionFault>
     // An edit that can be done
-    requires known { IsKnown draft.old × (end_of draft.old ≤ S.size (S.kept base.old)) }
-    requires forms { HaveCurrentForms (cards_of draft.old) }
-    requires can { AreDoable (outline_of (cards_of draft.old)) edits.items }
-    requires few { StayFew (outline_of (cards_of draft.old)) edits.items }
+    requires known { IsKnown transaction.old × (end_of transaction.old ≤ S.size (S.kept base.old)) }
+    requires forms { HaveCurrentForms (cards_of transaction.old) }
+    requires can { AreDoable (tree_without_data (cards_of transaction.old)) edits.items }
+    requires few { StayFew (tree_without_data (cards_of transaction.old)) edits.items }
     // Done, or full
     ensures done { OnOk result (Does S.keeps_word (S.image (S.kept base.old))
-        (S.size (S.kept base.old)) draft.old draft.new edits.entry.items) }
-    ensures full { IsErrOf result DraftFault.Full → Overfills draft.old edits.entry.items }
+        (S.size (S.kept base.old)) transaction.old transaction.new edits.entry.items) }
+    ensures full { IsErrOf result TransactionFault.Full
+        → Overfills transaction.old edits.entry.items }
     // In any case
     ensures kept { (S.kept base.new ≡ S.kept base.old)
-        × (draft.new.cards.table ≡ draft.old.cards.table) }
+        × (transaction.new.cards.table ≡ transaction.old.cards.table) }
     ensures health { Reads (S.health base.old) (S.health base.new)
-        (IsErrOf result DraftFault.Device) }
+        (IsErrOf result TransactionFault.Device) }
     ensures parts { OnOk result (PartsAreBytes edits.entry.items) }
 {
     for edit in edits {
-        edit_one(draft, base, edit)?;
+        edit_one(transaction, base, edit)?;
     }
     Ok(())
 }

@@ -1,4 +1,4 @@
-//! Edits of a volume's tree, each of them done on a draft of the transaction.
+//! Edits of a volume's tree, each of them done on its transaction.
 #![tactic(auto)]
 
 mod doing;

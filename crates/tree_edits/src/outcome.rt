@@ -3,7 +3,7 @@
 ghost use Rattle.std.specs.Prelude.{◌≡◌, length, IfOk, IsErrOf};
 ghost use Rattle.tree_edits.specs.Edits.{AreDoable, StayFew};
 ghost use Rattle.tree_edits.specs.Outcomes.{ComesTo, FrontsHaveRoom, IsWholeVolume};
-ghost use Rattle.tree_edits.specs.Outlines.{outline_of};
+ghost use Rattle.tree_edits.specs.Outlines.{tree_without_data};
 ghost use Rattle.layout.specs.Health.{Reads};
 
 use crate::doing::edit_all;
@@ -12,39 +12,39 @@ use freemap::Bitmap;
 use layout::sectors::Sectors;
 use node_table::Table;
 use std::alloc::Global;
-use tree_transaction::{Draft, DraftFault, Outcome};
+use tree_transaction::{PreparedTransaction, Transaction, TransactionFault};
 
 /// What edits of a volume come to, as one transaction: its updates, marks included, and the places
-/// and cards that memory is to keep then. The table and the places stay as they are. There must be
-/// room after each of the edits.
+/// and cached nodes that memory is to keep then. The table and the places stay as they are. There
+/// must be room after each of the edits.
 ///
 /// # Errors
 ///
-/// [`DraftFault::Device`] where the device failed, [`DraftFault::Memory`], never
-/// [`DraftFault::Full`].
+/// [`TransactionFault::Device`] where the device failed, [`TransactionFault::Memory`], never
+/// [`TransactionFault::Full`].
 pub fn outcome_of<S: Sectors>(
     alloc: Global,
     base: &mut S,
     table: &Table,
     places: &Bitmap,
     edits: Vec<Edit<'_>>,
-) -> Result<Outcome, DraftFault>
+) -> Result<PreparedTransaction, TransactionFault>
     requires whole { IsWholeVolume (S.size (S.kept base.old)) table.now places.now }
-    requires can { AreDoable (outline_of table.now) edits.items }
-    requires few { StayFew (outline_of table.now) edits.items }
+    requires can { AreDoable (tree_without_data table.now) edits.items }
+    requires few { StayFew (tree_without_data table.now) edits.items }
     requires room { FrontsHaveRoom (length places.now) (length table.now)
-        (outline_of table.now) edits.items }
+        (tree_without_data table.now) edits.items }
     ensures done { IfOk result (λ outcome. ComesTo S.keeps_word (S.image (S.kept base.old))
         (S.size (S.kept base.old)) table.now places.now edits.entry.items outcome) }
     // Refused
-    ensures full { IsErrOf result DraftFault.Full → ⊥ }
+    ensures full { IsErrOf result TransactionFault.Full → ⊥ }
     ensures health { Reads (S.health base.old) (S.health base.new)
-        (IsErrOf result DraftFault.Device) }
+        (IsErrOf result TransactionFault.Device) }
     // In every answer
     ensures kept { S.kept base.new ≡ S.kept base.old }
 {
-    let mut draft = Draft::new(alloc, table, places)?;
-    edit_all(&mut draft, base, edits)?;
-    draft.finish(places)?;
-    Ok(draft.into_outcome())
+    let mut transaction = Transaction::new(alloc, table, places)?;
+    edit_all(&mut transaction, base, edits)?;
+    transaction.finish(places)?;
+    Ok(transaction.into_prepared())
 }

@@ -3,7 +3,7 @@
 ghost use Rattle.std.specs.Prelude.{◌≡◌, ◌≤◌, ◌<◌, ◌+◌, ◌^◌, ℕ, true, length};
 ghost use Rattle.tree_edits.specs.Edits.{AreDoable, edits_of};
 ghost use Rattle.tree_edits.specs.Making.{IsMaking, size_of_new};
-ghost use Rattle.tree_edits.specs.Outlines.{outline_of};
+ghost use Rattle.tree_edits.specs.Outlines.{tree_without_data};
 ghost use Rattle.tree_edits.specs.Sizes.{size_at, charge_of_size, nodes_in, names_in, IsBelow};
 ghost use Rattle.tree_edits.specs.Sizes.{number_of, resized_by};
 ghost use Rattle.layout.specs.Known.{AreCards};
@@ -37,7 +37,7 @@ struct Taken {
 /// What a node of the table has.
 fn size_in(table: &Table, number: u64) -> Option<Size>
     requires { (nodes : ℕ) × (mark : ℕ → ℕ) × AreCards nodes mark table.now }
-    ensures size { result ≡ size_at (outline_of table.now) number }
+    ensures size { result ≡ size_at (tree_without_data table.now) number }
     ensures small { IsBelow (2 ^ 65) result }
 {
     let Some(place) = table.find(number) else {
@@ -113,8 +113,9 @@ fn resized(size: Option<Size>, edit: &Edit<'_>) -> Option<Size>
 /// What a node has in the tree after edits: each of them that changes it is gone through.
 fn size_after(table: &Table, edits: &[Edit<'_>], number: u64) -> Option<Size>
     requires cards { (nodes : ℕ) × (mark : ℕ → ℕ) × AreCards nodes mark table.now }
-    requires can { AreDoable (outline_of table.now) edits.now }
-    ensures size { result ≡ size_at (edited (edits_of edits.now) (outline_of table.now)) number }
+    requires can { AreDoable (tree_without_data table.now) edits.now }
+    ensures size { result
+        ≡ size_at (edited (edits_of edits.now) (tree_without_data table.now)) number }
     ensures small { IsBelow (2 ^ 65 + length edits.now) result }
 {
     let mut size = size_in(table, number);
@@ -169,10 +170,11 @@ fn names_in(size: Option<Size>) -> u128
 /// What the nodes of the tree after edits take: each edit changes what one of them does.
 fn taken_after(table: &Table, edits: &[Edit<'_>]) -> Taken
     requires cards { (nodes : ℕ) × (mark : ℕ → ℕ) × AreCards nodes mark table.now }
-    requires can { AreDoable (outline_of table.now) edits.now }
+    requires can { AreDoable (tree_without_data table.now) edits.now }
     ensures charge { result.charge
-        ≡ total charge (edited (edits_of edits.now) (outline_of table.now)) }
-    ensures nodes { result.nodes ≡ length (edited (edits_of edits.now) (outline_of table.now)) }
+        ≡ total charge (edited (edits_of edits.now) (tree_without_data table.now)) }
+    ensures nodes { result.nodes
+        ≡ length (edited (edits_of edits.now) (tree_without_data table.now)) }
 {
     let mut charge = u128::from(table.charge());
     let mut nodes = u128::from(table.count());
@@ -189,10 +191,10 @@ fn taken_after(table: &Table, edits: &[Edit<'_>]) -> Taken
 /// 1,024 at most.
 fn have_few_names(table: &Table, edits: &[Edit<'_>], most: usize) -> bool
     requires cards { (nodes : ℕ) × (mark : ℕ → ℕ) × AreCards nodes mark table.now }
-    requires can { AreDoable (outline_of table.now) edits.now }
+    requires can { AreDoable (tree_without_data table.now) edits.now }
     requires most { Names.MAX_NAMES ≤ most }
     ensures { result
-        ≡ few_names most (edited (edits_of edits.now) (outline_of table.now)) }
+        ≡ few_names most (edited (edits_of edits.now) (tree_without_data table.now)) }
 {
     for edit in edits {
         if names_in(size_after(table, edits, number_of(edit))) > most as u128 {
@@ -208,9 +210,9 @@ fn have_few_names(table: &Table, edits: &[Edit<'_>], most: usize) -> bool
 /// which there are few, with two searches by number for each of them.
 pub fn fits(table: &Table, limits: &Limits, edits: &[Edit<'_>]) -> bool
     requires cards { (nodes : ℕ) × (mark : ℕ → ℕ) × AreCards nodes mark table.now }
-    requires can { AreDoable (outline_of table.now) edits.now }
+    requires can { AreDoable (tree_without_data table.now) edits.now }
     requires names { Names.MAX_NAMES ≤ limits.now.names }
-    ensures { result ≡ fits limits.now (edited (edits_of edits.now) (outline_of table.now)) }
+    ensures { result ≡ fits limits.now (edited (edits_of edits.now) (tree_without_data table.now)) }
 {
     let taken = taken_after(table, edits);
     if taken.charge > limits.data_sectors as u128 {
@@ -237,12 +239,12 @@ fn new_size(kind: NodeKind, size: u64) -> Option<Size>
 /// directory that had the size `parent` before.
 fn taken_with(table: &Table, parent: Option<Size>, child: Option<Size>) -> Taken
     requires cards { (nodes : ℕ) × (mark : ℕ → ℕ) × AreCards nodes mark table.now }
-    requires parent { (number : ℕ) × (parent ≡ size_at (outline_of table.now) number) }
+    requires parent { (number : ℕ) × (parent ≡ size_at (tree_without_data table.now) number) }
     requires small { IsBelow (2 ^ 65) parent × IsBelow (2 ^ 65) child }
     ensures charge { result.charge + charge_of_size parent
-        ≡ total charge (outline_of table.now) + charge_of_size child + charge_of_size
+        ≡ total charge (tree_without_data table.now) + charge_of_size child + charge_of_size
         (Some (record { kind = NodeKind.Directory; count = names_in parent + 1 })) }
-    ensures nodes { result.nodes ≡ length (outline_of table.now) + 1 }
+    ensures nodes { result.nodes ≡ length (tree_without_data table.now) + 1 }
 {
     let grown = directory(names_in(parent) + 1);
     let charge = u128::from(table.charge()) + charge_of(child) + charge_of(grown);
@@ -257,10 +259,10 @@ fn taken_with(table: &Table, parent: Option<Size>, child: Option<Size>) -> Taken
 /// memory, and one search by number.
 pub fn has_room(table: &Table, limits: &Limits, parent: u64, kind: NodeKind, size: u64) -> bool
     requires cards { (nodes : ℕ) × (mark : ℕ → ℕ) × AreCards nodes mark table.now }
-    requires there { is_directory_at (outline_of table.now) parent ≡ true }
+    requires there { is_directory_at (tree_without_data table.now) parent ≡ true }
     requires names { Names.MAX_NAMES ≤ limits.now.names }
-    ensures { (edits : _) → IsMaking (outline_of table.now) parent kind size edits
-        → result ≡ fits limits.now (edited edits (outline_of table.now)) }
+    ensures { (edits : _) → IsMaking (tree_without_data table.now) parent kind size edits
+        → result ≡ fits limits.now (edited edits (tree_without_data table.now)) }
 {
     let own = size_in(table, parent);
     let taken = taken_with(table, own, new_size(kind, size));

@@ -1,4 +1,4 @@
--- A card whose blocks have changed is put back: what is known then, and the step on it.
+-- A cached node whose blocks have changed is put back: what is known then, and the step on it.
 use Rattle.std.proofs.Common.{◌≡◌, ◌≢◌, ◌≤◌, ◌<◌, ◌+◌, ◌⊎◌, ℕ, Bool, List, [], Option, Some, None, length, get_or, set, refl, sym, ap, ◌∙◌, arith, subst, inl, inr}
 use Rattle.disk.specs.Moments.{Image, applied}
 use Rattle.disk.specs.declared.update.Update.{Update}
@@ -7,7 +7,7 @@ use Rattle.inode.specs.Fields.{Fields}
 use Rattle.inode.specs.Spelling.{inode_sector}
 use Rattle.model.specs.declared.node.NodeKind.TheVariants as kind
 use Rattle.model.specs.Edit.{Edit, done}
-use Rattle.layout.specs.Cards.{Card, block_count}
+use Rattle.layout.specs.CachedNodes.{CachedNode, block_count}
 use Rattle.layout.specs.ChangeLaws.{ChangesOwn}
 use Rattle.layout.specs.Known.{IsCard, HasContent, AreCards}
 use Rattle.layout.specs.Laid.{AreLaid, HoldsNode, AreRunSectors}
@@ -20,8 +20,8 @@ use Rattle.layout.proofs.MarkProofs.{each_mark}
 use Rattle.layout.proofs.NodeEditLaws.{named_by-parts}
 use Rattle.node_table.specs.Tables.{charge_of, charge_of_all}
 use Rattle.tree_transaction.specs.Blocks.{IsPut, set_blocks}
-use Rattle.tree_transaction.specs.declared.draft.Draft.{Draft}
-use Rattle.tree_transaction.specs.Drafts.{cards_of, end_of, image_of, tree_of, IsKnown, StaysKnown, IsDraft, HasNow, IsBack}
+use Rattle.tree_transaction.specs.declared.transaction.Transaction.{Transaction}
+use Rattle.tree_transaction.specs.Transactions.{cards_of, end_of, image_of, tree_of, IsKnown, StaysKnown, IsTransaction, HasNow, IsBack}
 use Rattle.tree_transaction.specs.Laying.{fields_with, IsRerun, Follow}
 use Rattle.tree_transaction.specs.Updates.{AreBetween}
 use Rattle.tree_transaction.proofs.BlockLaws.{here, elsewhere}
@@ -29,8 +29,9 @@ use Rattle.tree_transaction.proofs.CountLaws.{region_named, sum_over-set, less_o
 use Rattle.tree_transaction.proofs.KnownLaws.{put-back, mark-outside, in_table, card_at, named_once, held_at, changed_known, content_of_file, made}
 use Rattle.tree_transaction.proofs.UpdateLaws.{between-still}
 
--- the card `was` got other blocks and fields, which is `mid_card`, and has the runs that it had
-pub record IsMoved (old : Draft) (was mid_card : Card) (mid_places : List Bool) (mid_updates : List Update) : Type 0 where
+-- the cached node `was` got other blocks and fields, which is `mid_card`, and has the runs that it
+-- had
+pub record IsMoved (old : Transaction) (was mid_card : CachedNode) (mid_places : List Bool) (mid_updates : List Update) : Type 0 where
   pub number : mid_card.fields.number ≡ was.fields.number
   pub run_sectors : mid_card.fields.run_sectors ≡ was.fields.run_sectors
   pub runs : mid_card.runs ≡ was.runs
@@ -39,10 +40,10 @@ pub record IsMoved (old : Draft) (was mid_card : Card) (mid_places : List Bool) 
   pub len : length mid_places ≡ length old.places
   pub others : (image : Image) (n : ℕ) → times_set n was.blocks ≡ 0 → times_set n mid_card.blocks ≡ 0 → applied mid_updates image n ≡ applied old.updates image n
 
--- A card that was taken out stands at its place again, with runs of its blocks. Its run sectors hold
--- them where those of the card that was put back held its own
-pub record StandsAgain (old new : Draft) (place : ℕ) (card : Card) (places : List Bool) (updates : List Update) : Type 0 where
-  pub is : Card
+-- A cached node that was taken out stands at its place again, with runs of its blocks. Its run sectors hold
+-- them where those of the cached node that was put back held its own
+pub record StandsAgain (old new : Transaction) (place : ℕ) (card : CachedNode) (places : List Bool) (updates : List Update) : Type 0 where
+  pub is : CachedNode
   pub put : cards_of new ≡ set (cards_of old) place (Some is)
   pub same : new.nodes ≡ old.nodes
   pub rerun : IsRerun card is
@@ -53,7 +54,7 @@ pub record StandsAgain (old new : Draft) (place : ℕ) (card : Card) (places : L
   pub others : (image : Image) (n : ℕ) → n ≢ 148 + place → times n is.fields.run_sectors ≡ 0 → applied new.updates image n ≡ applied updates image n
 
 -- it is laid anew
-pub laid_again : (old new : Draft) (place : ℕ) (card : Card) (places : List Bool) (updates : List Update) → IsBack old.nodes place places updates (set (cards_of old) place None) new card → StandsAgain old new place card places updates
+pub laid_again : (old new : Transaction) (place : ℕ) (card : CachedNode) (places : List Bool) (updates : List Update) → IsBack old.nodes place places updates (set (cards_of old) place None) new card → StandsAgain old new place card places updates
 laid_again old new place card places updates back =
     let laid = back.laid in
     record {
@@ -69,7 +70,7 @@ laid_again old new place card places updates back =
     }
 
 -- or its runs stay, and its node alone is written
-pub put_again : (old new : Draft) (place : ℕ) (card : Card) (places : List Bool) (updates : List Update) → IsCard card → times (148 + place) card.fields.run_sectors ≡ 0 → cards_of new ≡ set (set (cards_of old) place None) place (Some card)
+pub put_again : (old new : Transaction) (place : ℕ) (card : CachedNode) (places : List Bool) (updates : List Update) → IsCard card → times (148 + place) card.fields.run_sectors ≡ 0 → cards_of new ≡ set (set (cards_of old) place None) place (Some card)
     → new.nodes ≡ old.nodes → new.places ≡ places → ((image : Image) → IsPut (applied updates image) (applied new.updates image) (148 + place) (inode_sector card.form card.fields)) → StandsAgain old new place card places updates
 put_again old new place card places updates is_card apart cards nodes same put =
     let away : (image : Image) (n : ℕ) → n ≢ 148 + place → applied new.updates image n ≡ applied updates image n = λ image. elsewhere (applied updates image) (applied new.updates image) (148 + place) (inode_sector card.form card.fields) (put image) in
@@ -86,16 +87,16 @@ put_again old new place card places updates is_card apart cards nodes same put =
       others = λ image n off none. away image n off;
     }
 
--- what all are charged, where the card had those blocks
-module _ (old : Draft) (place : ℕ) (was : Card) (known : IsKnown old) (there : get_or (cards_of old) place None ≡ Some was) where
-  each_charged : (i : ℕ) (card : Card) → get_or (cards_of old) i None ≡ Some card → named_count card ≤ charge_of card
+-- what all are charged, where the cached node had those blocks
+module _ (old : Transaction) (place : ℕ) (was : CachedNode) (known : IsKnown old) (there : get_or (cards_of old) place None ≡ Some was) where
+  each_charged : (i : ℕ) (card : CachedNode) → get_or (cards_of old) i None ≡ Some card → named_count card ≤ charge_of card
   each_charged i card at = named_charged card (card_at old.nodes (mark_by (148 + old.nodes) old.places) (cards_of old) i card known.cards at)
 
   pub charged : (mid_places : List Bool) (blocks : List (Option ℕ)) → ((n : ℕ) → mark_by (148 + old.nodes) mid_places n + times_set n was.blocks ≡ mark_by (148 + old.nodes) old.places n + times_set n blocks)
       → length mid_places + charge_of was ≤ free_places mid_places + charge_of_all (cards_of old) + length was.fields.run_sectors + set_blocks blocks
   charged mid_places blocks marks =
       let cards = known.cards in
-      let mid_card : Card = record was { blocks = blocks } in
+      let mid_card : CachedNode = record was { blocks = blocks } in
       let within = in_table old.nodes (mark_by (148 + old.nodes) old.places) (cards_of old) place was known.cards there in
       let named_now : (n : ℕ) → mark_by (148 + old.nodes) mid_places n ≤ named n (set (cards_of old) place (Some mid_card)) =
       λ n. let e = ap (named_by n) there in
@@ -105,12 +106,12 @@ module _ (old : Draft) (place : ℕ) (was : Card) (known : IsKnown old) (there :
       let less = less_others named_count charge_of (cards_of old) place was each_charged there in
       omega (arith, all, moved, less)
 
-module _ (old new : Draft) (place : ℕ) (was mid_card : Card) (mid_places : List Bool) (mid_updates : List Update) (known : IsKnown old) (there : get_or (cards_of old) place None ≡ Some was) (moved : IsMoved old was mid_card mid_places mid_updates)
+module _ (old new : Transaction) (place : ℕ) (was mid_card : CachedNode) (mid_places : List Bool) (mid_updates : List Update) (known : IsKnown old) (there : get_or (cards_of old) place None ≡ Some was) (moved : IsMoved old was mid_card mid_places mid_updates)
     (back : StandsAgain old new place mid_card mid_places mid_updates) where
   abbrev first : ℕ
   first = 148 + old.nodes
 
-  abbrev is : Card
+  abbrev is : CachedNode
   is = back.is
 
   rerun : IsRerun mid_card is
@@ -192,7 +193,7 @@ module _ (old new : Draft) (place : ℕ) (was mid_card : Card) (mid_places : Lis
       record {
         known = record {
           cards = subst (λ (n : ℕ). AreCards n (mark_by (148 + n) new.places) (cards_of new)) (sym back.same)
-              (subst (λ (l : List (Option Card)). AreCards old.nodes (mark_by first new.places) l) (sym cards_are) cards);
+              (subst (λ (l : List (Option CachedNode)). AreCards old.nodes (mark_by first new.places) l) (sym cards_are) cards);
           small = omega (arith, end, known.small);
           targets = subst (λ (e : ℕ). AreBetween 148 e new.updates) (sym end) targets;
         };
@@ -200,7 +201,7 @@ module _ (old new : Draft) (place : ℕ) (was mid_card : Card) (mid_places : Lis
         places = len;
       }
 
-  pub has_now : (card : Card) → card.form ≡ mid_card.form → card.fields ≡ mid_card.fields → card.names ≡ mid_card.names → HasNow old new place card
+  pub has_now : (card : CachedNode) → card.form ≡ mid_card.form → card.fields ≡ mid_card.fields → card.names ≡ mid_card.names → HasNow old new place card
   has_now card form fields names = record {
     is = is;
     cards = cards_are;
@@ -263,9 +264,9 @@ module _ (old new : Draft) (place : ℕ) (was mid_card : Card) (mid_places : Lis
     time_modify = ap (λ (f : Fields). f.time_modify) rerun.fields ∙ shows.time_modify;
   }
 
-  pub makes : (base : Image) (size : ℕ) (edit : Edit) → IsDraft base size old
-      → Gives old.nodes (image_of base new) (mark_by first new.places) (cards_of old) place is (done edit (tree_of base old)) → IsDraft base size new × (tree_of base new ≡ done edit (tree_of base old))
-  makes base size edit draft gives = made base size old new place (Some is) edit draft back.same len cards_are gives.laid gives.tree_is
+  pub makes : (base : Image) (size : ℕ) (edit : Edit) → IsTransaction base size old
+      → Gives old.nodes (image_of base new) (mark_by first new.places) (cards_of old) place is (done edit (tree_of base old)) → IsTransaction base size new × (tree_of base new ≡ done edit (tree_of base old))
+  makes base size edit transaction gives = made base size old new place (Some is) edit transaction back.same len cards_are gives.laid gives.tree_is
 
   pub are_files : was.fields.kind ≡ kind.File → mid_card.fields.kind ≡ kind.File → mid_card.names ≡ [] → ShowsSame was.fields mid_card.fields → AreFiles was is
   are_files was_file mid_file unnamed shows = record {

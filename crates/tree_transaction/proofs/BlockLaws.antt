@@ -9,7 +9,7 @@ use Rattle.freemap.specs.Kept.{free_places}
 use Rattle.disk.specs.Calls.{zero_sector}
 use Rattle.sector.specs.Placed.{placed}
 use Rattle.extents.specs.Runs.{with_holes}
-use Rattle.layout.specs.Cards.{content_at, byte_at}
+use Rattle.layout.specs.CachedNodes.{content_at, byte_at}
 use Rattle.layout.specs.Files.{over}
 use Rattle.layout.specs.Marks.{once_if, times_set, mark_by}
 use Rattle.layout.proofs.FileLaws.{holes-at, over-front, over-part, over-past, over-same, filling, writing, writing_on}

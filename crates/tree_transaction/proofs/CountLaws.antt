@@ -1,4 +1,4 @@
--- How many places are free, how many blocks are set, and what cards name of a data region.
+-- How many places are free, how many blocks are set, and what cached nodes name of a data region.
 use Rattle.std.proofs.Common.{◌≡◌, ◌≤◌, ◌<◌, ◌+◌, ◌-◌, ℕ, zero, suc, Bool, true, false, cond, List, [], ◌∷◌, ◌++◌, Option, Some, None, length, get_or, set, replicate, refl, ap, ◌∙◌, arith, eqb, slice_get}
 use Rattle.std.specs.Prelude.{is_some, All}
 use Rattle.std.specs.List.{sum_by}
@@ -9,7 +9,7 @@ use Rattle.extents.specs.Runs.{with_holes}
 use Rattle.freemap.specs.Kept.{free_places}
 use Rattle.freemap.specs.Places.{bit_from}
 use Rattle.freemap.proofs.Bits.{free_from}
-use Rattle.layout.specs.Cards.{Card}
+use Rattle.layout.specs.CachedNodes.{CachedNode}
 use Rattle.layout.specs.Known.{IsCard}
 use Rattle.layout.specs.Marks.{once_if, times, times_set, named, named_by, mark_by}
 use Rattle.layout.specs.SumLaws.{sum_over}
@@ -69,8 +69,8 @@ set_holes blocks count = set-append blocks (count - length blocks)
 
 -- ---- a data region
 
--- what a card names
-abbrev pub named_count : Card → ℕ
+-- what a cached node names
+abbrev pub named_count : CachedNode → ℕ
 named_count card = length card.fields.run_sectors + set_blocks card.blocks
 
 sum_sets : (a n : ℕ) (blocks : List (Option ℕ)) → sum_to (λ i. times_set (a + i) blocks) n ≤ set_blocks blocks
@@ -78,7 +78,8 @@ sum_sets a n [] = omega (arith, sum_to-zero (λ i. 0) n (λ i. refl))
 sum_sets a n (None ∷ blocks) = omega (arith, set-cons None blocks, sum_sets a n blocks)
 sum_sets a n (Some s ∷ blocks) = omega (arith, set-cons (Some s) blocks, sum_to-plus (λ i. once_if (eqb (a + i) s)) (λ i. times_set (a + i) blocks) n, (sum_once a s n).0, sum_sets a n blocks)
 
-sum_card : (a n : ℕ) (card : Card) → sum_to (λ i. named_by (a + i) (Some card)) n ≤ named_count card
+sum_card : (a n : ℕ) (card : CachedNode)
+    → sum_to (λ i. named_by (a + i) (Some card)) n ≤ named_count card
 unfolding named_by
 sum_card a n card =
     omega (arith, sum_to-plus (λ i. times (a + i) card.fields.run_sectors) (λ i. times_set (a + i) card.blocks) n, sum_times a n card.fields.run_sectors, sum_sets a n card.blocks)
@@ -87,7 +88,7 @@ sum_none : (a n : ℕ) → sum_to (λ i. named_by (a + i) None) n ≡ 0
 unfolding named_by
 sum_none a n = sum_to-zero (λ i. 0) n (λ i. refl)
 
-sum_cards : (a n : ℕ) (cards : List (Option Card)) → sum_to (λ i. named (a + i) cards) n ≤ sum_over named_count cards
+sum_cards : (a n : ℕ) (cards : List (Option CachedNode)) → sum_to (λ i. named (a + i) cards) n ≤ sum_over named_count cards
 sum_cards a n [] = omega (arith, sum_to-zero (λ i. 0) n (λ i. refl))
 sum_cards a n (None ∷ cards) = omega (arith, sum_to-plus (λ i. named_by (a + i) None) (λ i. named (a + i) cards) n, sum_none a n, sum_cards a n cards)
 sum_cards a n (Some card ∷ cards) = omega (arith, sum_to-plus (λ i. named_by (a + i) (Some card)) (λ i. named (a + i) cards) n, sum_card a n card, sum_cards a n cards)
@@ -111,26 +112,26 @@ mark-here first places i =
     let at : first + i - first ≡ i = omega arith in
     mark-back first places (first + i) (omega arith) ∙ ap (λ (k : ℕ). bit_from (get_or places k false)) at
 
-pub region_named : (first : ℕ) (places : List Bool) (cards : List (Option Card)) → ((n : ℕ) → mark_by first places n ≤ named n cards) → length places ≤ free_places places + sum_over named_count cards
+pub region_named : (first : ℕ) (places : List Bool) (cards : List (Option CachedNode)) → ((n : ℕ) → mark_by first places n ≤ named n cards) → length places ≤ free_places places + sum_over named_count cards
 region_named first places cards marks =
     let below = sum_to-le (λ i. bit_from (get_or places i false)) (λ i. named (first + i) cards) (length places) (λ i. omega (arith, mark-here first places i, marks (first + i))) in
     omega (arith, used-or-free places, sum_cards first (length places) cards)
 
--- ---- what cards are charged
+-- ---- what cached nodes are charged
 
-pub sum_over-set : (worth : Card → ℕ) (cards : List (Option Card)) (place : ℕ) (was is : Card) → get_or cards place None ≡ Some was → sum_over worth (set cards place (Some is)) + worth was ≡ sum_over worth cards + worth is
+pub sum_over-set : (worth : CachedNode → ℕ) (cards : List (Option CachedNode)) (place : ℕ) (was is : CachedNode) → get_or cards place None ≡ Some was → sum_over worth (set cards place (Some is)) + worth was ≡ sum_over worth cards + worth is
 sum_over-set worth [] place was is there = absurd (cc)
 sum_over-set worth (None ∷ cards) zero was is there = absurd (cc)
 sum_over-set worth (Some card ∷ cards) zero was is there = let same : card ≡ was = cc in let e = ap worth same in omega arith
 sum_over-set worth (None ∷ cards) (suc place) was is there = sum_over-set worth cards place was is there
 sum_over-set worth (Some card ∷ cards) (suc place) was is there = let rest = sum_over-set worth cards place was is there in omega arith
 
-less_all : (less more : Card → ℕ) (cards : List (Option Card)) → ((i : ℕ) (card : Card) → get_or cards i None ≡ Some card → less card ≤ more card) → sum_over less cards ≤ sum_over more cards
+less_all : (less more : CachedNode → ℕ) (cards : List (Option CachedNode)) → ((i : ℕ) (card : CachedNode) → get_or cards i None ≡ Some card → less card ≤ more card) → sum_over less cards ≤ sum_over more cards
 less_all less more [] each = omega arith
 less_all less more (None ∷ cards) each = less_all less more cards (λ i card e. each (suc i) card e)
 less_all less more (Some card ∷ cards) each = let rest = less_all less more cards (λ i card e. each (suc i) card e) in let here = each 0 card refl in omega arith
 
-pub less_others : (less more : Card → ℕ) (cards : List (Option Card)) (place : ℕ) (was : Card) → ((i : ℕ) (card : Card) → get_or cards i None ≡ Some card → less card ≤ more card) → get_or cards place None ≡ Some was
+pub less_others : (less more : CachedNode → ℕ) (cards : List (Option CachedNode)) (place : ℕ) (was : CachedNode) → ((i : ℕ) (card : CachedNode) → get_or cards i None ≡ Some card → less card ≤ more card) → get_or cards place None ≡ Some was
     → sum_over less cards + more was ≤ sum_over more cards + less was
 less_others less more [] place was each there = absurd (cc)
 less_others less more (None ∷ cards) zero was each there = absurd (cc)
@@ -146,11 +147,11 @@ less_others less more (Some card ∷ cards) (suc place) was each there =
     let here = each 0 card refl in
     omega arith
 
-pub few_numbers : (card : Card) → IsCard card → length card.fields.run_sectors ≤ sectors_for (length card.blocks)
+pub few_numbers : (card : CachedNode) → IsCard card → length card.fields.run_sectors ≤ sectors_for (length card.blocks)
 few_numbers card is =
     let fits = is.fits in
     let runs = is.runs in
     omega (arith, fits.run_sectors, is.run_count, few_runs 0 (length card.blocks) card.runs runs.rising (omega arith))
 
-pub named_charged : (card : Card) → IsCard card → named_count card ≤ charge_of card
+pub named_charged : (card : CachedNode) → IsCard card → named_count card ≤ charge_of card
 named_charged card is = omega (arith, few_numbers card is, set_most card.blocks)

@@ -10,7 +10,7 @@ use Rattle.model.specs.declared.node.NodeKind.{NodeKind}
 use Rattle.model.specs.declared.node.NodeKind.TheVariants as kind
 use Rattle.model.specs.Charge.{blocks_of}
 use Rattle.model.specs.Edit.{SetSize, done}
-use Rattle.layout.specs.Cards.{Card, content_at}
+use Rattle.layout.specs.CachedNodes.{CachedNode, content_at}
 use Rattle.layout.specs.Files.{over, below, CutsBlocks}
 use Rattle.layout.specs.Known.{IsCard}
 use Rattle.layout.specs.Marks.{times, times_set, mark_by}
@@ -20,8 +20,8 @@ use Rattle.layout.proofs.MarkProofs.{each_mark}
 use Rattle.layout.proofs.NodeEditLaws.{cut_file}
 use Rattle.layout.proofs.StepLaws.{each_own, others_hold}
 use Rattle.tree_transaction.specs.Blocks.{IsPut, HaveMarks, AreWithin, ClearsTail, ChangeBlocks}
-use Rattle.tree_transaction.specs.declared.draft.Draft.{Draft}
-use Rattle.tree_transaction.specs.Drafts.{cards_of, end_of, image_of, tree_of, IsKnown, StaysKnown, MakesOver, HasNow}
+use Rattle.tree_transaction.specs.declared.transaction.Transaction.{Transaction}
+use Rattle.tree_transaction.specs.Transactions.{cards_of, end_of, image_of, tree_of, IsKnown, StaysKnown, MakesOver, HasNow}
 use Rattle.tree_transaction.specs.Grown.{sized}
 use Rattle.tree_transaction.specs.Laying.{CanBeLaid, HasEnough, IsRerun}
 use Rattle.tree_transaction.proofs.BackLaws.{IsMoved, StandsAgain, stays, has_now, kept, makes, steps, are_files, file_content, shows_sized}
@@ -69,10 +69,10 @@ clears_set old new blocks size sector once is_set whole is some =
 
 -- ---- the file
 
-abbrev pub cut_card : Card → (size : ℕ) → Card
+abbrev pub cut_card : CachedNode → (size : ℕ) → CachedNode
 cut_card card size = record card { fields = record card.fields { size = size }; blocks = take (blocks_of kind.File size) card.blocks }
 
-module _ (old : Draft) (place size : ℕ) (was : Card) (known : IsKnown old) (there : get_or (cards_of old) place None ≡ Some was) where
+module _ (old : Transaction) (place size : ℕ) (was : CachedNode) (known : IsKnown old) (there : get_or (cards_of old) place None ≡ Some was) where
   abbrev first : ℕ
   first = 148 + old.nodes
 
@@ -103,7 +103,7 @@ module _ (old : Draft) (place size : ℕ) (was : Card) (known : IsKnown old) (th
     pub cut_enough : HasEnough (cut_card was size)
     cut_enough = enough was (cut_card was size) (blocks_of kind.File size) is_card refl refl
 
-    module _ (file : was.fields.kind ≡ kind.File) (shorter : size ≤ was.fields.size) (new : Draft) (mid_updates : List Update) (changes : ChangeBlocks old.updates mid_updates was.blocks)
+    module _ (file : was.fields.kind ≡ kind.File) (shorter : size ≤ was.fields.size) (new : Transaction) (mid_updates : List Update) (changes : ChangeBlocks old.updates mid_updates was.blocks)
         (back : StandsAgain old new place (cut_card was size) mid_places mid_updates) where
       abbrev count : ℕ
       count = blocks_of kind.File size
@@ -129,7 +129,7 @@ module _ (old : Draft) (place size : ℕ) (was : Card) (known : IsKnown old) (th
       cut_now = has_now old new place was (cut_card was size) mid_places mid_updates known there moved back (sized was size) refl refl refl
 
       module _ (base : Image) (clears : ClearsTail (image_of base old) (applied mid_updates base) was.blocks size) where
-        abbrev is : Card
+        abbrev is : CachedNode
         is = back.is
 
         rerun : IsRerun (cut_card was size) is
@@ -163,13 +163,13 @@ module _ (old : Draft) (place size : ℕ) (was : Card) (known : IsKnown old) (th
         size_is = ap (λ (f : Fields). f.size) rerun.fields
 
         pub cut_made : (volume : ℕ) → MakesOver base volume old new (SetSize was.fields.number size)
-        cut_made volume draft =
+        cut_made volume transaction =
             let gives = cut_file old.nodes (image_of base old) (image_of base new) (mark_by first old.places) (mark_by first new.places) (cards_of old) place was is count
-            (steps old new place was (cut_card was size) mid_places mid_updates known there moved back base draft.laid)
+            (steps old new place was (cut_card was size) mid_places mid_updates known there moved back base transaction.laid)
             (record {
               files = are_files old new place was (cut_card was size) mid_places mid_updates known there moved back file file unnamed (shows_sized was.fields size);
               blocks = rerun.blocks;
               cuts = subst (CutsBlocks (image_of base old) (image_of base new) was.blocks count) (sym size_is) cuts;
             }) in
-            makes old new place was (cut_card was size) mid_places mid_updates known there moved back base volume (SetSize was.fields.number size) draft
+            makes old new place was (cut_card was size) mid_places mid_updates known there moved back base volume (SetSize was.fields.number size) transaction
             (record { laid = gives.laid; tree_is = gives.tree_is ∙ ap (λ (s : ℕ). done (SetSize was.fields.number s) (tree_of base old)) size_is })

@@ -13,7 +13,7 @@ use Rattle.model.specs.Charge.{blocks_of}
 use Rattle.model.specs.Edit.{DropName}
 use Rattle.model.specs.Keyed.{without}
 use Rattle.model.specs.Tree.{entry_of}
-use Rattle.layout.specs.Cards.{Card, content_at}
+use Rattle.layout.specs.CachedNodes.{CachedNode, content_at}
 use Rattle.layout.specs.Directories.{RewritesBlocks, block_of}
 use Rattle.layout.specs.Laid.{HoldsNames, HoldsContent, names_of_block}
 use Rattle.layout.specs.Marks.{times_set, mark_by}
@@ -23,9 +23,10 @@ use Rattle.layout.proofs.MarkProofs.{each_mark}
 use Rattle.layout.proofs.NodeEditLaws.{drop_one_name}
 use Rattle.layout.proofs.StepLaws.{each_own, each_change}
 use Rattle.tree_transaction.specs.Blocks.{set_blocks}
-use Rattle.tree_transaction.specs.declared.draft.Draft.{Draft}
-use Rattle.tree_transaction.specs.Drafts.{cards_of, image_of, IsKnown, StaysKnown, MakesOver, Makes}
-use Rattle.tree_transaction.specs.Drafts.{HasNow}
+use Rattle.tree_transaction.specs.declared.transaction.Transaction.{Transaction}
+use Rattle.tree_transaction.specs.Transactions.{cards_of, image_of, IsKnown, StaysKnown, MakesOver}
+use Rattle.tree_transaction.specs.Transactions.{Makes}
+use Rattle.tree_transaction.specs.Transactions.{HasNow}
 use Rattle.tree_transaction.specs.Laying.{CanBeLaid, HasEnough, IsRerun, sectors_for}
 use Rattle.tree_transaction.specs.Naming.{HasName, DropsNamed, Rewrites, renamed, without_name}
 use Rattle.tree_transaction.proofs.BackLaws.{IsMoved, StandsAgain, makes, steps}
@@ -66,7 +67,7 @@ module _ (old mid new : Image) (blocks : List (Option ℕ)) (one other : ℕ) (c
 
 -- ---- the directory
 
-module _ (old : Draft) (place : ℕ) (was : Card) (name : List ℕ) (known : IsKnown old) (there : get_or (cards_of old) place None ≡ Some was) (has : HasName (cards_of old) place name) where
+module _ (old : Transaction) (place : ℕ) (was : CachedNode) (name : List ℕ) (known : IsKnown old) (there : get_or (cards_of old) place None ≡ Some was) (has : HasName (cards_of old) place name) where
   abbrev first : ℕ
   first = 148 + old.nodes
 
@@ -77,10 +78,10 @@ module _ (old : Draft) (place : ℕ) (was : Card) (name : List ℕ) (known : IsK
   same = same_card (cards_of old) place has.card was has.there there
 
   pub directory : was.fields.kind ≡ kind.Directory
-  directory = ap (λ (one : Card). one.fields.kind) (sym same) ∙ has.directory
+  directory = ap (λ (one : CachedNode). one.fields.kind) (sym same) ∙ has.directory
 
   pub within : at < length was.names
-  within = subst (λ (one : Card). place_of name one.names < length one.names) same has.within
+  within = subst (λ (one : CachedNode). place_of name one.names < length one.names) same has.within
 
   pub stamped_was : AreStamped was.names
   stamped_was = let here = names_here old place was known there directory in here.stamped
@@ -120,7 +121,7 @@ module _ (old : Draft) (place : ℕ) (was : Card) (name : List ℕ) (known : IsK
           let change = each_change n was.blocks in
           omega (arith, named_here old place was known there directory n, each.once n, change.cut count)
 
-      module _ (new : Draft) (mid_updates next_updates : List Update) (are_names : IsDirectory names)
+      module _ (new : Transaction) (mid_updates next_updates : List Update) (are_names : IsDirectory names)
           (one : (image : Image) → Rewrites (applied old.updates image) (applied mid_updates image) (get_or blocks (at / 15) None) (directory_sector (names_of_block (at / 15) names)))
           (other : (image : Image) → Rewrites (applied mid_updates image) (applied next_updates image) (get_or blocks (length names / 15) None) (directory_sector (names_of_block (length names / 15) names)))
           (back : StandsAgain old new place (named_card was blocks names) mid_places next_updates) where
@@ -152,7 +153,7 @@ module _ (old : Draft) (place : ℕ) (was : Card) (name : List ℕ) (known : IsK
         drop_now = subst (λ (l : List Record). HasNow old new place (renamed was l)) are (named_now old place was known there directory new blocks names mid_places next_updates are_names stamped moved back)
 
         module _ (base : Image) (holds : HoldsNames (image_of base old) was) where
-          abbrev is : Card
+          abbrev is : CachedNode
           is = back.is
 
           rerun : IsRerun (named_card was blocks names) is
@@ -198,14 +199,14 @@ module _ (old : Draft) (place : ℕ) (was : Card) (name : List ℕ) (known : IsK
           two_rewritten = subst (RewritesBlocks (image_of base old) (image_of base new) was.blocks is.blocks is.names (at / 15)) last rewritten
 
         pub drop_made : (base : Image) (size stamp : ℕ) → by_stamp names ≡ without (by_stamp was.names) stamp → MakesOver base size old new (DropName was.fields.number stamp)
-        drop_made base size stamp map_is draft =
-            let is : Card = back.is in
+        drop_made base size stamp map_is transaction =
+            let is : CachedNode = back.is in
             let rerun : IsRerun (named_card was blocks names) is = back.rerun in
-            let held = held_at old.nodes (image_of base old) (mark_by first old.places) (cards_of old) place was draft.laid there in
+            let held = held_at old.nodes (image_of base old) (mark_by first old.places) (cards_of old) place was transaction.laid there in
             let holds : HoldsNames (image_of base old) was = subst (λ (k : NodeKind). HoldsContent (image_of base old) k was) directory held.content in
-            makes old new place was (named_card was blocks names) mid_places next_updates known there moved back base size (DropName was.fields.number stamp) draft
+            makes old new place was (named_card was blocks names) mid_places next_updates known there moved back base size (DropName was.fields.number stamp) transaction
             (drop_one_name old.nodes (image_of base old) (image_of base new) (mark_by first old.places) (mark_by first new.places) (cards_of old) place was is at stamp
-            (steps old new place was (named_card was blocks names) mid_places next_updates known there moved back base draft.laid)
+            (steps old new place was (named_card was blocks names) mid_places next_updates known there moved back base transaction.laid)
             (record {
               directories = directories old place was known there directory new blocks names mid_places next_updates are_names stamped moved back base holds;
               within = within;
@@ -214,9 +215,9 @@ module _ (old : Draft) (place : ℕ) (was : Card) (name : List ℕ) (known : IsK
               map_is = ap by_stamp rerun.names ∙ map_is;
             }))
 
--- the clause of the card at the place
-pub dropped : (old new : Draft) (place : ℕ) (was : Card) (name : List ℕ) → get_or (cards_of old) place None ≡ Some was
+-- the clause of the cached node at the place
+pub dropped : (old new : Transaction) (place : ℕ) (was : CachedNode) (name : List ℕ) → get_or (cards_of old) place None ≡ Some was
     → ((entry : Record) → entry_of name was.names ≡ Some entry → Makes old new (DropName was.fields.number entry.0)) → DropsNamed old new place name
 dropped old new place was name there makes card entry asked found =
     let same : was ≡ card = same_card (cards_of old) place was card there asked in
-    subst (λ (one : Card). Makes old new (DropName one.fields.number entry.0)) same (makes entry (ap (λ (one : Card). entry_of name one.names) same ∙ found))
+    subst (λ (one : CachedNode). Makes old new (DropName one.fields.number entry.0)) same (makes entry (ap (λ (one : CachedNode). entry_of name one.names) same ∙ found))

@@ -2,7 +2,7 @@
 use Rattle.std.proofs.Common.{◌≡◌, sym, ◌∙◌}
 use Rattle.std.specs.Prelude.{Result, Ok, Err}
 use Rattle.std.specs.Result.{IsErrAnd}
-use Rattle.tree_transaction.specs.declared.fault.DraftFault.TheVariants as fault
+use Rattle.tree_transaction.specs.declared.fault.TransactionFault.TheVariants as fault
 use Rattle.tree_transaction.specs.declared.fault.SpaceFault.{SpaceFault}
 use Rattle.tree_transaction.specs.declared.fault.SpaceFault.TheVariants as space
 use Rattle.tree_transaction.specs.Faults.{fault_of}

@@ -3,7 +3,7 @@ use Rattle.std.proofs.Common.{◌≡◌, ◌≤◌, ◌<◌, ◌+◌, ◌-◌, �
 use Rattle.std.proofs.lemmas.Option.{none-some}
 use Rattle.disk.specs.Moments.{Image, applied}
 use Rattle.model.specs.Edit.{DropNode}
-use Rattle.layout.specs.Cards.{Card}
+use Rattle.layout.specs.CachedNodes.{CachedNode}
 use Rattle.layout.specs.Known.{AreCards}
 use Rattle.layout.specs.Marks.{once_if, times, times_set, named_by, mark_by}
 use Rattle.layout.proofs.Knowing.{one_card_change}
@@ -12,8 +12,8 @@ use Rattle.layout.proofs.NodeEditLaws.{named_by-parts, free_node}
 use Rattle.layout.proofs.NumberLaws.{once-here, times_set-front}
 use Rattle.layout.proofs.ChargeLaws.{named-none}
 use Rattle.tree_transaction.specs.Blocks.{IsPut, HaveMarks}
-use Rattle.tree_transaction.specs.declared.draft.Draft.{Draft}
-use Rattle.tree_transaction.specs.Drafts.{cards_of, image_of, IsKnown, StaysKnown, MakesOver}
+use Rattle.tree_transaction.specs.declared.transaction.Transaction.{Transaction}
+use Rattle.tree_transaction.specs.Transactions.{cards_of, image_of, IsKnown, StaysKnown, MakesOver}
 use Rattle.tree_transaction.proofs.BlockLaws.{here, elsewhere, zeros-are}
 use Rattle.tree_transaction.specs.Laying.{AreMarked}
 use Rattle.tree_transaction.proofs.KnownLaws.{in_table, named_once, stays_put, made}
@@ -73,11 +73,11 @@ none-named n [] none = refl
 none-named n (s ∷ numbers) none = absurd (omega arith)
 
 -- when its blocks are given back its run sectors are marked still
-pub numbers_marked : (old : Draft) (place : ℕ) (was : Card) (left : List Bool) → IsKnown old → get_or (cards_of old) place None ≡ Some was
+pub numbers_marked : (old : Transaction) (place : ℕ) (was : CachedNode) (left : List Bool) → IsKnown old → get_or (cards_of old) place None ≡ Some was
     → ((n : ℕ) → mark_by (148 + old.nodes) left n + times_set n was.blocks ≡ mark_by (148 + old.nodes) old.places n + times_set n (take 0 was.blocks)) → AreMarked (148 + old.nodes) left was.fields.run_sectors
 numbers_marked old place was left known there marks n = omega (arith, marks n, named_once old.nodes (mark_by (148 + old.nodes) old.places) (cards_of old) place was known.cards there n)
 
-module _ (old new : Draft) (place : ℕ) (was : Card) (known : IsKnown old) (there : get_or (cards_of old) place None ≡ Some was) (same : new.nodes ≡ old.nodes) (len : length new.places ≡ length old.places)
+module _ (old new : Transaction) (place : ℕ) (was : CachedNode) (known : IsKnown old) (there : get_or (cards_of old) place None ≡ Some was) (same : new.nodes ≡ old.nodes) (len : length new.places ≡ length old.places)
     (marks : (n : ℕ) → mark_by (148 + old.nodes) new.places n + (times n was.fields.run_sectors + times_set n was.blocks) ≡ mark_by (148 + old.nodes) old.places n) (cards : cards_of new ≡ set (cards_of old) place None)
     (put : (image : Image) → IsPut (applied old.updates image) (applied new.updates image) (148 + place) (replicate 4096 0)) where
   abbrev first : ℕ
@@ -91,16 +91,16 @@ module _ (old new : Draft) (place : ℕ) (was : Card) (known : IsKnown old) (the
       let each = each_mark first new.places 0 in
       let left = one_card_change old.nodes (mark_by first old.places) (mark_by first new.places) (cards_of old) place None within known.cards tt tt
       (record { marks = λ n. omega (arith, marks n, ap (named_by n) there, named_by-parts n was, named-none n); once = λ n. each.once n; behind = λ n. each.behind n }) in
-      stays_put old new (148 + place) known (subst (λ (l : List (Option Card)). AreCards old.nodes (mark_by first new.places) l) (sym cards) left) same len (omega arith) (omega (arith, within))
+      stays_put old new (148 + place) known (subst (λ (l : List (Option CachedNode)). AreCards old.nodes (mark_by first new.places) l) (sym cards) left) same len (omega arith) (omega (arith, within))
       (λ image n off. elsewhere (applied old.updates image) (applied new.updates image) (148 + place) (replicate 4096 0) (put image) n off)
 
   pub free_made : (base : Image) (size : ℕ) → MakesOver base size old new (DropNode was.fields.number)
-  free_made base size draft =
+  free_made base size transaction =
       let each = each_mark first new.places 0 in
       let freed = free_node old.nodes (image_of base old) (image_of base new) (mark_by first old.places) (mark_by first new.places) (cards_of old) place was (record {
         within = within;
         there = there;
-        laid = draft.laid;
+        laid = transaction.laid;
         vacated = here (image_of base old) (image_of base new) (148 + place) (replicate 4096 0) (put base) ∙ zeros-are;
         own = record {
           others = λ n low off was_none is_none. elsewhere (image_of base old) (image_of base new) (148 + place) (replicate 4096 0) (put base) n off;
@@ -109,4 +109,4 @@ module _ (old new : Draft) (place : ℕ) (was : Card) (known : IsKnown old) (the
           behind = λ n. each.behind n;
         };
       }) in
-      made base size old new place None (DropNode was.fields.number) draft same len cards freed.laid freed.tree_is
+      made base size old new place None (DropNode was.fields.number) transaction same len cards freed.laid freed.tree_is

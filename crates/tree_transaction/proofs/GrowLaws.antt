@@ -7,16 +7,16 @@ use Rattle.model.specs.declared.node.NodeKind.{NodeKind}
 use Rattle.model.specs.declared.node.NodeKind.TheVariants as kind
 use Rattle.model.specs.Charge.{blocks_of}
 use Rattle.model.specs.Edit.{SetSize, done}
-use Rattle.layout.specs.Cards.{Card}
+use Rattle.layout.specs.CachedNodes.{CachedNode}
 use Rattle.layout.specs.Known.{IsCard}
 use Rattle.layout.specs.Marks.{times_set, mark_by}
 use Rattle.layout.proofs.FileLaws.{holes-at}
 use Rattle.layout.proofs.NodeEditLaws.{grow_file}
 use Rattle.layout.proofs.StepLaws.{each_change}
 use Rattle.tree_transaction.specs.Blocks.{IsPut}
-use Rattle.tree_transaction.specs.declared.draft.Draft.{Draft}
-use Rattle.tree_transaction.specs.Drafts.{cards_of, image_of, tree_of, IsKnown, StaysKnown}
-use Rattle.tree_transaction.specs.Drafts.{MakesOver, HasNow}
+use Rattle.tree_transaction.specs.declared.transaction.Transaction.{Transaction}
+use Rattle.tree_transaction.specs.Transactions.{cards_of, image_of, tree_of, IsKnown, StaysKnown}
+use Rattle.tree_transaction.specs.Transactions.{MakesOver, HasNow}
 use Rattle.tree_transaction.specs.Grown.{grown, sized, blocks_to}
 use Rattle.tree_transaction.proofs.BackLaws.{shows_sized}
 use Rattle.tree_transaction.proofs.BlockLaws.{length-holes}
@@ -24,7 +24,7 @@ use Rattle.tree_transaction.proofs.KnownLaws.{card_at, file_blocks, file_unnamed
 use Rattle.tree_transaction.proofs.KnownLaws.{made}
 use Rattle.tree_transaction.proofs.NodeLaws.{alone_stays, alone_kept, alone_steps}
 
-module _ (was : Card) (size : ℕ) (known : IsCard was) (file : was.fields.kind ≡ kind.File) (few : max was.fields.size size ≤ 16777216) where
+module _ (was : CachedNode) (size : ℕ) (known : IsCard was) (file : was.fields.kind ≡ kind.File) (few : max was.fields.size size ≤ 16777216) where
   pub grown_known : IsCard (grown was size)
   grown_known =
       let fits = known.fits in
@@ -54,11 +54,11 @@ module _ (was : Card) (size : ℕ) (known : IsCard was) (file : was.fields.kind 
         content = content_of_file (grown was size) file (file_unnamed was known file);
       }
 
-module _ (old : Draft) (place size : ℕ) (was : Card) (known : IsKnown old) (there : get_or (cards_of old) place None ≡ Some was) (file : was.fields.kind ≡ kind.File) (longer : was.fields.size ≤ size) (few : size ≤ 16777216) where
+module _ (old : Transaction) (place size : ℕ) (was : CachedNode) (known : IsKnown old) (there : get_or (cards_of old) place None ≡ Some was) (file : was.fields.kind ≡ kind.File) (longer : was.fields.size ≤ size) (few : size ≤ 16777216) where
   was_known : IsCard was
   was_known = card_at old.nodes (mark_by (148 + old.nodes) old.places) (cards_of old) place was known.cards there
 
-  abbrev is : Card
+  abbrev is : CachedNode
   is = grown was size
 
   unnamed : was.names ≡ []
@@ -70,7 +70,7 @@ module _ (old : Draft) (place size : ℕ) (was : Card) (known : IsKnown old) (th
   same_named : (n : ℕ) → times_set n is.blocks ≡ times_set n was.blocks
   same_named n = let change = each_change n was.blocks in change.grown (blocks_to size was)
 
-  module _ (new : Draft) (same : new.nodes ≡ old.nodes) (places : new.places ≡ old.places) (cards : cards_of new ≡ set (cards_of old) place (Some is))
+  module _ (new : Transaction) (same : new.nodes ≡ old.nodes) (places : new.places ≡ old.places) (cards : cards_of new ≡ set (cards_of old) place (Some is))
       (put : (image : Image) → IsPut (applied old.updates image) (applied new.updates image) (148 + place) (inode_sector is.form is.fields)) where
     pub grow_stays : StaysKnown old new
     grow_stays = alone_stays old new place was is known there refl refl refl same_named is_known same places cards put
@@ -82,14 +82,14 @@ module _ (old : Draft) (place size : ℕ) (was : Card) (known : IsKnown old) (th
     grow_now = record { is = is; cards = cards; form = refl; fields = ap (λ (s : ℕ). record was.fields { size = s }) size_is; names = refl }
 
     pub grow_made : (base : Image) (volume : ℕ) → MakesOver base volume old new (SetSize was.fields.number size)
-    grow_made base volume draft =
+    grow_made base volume transaction =
         let gives = grow_file old.nodes (image_of base old) (image_of base new) (mark_by (148 + old.nodes) old.places) (mark_by (148 + old.nodes) new.places) (cards_of old) place was is (blocks_to size was)
-        (alone_steps old new place was is known there refl refl refl same_named is_known same places cards put base draft.laid)
+        (alone_steps old new place was is known there refl refl refl same_named is_known same places cards put base transaction.laid)
         (record {
           files = record { was_file = file; is_file = file; unnamed = unnamed; shows = shows_sized was.fields (max was.fields.size size) };
           blocks = refl;
           longer = omega arith;
           kept = alone_kept old new place was is known there refl refl refl same_named is_known same places cards put base;
         }) in
-        made base volume old new place (Some is) (SetSize was.fields.number size) draft same (ap length places) cards gives.laid
+        made base volume old new place (Some is) (SetSize was.fields.number size) transaction same (ap length places) cards gives.laid
         (gives.tree_is ∙ ap (λ (s : ℕ). done (SetSize was.fields.number s) (tree_of base old)) size_is)

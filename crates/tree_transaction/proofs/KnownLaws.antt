@@ -1,4 +1,4 @@
--- What is known of a draft's cards, and what a change of one of them leaves.
+-- What is known of a transaction's cached nodes, and what a change of one of them leaves.
 use Rattle.std.proofs.Common.{◌≡◌, ◌≤◌, ◌<◌, ◌+◌, ◌^◌, ◌⊎◌, ℕ, zero, suc, Bool, List, [], ◌∷◌, Option, Some, None, length, get_or, set, refl, sym, ap, ◌∙◌, arith, subst, inl, inr}
 use Rattle.disk.specs.Moments.{Image}
 use Rattle.inode.specs.declared.node.Form.{Form}
@@ -7,8 +7,8 @@ use Rattle.model.specs.declared.node.NodeKind.{NodeKind}
 use Rattle.model.specs.declared.node.NodeKind.TheVariants as kind
 use Rattle.model.specs.Edit.{Edit, done}
 use Rattle.model.specs.Charge.{blocks_of, charge_of_blocks}
-use Rattle.layout.specs.Cards.{Card}
-use Rattle.layout.specs.Cards as layout
+use Rattle.layout.specs.CachedNodes.{CachedNode}
+use Rattle.layout.specs.CachedNodes as layout
 use Rattle.layout.specs.Known.{IsCard, IsPlace, HasContent, HasNames, AreCards}
 use Rattle.layout.specs.Laid.{AreLaid, HoldsCard, HoldsPlace}
 use Rattle.layout.specs.Marks.{times, times_set, named, named_by, mark_by}
@@ -17,8 +17,8 @@ use Rattle.layout.proofs.Knowing.{one_card_change}
 use Rattle.layout.proofs.MarkProofs.{each_mark, mark-front}
 use Rattle.layout.proofs.NodeEditLaws.{named_by-parts}
 use Rattle.node_table.specs.Tables.{charge_of, charge_of_all}
-use Rattle.tree_transaction.specs.declared.draft.Draft.{Draft}
-use Rattle.tree_transaction.specs.Drafts.{cards_of, end_of, image_of, tree_of, IsKnown, StaysKnown, IsDraft, MakesOver, Makes, Edits, EditsOver, HasNow, Turns, IsOvercharged}
+use Rattle.tree_transaction.specs.declared.transaction.Transaction.{Transaction}
+use Rattle.tree_transaction.specs.Transactions.{cards_of, end_of, image_of, tree_of, IsKnown, StaysKnown, IsTransaction, MakesOver, Makes, Edits, EditsOver, HasNow, Turns, IsOvercharged}
 use Rattle.tree_transaction.specs.Laying.{fields_with}
 use Rattle.tree_transaction.specs.Updates.{AreBetween, ChangeOne}
 use Rattle.tree_transaction.proofs.UpdateLaws.{between-one}
@@ -28,12 +28,12 @@ place-within [] place x e = absurd cc
 place-within (y ∷ xs) zero x e = omega arith
 place-within (y ∷ xs) (suc place) x e = let rest = place-within xs place x e in omega arith
 
-pub put-back : (cards : List (Option Card)) (place : ℕ) (card : Card) → set (set cards place None) place (Some card) ≡ set cards place (Some card)
+pub put-back : (cards : List (Option CachedNode)) (place : ℕ) (card : CachedNode) → set (set cards place None) place (Some card) ≡ set cards place (Some card)
 put-back [] place card = refl
 put-back (x ∷ cards) zero card = refl
-put-back (x ∷ cards) (suc place) card = ap (λ (rest : List (Option Card)). x ∷ rest) (put-back cards place card)
+put-back (x ∷ cards) (suc place) card = ap (λ (rest : List (Option CachedNode)). x ∷ rest) (put-back cards place card)
 
-pub same_card : (cards : List (Option Card)) (place : ℕ) (a b : Card) → get_or cards place None ≡ Some a → get_or cards place None ≡ Some b → a ≡ b
+pub same_card : (cards : List (Option CachedNode)) (place : ℕ) (a b : CachedNode) → get_or cards place None ≡ Some a → get_or cards place None ≡ Some b → a ≡ b
 same_card cards place a b at_a at_b = cc
 
 pub mark-outside : (first : ℕ) (places : List Bool) (n : ℕ) → (n < first) ⊎ (first + length places ≤ n) → mark_by first places n ≡ 0
@@ -42,15 +42,15 @@ mark-outside first places n out = elim out [
   | inr high ↦ let each = each_mark first places 0 in each.within n high
 ]
 
--- what a laid card is
-pub held_at : (nodes : ℕ) (image : Image) (mark : ℕ → ℕ) (cards : List (Option Card)) (place : ℕ) (card : Card) → AreLaid nodes image mark cards → get_or cards place None ≡ Some card → HoldsCard image place card
+-- what a laid cached node is
+pub held_at : (nodes : ℕ) (image : Image) (mark : ℕ → ℕ) (cards : List (Option CachedNode)) (place : ℕ) (card : CachedNode) → AreLaid nodes image mark cards → get_or cards place None ≡ Some card → HoldsCard image place card
 held_at nodes image mark cards place card laid there =
     let within : place < nodes = (let h = place-within cards place card there in omega (arith, laid.count)) in
     subst (HoldsPlace image place) there (laid.held place within)
 
--- ---- the card at a place
+-- ---- the cached node at a place
 
-module _ (nodes : ℕ) (mark : ℕ → ℕ) (cards : List (Option Card)) (place : ℕ) (card : Card) (known : AreCards nodes mark cards) (there : get_or cards place None ≡ Some card) where
+module _ (nodes : ℕ) (mark : ℕ → ℕ) (cards : List (Option CachedNode)) (place : ℕ) (card : CachedNode) (known : AreCards nodes mark cards) (there : get_or cards place None ≡ Some card) where
   pub in_table : place < nodes
   in_table = let h = place-within cards place card there in omega (arith, known.count)
 
@@ -60,11 +60,11 @@ module _ (nodes : ℕ) (mark : ℕ → ℕ) (cards : List (Option Card)) (place 
   pub named_once : (n : ℕ) → times n card.fields.run_sectors + times_set n card.blocks ≤ mark n
   named_once n =
       let parts = named_by-parts n card in
-      let some : named_by n (Some card) ≤ named n cards = subst (λ (c : Option Card). named_by n c ≤ named n cards) there (named-at n cards place) in
+      let some : named_by n (Some card) ≤ named n cards = subst (λ (c : Option CachedNode). named_by n c ≤ named n cards) there (named-at n cards place) in
       omega (arith, known.marks n)
 
-  -- a card of its number, whose marks follow, in its place
-  pub changed_known : (marked : ℕ → ℕ) (is : Card) → is.fields.number ≡ card.fields.number → IsCard is → ((n : ℕ) → marked n + (times n card.fields.run_sectors + times_set n card.blocks) ≡ mark n + (times n is.fields.run_sectors + times_set n is.blocks))
+  -- a cached node of its number, whose marks follow, in its place
+  pub changed_known : (marked : ℕ → ℕ) (is : CachedNode) → is.fields.number ≡ card.fields.number → IsCard is → ((n : ℕ) → marked n + (times n card.fields.run_sectors + times_set n card.blocks) ≡ mark n + (times n is.fields.run_sectors + times_set n is.blocks))
       → ((n : ℕ) → marked n ≤ 1) → ((n : ℕ) → 0 < marked n → 148 + nodes ≤ n) → AreCards nodes marked (set cards place (Some is))
   changed_known marked is number is_card marks once behind = one_card_change nodes mark marked cards place (Some is) in_table known
       (λ i other off at e. known.apart i place other card off at there (e ∙ number)) is_card
@@ -74,27 +74,28 @@ module _ (nodes : ℕ) (mark : ℕ → ℕ) (cards : List (Option Card)) (place 
         behind = behind;
       })
 
-pub directory_known : (card : Card) → IsCard card → card.fields.kind ≡ kind.Directory → HasNames card
+pub directory_known : (card : CachedNode) → IsCard card → card.fields.kind ≡ kind.Directory → HasNames card
 directory_known card is directory = subst (λ (k : NodeKind). HasContent k card) directory is.content
 
-pub file_unnamed : (card : Card) → IsCard card → card.fields.kind ≡ kind.File → card.names ≡ []
+pub file_unnamed : (card : CachedNode) → IsCard card → card.fields.kind ≡ kind.File
+    → card.names ≡ []
 file_unnamed card is file = subst (λ (k : NodeKind). HasContent k card) file is.content
 
-pub file_blocks : (card : Card) → IsCard card → card.fields.kind ≡ kind.File → length card.blocks ≡ blocks_of kind.File card.fields.size
+pub file_blocks : (card : CachedNode) → IsCard card → card.fields.kind ≡ kind.File → length card.blocks ≡ blocks_of kind.File card.fields.size
 file_blocks card is file = is.blocks ∙ ap (λ (k : NodeKind). blocks_of k card.fields.size) file
 
-pub directory_blocks : (card : Card) → IsCard card → card.fields.kind ≡ kind.Directory → length card.blocks ≡ blocks_of kind.Directory (length card.names)
+pub directory_blocks : (card : CachedNode) → IsCard card → card.fields.kind ≡ kind.Directory → length card.blocks ≡ blocks_of kind.Directory (length card.names)
 directory_blocks card is directory =
     let names = directory_known card is directory in
     is.blocks ∙ ap (λ (k : NodeKind). blocks_of k card.fields.size) directory ∙ ap (blocks_of kind.Directory) (sym names.count)
 
-pub content_of_file : (card : Card) → card.fields.kind ≡ kind.File → card.names ≡ [] → HasContent card.fields.kind card
+pub content_of_file : (card : CachedNode) → card.fields.kind ≡ kind.File → card.names ≡ [] → HasContent card.fields.kind card
 content_of_file card file none = subst (λ (k : NodeKind). HasContent k card) (sym file) none
 
-pub content_of_directory : (card : Card) → card.fields.kind ≡ kind.Directory → HasNames card → HasContent card.fields.kind card
+pub content_of_directory : (card : CachedNode) → card.fields.kind ≡ kind.Directory → HasNames card → HasContent card.fields.kind card
 content_of_directory card directory names = subst (λ (k : NodeKind). HasContent k card) (sym directory) names
 
--- ---- the fields of a card that is to be laid
+-- ---- the fields of a cached node that is to be laid
 
 pub fields_fit : (form : Form) (fields : Fields) (size : ℕ) → IsInode form fields → size < 2 ^ 64 → IsInode form (fields_with (record fields { size = size }) 0 [])
 fields_fit form fields size fits small = record {
@@ -111,9 +112,9 @@ fields_fit form fields size fits small = record {
   each_ace = fits.each_ace;
 }
 
--- ---- a draft after one sector was put
+-- ---- a transaction after one sector was put
 
-pub stays_put : (old new : Draft) (sector : ℕ) → IsKnown old → AreCards old.nodes (mark_by (148 + old.nodes) new.places) (cards_of new) → new.nodes ≡ old.nodes → length new.places ≡ length old.places → 148 ≤ sector → sector < 148 + old.nodes
+pub stays_put : (old new : Transaction) (sector : ℕ) → IsKnown old → AreCards old.nodes (mark_by (148 + old.nodes) new.places) (cards_of new) → new.nodes ≡ old.nodes → length new.places ≡ length old.places → 148 ≤ sector → sector < 148 + old.nodes
     → ChangeOne old.updates new.updates sector → StaysKnown old new
 stays_put old new sector known cards same len low high alone =
     let small = known.small in
@@ -130,31 +131,31 @@ stays_put old new sector known cards same len low high alone =
 
 -- ---- over a base
 
-pub made : (base : Image) (size : ℕ) (old new : Draft) (place : ℕ) (is : Option Card) (edit : Edit) → IsDraft base size old → new.nodes ≡ old.nodes → length new.places ≡ length old.places → cards_of new ≡ set (cards_of old) place is
+pub made : (base : Image) (size : ℕ) (old new : Transaction) (place : ℕ) (is : Option CachedNode) (edit : Edit) → IsTransaction base size old → new.nodes ≡ old.nodes → length new.places ≡ length old.places → cards_of new ≡ set (cards_of old) place is
     → AreLaid old.nodes (image_of base new) (mark_by (148 + old.nodes) new.places) (set (cards_of old) place is) → layout.tree_of (image_of base new) (set (cards_of old) place is) ≡ done edit (tree_of base old)
-    → IsDraft base size new × (tree_of base new ≡ done edit (tree_of base old))
-made base size old new place is edit draft same len cards laid tree = (
+    → IsTransaction base size new × (tree_of base new ≡ done edit (tree_of base old))
+made base size old new place is edit transaction same len cards laid tree = (
   record {
     laid = subst (λ (n : ℕ). AreLaid n (image_of base new) (mark_by (148 + n) new.places) (cards_of new)) (sym same)
-        (subst (λ (l : List (Option Card)). AreLaid old.nodes (image_of base new) (mark_by (148 + old.nodes) new.places) l) (sym cards) laid);
-    within = omega (arith, draft.within, same, len);
-    small = draft.small;
+        (subst (λ (l : List (Option CachedNode)). AreLaid old.nodes (image_of base new) (mark_by (148 + old.nodes) new.places) l) (sym cards) laid);
+    within = omega (arith, transaction.within, same, len);
+    small = transaction.small;
   },
-  ap (λ (l : List (Option Card)). layout.tree_of (image_of base new) l) cards ∙ tree,
+  ap (λ (l : List (Option CachedNode)). layout.tree_of (image_of base new) l) cards ∙ tree,
 )
 
--- ---- clauses of the node at a place, whose card is this one
+-- ---- clauses of the node at a place, whose cached node is this one
 
-module _ (old new : Draft) (place : ℕ) (was : Card) (there : get_or (cards_of old) place None ≡ Some was) where
+module _ (old new : Transaction) (place : ℕ) (was : CachedNode) (there : get_or (cards_of old) place None ≡ Some was) where
   pub edits : (edit : ℕ → Edit) → ((base : Image) (size : ℕ) → MakesOver base size old new (edit was.fields.number)) → Edits old new place edit
-  edits edit makes card asked = subst (λ (one : Card). Makes old new (edit one.fields.number)) (same_card (cards_of old) place was card there asked) makes
+  edits edit makes card asked = subst (λ (one : CachedNode). Makes old new (edit one.fields.number)) (same_card (cards_of old) place was card there asked) makes
 
   pub edits_over : (base : Image) (size : ℕ) (edit : ℕ → Edit) → MakesOver base size old new (edit was.fields.number) → EditsOver base size old new place edit
-  edits_over base size edit makes card asked = subst (λ (one : Card). MakesOver base size old new (edit one.fields.number)) (same_card (cards_of old) place was card there asked) makes
+  edits_over base size edit makes card asked = subst (λ (one : CachedNode). MakesOver base size old new (edit one.fields.number)) (same_card (cards_of old) place was card there asked) makes
 
-  pub turns : (change : Card → Card) → HasNow old new place (change was) → Turns old new place change
-  turns change now card asked = subst (λ (one : Card). HasNow old new place (change one)) (same_card (cards_of old) place was card there asked) now
+  pub turns : (change : CachedNode → CachedNode) → HasNow old new place (change was) → Turns old new place change
+  turns change now card asked = subst (λ (one : CachedNode). HasNow old new place (change one)) (same_card (cards_of old) place was card there asked) now
 
-pub overcharged : (old : Draft) (place : ℕ) (was : Card) (blocks : Card → ℕ) → get_or (cards_of old) place None ≡ Some was → length old.places + charge_of was < charge_of_all (cards_of old) + charge_of_blocks (blocks was) → IsOvercharged old place blocks
+pub overcharged : (old : Transaction) (place : ℕ) (was : CachedNode) (blocks : CachedNode → ℕ) → get_or (cards_of old) place None ≡ Some was → length old.places + charge_of was < charge_of_all (cards_of old) + charge_of_blocks (blocks was) → IsOvercharged old place blocks
 overcharged old place was blocks there more card asked =
-    subst (λ (one : Card). length old.places + charge_of one < charge_of_all (cards_of old) + charge_of_blocks (blocks one)) (same_card (cards_of old) place was card there asked) more
+    subst (λ (one : CachedNode). length old.places + charge_of one < charge_of_all (cards_of old) + charge_of_blocks (blocks one)) (same_card (cards_of old) place was card there asked) more

@@ -6,7 +6,7 @@ use Rattle.disk.specs.Moments.{Image, put}
 use Rattle.inode.specs.Spelling.{inode_sector}
 use Rattle.extents.specs.declared.run.Run.{Run}
 use Rattle.extents.specs.Sector.{run_sector}
-use Rattle.layout.specs.Cards.{Card}
+use Rattle.layout.specs.CachedNodes.{CachedNode}
 use Rattle.layout.specs.Marks.{times}
 use Rattle.layout.specs.Laid.{runs_of_sector}
 use Rattle.layout.proofs.NumberLaws.{times-at}
@@ -34,7 +34,7 @@ lays-next old now new numbers runs i to content once h front to_is content_is ne
       ∙ front.others n none;
 }
 
-pub lays-node : (old now new : Image) (sector : ℕ) (card : Card) (content : List ℕ) → times sector card.fields.run_sectors ≡ 0 → LaysFront old now card.fields.run_sectors card.runs (length card.fields.run_sectors)
+pub lays-node : (old now new : Image) (sector : ℕ) (card : CachedNode) (content : List ℕ) → times sector card.fields.run_sectors ≡ 0 → LaysFront old now card.fields.run_sectors card.runs (length card.fields.run_sectors)
     → content ≡ inode_sector card.form card.fields → new ≡ put now (record { target = sector; content = content }) → LaysNode old new sector card
 lays-node old now new sector card content apart front content_is new_is = record {
   node = ap (λ (image : Image). image sector) new_is ∙ put-here now (record { target = sector; content = content }) sector refl ∙ content_is;
@@ -45,7 +45,7 @@ lays-node old now new sector card content apart front content_is new_is = record
   others = λ n off none. ap (λ (image : Image). image n) new_is ∙ put-elsewhere now (record { target = sector; content = content }) n (λ e. off (sym e)) ∙ front.others n none;
 }
 
-pub lays-card : (old now new : Image) (sector : ℕ) (card : Card) (numbers : List ℕ) (runs : List Run) (content : List ℕ) → numbers ≡ card.fields.run_sectors → runs ≡ card.runs → times sector card.fields.run_sectors ≡ 0
+pub lays-card : (old now new : Image) (sector : ℕ) (card : CachedNode) (numbers : List ℕ) (runs : List Run) (content : List ℕ) → numbers ≡ card.fields.run_sectors → runs ≡ card.runs → times sector card.fields.run_sectors ≡ 0
     → LaysFront old now numbers runs (length numbers) → content ≡ inode_sector card.form card.fields → new ≡ put now (record { target = sector; content = content }) → LaysNode old new sector card
 lays-card old now new sector card numbers runs content e f apart front content_is new_is =
     lays-node old now new sector card content apart (subst (λ (r : List Run). LaysFront old now card.fields.run_sectors r (length card.fields.run_sectors)) f (subst (λ (n : List ℕ). LaysFront old now n runs (length n)) e front)) content_is new_is

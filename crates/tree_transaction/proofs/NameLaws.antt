@@ -16,7 +16,7 @@ use Rattle.model.specs.Charge.{blocks_of, charge_of_blocks}
 use Rattle.model.specs.Edit.{PutName}
 use Rattle.model.specs.Keyed.{at, with}
 use Rattle.model.specs.Tree.{entry_of}
-use Rattle.layout.specs.Cards.{Card, content_at}
+use Rattle.layout.specs.CachedNodes.{CachedNode, content_at}
 use Rattle.layout.specs.Directories.{block_put}
 use Rattle.layout.specs.Known.{IsCard, HasNames}
 use Rattle.layout.specs.Laid.{HoldsNames, HoldsContent, names_of_block}
@@ -27,9 +27,9 @@ use Rattle.layout.proofs.Frame.{content-kept}
 use Rattle.layout.proofs.NodeEditLaws.{put_one_name}
 use Rattle.node_table.specs.Tables.{charge_of, charge_of_all}
 use Rattle.tree_transaction.specs.Blocks.{HaveRegion, GetSectors, WritesOne, set_blocks}
-use Rattle.tree_transaction.specs.declared.draft.Draft.{Draft}
-use Rattle.tree_transaction.specs.Drafts.{cards_of, image_of, IsKnown, StaysKnown, MakesOver}
-use Rattle.tree_transaction.specs.Drafts.{HasNow}
+use Rattle.tree_transaction.specs.declared.transaction.Transaction.{Transaction}
+use Rattle.tree_transaction.specs.Transactions.{cards_of, image_of, IsKnown, StaysKnown, MakesOver}
+use Rattle.tree_transaction.specs.Transactions.{HasNow}
 use Rattle.tree_transaction.specs.Laying.{CanBeLaid, IsRerun, sectors_for}
 use Rattle.tree_transaction.specs.Naming.{CanName, renamed, with_name, blocks_named}
 use Rattle.tree_transaction.proofs.BackLaws.{charged, IsMoved, StandsAgain, stays, has_now, kept, makes, steps, shows_same, shows_sized}
@@ -46,8 +46,8 @@ stamp-new (entry ∷ names) stamp none i d h = elim (cases_eq stamp entry.0) [
       elim i as (λ (k : ℕ). k < length (entry ∷ names) → (get_or (entry ∷ names) k d).0 ≢ stamp) [ zero ↦ (λ l e. off (sym e)) | suc k ↦ (λ l. stamp-new names stamp rest k d (omega arith)) ] h
 ]
 
--- the directory's card with these names and blocks
-abbrev pub named_card : Card → List (Option ℕ) → List Record → Card
+-- the directory's cached node with these names and blocks
+abbrev pub named_card : CachedNode → List (Option ℕ) → List Record → CachedNode
 named_card card blocks names = record card { fields = record card.fields { size = length names }; blocks = blocks; names = names }
 
 -- the runs of so few blocks stand in one sector
@@ -55,7 +55,7 @@ pub few_runs : (blocks : List (Option ℕ)) (count : ℕ) → length blocks ≡ 
 few_runs blocks count long few = omega (arith, long, set_most blocks)
 
 -- a directory whose blocks and names have changed, laid anew
-module _ (old : Draft) (place : ℕ) (was : Card) (known : IsKnown old) (there : get_or (cards_of old) place None ≡ Some was) (directory : was.fields.kind ≡ kind.Directory) where
+module _ (old : Transaction) (place : ℕ) (was : CachedNode) (known : IsKnown old) (there : get_or (cards_of old) place None ≡ Some was) (directory : was.fields.kind ≡ kind.Directory) where
   abbrev first : ℕ
   first = 148 + old.nodes
 
@@ -87,9 +87,9 @@ module _ (old : Draft) (place : ℕ) (was : Card) (known : IsKnown old) (there :
     marked = marked;
   }
 
-  module _ (new : Draft) (blocks : List (Option ℕ)) (names : List Record) (mid_places : List Bool) (mid_updates : List Update) (are_names : IsDirectory names) (stamped : AreStamped names) (moved : IsMoved old was (named_card was blocks names) mid_places mid_updates)
+  module _ (new : Transaction) (blocks : List (Option ℕ)) (names : List Record) (mid_places : List Bool) (mid_updates : List Update) (are_names : IsDirectory names) (stamped : AreStamped names) (moved : IsMoved old was (named_card was blocks names) mid_places mid_updates)
       (back : StandsAgain old new place (named_card was blocks names) mid_places mid_updates) where
-    abbrev is : Card
+    abbrev is : CachedNode
     is = back.is
 
     rerun : IsRerun (named_card was blocks names) is
@@ -123,7 +123,7 @@ module _ (old : Draft) (place : ℕ) (was : Card) (known : IsKnown old) (there :
         content-kept (applied mid_updates base) (image_of base new) is.blocks (kept old new place was (named_card was blocks names) mid_places mid_updates known there moved back base) (get_or is.blocks i None) i refl
         ∙ ap (λ (b : List (Option ℕ)). content_at (applied mid_updates base) (get_or b i None)) rerun.blocks
 
-module _ (old : Draft) (place : ℕ) (was : Card) (name : List ℕ) (stamp number : ℕ) (known : IsKnown old) (there : get_or (cards_of old) place None ≡ Some was) (can : CanName (cards_of old) place name stamp) where
+module _ (old : Transaction) (place : ℕ) (was : CachedNode) (name : List ℕ) (stamp number : ℕ) (known : IsKnown old) (there : get_or (cards_of old) place None ≡ Some was) (can : CanName (cards_of old) place name stamp) where
   abbrev entry : Record
   entry = record_from stamp name number
 
@@ -131,19 +131,20 @@ module _ (old : Draft) (place : ℕ) (was : Card) (name : List ℕ) (stamp numbe
   same = same_card (cards_of old) place can.card was can.there there
 
   pub directory : was.fields.kind ≡ kind.Directory
-  directory = ap (λ (one : Card). one.fields.kind) (sym same) ∙ can.directory
+  directory = ap (λ (one : CachedNode). one.fields.kind) (sym same) ∙ can.directory
 
   few : length was.names < 1024
-  few = let e = ap (λ (one : Card). length one.names) same in omega (arith, e, can.few)
+  few = let e = ap (λ (one : CachedNode). length one.names) same in omega (arith, e, can.few)
 
   pub is_new : place_of name was.names ≡ length was.names
-  is_new = subst (λ (one : Card). place_of name one.names ≡ length one.names) same can.new_name.0
+  is_new = subst (λ (one : CachedNode). place_of name one.names ≡ length one.names) same
+      can.new_name.0
 
   pub unnamed : entry_of name was.names ≡ None
-  unnamed = subst (λ (one : Card). entry_of name one.names ≡ None) same can.new_name.1
+  unnamed = subst (λ (one : CachedNode). entry_of name one.names ≡ None) same can.new_name.1
 
   pub unused : at stamp was.names ≡ None
-  unused = subst (λ (one : Card). at stamp one.names ≡ None) same can.new_stamp
+  unused = subst (λ (one : CachedNode). at stamp one.names ≡ None) same can.new_stamp
 
   pub stamped_was : AreStamped was.names
   stamped_was = let here = names_here old place was known there directory in here.stamped
@@ -187,7 +188,7 @@ module _ (old : Draft) (place : ℕ) (was : Card) (name : List ℕ) (stamp numbe
           let all = charged old place was known there mid_places blocks gets.marks in
           omega (arith, all, gets.len, set_most blocks, counted, longer)
 
-      module _ (new : Draft) (are_names : IsDirectory names) (back : StandsAgain old new place (named_card was blocks names) mid_places mid_updates) where
+      module _ (new : Transaction) (are_names : IsDirectory names) (back : StandsAgain old new place (named_card was blocks names) mid_places mid_updates) where
         moved : IsMoved old was (named_card was blocks names) mid_places mid_updates
         moved = record {
           number = refl;
@@ -209,18 +210,18 @@ module _ (old : Draft) (place : ℕ) (was : Card) (name : List ℕ) (stamp numbe
         put_now = subst (λ (l : List Record). HasNow old new place (renamed was l)) are (named_now old place was known there directory new blocks names mid_places mid_updates are_names stamped moved back)
 
         pub put_made : (base : Image) (size : ℕ) → by_stamp names ≡ with (by_stamp was.names) entry.0 entry.1 → MakesOver base size old new (PutName was.fields.number entry.0 entry.1)
-        put_made base size map_is draft =
-            let is : Card = back.is in
+        put_made base size map_is transaction =
+            let is : CachedNode = back.is in
             let rerun : IsRerun (named_card was blocks names) is = back.rerun in
-            let held = held_at old.nodes (image_of base old) (mark_by (148 + old.nodes) old.places) (cards_of old) place was draft.laid there in
+            let held = held_at old.nodes (image_of base old) (mark_by (148 + old.nodes) old.places) (cards_of old) place was transaction.laid there in
             let holds : HoldsNames (image_of base old) was = subst (λ (k : NodeKind). HoldsContent (image_of base old) k was) directory held.content in
             let unmoved = still old place was known there directory new blocks names mid_places mid_updates are_names stamped moved back base in
             let one = writes base in
             let spelled : content_at (image_of base new) (get_or is.blocks block None) ≡ directory_sector (names_of_block block is.names) =
             unmoved block ∙ one.here ∙ ap (λ (n : List Record). directory_sector (names_of_block block n)) (sym rerun.names) in
-            makes old new place was (named_card was blocks names) mid_places mid_updates known there moved back base size (PutName was.fields.number entry.0 entry.1) draft
+            makes old new place was (named_card was blocks names) mid_places mid_updates known there moved back base size (PutName was.fields.number entry.0 entry.1) transaction
             (put_one_name old.nodes (image_of base old) (image_of base new) (mark_by (148 + old.nodes) old.places) (mark_by (148 + old.nodes) new.places) (cards_of old) place was is entry
-            (steps old new place was (named_card was blocks names) mid_places mid_updates known there moved back base draft.laid)
+            (steps old new place was (named_card was blocks names) mid_places mid_updates known there moved back base transaction.laid)
             (record {
               directories = directories old place was known there directory new blocks names mid_places mid_updates are_names stamped moved back base holds;
               stamped = subst AreStamped (sym rerun.names) stamped;

@@ -8,8 +8,8 @@ use Rattle.model.specs.declared.node.NodeKind.{NodeKind}
 use Rattle.model.specs.declared.node.NodeKind.TheVariants as kind
 use Rattle.model.specs.Charge.{blocks_of}
 use Rattle.model.specs.Edit.{Shown, Show, PutNode, done}
-use Rattle.layout.specs.Cards.{Card, byte_at, bytes_in, content_of, node_with, node_of}
-use Rattle.layout.specs.Cards as layout
+use Rattle.layout.specs.CachedNodes.{CachedNode, byte_at, bytes_in, content_of, node_with, node_of}
+use Rattle.layout.specs.CachedNodes as layout
 use Rattle.layout.specs.ChangeLaws.{ChangesOwn}
 use Rattle.layout.specs.Known.{IsCard, HasContent, AreCards}
 use Rattle.layout.specs.Laid.{AreLaid, HoldsNode, HoldsContent}
@@ -22,9 +22,9 @@ use Rattle.layout.proofs.NodeEditLaws.{named_by-parts, make_node, show_other}
 use Rattle.layout.proofs.ChargeLaws.{named-none}
 use Rattle.node_table.specs.Tables.{number_of, HasNot, IsFree}
 use Rattle.tree_transaction.specs.Blocks.{IsPut}
-use Rattle.tree_transaction.specs.declared.draft.Draft.{Draft}
-use Rattle.tree_transaction.specs.Drafts.{cards_of, image_of, tree_of, IsKnown, StaysKnown}
-use Rattle.tree_transaction.specs.Drafts.{MakesOver, HasNow}
+use Rattle.tree_transaction.specs.declared.transaction.Transaction.{Transaction}
+use Rattle.tree_transaction.specs.Transactions.{cards_of, image_of, tree_of, IsKnown, StaysKnown}
+use Rattle.tree_transaction.specs.Transactions.{MakesOver, HasNow}
 use Rattle.tree_transaction.specs.Nodes.{new_card, IsNewCard, no_content, new_node, fields_showing}
 use Rattle.tree_transaction.specs.Nodes.{showing}
 use Rattle.tree_transaction.proofs.BlockLaws.{here, elsewhere}
@@ -51,7 +51,7 @@ unfolding bytes_in
 new_of image form fields kind.File = refl
 new_of image form fields kind.Directory = refl
 
-module _ (nodes place : ℕ) (old new : Image) (mark : ℕ → ℕ) (cards : List (Option Card)) (form : Form) (fields : Fields) (within : place < nodes) (laid : AreLaid nodes old mark cards) (free : IsFree cards place) (fits : IsInode form (new_card form fields).fields)
+module _ (nodes place : ℕ) (old new : Image) (mark : ℕ → ℕ) (cards : List (Option CachedNode)) (form : Form) (fields : Fields) (within : place < nodes) (laid : AreLaid nodes old mark cards) (free : IsFree cards place) (fits : IsInode form (new_card form fields).fields)
     (some : 0 < fields.number) (fresh : HasNot cards fields.number) (is : IsPut old new (148 + place) (inode_sector form (new_card form fields).fields)) where
   node : HoldsNode new place (new_card form fields)
   node = record {
@@ -105,7 +105,7 @@ known_content form fields kind.Directory = record {
   stamped = record { above = tt; apart = λ i j d low h. absurd (omega arith) };
 }
 
-module _ (old new : Draft) (place : ℕ) (card : Card) (known : IsKnown old) (free : IsFree (cards_of old) place) (is_new : IsNewCard card) (fresh : HasNot (cards_of old) card.fields.number) (same : new.nodes ≡ old.nodes) (places : new.places ≡ old.places)
+module _ (old new : Transaction) (place : ℕ) (card : CachedNode) (known : IsKnown old) (free : IsFree (cards_of old) place) (is_new : IsNewCard card) (fresh : HasNot (cards_of old) card.fields.number) (same : new.nodes ≡ old.nodes) (places : new.places ≡ old.places)
     (cards : cards_of new ≡ set (cards_of old) place (Some card)) (put : (image : Image) → IsPut (applied old.updates image) (applied new.updates image) (148 + place) (inode_sector card.form card.fields)) where
   abbrev first : ℕ
   first = 148 + old.nodes
@@ -115,7 +115,7 @@ module _ (old new : Draft) (place : ℕ) (card : Card) (known : IsKnown old) (fr
 
   is_known : IsCard card
   is_known = subst IsCard (sym is_new.is) (record {
-    fits = subst (λ (c : Card). IsInode c.form c.fields) is_new.is is_new.fits;
+    fits = subst (λ (c : CachedNode). IsInode c.form c.fields) is_new.is is_new.fits;
     number = is_new.number;
     each_run = tt;
     run_count = refl;
@@ -125,7 +125,7 @@ module _ (old new : Draft) (place : ℕ) (card : Card) (known : IsKnown old) (fr
   })
 
   new-named : (n : ℕ) → named_by n (Some card) ≡ 0
-  new-named n = ap (λ (c : Card). named_by n (Some c)) is_new.is ∙ named_by-parts n (new_card card.form card.fields)
+  new-named n = ap (λ (c : CachedNode). named_by n (Some c)) is_new.is ∙ named_by-parts n (new_card card.form card.fields)
 
   cards_known : AreCards old.nodes (mark_by first old.places) (set (cards_of old) place (Some card))
   cards_known =
@@ -136,25 +136,25 @@ module _ (old new : Draft) (place : ℕ) (card : Card) (known : IsKnown old) (fr
 
   pub make_stays : StaysKnown old new
   make_stays = stays_put old new (148 + place) known
-      (subst (λ (p : List Bool). AreCards old.nodes (mark_by first p) (cards_of new)) (sym places) (subst (λ (l : List (Option Card)). AreCards old.nodes (mark_by first old.places) l) (sym cards) cards_known))
+      (subst (λ (p : List Bool). AreCards old.nodes (mark_by first p) (cards_of new)) (sym places) (subst (λ (l : List (Option CachedNode)). AreCards old.nodes (mark_by first old.places) l) (sym cards) cards_known))
       same (ap length places) (omega arith) (omega (arith, in_it)) (λ image n off. elsewhere (applied old.updates image) (applied new.updates image) (148 + place) (inode_sector card.form card.fields) (put image) n off)
 
   pub make_made : (base : Image) (size : ℕ) → MakesOver base size old new (PutNode card.fields.number (new_node card))
-  make_made base size draft =
-      let fresh_card : Card = new_card card.form card.fields in
+  make_made base size transaction =
+      let fresh_card : CachedNode = new_card card.form card.fields in
       let is : IsPut (image_of base old) (image_of base new) (148 + place) (inode_sector fresh_card.form fresh_card.fields) =
-      subst (λ (one : Card). IsPut (image_of base old) (image_of base new) (148 + place) (inode_sector one.form one.fields)) is_new.is (put base) in
-      let gives = make_gives old.nodes place (image_of base old) (image_of base new) (mark_by first old.places) (cards_of old) card.form card.fields in_it draft.laid free
-      (subst (λ (one : Card). IsInode one.form one.fields) is_new.is is_new.fits) is_new.number fresh is in
-      made base size old new place (Some card) (PutNode card.fields.number (new_node card)) draft same (ap length places) cards
+      subst (λ (one : CachedNode). IsPut (image_of base old) (image_of base new) (148 + place) (inode_sector one.form one.fields)) is_new.is (put base) in
+      let gives = make_gives old.nodes place (image_of base old) (image_of base new) (mark_by first old.places) (cards_of old) card.form card.fields in_it transaction.laid free
+      (subst (λ (one : CachedNode). IsInode one.form one.fields) is_new.is is_new.fits) is_new.number fresh is in
+      made base size old new place (Some card) (PutNode card.fields.number (new_node card)) transaction same (ap length places) cards
       (subst (λ (p : List Bool). AreLaid old.nodes (image_of base new) (mark_by first p) (set (cards_of old) place (Some card))) (sym places)
-      (subst (λ (one : Card). AreLaid old.nodes (image_of base new) (mark_by first old.places) (set (cards_of old) place (Some one))) (sym is_new.is) gives.laid))
-      (ap (λ (one : Card). layout.tree_of (image_of base new) (set (cards_of old) place (Some one))) is_new.is ∙ gives.tree_is
-      ∙ ap (λ (one : Card). done (PutNode one.fields.number (new_node one)) (tree_of base old)) (sym is_new.is))
+      (subst (λ (one : CachedNode). AreLaid old.nodes (image_of base new) (mark_by first old.places) (set (cards_of old) place (Some one))) (sym is_new.is) gives.laid))
+      (ap (λ (one : CachedNode). layout.tree_of (image_of base new) (set (cards_of old) place (Some one))) is_new.is ∙ gives.tree_is
+      ∙ ap (λ (one : CachedNode). done (PutNode one.fields.number (new_node one)) (tree_of base old)) (sym is_new.is))
 
 -- ---- a node's own sector alone is written: its run sectors and blocks stay
 
-module _ (old new : Draft) (place : ℕ) (was is : Card) (known : IsKnown old) (there : get_or (cards_of old) place None ≡ Some was) (number : is.fields.number ≡ was.fields.number) (runs : is.runs ≡ was.runs) (sectors : is.fields.run_sectors ≡ was.fields.run_sectors)
+module _ (old new : Transaction) (place : ℕ) (was is : CachedNode) (known : IsKnown old) (there : get_or (cards_of old) place None ≡ Some was) (number : is.fields.number ≡ was.fields.number) (runs : is.runs ≡ was.runs) (sectors : is.fields.run_sectors ≡ was.fields.run_sectors)
     (blocks : (n : ℕ) → times_set n is.blocks ≡ times_set n was.blocks) (is_known : IsCard is) (same : new.nodes ≡ old.nodes) (places : new.places ≡ old.places) (cards : cards_of new ≡ set (cards_of old) place (Some is))
     (put : (image : Image) → IsPut (applied old.updates image) (applied new.updates image) (148 + place) (inode_sector is.form is.fields)) where
   abbrev first_here : ℕ
@@ -182,7 +182,7 @@ module _ (old new : Draft) (place : ℕ) (was is : Card) (known : IsKnown old) (
       let known_cards = changed_known old.nodes (mark_by first_here old.places) (cards_of old) place was known.cards there (mark_by first_here old.places) is number is_known
       (λ n. omega (arith, same_times n, blocks n)) (λ n. each.once n) (λ n. each.behind n) in
       stays_put old new (148 + place) known
-      (subst (λ (p : List Bool). AreCards old.nodes (mark_by first_here p) (cards_of new)) (sym places) (subst (λ (l : List (Option Card)). AreCards old.nodes (mark_by first_here old.places) l) (sym cards) known_cards))
+      (subst (λ (p : List Bool). AreCards old.nodes (mark_by first_here p) (cards_of new)) (sym places) (subst (λ (l : List (Option CachedNode)). AreCards old.nodes (mark_by first_here old.places) l) (sym cards) known_cards))
       same (ap length places) (omega arith) (omega (arith, within_here)) away
 
   pub alone_kept : (base : Image) (n : ℕ) → 0 < times_set n was.blocks → image_of base new n ≡ image_of base old n
@@ -220,7 +220,7 @@ module _ (old new : Draft) (place : ℕ) (was is : Card) (known : IsKnown old) (
 
 -- ---- a node shows something else
 
-module _ (old new : Draft) (place : ℕ) (was : Card) (shown : Shown) (known : IsKnown old) (there : get_or (cards_of old) place None ≡ Some was) (fits : IsInode was.form (fields_showing was.fields shown)) (same : new.nodes ≡ old.nodes) (places : new.places ≡ old.places)
+module _ (old new : Transaction) (place : ℕ) (was : CachedNode) (shown : Shown) (known : IsKnown old) (there : get_or (cards_of old) place None ≡ Some was) (fits : IsInode was.form (fields_showing was.fields shown)) (same : new.nodes ≡ old.nodes) (places : new.places ≡ old.places)
     (cards : cards_of new ≡ set (cards_of old) place (Some (showing shown was)))
     (put : (image : Image) → IsPut (applied old.updates image) (applied new.updates image) (148 + place) (inode_sector was.form (fields_showing was.fields shown))) where
   was_known : IsCard was
@@ -248,9 +248,9 @@ module _ (old new : Draft) (place : ℕ) (was : Card) (shown : Shown) (known : I
   show_now = record { is = showing shown was; cards = cards; form = refl; fields = refl; names = refl }
 
   pub show_made : (base : Image) (size : ℕ) → MakesOver base size old new (Show was.fields.number shown)
-  show_made base size draft =
+  show_made base size transaction =
       let gives = show_other old.nodes (image_of base old) (image_of base new) (mark_by (148 + old.nodes) old.places) (mark_by (148 + old.nodes) new.places) (cards_of old) place was (showing shown was) shown
-      (alone_steps old new place was (showing shown was) known there refl refl refl (λ n. refl) shown_known same places cards put base draft.laid)
+      (alone_steps old new place was (showing shown was) known there refl refl refl (λ n. refl) shown_known same places cards put base transaction.laid)
       (record {
         kind = refl;
         size = refl;
@@ -263,4 +263,4 @@ module _ (old new : Draft) (place : ℕ) (was : Card) (shown : Shown) (known : I
         change = refl;
         time_modify = refl;
       }) in
-      made base size old new place (Some (showing shown was)) (Show was.fields.number shown) draft same (ap length places) cards gives.laid gives.tree_is
+      made base size old new place (Some (showing shown was)) (Show was.fields.number shown) transaction same (ap length places) cards gives.laid gives.tree_is

@@ -6,7 +6,7 @@ use Rattle.std.proofs.lemmas.Option.{same_Some, none-some}
 use Rattle.extents.specs.declared.run.Run.{Run}
 use Rattle.extents.specs.Runs.{sector_by, AreRising, AreApart}
 use Rattle.extents.proofs.RunLemmas.{is_in-yes, is_in-before, is_in-behind}
-use Rattle.layout.specs.Cards.{Card}
+use Rattle.layout.specs.CachedNodes.{CachedNode}
 use Rattle.layout.specs.Known.{IsCard}
 use Rattle.tree_transaction.specs.Laying.{HasEnough}
 
@@ -114,8 +114,8 @@ fewest (other ∷ others) (run ∷ runs) from limit count rising apart up same =
       ]
     ]
 
--- so a card that keeps its first blocks wants no more run sectors than it has
-pub enough : (was card : Card) (count : ℕ) → IsCard was → card.blocks ≡ take count was.blocks → card.fields.run_sectors ≡ was.fields.run_sectors → HasEnough card
+-- so a cached node that keeps its first blocks wants no more run sectors than it has
+pub enough : (was card : CachedNode) (count : ℕ) → IsCard was → card.blocks ≡ take count was.blocks → card.fields.run_sectors ≡ was.fields.run_sectors → HasEnough card
 enough was card count known blocks sectors runs are apart =
     let own = known.runs in
     let fits = known.fits in

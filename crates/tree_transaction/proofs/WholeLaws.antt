@@ -1,4 +1,4 @@
--- A draft whose marks are written.
+-- A transaction whose marks are written.
 use Rattle.std.proofs.Common.{◌≡◌, ◌≤◌, ◌<◌, ◌+◌, ◌-◌, ◌*◌, ℕ, Bool, false, List, Option, length, refl, sym, ap, ap₂, ◌∙◌, arith, subst, inl, inr, zero-add, ltb, le-ltb}
 use Rattle.std.proofs.lemmas.Bool.{cases_lt}
 use Rattle.std.proofs.lemmas.List.{get_or_past}
@@ -7,7 +7,7 @@ use Rattle.disk.specs.declared.update.Update.{Update}
 use Rattle.freemap.specs.Places.{bit_from, bit_of, bit_in, mark_of, Shows}
 use Rattle.freemap.proofs.Bits.{low_bit, high_bit}
 use Rattle.freemap.proofs.PartLaws.{also_marked}
-use Rattle.layout.specs.Cards.{Card, node_sector, tree_of}
+use Rattle.layout.specs.CachedNodes.{CachedNode, node_sector, tree_of}
 use Rattle.layout.specs.Laid.{AreLaid}
 use Rattle.layout.specs.Marks.{mark_in, mark_by}
 use Rattle.layout.specs.Stands.{Version, HaveForms, IsLaid}
@@ -82,7 +82,7 @@ marked_by nodes image places few marks = record {
       rw (there, place) at (marks (148 + nodes + i));
 }
 
-module _ (nodes size : ℕ) (version : Version) (old mid new : Image) (before places : List Bool) (cards : List (Option Card)) (laid : AreLaid nodes old (mark_by (148 + nodes) places) cards)
+module _ (nodes size : ℕ) (version : Version) (old mid new : Image) (before places : List Bool) (cards : List (Option CachedNode)) (laid : AreLaid nodes old (mark_by (148 + nodes) places) cards)
     (low : ShowsPart old mid before places 0) (high : ShowsPart mid new before places 1) where
   same : (n : ℕ) → 100 ≤ n → new n ≡ old n
   same n h = high.others n (omega arith) ∙ low.others n (omega arith)

@@ -9,7 +9,7 @@ use Rattle.model.specs.declared.node.NodeKind.{NodeKind}
 use Rattle.model.specs.declared.node.NodeKind.TheVariants as kind
 use Rattle.model.specs.Charge.{blocks_of, charge_of_blocks}
 use Rattle.model.specs.Edit.{PutBytes}
-use Rattle.layout.specs.Cards.{Card, byte_at}
+use Rattle.layout.specs.CachedNodes.{CachedNode, byte_at}
 use Rattle.layout.specs.Known.{IsCard}
 use Rattle.layout.specs.Marks.{times, times_set, mark_by}
 use Rattle.layout.proofs.MarkProofs.{mark-front}
@@ -20,9 +20,9 @@ use Rattle.layout.proofs.StepLaws.{each_change}
 use Rattle.node_table.specs.Tables.{charge_of, charge_of_all}
 use Rattle.tree_transaction.specs.Blocks.{IsPut, HaveRegion, GetSectors, ChangeBlocks, WritesBytes}
 use Rattle.tree_transaction.specs.Blocks.{set_blocks}
-use Rattle.tree_transaction.specs.declared.draft.Draft.{Draft}
-use Rattle.tree_transaction.specs.Drafts.{cards_of, image_of, IsKnown, StaysKnown, MakesOver}
-use Rattle.tree_transaction.specs.Drafts.{HasNow}
+use Rattle.tree_transaction.specs.declared.transaction.Transaction.{Transaction}
+use Rattle.tree_transaction.specs.Transactions.{cards_of, image_of, IsKnown, StaysKnown, MakesOver}
+use Rattle.tree_transaction.specs.Transactions.{HasNow}
 use Rattle.tree_transaction.specs.Grown.{grown, reaching, blocks_to, CanWrite}
 use Rattle.tree_transaction.specs.Laying.{CanBeLaid, sectors_for}
 use Rattle.tree_transaction.proofs.BackLaws.{charged, IsMoved, StandsAgain, put_again, stays, has_now, kept, makes, steps, are_files, file_content, shows_sized}
@@ -31,7 +31,7 @@ use Rattle.tree_transaction.proofs.CountLaws.{few_numbers, set_holes, set_most}
 use Rattle.tree_transaction.proofs.GrowLaws.{grown_known}
 use Rattle.tree_transaction.proofs.KnownLaws.{same_card, in_table, card_at, named_once, file_blocks, file_unnamed, fields_fit}
 
-module _ (old : Draft) (place end : ℕ) (was : Card) (known : IsKnown old) (there : get_or (cards_of old) place None ≡ Some was) (can : CanWrite (cards_of old) place end) where
+module _ (old : Transaction) (place end : ℕ) (was : CachedNode) (known : IsKnown old) (there : get_or (cards_of old) place None ≡ Some was) (can : CanWrite (cards_of old) place end) where
   abbrev first : ℕ
   first = 148 + old.nodes
 
@@ -39,10 +39,10 @@ module _ (old : Draft) (place end : ℕ) (was : Card) (known : IsKnown old) (the
   same = same_card (cards_of old) place can.card was can.there there
 
   file : was.fields.kind ≡ kind.File
-  file = ap (λ (one : Card). one.fields.kind) (sym same) ∙ can.file
+  file = ap (λ (one : CachedNode). one.fields.kind) (sym same) ∙ can.file
 
   few : was.fields.size ≤ 16777216
-  few = let e = ap (λ (one : Card). one.fields.size) same in omega (arith, e, can.few)
+  few = let e = ap (λ (one : CachedNode). one.fields.size) same in omega (arith, e, can.few)
 
   is_card : IsCard was
   is_card = card_at old.nodes (mark_by first old.places) (cards_of old) place was known.cards there
@@ -70,7 +70,7 @@ module _ (old : Draft) (place end : ℕ) (was : Card) (known : IsKnown old) (the
       omega (arith, all, set_holes was.blocks (blocks_to end was), few_numbers was is_card, grown_count, length-holes was.blocks (blocks_to end was))
 
   module _ (blocks : List (Option ℕ)) (mid_places : List Bool) (gets : GetSectors first old.places mid_places (grown was end).blocks blocks) (count : length blocks ≡ length (grown was end).blocks) where
-    abbrev mid_card : Card
+    abbrev mid_card : CachedNode
     mid_card = record (grown was end) { blocks = blocks }
 
     marks : (n : ℕ) → mark_by first mid_places n + times_set n was.blocks ≡ mark_by first old.places n + times_set n blocks
@@ -88,7 +88,7 @@ module _ (old : Draft) (place end : ℕ) (was : Card) (known : IsKnown old) (the
     }
 
     -- no block got a sector: its runs are those that it had
-    pub put_stands : blocks ≡ (grown was end).blocks → (new : Draft) (mid_updates : List Update) → cards_of new ≡ set (set (cards_of old) place None) place (Some mid_card) → new.nodes ≡ old.nodes → new.places ≡ mid_places
+    pub put_stands : blocks ≡ (grown was end).blocks → (new : Transaction) (mid_updates : List Update) → cards_of new ≡ set (set (cards_of old) place None) place (Some mid_card) → new.nodes ≡ old.nodes → new.places ≡ mid_places
         → ((image : Image) → IsPut (applied mid_updates image) (applied new.updates image) (148 + place) (inode_sector was.form mid_card.fields)) → StandsAgain old new place mid_card mid_places mid_updates
     put_stands alike new mid_updates = put_again old new place mid_card mid_places mid_updates (mid_known alike)
         (omega (arith, in_table old.nodes (mark_by first old.places) (cards_of old) place was known.cards there, once (148 + place), mark-front first old.places (148 + place)))
@@ -99,7 +99,7 @@ module _ (old : Draft) (place end : ℕ) (was : Card) (known : IsKnown old) (the
         let all = charged old place was known there mid_places blocks marks in
         omega (arith, all, gets.len, set_most blocks, count, grown_count)
 
-    module _ (new : Draft) (mid_updates : List Update) (changes : ChangeBlocks old.updates mid_updates blocks) (back : StandsAgain old new place mid_card mid_places mid_updates) where
+    module _ (new : Transaction) (mid_updates : List Update) (changes : ChangeBlocks old.updates mid_updates blocks) (back : StandsAgain old new place mid_card mid_places mid_updates) where
       moved : IsMoved old was mid_card mid_places mid_updates
       moved = record {
         number = refl;
@@ -122,13 +122,13 @@ module _ (old : Draft) (place end : ℕ) (was : Card) (known : IsKnown old) (the
 
       pub write_made : (base : Image) (size offset : ℕ) (bytes : List ℕ) → end ≡ offset + length bytes → WritesBytes (image_of base old) (applied mid_updates base) (grown was end).blocks blocks offset bytes
           → MakesOver base size old new (PutBytes was.fields.number offset bytes)
-      write_made base size offset bytes end_is writes draft =
-          let is : Card = back.is in
+      write_made base size offset bytes end_is writes transaction =
+          let is : CachedNode = back.is in
           let rerun = back.rerun in
           let keeps = kept old new place was mid_card mid_places mid_updates known there moved back base in
-          makes old new place was mid_card mid_places mid_updates known there moved back base size (PutBytes was.fields.number offset bytes) draft
+          makes old new place was mid_card mid_places mid_updates known there moved back base size (PutBytes was.fields.number offset bytes) transaction
           (write_file old.nodes (image_of base old) (image_of base new) (mark_by first old.places) (mark_by first new.places) (cards_of old) place was is offset bytes
-          (steps old new place was mid_card mid_places mid_updates known there moved back base draft.laid)
+          (steps old new place was mid_card mid_places mid_updates known there moved back base transaction.laid)
           (record {
             files = are_files old new place was mid_card mid_places mid_updates known there moved back file file unnamed (shows_sized was.fields (max was.fields.size end));
             size = ap (λ (f : Fields). f.size) rerun.fields ∙ ap (max was.fields.size) end_is;

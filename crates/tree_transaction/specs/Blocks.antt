@@ -5,7 +5,7 @@ use Rattle.std.specs.Prelude.{is_some, slice_get, slice_set, slice_index_or}
 use Rattle.disk.specs.Moments.{Image, put, applied}
 use Rattle.disk.specs.declared.update.Update.{Update}
 use Rattle.freemap.specs.Kept.{free_places}
-use Rattle.layout.specs.Cards.{content_at, byte_at}
+use Rattle.layout.specs.CachedNodes.{content_at, byte_at}
 use Rattle.layout.specs.Files.{over, below}
 use Rattle.layout.specs.Marks.{times_set, mark_by}
 

@@ -3,22 +3,22 @@ use Rattle.std.specs.Prelude.{◌≡◌, ◌≤◌, ℕ, List, Option, Some, Non
 use Rattle.extents.specs.Runs.{with_holes}
 use Rattle.model.specs.declared.node.NodeKind.TheVariants as kind
 use Rattle.model.specs.Charge.{blocks_of}
-use Rattle.layout.specs.Cards.{Card}
+use Rattle.layout.specs.CachedNodes.{CachedNode}
 
 -- a file of another size, and one that reaches to an end at least
 
-abbrev pub sized : Card → (size : ℕ) → Card
+abbrev pub sized : CachedNode → (size : ℕ) → CachedNode
 sized card size = record card { fields = record card.fields { size = size } }
 
-abbrev pub reaching : (end : ℕ) → Card → Card
+abbrev pub reaching : (end : ℕ) → CachedNode → CachedNode
 reaching end card = sized card (max card.fields.size end)
 
 -- how many blocks that has, and the one that has them
 
-abbrev pub blocks_to : (end : ℕ) → Card → ℕ
+abbrev pub blocks_to : (end : ℕ) → CachedNode → ℕ
 blocks_to end card = blocks_of kind.File (max card.fields.size end)
 
-abbrev pub grown : Card → (end : ℕ) → Card
+abbrev pub grown : CachedNode → (end : ℕ) → CachedNode
 grown card end = record {
   form = card.form;
   fields = record card.fields { size = max card.fields.size end };
@@ -28,24 +28,24 @@ grown card end = record {
 }
 
 -- a file of at most 16,777,216 bytes stands at a place, and an end is as low
-pub record CanWrite (cards : List (Option Card)) (place end : ℕ) : Type 0 where
-  pub card : Card
+pub record CanWrite (cards : List (Option CachedNode)) (place end : ℕ) : Type 0 where
+  pub card : CachedNode
   pub there : slice_index_or cards place None ≡ Some card
   pub file : card.fields.kind ≡ kind.File
   pub few : card.fields.size ≤ 16777216
   pub low : end ≤ 16777216
 
 -- a file stands at a place that is no longer than this
-pub record CanGrow (cards : List (Option Card)) (place size : ℕ) : Type 0 where
-  pub card : Card
+pub record CanGrow (cards : List (Option CachedNode)) (place size : ℕ) : Type 0 where
+  pub card : CachedNode
   pub there : slice_index_or cards place None ≡ Some card
   pub file : card.fields.kind ≡ kind.File
   pub longer : card.fields.size ≤ size
   pub few : size ≤ 16777216
 
 -- a file stands at a place that is no shorter than this
-pub record CanCut (cards : List (Option Card)) (place size : ℕ) : Type 0 where
-  pub card : Card
+pub record CanCut (cards : List (Option CachedNode)) (place size : ℕ) : Type 0 where
+  pub card : CachedNode
   pub there : slice_index_or cards place None ≡ Some card
   pub file : card.fields.kind ≡ kind.File
   pub shorter : size ≤ card.fields.size

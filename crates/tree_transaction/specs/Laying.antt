@@ -10,7 +10,7 @@ use Rattle.extents.specs.declared.run.Run.{Run}
 use Rattle.extents.specs.Sector.{run_sector, IsRun}
 use Rattle.extents.specs.Runs.{AreRunsOf, AreApart}
 use Rattle.model.specs.Charge.{divided_up}
-use Rattle.layout.specs.Cards.{Card}
+use Rattle.layout.specs.CachedNodes.{CachedNode}
 use Rattle.layout.specs.Marks.{times}
 use Rattle.layout.specs.Laid.{runs_of_sector, AreRunSectors}
 use Rattle.layout.specs.Marks.{mark_by}
@@ -28,7 +28,7 @@ pub record LaysFront (old new : Image) (numbers : List ℕ) (runs : List Run)
   pub others : (n : ℕ) → times n numbers ≡ 0 → new n ≡ old n
 
 -- a node's sector and its run sectors hold it, and no other sector has changed
-pub record LaysNode (old new : Image) (sector : ℕ) (card : Card) : Type 0 where
+pub record LaysNode (old new : Image) (sector : ℕ) (card : CachedNode) : Type 0 where
   pub node : new sector ≡ inode_sector card.form card.fields
   pub run_sectors : AreRunSectors new card.fields.run_sectors card.runs
   pub others : (n : ℕ) → n ≢ sector → times n card.fields.run_sectors ≡ 0 → new n ≡ old n
@@ -46,8 +46,8 @@ AreMarked first places numbers = (n : ℕ) → times n numbers ≤ mark_by first
 abbrev pub fields_with : Fields → (runs : ℕ) → (run_sectors : List ℕ) → Fields
 fields_with fields runs run_sectors = record fields { runs = runs; run_sectors = run_sectors }
 
--- the runs are those of the blocks, and nothing else of the card has changed
-pub record IsRerun (was is : Card) : Type 0 where
+-- the runs are those of the blocks, and nothing else of the cached node has changed
+pub record IsRerun (was is : CachedNode) : Type 0 where
   pub form : is.form ≡ was.form
   pub blocks : is.blocks ≡ was.blocks
   pub names : is.names ≡ was.names
@@ -57,16 +57,16 @@ pub record IsRerun (was is : Card) : Type 0 where
   pub run_count : length is.runs ≡ is.fields.runs
   pub fits : IsInode is.form is.fields
 
--- a card can be laid at a place: but for its runs its fields have a spelling, and its run sectors
--- are marked
-pub record CanBeLaid (nodes place : ℕ) (places : List Bool) (card : Card) : Type 0 where
+-- a cached node can be laid at a place: but for its runs its fields have a spelling, and its run
+-- sectors are marked
+pub record CanBeLaid (nodes place : ℕ) (places : List Bool) (card : CachedNode) : Type 0 where
   pub room : 148 + nodes + length places < 2 ^ 32
   pub within : place < nodes
   pub fits : IsInode card.form (fields_with card.fields 0 [])
   pub marked : AreMarked (148 + nodes) places card.fields.run_sectors
 
 -- runs of its blocks that have a spelling
-pub record AreRunsFor (list : List Run) (card : Card) : Type 0 where
+pub record AreRunsFor (list : List Run) (card : CachedNode) : Type 0 where
   pub runs : AreRunsOf list card.blocks
   pub each : AllByRecursion IsRun list
   pub few : length list ≤ 4096
@@ -76,13 +76,13 @@ abbrev pub sectors_for : (runs : ℕ) → ℕ
 sectors_for runs = divided_up runs 500
 
 -- the shortest list of its runs wants no more run sectors than it has
-abbrev pub HasEnough : Card → Type 0
+abbrev pub HasEnough : CachedNode → Type 0
 HasEnough card = (runs : List Run) → AreRunsOf runs card.blocks → AreApart runs
     → sectors_for (length runs) ≤ length card.fields.run_sectors
 
--- a card gets runs and is laid at a place, whatever is under the updates
+-- a cached node gets runs and is laid at a place, whatever is under the updates
 pub record LaysCard (nodes place : ℕ) (places is_places : List Bool) (old new : List Update)
-    (was is : Card) : Type 0 where
+    (was is : CachedNode) : Type 0 where
   pub rerun : IsRerun was is
   pub follow : Follow (148 + nodes) places is_places was.fields.run_sectors is.fields.run_sectors
   pub len : length is_places ≡ length places

@@ -1,10 +1,10 @@
 pub mod Blocks
-pub mod Drafts
 pub mod Faults
 pub mod Grown
 pub mod Laying
 pub mod Naming
 pub mod Nodes
 pub mod Ranges
+pub mod Transactions
 pub mod Updates
 pub mod Whole

@@ -8,15 +8,15 @@ use Rattle.model.specs.Charge.{blocks_of}
 use Rattle.model.specs.Edit.{DropName}
 use Rattle.model.specs.Keyed.{at}
 use Rattle.model.specs.Tree.{entry_of}
-use Rattle.layout.specs.Cards.{Card}
-use Rattle.tree_transaction.specs.declared.draft.Draft.{Draft}
-use Rattle.tree_transaction.specs.Drafts.{cards_of, Makes}
+use Rattle.layout.specs.CachedNodes.{CachedNode}
+use Rattle.tree_transaction.specs.declared.transaction.Transaction.{Transaction}
+use Rattle.tree_transaction.specs.Transactions.{cards_of, Makes}
 
 -- a directory of fewer than 1,024 names stands at a place, which has neither the name nor the
 -- stamp
-pub record CanName (cards : List (Option Card)) (place : ℕ) (name : List ℕ)
+pub record CanName (cards : List (Option CachedNode)) (place : ℕ) (name : List ℕ)
     (stamp : ℕ) : Type 0 where
-  pub card : Card
+  pub card : CachedNode
   pub there : slice_index_or cards place None ≡ Some card
   pub directory : card.fields.kind ≡ kind.Directory
   pub few : length card.names < 1024
@@ -27,36 +27,36 @@ pub record CanName (cards : List (Option Card)) (place : ℕ) (name : List ℕ)
   pub new_stamp : at stamp card.names ≡ None
 
 -- a directory stands at a place, and has the name
-pub record HasName (cards : List (Option Card)) (place : ℕ) (name : List ℕ) : Type 0 where
-  pub card : Card
+pub record HasName (cards : List (Option CachedNode)) (place : ℕ) (name : List ℕ) : Type 0 where
+  pub card : CachedNode
   pub there : slice_index_or cards place None ≡ Some card
   pub directory : card.fields.kind ≡ kind.Directory
   pub within : place_of name card.names < length card.names
 
 -- the directory with these names, with one more, and with one less
 
-abbrev pub renamed : Card → List Record → Card
+abbrev pub renamed : CachedNode → List Record → CachedNode
 renamed card names = record card {
   fields = record card.fields { size = length names };
   names = names;
 }
 
-abbrev pub with_name : Record → Card → Card
+abbrev pub with_name : Record → CachedNode → CachedNode
 with_name entry card = renamed card (with_record card.names entry)
 
-abbrev pub without_name : List ℕ → Card → Card
+abbrev pub without_name : List ℕ → CachedNode → CachedNode
 without_name name card = renamed card (without_place card.names (place_of name card.names))
 
--- over whatever base a draft stays one, and its tree is the one before without the name: it goes
--- from the directory at a place with the stamp that it has there
-abbrev pub DropsNamed : (old new : Draft) → (place : ℕ) → (name : List ℕ) → Type 0
-DropsNamed old new place name = (card : Card) (entry : Record)
+-- over whatever base a transaction stays one, and its tree is the one before without the name: it
+-- goes from the directory at a place with the stamp that it has there
+abbrev pub DropsNamed : (old new : Transaction) → (place : ℕ) → (name : List ℕ) → Type 0
+DropsNamed old new place name = (card : CachedNode) (entry : Record)
     → slice_index_or (cards_of old) place None ≡ Some card
     → entry_of name card.names ≡ Some entry
     → Makes old new (DropName card.fields.number entry.0)
 
 -- how many blocks one more name wants
-abbrev pub blocks_named : Card → ℕ
+abbrev pub blocks_named : CachedNode → ℕ
 blocks_named card = blocks_of kind.Directory (length card.names + 1)
 
 -- a block that has a sector holds this content, and no other sector has changed

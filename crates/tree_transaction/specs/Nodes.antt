@@ -6,12 +6,12 @@ use Rattle.model.specs.declared.node.NodeKind.{NodeKind}
 use Rattle.model.specs.declared.node.NodeKind.TheVariants as kind
 use Rattle.model.specs.Edit.{Shown}
 use Rattle.model.specs.Tree.{Node, Content, File, Directory}
-use Rattle.layout.specs.Cards.{Card, node_with}
+use Rattle.layout.specs.CachedNodes.{CachedNode, node_with}
 use Rattle.tree_transaction.specs.declared.nodes.Shown as declared
 
 -- a node without bytes or names
 
-abbrev pub new_card : Form → Fields → Card
+abbrev pub new_card : Form → Fields → CachedNode
 new_card form fields = record {
   form = form;
   fields = record fields { size = 0; runs = 0; run_sectors = [] };
@@ -20,7 +20,7 @@ new_card form fields = record {
   names = [];
 }
 
-pub record IsNewCard (card : Card) : Type 0 where
+pub record IsNewCard (card : CachedNode) : Type 0 where
   pub is : card ≡ new_card card.form card.fields
   pub number : 0 < card.fields.number
   pub fits : IsInode card.form card.fields
@@ -29,7 +29,7 @@ abbrev pub no_content : NodeKind → Content
 no_content kind.File = File []
 no_content kind.Directory = Directory []
 
-abbrev pub new_node : Card → Node
+abbrev pub new_node : CachedNode → Node
 new_node card = node_with card.fields (no_content card.fields.kind)
 
 -- what a node shows beside its content
@@ -52,16 +52,16 @@ fields_showing fields shown = record fields {
   time_modify = shown.time_modify;
 }
 
-abbrev pub showing : Shown → Card → Card
+abbrev pub showing : Shown → CachedNode → CachedNode
 showing shown card = record card { fields = fields_showing card.fields shown }
 
 -- a node stands at a place, and one that can show this
 
-pub record HasNode (cards : List (Option Card)) (place : ℕ) : Type 0 where
-  pub card : Card
+pub record HasNode (cards : List (Option CachedNode)) (place : ℕ) : Type 0 where
+  pub card : CachedNode
   pub there : slice_index_or cards place None ≡ Some card
 
-pub record CanShow (cards : List (Option Card)) (place : ℕ) (shown : Shown) : Type 0 where
-  pub card : Card
+pub record CanShow (cards : List (Option CachedNode)) (place : ℕ) (shown : Shown) : Type 0 where
+  pub card : CachedNode
   pub there : slice_index_or cards place None ≡ Some card
   pub fits : IsInode card.form (fields_showing card.fields shown)

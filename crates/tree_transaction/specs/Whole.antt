@@ -1,10 +1,10 @@
--- A draft whose marks are written: what it leaves of a volume.
+-- A transaction whose marks are written: what it leaves of a volume.
 use Rattle.std.specs.Prelude.{◌≡◌, ◌≢◌, ◌≤◌, ◌<◌, ◌+◌, ◌*◌, ◌⊎◌, ℕ, Bool, List, length}
 use Rattle.disk.specs.Moments.{Image}
 use Rattle.freemap.specs.Places.{Shows, HaveSamePart, mark_of, bit_in}
 use Rattle.layout.specs.Stands.{Version, HaveForms, IsLaid}
-use Rattle.tree_transaction.specs.declared.draft.Draft.{Draft}
-use Rattle.tree_transaction.specs.Drafts.{cards_of, image_of, tree_of, IsDraft}
+use Rattle.tree_transaction.specs.declared.transaction.Transaction.{Transaction}
+use Rattle.tree_transaction.specs.Transactions.{cards_of, image_of, tree_of, IsTransaction}
 
 -- the bitmap sectors show these places and nothing past them, however long these sectors are
 pub record IsMarked (base : Image) (places : List Bool) : Type 0 where
@@ -18,20 +18,23 @@ pub record ShowsPart (old new : Image) (before places : List Bool) (part : ℕ) 
       ⊎ (new (98 + part) ≡ old (98 + part)) × HaveSamePart places before (32768 * part)
   pub others : (n : ℕ) → n ≢ 98 + part → new n ≡ old n
 
--- the draft is one of a volume of this version: its places are the whole data region, and the spare
--- sectors are as they are to be
-pub record IsWhole (version : Version) (base : Image) (size : ℕ) (draft : Draft) : Type 0 where
-  pub size_is : size ≡ 148 + draft.nodes + length draft.places
+-- the transaction is one of a volume of this version: its places are the whole data region, and the
+-- spare sectors are as they are to be
+pub record IsWhole (version : Version) (base : Image) (size : ℕ) (transaction : Transaction)
+    : Type 0 where
+  pub size_is : size ≡ 148 + transaction.nodes + length transaction.places
   pub few : size ≤ 65536
-  pub forms : HaveForms version (cards_of draft)
+  pub forms : HaveForms version (cards_of transaction)
   pub spare : (n : ℕ) → 100 ≤ n → n < 148 → base n ≡ version.spare n
 
--- Then, over sectors that are marked by the places as they were before, the sectors hold its cards,
--- marks included, and the tree is the same
-pub record LeavesLaid (version : Version) (base : Image) (size : ℕ) (old new : Draft) : Type 0 where
+-- Then, over sectors that are marked by the places as they were before, the sectors hold its cached
+-- nodes, marks included, and the tree is the same
+pub record LeavesLaid (version : Version) (base : Image) (size : ℕ) (old new : Transaction)
+    : Type 0 where
   pub laid : IsLaid version size old.nodes (image_of base new) (cards_of old)
   pub tree_is : tree_of base new ≡ tree_of base old
 
-abbrev pub Finishes : (before : List Bool) → (old new : Draft) → Type 0
-Finishes before old new = (version : Version) (base : Image) (size : ℕ) → IsDraft base size old
+abbrev pub Finishes : (before : List Bool) → (old new : Transaction) → Type 0
+Finishes before old new = (version : Version) (base : Image) (size : ℕ)
+    → IsTransaction base size old
     → IsWhole version base size old → IsMarked base before → LeavesLaid version base size old new

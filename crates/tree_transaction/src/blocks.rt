@@ -13,7 +13,7 @@ ghost use Rattle.layout.specs.Health.{Reads};
 ghost use Rattle.layout.specs.Laid.{names_of_block};
 ghost use Rattle.layout.specs.Marks.{times_set};
 
-use crate::fault::{DraftFault, SpaceFault};
+use crate::fault::{SpaceFault, TransactionFault};
 use crate::updates::Updates;
 use directory::{Names, RECORDS};
 use disk::SECTOR;
@@ -38,7 +38,7 @@ fn write_over<S: Sectors>(
     sector: u32,
     from: usize,
     bytes: &[u8],
-) -> Result<(), DraftFault>
+) -> Result<(), TransactionFault>
     requires within { sector < S.size (S.kept base.old) }
     requires room { from + length bytes.now ≤ SECTOR }
     ensures image { S.keeps_word → OnOk result (IsPut
@@ -50,11 +50,11 @@ fn write_over<S: Sectors>(
     ensures others { OnOk result (ChangeOne updates.old updates.new sector) }
     // What it takes
     ensures count { length updates.new ≤ length updates.old + 1 }
-    ensures full { IsErrOf result DraftFault.Full → ⊥ }
+    ensures full { IsErrOf result TransactionFault.Full → ⊥ }
     // It only reads the base
     ensures kept { S.kept base.new ≡ S.kept base.old }
     ensures health { Reads (S.health base.old) (S.health base.new)
-        (IsErrOf result DraftFault.Device) }
+        (IsErrOf result TransactionFault.Device) }
 {
     let mut content = updates.read(base, sector)?;
     put_bytes(&mut content, from, bytes);
@@ -115,7 +115,7 @@ fn write_block<S: Sectors>(
     first: u32,
     blocks: &mut BlockList,
     part: Part<'_>,
-) -> Result<bool, DraftFault>
+) -> Result<bool, TransactionFault>
     requires region { HaveRegion first places.old blocks.old
         × (first + length places.old ≤ S.size (S.kept base.old)) }
     requires part { (part.block < length blocks.old)
@@ -130,12 +130,12 @@ fn write_block<S: Sectors>(
     ensures fills { IfOk result (λ filled. FillHoles filled blocks.old blocks.new) }
     // What it takes
     ensures count { length updates.new ≤ length updates.old + 1 }
-    ensures full { IsErrOf result DraftFault.Full
+    ensures full { IsErrOf result TransactionFault.Full
         → FindsNone places.old blocks.old part.entry.block }
     // It only reads the base
     ensures kept { S.kept base.new ≡ S.kept base.old }
     ensures health { Reads (S.health base.old) (S.health base.new)
-        (IsErrOf result DraftFault.Device) }
+        (IsErrOf result TransactionFault.Device) }
 {
     match blocks.at(part.block) {
         // A whole sector is not read first.
@@ -165,7 +165,7 @@ pub(crate) fn write_blocks<S: Sectors>(
     blocks: &mut BlockList,
     offset: usize,
     bytes: &[u8],
-) -> Result<bool, DraftFault>
+) -> Result<bool, TransactionFault>
     requires region { HaveRegion first places.old blocks.old
         × (first + length places.old ≤ S.size (S.kept base.old)) }
     requires within { offset + length bytes.now ≤ SECTOR * length blocks.old }
@@ -180,12 +180,12 @@ pub(crate) fn write_blocks<S: Sectors>(
     // What it takes
     ensures count { OnOk result (length updates.new
         ≤ length updates.old + (offset % SECTOR + length bytes.now + 4095) / SECTOR) }
-    ensures full { IsErrOf result DraftFault.Full
+    ensures full { IsErrOf result TransactionFault.Full
         → free_places places.old + set_blocks blocks.old < length blocks.old }
     // It only reads the base
     ensures kept { S.kept base.new ≡ S.kept base.old }
     ensures health { Reads (S.health base.old) (S.health base.new)
-        (IsErrOf result DraftFault.Device) }
+        (IsErrOf result TransactionFault.Device) }
 {
     let mut filled = false;
     let mut done = 0;
@@ -279,7 +279,7 @@ pub(crate) fn clear_tail<S: Sectors>(
     base: &mut S,
     blocks: &BlockList,
     size: u64,
-) -> Result<(), DraftFault>
+) -> Result<(), TransactionFault>
     requires sectors { AreWithin (S.size (S.kept base.old)) blocks.now
         × ((n : ℕ) → times_set n blocks.now ≤ 1) }
     requires small { size ≤ SECTOR * BlockList.MAX_BLOCKS }
@@ -289,11 +289,11 @@ pub(crate) fn clear_tail<S: Sectors>(
     ensures others { OnOk result (ChangeBlocks updates.old updates.new blocks.now) }
     // What it takes
     ensures count { length updates.new ≤ length updates.old + 1 }
-    ensures full { IsErrOf result DraftFault.Full → ⊥ }
+    ensures full { IsErrOf result TransactionFault.Full → ⊥ }
     // It only reads the base
     ensures kept { S.kept base.new ≡ S.kept base.old }
     ensures health { Reads (S.health base.old) (S.health base.new)
-        (IsErrOf result DraftFault.Device) }
+        (IsErrOf result TransactionFault.Device) }
 {
     let from = (size % 4096) as usize;
     if from == 0 {
@@ -311,7 +311,7 @@ fn clear_from<S: Sectors>(
     base: &mut S,
     sector: u32,
     from: usize,
-) -> Result<(), DraftFault>
+) -> Result<(), TransactionFault>
     requires within { sector < S.size (S.kept base.old) }
     requires room { from ≤ SECTOR }
     ensures image { S.keeps_word → OnOk result (IsPut
@@ -324,11 +324,11 @@ fn clear_from<S: Sectors>(
     ensures others { OnOk result (ChangeOne updates.old updates.new sector) }
     // What it takes
     ensures count { length updates.new ≤ length updates.old + 1 }
-    ensures full { IsErrOf result DraftFault.Full → ⊥ }
+    ensures full { IsErrOf result TransactionFault.Full → ⊥ }
     // It only reads the base
     ensures kept { S.kept base.new ≡ S.kept base.old }
     ensures health { Reads (S.health base.old) (S.health base.new)
-        (IsErrOf result DraftFault.Device) }
+        (IsErrOf result TransactionFault.Device) }
 {
     let mut content = updates.read(base, sector)?;
     put_zeros(&mut content, from, SECTOR - from);

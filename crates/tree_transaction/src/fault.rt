@@ -1,7 +1,8 @@
-//! Why a draft was given up.
+//! Why a transaction was given up.
 
 ghost use Rattle.std.specs.Prelude.{◌≡◌};
-ghost use Rattle.tree_transaction.specs.declared.fault.DraftFault.TheVariants.{Device, Memory};
+ghost use Rattle.tree_transaction.specs.declared.fault.TransactionFault.TheVariants.{Device};
+ghost use Rattle.tree_transaction.specs.declared.fault.TransactionFault.TheVariants.{Memory};
 ghost use Rattle.tree_transaction.specs.declared.fault.SpaceFault.TheVariants as space;
 
 use freemap::Full;
@@ -9,9 +10,9 @@ use layout::sectors::ReadFault;
 use std::alloc::{AllocError, AllocFailed};
 use thiserror::Error;
 
-/// Why a draft was given up. It is dropped then: nothing of it is kept.
+/// Why a transaction was given up. It is dropped then: nothing of it is kept.
 #[derive(Clone, Copy, Debug, PartialEq, Eq, Error)]
-pub enum DraftFault {
+pub enum TransactionFault {
     /// The device failed.
     #[error("device fault")]
     Device,
@@ -23,7 +24,7 @@ pub enum DraftFault {
     Full,
 }
 
-/// Why a draft was given up by a call that reads nothing.
+/// Why a transaction was given up by a call that reads nothing.
 #[derive(Clone, Copy, Debug, PartialEq, Eq, Error)]
 pub enum SpaceFault {
     /// Memory ran out.
@@ -34,32 +35,32 @@ pub enum SpaceFault {
     Full,
 }
 
-impl From<ReadFault> for DraftFault {
+impl From<ReadFault> for TransactionFault {
     ghost from_gives = { λ _ e. e ≡ Device };
 
-    fn from(_e: ReadFault) -> DraftFault {
-        DraftFault::Device
+    fn from(_e: ReadFault) -> TransactionFault {
+        TransactionFault::Device
     }
 }
 
-impl From<SpaceFault> for DraftFault {
+impl From<SpaceFault> for TransactionFault {
     ghost use Rattle.tree_transaction.specs.Faults.{fault_of};
 
     ghost from_gives = { λ cause e. e ≡ fault_of cause };
 
-    fn from(e: SpaceFault) -> DraftFault {
+    fn from(e: SpaceFault) -> TransactionFault {
         match e {
-            SpaceFault::Memory => DraftFault::Memory,
-            SpaceFault::Full => DraftFault::Full,
+            SpaceFault::Memory => TransactionFault::Memory,
+            SpaceFault::Full => TransactionFault::Full,
         }
     }
 }
 
-impl From<AllocError> for DraftFault {
+impl From<AllocError> for TransactionFault {
     ghost from_gives = { λ _ e. e ≡ Memory };
 
-    fn from(_e: AllocError) -> DraftFault {
-        DraftFault::Memory
+    fn from(_e: AllocError) -> TransactionFault {
+        TransactionFault::Memory
     }
 }
 

@@ -14,7 +14,7 @@ use crate::updates::Updates;
 use extents::{MAX_SECTOR_RUNS, Run, Runs};
 use freemap::Bitmap;
 use layout::places::NODES;
-use node_table::Card;
+use node_table::CachedNode;
 use std::alloc::{AllocError, Global};
 
 /// Writes runs, 500 a sector.
@@ -38,8 +38,12 @@ fn lay_runs(updates: &mut Updates, numbers: &[u32], runs: &[Run]) -> Result<(), 
 }
 
 /// Writes a node's sector and its run sectors.
-fn lay_node(updates: &mut Updates, sector: u32, card: &Card) -> Result<(), AllocError>
-    // A card that has a spelling, in sectors that are apart
+fn store_node_sectors(
+    updates: &mut Updates,
+    sector: u32,
+    card: &CachedNode,
+) -> Result<(), AllocError>
+    // A cached node that has a spelling, in sectors that are apart
     requires fits { IsInode card.now.form card.now.fields }
     requires count { length card.now.runs ≡ card.now.fields.runs }
     requires once { AreOnce card.now.fields.run_sectors }
@@ -55,14 +59,14 @@ fn lay_node(updates: &mut Updates, sector: u32, card: &Card) -> Result<(), Alloc
     Ok(())
 }
 
-/// Puts runs into a card that has enough run sectors for them, gives the others back, and writes
-/// its node.
-fn lay_card(
+/// Puts runs into a cached node that has enough run sectors for them, gives the others back, and
+/// writes its node.
+fn store_given_runs(
     updates: &mut Updates,
     places: &mut Bitmap,
     nodes: u32,
     place: u32,
-    card: &mut Card,
+    card: &mut CachedNode,
     runs: Vec<Run>,
 ) -> Result<(), AllocError>
     requires can { CanBeLaid nodes place places.old card.old }
@@ -78,18 +82,18 @@ fn lay_card(
     card.inode.runs = runs.len() as u16;
     let runs = Runs::from_vec(runs)?;
     card.runs = runs;
-    lay_node(updates, NODES + place, card)?;
+    store_node_sectors(updates, NODES + place, card)?;
     Ok(())
 }
 
-/// Puts a card's blocks into runs again, and writes its node.
+/// Puts a cached node's blocks into runs again, and writes its node.
 pub(crate) fn rerun(
     alloc: Global,
     updates: &mut Updates,
     places: &mut Bitmap,
     nodes: u32,
     place: u32,
-    card: &mut Card,
+    card: &mut CachedNode,
 ) -> Result<(), SpaceFault>
     requires { CanBeLaid nodes place places.old card.old }
     ensures laid { OnOk result
@@ -103,18 +107,18 @@ pub(crate) fn rerun(
     let runs = card.blocks.to_runs(alloc)?;
     let wanted = (runs.len() + 499) / MAX_SECTOR_RUNS;
     take_numbers(places, NODES + nodes, &mut card.inode.run_sectors, wanted)?;
-    lay_card(updates, places, nodes, place, card, runs)?;
+    store_given_runs(updates, places, nodes, place, card, runs)?;
     Ok(())
 }
 
-/// The same of a card whose run sectors are enough.
+/// The same of a cached node whose run sectors are enough.
 pub(crate) fn rerun_fewer(
     alloc: Global,
     updates: &mut Updates,
     places: &mut Bitmap,
     nodes: u32,
     place: u32,
-    card: &mut Card,
+    card: &mut CachedNode,
 ) -> Result<(), AllocError>
     requires can { CanBeLaid nodes place places.old card.old }
     requires enough { HasEnough card.old }
@@ -124,6 +128,6 @@ pub(crate) fn rerun_fewer(
         ≤ length updates.old + 1 + sectors_for (set_blocks card.old.blocks) }
 {
     let runs = card.blocks.to_runs(alloc)?;
-    lay_card(updates, places, nodes, place, card, runs)?;
+    store_given_runs(updates, places, nodes, place, card, runs)?;
     Ok(())
 }

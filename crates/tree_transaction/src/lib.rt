@@ -3,15 +3,15 @@
 #![tactic(auto)]
 
 mod blocks;
-mod draft;
 mod fault;
 mod laying;
 mod marks;
 mod nodes;
 mod numbers;
+mod transaction;
 mod updates;
 
-pub use draft::{Draft, Outcome};
-pub use fault::{DraftFault, SpaceFault};
+pub use fault::{SpaceFault, TransactionFault};
 pub use nodes::Shown;
+pub use transaction::{PreparedTransaction, Transaction};
 pub use updates::Updates;

@@ -10,7 +10,7 @@ ghost use Rattle.tree_transaction.specs.Ranges.{IsInRange};
 use crate::updates::Updates;
 use layout::places::NODES;
 use model::acl::Acl;
-use node_table::Card;
+use node_table::CachedNode;
 use std::alloc::AllocError;
 
 /// What a node shows beside its content.
@@ -28,7 +28,11 @@ pub struct Shown {
 }
 
 /// Writes a node's sector.
-pub(crate) fn put_node(updates: &mut Updates, place: u32, card: &Card) -> Result<(), AllocError>
+pub(crate) fn put_node(
+    updates: &mut Updates,
+    place: u32,
+    card: &CachedNode,
+) -> Result<(), AllocError>
     requires fits { IsInode card.now.form card.now.fields }
     requires small { NODES + place < 2 ^ 32 }
     ensures image { OnOk result ((image : Image) → IsPut (applied updates.old image)

@@ -14,18 +14,18 @@ use Rattle.journal.specs.declared.fault.JournalFault.{JournalFault}
 use Rattle.journal.specs.declared.fault.JournalFault.TheVariants as faults
 use Rattle.journal.proofs.Fronts.{applied_all-push}
 use Rattle.journal.proofs.Joins.{front_moved, moved_contents}
-use Rattle.layout.specs.Cards.{Card, tree_of, cards_in}
+use Rattle.layout.specs.CachedNodes.{CachedNode, tree_of, cards_in}
 use Rattle.layout.specs.Stands.{Kept, StandsNow, seats_at}
 use Rattle.layout.proofs.KeptLaws.{now_told, same_kept, stands_now}
 use Rattle.model.specs.declared.limits.Limits.{Limits}
 use Rattle.model.specs.Seats.{Seats}
 use Rattle.model.specs.Tree.{Tree}
 use Rattle.volume.specs.Changes.{Given, Done, Broken, Changes, ending_of}
-use Rattle.volume.specs.Held.{Held, IsRecent, AddsTrees, fronts_from, with_tree}
+use Rattle.volume.specs.VolumeState.{VolumeState, IsRecent, AddsTrees, fronts_from, with_tree}
 use Rattle.volume.specs.Known.{IsServing, kept_in}
 use Rattle.volume.specs.Refusals.{fault_of}
 use Rattle.volume.specs.Stands.{Stands}
-use Rattle.volume.specs.Views.{held_by}
+use Rattle.volume.specs.Views.{volume_state_by}
 use Rattle.volume.proofs.FrontLaws.{among_more, applied_recent, front_among}
 use Rattle.volume.proofs.ServeLaws.{flush_adds, seats_stay, still_serving, tree_stays}
 use Rattle.volume.proofs.OneTree.{Seats-set, Tree-set}
@@ -45,7 +45,7 @@ front_is base (updates ∷ list) front among = ⊎_elim
     (among_more base (fronts_from (applied updates base) list) front among)
 
 -- a call moved the list's first transactions into the base: each front is one from before
-module _ (limits : Limits) (run : ℕ) (cards : List (Option Card)) (old new : Log) (size : new.size ≡ old.size) (moved : Moved old.list old new)
+module _ (limits : Limits) (run : ℕ) (cards : List (Option CachedNode)) (old new : Log) (size : new.size ≡ old.size) (moved : Moved old.list old new)
     (settled : IsSettled new) (serving : ∥ IsServing old limits.nodes run cards ∥₁) where
   same : AreSame old.size (contents old) (contents new)
   same = moved_contents old.list old new moved
@@ -63,10 +63,10 @@ module _ (limits : Limits) (run : ℕ) (cards : List (Option Card)) (old new : L
   abbrev beside : Tree → Kept
   beside tree = record { tree = tree; seats = seats_at (contents new) }
 
-  was_beside : (tree : Tree) → with_tree (held_by limits run cards old) tree ≡ beside tree
+  was_beside : (tree : Tree) → with_tree (volume_state_by limits run cards old) tree ≡ beside tree
   was_beside tree = ap (λ (seats : Seats). let of : Kept = record { tree = tree; seats = seats } in of) (sym moved_seats)
 
-  covered : (recent : List Tree) → IsRecent (held_by limits run cards old) recent → (count : ℕ) → count ≤ length new.list
+  covered : (recent : List Tree) → IsRecent (volume_state_by limits run cards old) recent → (count : ℕ) → count ≤ length new.list
       → (tree : Tree) × IsAmong recent tree × ∥ Stands new.size limits.nodes (applied_all (take count new.list) new.base) run (beside tree) ∥₁
   covered recent is count few =
       let before = front_moved old.list old new moved count few in
@@ -78,7 +78,7 @@ module _ (limits : Limits) (run : ℕ) (cards : List (Option Card)) (old new : L
             (subst (Stands old.size limits.nodes (applied_all (take before.0 old.list) old.base) run) (was_beside one.0) stands))),
       )
 
-  pub moved_recent : (recent : List Tree) → IsRecent (held_by limits run cards old) recent → IsRecent (held_by limits run cards new) recent
+  pub moved_recent : (recent : List Tree) → IsRecent (volume_state_by limits run cards old) recent → IsRecent (volume_state_by limits run cards new) recent
   moved_recent recent is = record {
     leaves = λ image left.
         let one = covered recent is 0 (omega arith) in (
@@ -100,14 +100,14 @@ module _ (limits : Limits) (run : ℕ) (cards : List (Option Card)) (old new : L
 abbrev pub listed_with : Log → List Update → Log
 listed_with log updates = record log { list = list_with log updates }
 
--- what stands after a transaction in the journal: these cards, a tree and seats
-pub record StandsWith (nodes run : ℕ) (old : Log) (updates : List Update) (is : List (Option Card)) (after : Kept) : Type 0 where
+-- what stands after a transaction in the journal: these cached nodes, a tree and seats
+pub record StandsWith (nodes run : ℕ) (old : Log) (updates : List Update) (is : List (Option CachedNode)) (after : Kept) : Type 0 where
   pub read : is ≡ cards_in nodes (applied updates (contents old))
   pub tree : tree_of (applied updates (contents old)) is ≡ after.tree
   pub stands : ∥ StandsNow old.size nodes (applied updates (contents old)) run after ∥₁
 
 -- so a volume stands after it
-pub stands_after : (nodes run : ℕ) (old : Log) (updates : List Update) (is : List (Option Card)) (after : Kept) → StandsWith nodes run old updates is after
+pub stands_after : (nodes run : ℕ) (old : Log) (updates : List Update) (is : List (Option CachedNode)) (after : Kept) → StandsWith nodes run old updates is after
     → ∥ Stands old.size nodes (applied updates (contents old)) run after ∥₁
 stands_after nodes run old updates is after behind = ∥∥₁_map behind.stands (stands_now old.size nodes (applied updates (contents old)) run after)
 
@@ -116,7 +116,7 @@ abbrev pub seated : Log → Tree → Kept
 seated log tree = record { tree = tree; seats = seats_at (contents log) }
 
 -- what serves after a transaction
-module _ (nodes run : ℕ) (cards is : List (Option Card)) (old : Log) (updates : List Update) (after : Kept)
+module _ (nodes run : ℕ) (cards is : List (Option CachedNode)) (old : Log) (updates : List Update) (after : Kept)
     (behind : StandsWith nodes run old updates is after) (serving : ∥ IsServing old nodes run cards ∥₁) where
   abbrev then_log : Log
   then_log = listed_with old updates
@@ -139,8 +139,8 @@ module _ (nodes run : ℕ) (cards is : List (Option Card)) (old : Log) (updates 
     settled = served.settled;
   })
 
--- A transaction makes other cards of those that stand, and the tree is another one.
-module _ (limits : Limits) (run : ℕ) (cards is : List (Option Card)) (old : Log) (updates : List Update) (after : Tree)
+-- A transaction makes other cached nodes of those that stand, and the tree is another one.
+module _ (limits : Limits) (run : ℕ) (cards is : List (Option CachedNode)) (old : Log) (updates : List Update) (after : Tree)
     (behind : StandsWith limits.nodes run old updates is (seated old after)) (serving : ∥ IsServing old limits.nodes run cards ∥₁) where
   abbrev mid : Log
   mid = listed_with old updates
@@ -154,22 +154,22 @@ module _ (limits : Limits) (run : ℕ) (cards is : List (Option Card)) (old : Lo
   pub pushed_serves : ∥ IsServing mid limits.nodes run is ∥₁
   pushed_serves = then_serves limits.nodes run cards is old updates (seated old after) behind serving
 
-  pub pushed_recent : (recent : List Tree) → IsRecent (held_by limits run cards old) recent → IsRecent (held_by limits run is mid) (after ∷ recent)
+  pub pushed_recent : (recent : List Tree) → IsRecent (volume_state_by limits run cards old) recent → IsRecent (volume_state_by limits run is mid) (after ∷ recent)
   pushed_recent recent ready =
-      subst (λ (t : Tree). IsRecent (record (held_by limits run cards old) { tree = t; seats = seats_at (contents mid); fronts = fronts_from old.base (list_with old updates) }) (after ∷ recent))
+      subst (λ (t : Tree). IsRecent (record (volume_state_by limits run cards old) { tree = t; seats = seats_at (contents mid); fronts = fronts_from old.base (list_with old updates) }) (after ∷ recent))
       (sym pushed_tree)
-      (subst (λ (s : Seats). IsRecent (record (held_by limits run cards old) { tree = after; seats = s; fronts = fronts_from old.base (list_with old updates) }) (after ∷ recent))
+      (subst (λ (s : Seats). IsRecent (record (volume_state_by limits run cards old) { tree = after; seats = s; fronts = fronts_from old.base (list_with old updates) }) (after ∷ recent))
       (sym pushed_seats)
-      (applied_recent (held_by limits run cards old) old refl refl refl updates after (stands_after limits.nodes run old updates is (seated old after) behind) recent ready))
+      (applied_recent (volume_state_by limits run cards old) old refl refl refl updates after (stands_after limits.nodes run old updates is (seated old after) behind) recent ready))
 
 -- The journal takes a transaction
-module _ (keeps_word : Type 0) (limits : Limits) (run : ℕ) (cards is : List (Option Card)) (old new : Log) (updates : List Update) (after : Tree) (failed_before failed_after : ℕ)
+module _ (keeps_word : Type 0) (limits : Limits) (run : ℕ) (cards is : List (Option CachedNode)) (old new : Log) (updates : List Update) (after : Tree) (failed_before failed_after : ℕ)
     (safe : IsSafe keeps_word old new) (later : failed_before ≤ failed_after) where
-  abbrev was : Held
-  was = held_by limits run cards old
+  abbrev was : VolumeState
+  was = volume_state_by limits run cards old
 
-  abbrev now : Held
-  now = held_by limits run is new
+  abbrev now : VolumeState
+  now = volume_state_by limits run is new
 
   -- the tree after it, which may be lost
   abbrev given : Given
@@ -226,7 +226,7 @@ module _ (keeps_word : Type 0) (limits : Limits) (run : ℕ) (cards is : List (O
       };
     }
 
-  pub apply_broken : new.is_down ≡ true → IsCounted failed_before failed_after → Changes keeps_word given was (held_by limits run cards new) failed_before failed_after Broken
+  pub apply_broken : new.is_down ≡ true → IsCounted failed_before failed_after → Changes keeps_word given was (volume_state_by limits run cards new) failed_before failed_after Broken
   apply_broken down counted = record {
     same = record { sectors = safe.size; limits = refl; run = refl };
     later = later;
@@ -240,10 +240,10 @@ module _ (keeps_word : Type 0) (limits : Limits) (run : ℕ) (cards is : List (O
   }
 
 -- The journal refuses it
-pub apply_refused : (keeps_word : Type 0) (limits : Limits) (run : ℕ) (cards : List (Option Card)) (old new : Log) (after : Tree) (failed_before failed_after : ℕ) (fault : JournalFault)
+pub apply_refused : (keeps_word : Type 0) (limits : Limits) (run : ℕ) (cards : List (Option CachedNode)) (old new : Log) (after : Tree) (failed_before failed_after : ℕ) (fault : JournalFault)
     → IsSafe keeps_word old new → old.is_down ≡ false → (fault ≡ faults.TooMany → ⊥) → Answers {T = Unit {0}} old new failed_before failed_after (Err fault)
     → (fault ≡ faults.TooMany) ⊎ ((fault ≡ faults.Fault) ⊎ (fault ≡ faults.Down))
-    → Changes keeps_word (λ kept lasts. (kept ≡ seated old after) × (lasts ≡ false)) (held_by limits run cards old) (held_by limits run cards new) failed_before failed_after
+    → Changes keeps_word (λ kept lasts. (kept ≡ seated old after) × (lasts ≡ false)) (volume_state_by limits run cards old) (volume_state_by limits run cards new) failed_before failed_after
     (ending_of {T = Unit {0}} (Err (fault_of fault)))
 apply_refused keeps_word limits run cards old new after failed_before failed_after faults.Fault safe up few answers refuses =
     apply_broken keeps_word limits run cards cards old new [] after failed_before failed_after safe answers.later (answers.goes_down refl) (answers.counted refl)

@@ -5,24 +5,24 @@ use Rattle.disk.specs.declared.update.Update.{Update}
 use Rattle.disk.specs.Moments.{Image, History, AddsOnly}
 use Rattle.disk.proofs.MomentLemmas.{AddsOnly-same}
 use Rattle.journal.specs.Log.{Log, applied_all, contents}
-use Rattle.layout.specs.Cards.{Card, tree_of, cards_in}
+use Rattle.layout.specs.CachedNodes.{CachedNode, tree_of, cards_in}
 use Rattle.layout.specs.Stands.{Kept, StandsAs, StandsNow, seats_at}
 use Rattle.layout.proofs.KeptLaws.{now_told, same_kept, stands_by, stands_now}
 use Rattle.model.specs.Seats.{Seats}
 use Rattle.model.specs.declared.limits.Limits.{Limits}
-use Rattle.volume.specs.Held.{Holds, LeavesCurrent}
+use Rattle.volume.specs.VolumeState.{Holds, LeavesCurrent}
 use Rattle.volume.specs.Known.{IsServing, kept_in}
 use Rattle.volume.specs.Loads.{IsLoaded, read_as}
 use Rattle.volume.specs.Mounts.{StandsOn, StandsForEither, AddsRaised, IsNotBegun}
 use Rattle.volume.specs.Starts.{HasStarted}
-use Rattle.volume.specs.Views.{held_by}
+use Rattle.volume.specs.Views.{volume_state_by}
 use Rattle.volume.specs.declared.fault.MountFault.{MountFault}
 use Rattle.volume.specs.declared.fault.MountFault.TheVariants as mounts
 use Rattle.volume.specs.declared.mount.Superblock.{Superblock}
 use Rattle.volume.proofs.OneTree.{Seats-set, Tree-set}
 use Rattle.volume.proofs.ServeLaws.{holds_base}
 
-module _ (keeps_word : Type 0) (found : Superblock) (old mid new : Log) (mark : Option ℕ) (cards : List (Option Card)) (seats : Seats) (places : List Bool)
+module _ (keeps_word : Type 0) (found : Superblock) (old mid new : Log) (mark : Option ℕ) (cards : List (Option CachedNode)) (seats : Seats) (places : List Bool)
     (loaded : IsLoaded keeps_word found old mark cards seats places) (started : HasStarted keeps_word found cards seats mid new)
     (only : mid ≡ record old { is_down = mid.is_down }) (size : old.size ≡ found.sectors) (new_size : new.size ≡ mid.size) where
   base : mid.base ≡ old.base
@@ -68,13 +68,14 @@ module _ (keeps_word : Type 0) (found : Superblock) (old mid new : Log) (mark : 
       stands_by found.version mark found.sectors found.nodes old.base found.run (read_as old.base cards seats) loaded.marked stands.may stands.keeps stands.stands)
 
   module _ (limits : Limits) (nodes : limits.nodes ≡ found.nodes) where
-    pub begun_holds : keeps_word → Holds (held_by limits (found.run + 1) cards new)
+    pub begun_holds : keeps_word → Holds (volume_state_by limits (found.run + 1) cards new)
     begun_holds k = holds_base limits (found.run + 1) cards new started.rests.listed
         (subst (λ (n : ℕ). ∥ StandsAs new.size n (contents new) (found.run + 1) (kept_in (contents new) cards) ∥₁) (sym nodes)
         (∥∥₁_map (stands_there k) (stands_now new.size found.nodes (contents new) (found.run + 1) (kept_in (contents new) cards))))
         (started.settled k)
 
-    pub begun_current : keeps_word → LeavesCurrent (held_by limits (found.run + 1) cards new)
+    pub begun_current : keeps_word
+        → LeavesCurrent (volume_state_by limits (found.run + 1) cards new)
     begun_current k image left = ∥∥₁_map (stands_base k) (λ stands. (
       new.base,
       started.settled k image left,

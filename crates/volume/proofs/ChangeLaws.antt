@@ -9,24 +9,24 @@ use Rattle.node_table.specs.Tables.{HaveOwnPlaces}
 use Rattle.disk.specs.Moments.{Image, applied}
 use Rattle.disk.specs.declared.update.Update.{Update}
 use Rattle.tree_transaction.specs.Updates.{target_of, AreApart, HasNot, AreTargets}
-use Rattle.tree_transaction.specs.declared.draft.Outcome.{Outcome}
+use Rattle.tree_transaction.specs.declared.transaction.PreparedTransaction.{PreparedTransaction}
 use Rattle.tree_transaction.proofs.UpdateLaws.{applied-other}
 use Rattle.tree_edits.specs.declared.edit.Edit.{Edit}
 use Rattle.tree_edits.specs.Edits.{edits_of}
 use Rattle.tree_edits.specs.Outcomes.{ComesTo, LaysEdited, cards_after}
-use Rattle.tree_edits.specs.Outlines.{blanked, outline_of}
+use Rattle.tree_edits.specs.Outlines.{without_data, tree_without_data}
 use Rattle.tree_edits.proofs.BlankLaws.{each_outline}
 use Rattle.tree_edits.proofs.PlaceLaws.{there_at}
 use Rattle.journal.specs.Layout as journal
 use Rattle.journal.specs.Layout.{targets}
 use Rattle.journal.specs.Log.{Log, contents}
 use Rattle.journal.proofs.Images.{length-targets}
-use Rattle.layout.specs.Cards.{Card, tree_of, cards_in}
+use Rattle.layout.specs.CachedNodes.{CachedNode, tree_of, cards_in}
 use Rattle.layout.specs.Known.{AreCards}
 use Rattle.layout.specs.Laid.{AreNumbered}
 use Rattle.layout.specs.Marks.{mark_by}
 use Rattle.layout.specs.Stands.{IsLaid, Kept, StandsNow, current, seats_at}
-use Rattle.layout.proofs.CardLaws.{cards-back, only_cards}
+use Rattle.layout.proofs.CachedNodeLaws.{cards-back, only_cards}
 use Rattle.model.specs.declared.limits.Limits.{Limits}
 use Rattle.model.specs.Charge.{fits}
 use Rattle.model.specs.Edit.{edited}
@@ -41,9 +41,9 @@ use Rattle.parents.specs.Parents.{AreParents}
 use Rattle.volume.proofs.FormedLaws.{names_most}
 use Rattle.volume.proofs.ParentLaws.{parents_after}
 use Rattle.volume.specs.Formed.{IsFormed}
-use Rattle.volume.specs.Held.{Held}
+use Rattle.volume.specs.VolumeState.{VolumeState}
 use Rattle.volume.specs.Known.{IsKnown, IsServing, kept_in}
-use Rattle.volume.specs.Views.{held_by}
+use Rattle.volume.specs.Views.{volume_state_by}
 use Rattle.volume.proofs.ApplyLaws.{StandsWith, seated}
 use Rattle.volume.proofs.EditLaws.{can_settle, edited_alike, outline_alike}
 use Rattle.volume.proofs.SoundLaws.{edited_bytes, formed_sound, well_formed_bytes}
@@ -81,10 +81,10 @@ not_first size updates are = λ i within same. (let above = (are.between i withi
 
 -- The tree after the edits stands
 
-pub StandsWith-prop : (nodes run : ℕ) (old : Log) (updates : List Update) (is : List (Option Card)) (after : Kept) → IsProp (StandsWith nodes run old updates is after)
+pub StandsWith-prop : (nodes run : ℕ) (old : Log) (updates : List Update) (is : List (Option CachedNode)) (after : Kept) → IsProp (StandsWith nodes run old updates is after)
 StandsWith-prop nodes run old updates is after = Prim.hlevel (props, ∥∥₁_prop)
 
-module _ (word : Type 0) (k : word) (nodes run : ℕ) (log : Log) (cards : List (Option Card)) (places : List Bool) (edits : List Edit) (outcome : Outcome)
+module _ (word : Type 0) (k : word) (nodes run : ℕ) (log : Log) (cards : List (Option CachedNode)) (places : List Bool) (edits : List Edit) (outcome : PreparedTransaction)
     (count : length cards ≡ nodes) (comes : ComesTo word (contents log) log.size cards places edits outcome)
     (formed : IsFormed (limits_of log.size nodes) (stamp (run + 1) 0) (edited (edits_of edits) (tree_of (contents log) cards))) where
   abbrev image : Image
@@ -93,7 +93,7 @@ module _ (word : Type 0) (k : word) (nodes run : ℕ) (log : Log) (cards : List 
   abbrev now : Image
   now = applied outcome.updates.items image
 
-  abbrev is : List (Option Card)
+  abbrev is : List (Option CachedNode)
   is = cards_after cards outcome
 
   abbrev after : Tree
@@ -136,7 +136,7 @@ module _ (word : Type 0) (k : word) (nodes run : ℕ) (log : Log) (cards : List 
 
 -- What memory keeps after it
 
-pub own_places : (cards : List (Option Card)) → AreNumbered cards → HaveOwnPlaces cards
+pub own_places : (cards : List (Option CachedNode)) → AreNumbered cards → HaveOwnPlaces cards
 own_places cards apart place other number here there = elim (cases_eq place other) [
   | inl same ↦ same
   | inr off ↦
@@ -149,28 +149,29 @@ own_places cards apart place other number here there = elim (cases_eq place othe
 pub log_same : (old mid : Log) → (let up : Log → Log = λ log. record log { is_down = false } in up mid ≡ up old) → mid.is_down ≡ old.is_down → mid ≡ old
 log_same old mid kept down = ap₂ (λ (log : Log) (is_down : Bool). record log { is_down = is_down }) kept down
 
-pub formed_alike : (limits : Limits) (at : ℕ) (tree other : Tree) → blanked other ≡ blanked tree → IsFormed limits at tree → IsFormed limits at other
+pub formed_alike : (limits : Limits) (at : ℕ) (tree other : Tree) → without_data other ≡ without_data tree → IsFormed limits at tree → IsFormed limits at other
 formed_alike limits at tree other alike formed = record {
   well_formed = ∥∥₁_map formed.well_formed (subst (IsWellFormed limits) (sym alike));
   before = subst (IsBefore at) (sym alike) formed.before;
 }
 
-module _ (word : Type 0) (limits : Limits) (run : ℕ) (log : Log) (cards : List (Option Card)) (places : List Bool) (edits : List Edit) (outcome : Outcome)
-    (change : IsChange (held_by limits run cards log) edits) (known : IsKnown log.size limits.nodes cards places)
+module _ (word : Type 0) (limits : Limits) (run : ℕ) (log : Log) (cards : List (Option CachedNode)) (places : List Bool) (edits : List Edit) (outcome : PreparedTransaction)
+    (change : IsChange (volume_state_by limits run cards log) edits) (known : IsKnown log.size limits.nodes cards places)
     (comes : ComesTo word (contents log) log.size cards places edits outcome) where
-  abbrev held : Held
-  held = held_by limits run cards log
+  abbrev held : VolumeState
+  held = volume_state_by limits run cards log
 
-  abbrev new : List (Option Card)
+  abbrev new : List (Option CachedNode)
   new = cards_after cards outcome
 
   -- all of the tree after the edits but the bytes of files
-  pub outline_after : (image : Image) → blanked (tree_of image new) ≡ blanked (edited_by held edits)
+  pub outline_after : (image : Image)
+      → without_data (tree_of image new) ≡ without_data (edited_by held edits)
   outline_after image = each_outline image new ∙ comes.outline
-      ∙ edited_alike (edits_of edits) held.tree (outline_of cards) (outline_alike (contents log) cards)
+      ∙ edited_alike (edits_of edits) held.tree (tree_without_data cards) (outline_alike (contents log) cards)
 
-  pub formed_after : IsTrue (fits limits (edited_by held edits)) → IsFormed limits (stamp (run + 1) 0) (outline_of new)
-  formed_after fit = formed_alike limits (stamp (run + 1) 0) (edited_by held edits) (outline_of new) (outline_after (λ n. [])) (change.formed fit)
+  pub formed_after : IsTrue (fits limits (edited_by held edits)) → IsFormed limits (stamp (run + 1) 0) (tree_without_data new)
+  formed_after fit = formed_alike limits (stamp (run + 1) 0) (edited_by held edits) (tree_without_data new) (outline_after (λ n. [])) (change.formed fit)
 
   pub known_after : IsKnown log.size limits.nodes new outcome.places
   known_after = record {
@@ -183,7 +184,7 @@ module _ (word : Type 0) (limits : Limits) (run : ℕ) (log : Log) (cards : List
   may_settle = can_settle held edits change (contents log) cards new refl comes.made limits.nodes (mark_by (148 + limits.nodes) places)
       (mark_by (148 + limits.nodes) outcome.places) known.are_cards known_after.are_cards (own_places new comes.cards.apart)
 
-  -- the parents in memory are those of the cards after it
+  -- the parents in memory are those of the cached nodes after it
   pub parents_behind : limits ≡ limits_of log.size limits.nodes → IsTrue (fits limits (edited_by held edits)) → (parents behind : List ℕ)
       → AreParents cards parents → PutsParent new parents behind (put_by edits) → AreParents new behind
   parents_behind limited fit parents behind are puts =

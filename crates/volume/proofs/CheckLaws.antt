@@ -9,7 +9,7 @@ use Rattle.journal.specs.Viewed.{HasNoForm, HasViewed}
 use Rattle.journal.specs.declared.fault.JournalFault.{JournalFault}
 use Rattle.journal.specs.declared.fault.JournalFault.TheVariants as journals
 use Rattle.journal.proofs.First.{first_kept}
-use Rattle.layout.specs.Cards.{Card}
+use Rattle.layout.specs.CachedNodes.{CachedNode}
 use Rattle.layout.specs.Stands.{Kept}
 use Rattle.model.specs.Seats.{Seats}
 use Rattle.layout.proofs.KeptLaws.{stands_by}
@@ -95,7 +95,7 @@ module _ (sectors : ℕ) (old : History) (found : Superblock) (base : Image) (se
       only
 
   -- the tree of its nodes stands
-  pub has_checked : (keeps_word : Type 0) → keeps_word → (mark : Option ℕ) (cards : List (Option Card)) (seats : Seats) (places : List Bool) → AreLoaded keeps_word found base mark cards seats places
+  pub has_checked : (keeps_word : Type 0) → keeps_word → (mark : Option ℕ) (cards : List (Option CachedNode)) (seats : Seats) (places : List Bool) → AreLoaded keeps_word found base mark cards seats places
       → (checked : Checked) → checked.sectors ≡ found.sectors → checked.nodes ≡ found.nodes → checked.count ≡ found.run → HasChecked sectors old checked
   has_checked keeps_word k mark cards seats places loaded checked same_sectors same_nodes same_run = record {
     first = volume;

@@ -8,16 +8,16 @@ use Rattle.journal.specs.Calls.{IsSafe, HasCheckpointed}
 use Rattle.journal.specs.Log.{Log}
 use Rattle.journal.specs.Settled.{AreSame}
 use Rattle.journal.proofs.Fronts.{applied_keeps}
-use Rattle.layout.specs.Cards.{Card}
+use Rattle.layout.specs.CachedNodes.{CachedNode}
 use Rattle.layout.specs.Stands.{Kept}
 use Rattle.model.specs.declared.limits.Limits.{Limits}
 use Rattle.model.specs.Seats.{Seats}
 use Rattle.model.specs.Tree.{Tree}
 use Rattle.volume.specs.Changes.{Done, Stays, Changes}
-use Rattle.volume.specs.Held.{Held, KeepsRecent, fronts_from, with_tree}
+use Rattle.volume.specs.VolumeState.{VolumeState, KeepsRecent, fronts_from, with_tree}
 use Rattle.volume.specs.Known.{IsServing}
 use Rattle.volume.specs.Stands.{Stands}
-use Rattle.volume.specs.Views.{held_by}
+use Rattle.volume.specs.Views.{volume_state_by}
 use Rattle.volume.proofs.FrontLaws.{among_more, among_rest, front_among}
 use Rattle.volume.proofs.OneTree.{Seats-set, Tree-set}
 use Rattle.volume.proofs.ServeLaws.{among_one, flush_adds, seats_stay, tree_stays}
@@ -35,14 +35,14 @@ front_same size base moved (updates ∷ list) front same among = ⊎_elim
     (there.0, among_rest base (fronts_from (applied updates base) list) there.0 there.1, there.2))
     (among_more moved (fronts_from (applied updates moved) list) front among)
 
-module _ (keeps_word : Type 0) (limits : Limits) (run : ℕ) (cards : List (Option Card)) (shown : List ℕ) (old new : Log)
+module _ (keeps_word : Type 0) (limits : Limits) (run : ℕ) (cards : List (Option CachedNode)) (shown : List ℕ) (old new : Log)
     (safe : IsSafe keeps_word old new) (listed : new.list ≡ old.list) (up : new.is_down ≡ false) (done : HasCheckpointed keeps_word shown old new)
     (serves : keeps_word → ∥ IsServing old limits.nodes run cards ∥₁) where
-  abbrev was : Held
-  was = held_by limits run cards old
+  abbrev was : VolumeState
+  was = volume_state_by limits run cards old
 
-  abbrev is : Held
-  is = held_by limits run cards new
+  abbrev is : VolumeState
+  is = volume_state_by limits run cards new
 
   pub checkpoint_keeps : keeps_word → is.tree ≡ was.tree
   checkpoint_keeps k = ∥∥₁_elim (serves k) (Tree-set is.tree was.tree) (tree_stays limits.nodes run cards old new (done.contents k))

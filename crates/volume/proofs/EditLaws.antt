@@ -1,4 +1,4 @@
--- What a change's edits make of a volume's cards: they can be done there, there is room for each, and the table may become what they leave.
+-- What a change's edits make of a volume's cached nodes: they can be done there, there is room for each, and the table may become what they leave.
 use Rattle.std.proofs.Common.{◌≡◌, ◌+◌, ◌≤◌, ◌<◌, ◌&&◌, ℕ, zero, suc, List, [], ◌∷◌, Option, Some, length, take, get_or, sym, ap, ◌∙◌, arith, ⊎_elim, subst}
 use Rattle.std.specs.Prelude.{is_some, nat_le, IsTrue}
 use Rattle.std.specs.List.{IsAmong}
@@ -9,14 +9,14 @@ use Rattle.disk.specs.Moments.{Image}
 use Rattle.tree_edits.specs.declared.edit.Edit.{Edit}
 use Rattle.tree_edits.specs.Doing.{made_by, AreMade}
 use Rattle.tree_edits.specs.Edits.{edit_of, edits_of, AreDoable, StayFew}
-use Rattle.tree_edits.specs.Outlines.{blanked, outline_of}
+use Rattle.tree_edits.specs.Outlines.{without_data, tree_without_data}
 use Rattle.tree_edits.proofs.BlankLaws.{each_outline, edits_blanked}
 use Rattle.tree_edits.proofs.DoableLaws.{doable_alike, few_alike}
 use Rattle.tree_edits.proofs.DoingLaws.{outline_fixed}
 use Rattle.tree_edits.proofs.PlaceLaws.{there_at}
-use Rattle.tree_edits.proofs.FitLaws.{fits-blanked}
+use Rattle.tree_edits.proofs.FitLaws.{fits-without_data}
 use Rattle.tree_transaction.proofs.KnownLaws.{card_at}
-use Rattle.layout.specs.Cards.{Card, tree_of}
+use Rattle.layout.specs.CachedNodes.{CachedNode, tree_of}
 use Rattle.layout.specs.Known.{AreCards}
 use Rattle.layout.specs.Laid.{AreNumbered}
 use Rattle.layout.proofs.Answering.{tree-has}
@@ -28,25 +28,25 @@ use Rattle.model.specs.Keyed.{at, total}
 use Rattle.model.specs.Limits.{limits_of}
 use Rattle.model.specs.Tree.{Tree}
 use Rattle.volume.specs.Edits.{edited_by, front_of, named_by, IsChange}
-use Rattle.volume.specs.Held.{Held}
+use Rattle.volume.specs.VolumeState.{VolumeState}
 
 -- Trees that are blanked alike are edited alike and fit alike
 
-pub edited_alike : (edits : List model.Edit) (tree other : Tree) → blanked other ≡ blanked tree → blanked (edited edits other) ≡ blanked (edited edits tree)
-edited_alike edits tree other alike = sym (edits_blanked edits other) ∙ ap (λ (t : Tree). blanked (edited edits t)) alike ∙ edits_blanked edits tree
+pub edited_alike : (edits : List model.Edit) (tree other : Tree) → without_data other ≡ without_data tree → without_data (edited edits other) ≡ without_data (edited edits tree)
+edited_alike edits tree other alike = sym (edits_blanked edits other) ∙ ap (λ (t : Tree). without_data (edited edits t)) alike ∙ edits_blanked edits tree
 
-pub fits_alike : (limits : Limits) (tree other : Tree) → blanked other ≡ blanked tree → fits limits other ≡ fits limits tree
-fits_alike limits tree other alike = sym (fits-blanked limits other) ∙ ap (fits limits) alike ∙ fits-blanked limits tree
+pub fits_alike : (limits : Limits) (tree other : Tree) → without_data other ≡ without_data tree → fits limits other ≡ fits limits tree
+fits_alike limits tree other alike = sym (fits-without_data limits other) ∙ ap (fits limits) alike ∙ fits-without_data limits tree
 
--- all trees of these cards are blanked alike
-pub outline_alike : (image : Image) (cards : List (Option Card)) → blanked (outline_of cards) ≡ blanked (tree_of image cards)
+-- all trees of these cached nodes are blanked alike
+pub outline_alike : (image : Image) (cards : List (Option CachedNode)) → without_data (tree_without_data cards) ≡ without_data (tree_of image cards)
 outline_alike image cards = outline_fixed cards ∙ sym (each_outline image cards)
 
--- whether the tree after edits fits is told by the cards
-pub fits_outline : (limits : Limits) (edits : List model.Edit) (image : Image) (cards : List (Option Card))
-    → fits limits (edited edits (outline_of cards)) ≡ fits limits (edited edits (tree_of image cards))
-fits_outline limits edits image cards = fits_alike limits (edited edits (tree_of image cards)) (edited edits (outline_of cards))
-    (edited_alike edits (tree_of image cards) (outline_of cards) (outline_alike image cards))
+-- whether the tree after edits fits is told by the cached nodes
+pub fits_outline : (limits : Limits) (edits : List model.Edit) (image : Image) (cards : List (Option CachedNode))
+    → fits limits (edited edits (tree_without_data cards)) ≡ fits limits (edited edits (tree_of image cards))
+fits_outline limits edits image cards = fits_alike limits (edited edits (tree_of image cards)) (edited edits (tree_without_data cards))
+    (edited_alike edits (tree_of image cards) (tree_without_data cards) (outline_alike image cards))
 
 -- What a tree that fits has
 
@@ -77,32 +77,32 @@ few_fronts limits names (edit ∷ edits) tree fronts = (
     first : (rest : List model.Edit) → IsTrue (fits limits (edited (take 1 (edit_of edit ∷ rest)) tree)) → IsTrue (few_names limits.names (done (edit_of edit) tree))
     first rest fit = (let is = fit_parts limits (done (edit_of edit) tree) fit in is.few)
 
--- A change over the cards of a volume
+-- A change over the cached nodes of a volume
 
-module _ (held : Held) (edits : List Edit) (change : IsChange held edits) (image : Image) (cards : List (Option Card)) (tree_is : held.tree ≡ tree_of image cards) where
-  pub outline_held : blanked (outline_of cards) ≡ blanked held.tree
-  outline_held = outline_alike image cards ∙ ap blanked (sym tree_is)
+module _ (held : VolumeState) (edits : List Edit) (change : IsChange held edits) (image : Image) (cards : List (Option CachedNode)) (tree_is : held.tree ≡ tree_of image cards) where
+  pub outline_held : without_data (tree_without_data cards) ≡ without_data held.tree
+  outline_held = outline_alike image cards ∙ ap without_data (sym tree_is)
 
   -- its edits can be done there
-  pub outline_doable : AreDoable (outline_of cards) edits
-  outline_doable = doable_alike held.tree (outline_of cards) edits outline_held change.doable
+  pub outline_doable : AreDoable (tree_without_data cards) edits
+  outline_doable = doable_alike held.tree (tree_without_data cards) edits outline_held change.doable
 
   module _ (sectors nodes places : ℕ) (limits_are : held.limits ≡ limits_of sectors nodes) (whole : sectors ≡ 148 + nodes + places)
       (fit : IsTrue (fits held.limits (edited_by held edits))) where
     -- with few names
-    pub outline_few : StayFew (outline_of cards) edits
-    outline_few = few_alike held.tree (outline_of cards) edits outline_held
+    pub outline_few : StayFew (tree_without_data cards) edits
+    outline_few = few_alike held.tree (tree_without_data cards) edits outline_held
         (few_fronts held.limits (ap (λ (limits : Limits). limits.names) limits_are) edits held.tree (λ count. change.fronts count fit))
 
     -- and there is room after each of them
-    front_fits : (count : ℕ) → DoesFit (limits_of sectors nodes) (edited (take count (edits_of edits)) (outline_of cards))
-    front_fits count = fit_parts (limits_of sectors nodes) (edited (take count (edits_of edits)) (outline_of cards))
-        (subst (λ (limits : Limits). IsTrue (fits limits (edited (take count (edits_of edits)) (outline_of cards)))) limits_are
-        (fits_alike held.limits (front_of held edits count) (edited (take count (edits_of edits)) (outline_of cards))
-        (edited_alike (take count (edits_of edits)) held.tree (outline_of cards) outline_held) ∙ change.fronts count fit))
+    front_fits : (count : ℕ) → DoesFit (limits_of sectors nodes) (edited (take count (edits_of edits)) (tree_without_data cards))
+    front_fits count = fit_parts (limits_of sectors nodes) (edited (take count (edits_of edits)) (tree_without_data cards))
+        (subst (λ (limits : Limits). IsTrue (fits limits (edited (take count (edits_of edits)) (tree_without_data cards)))) limits_are
+        (fits_alike held.limits (front_of held edits count) (edited (take count (edits_of edits)) (tree_without_data cards))
+        (edited_alike (take count (edits_of edits)) held.tree (tree_without_data cards) outline_held) ∙ change.fronts count fit))
 
-    pub front_room : (count : ℕ) → (total charge (edited (take count (edits_of edits)) (outline_of cards)) ≤ places)
-        × (length (edited (take count (edits_of edits)) (outline_of cards)) ≤ nodes)
+    pub front_room : (count : ℕ) → (total charge (edited (take count (edits_of edits)) (tree_without_data cards)) ≤ places)
+        × (length (edited (take count (edits_of edits)) (tree_without_data cards)) ≤ nodes)
     front_room count =
         let is = front_fits count in
         let few = is.charge in
@@ -119,7 +119,7 @@ one_number [] one number other among too = absurd (omega (arith, among.1.0))
 one_number (first ∷ rest) one number other among too =
     only_one first rest one number among.0 among.1.0 among.1.1 ∙ sym (only_one first rest one other too.0 too.1.0 too.1.1)
 
-module _ (held : Held) (edits : List Edit) (change : IsChange held edits) (image : Image) (old new : List (Option Card)) (tree_is : held.tree ≡ tree_of image old)
+module _ (held : VolumeState) (edits : List Edit) (change : IsChange held edits) (image : Image) (old new : List (Option CachedNode)) (tree_is : held.tree ≡ tree_of image old)
     (made : AreMade old new (made_by edits)) where
   -- one node is made at most
   few_made : length (made_by edits) ≤ 1

@@ -14,7 +14,7 @@ use Rattle.journal.specs.Settled.{Settles}
 use Rattle.journal.proofs.Fronts.{applied_all-push}
 use Rattle.layout.specs.Stands.{Kept}
 use Rattle.model.specs.Tree.{Tree}
-use Rattle.volume.specs.Held.{Held, StandsForOne, IsRecent, MayAdd, AddsTrees, fronts_from, with_tree}
+use Rattle.volume.specs.VolumeState.{VolumeState, StandsForOne, IsRecent, MayAdd, AddsTrees, fronts_from, with_tree}
 use Rattle.volume.specs.Stands.{Stands}
 
 pub among_rest : {A : Type 0} (first : A) (rest : List A) (one : A) → IsAmong rest one → IsAmong (first ∷ rest) one
@@ -53,7 +53,7 @@ front_more base (first ∷ list) updates front among = ⊎_elim
     (front_more (applied first base) list updates front rest))
     (among_more base (fronts_from (applied first base) (list ++ updates ∷ [])) front among)
 
-module _ (held : Held) (log : Log) (size : held.sectors ≡ log.size) (history : held.history ≡ log.history) (fronts : held.fronts ≡ fronts_from log.base log.list)
+module _ (held : VolumeState) (log : Log) (size : held.sectors ≡ log.size) (history : held.history ≡ log.history) (fronts : held.fronts ≡ fronts_from log.base log.list)
     (updates : List Update) where
   module _ (after : Kept) (behind : ∥ Stands held.sectors held.limits.nodes (applied updates (applied_all log.list log.base)) held.run after ∥₁) where
     one_front : (recent : List Tree) → IsRecent held recent → (image : Image) → StandsForFront log.size log.base (log.list ++ updates ∷ []) image → StandsForOne held (MayAdd held recent after) image

@@ -5,14 +5,14 @@ use Rattle.std.specs.List.{IsAmong}
 use Rattle.std.specs.Prelude.{Result, Ok, Err, IfErr, IsErrOf}
 use Rattle.disk.specs.Cause.{IsCounted}
 use Rattle.disk.specs.Moments.{Image}
-use Rattle.tree_edits.specs.Outlines.{blanked}
+use Rattle.tree_edits.specs.Outlines.{without_data}
 use Rattle.disk.proofs.MomentLemmas.{AddsOnly-join, AddsOnly-weaken}
 use Rattle.layout.specs.Stands.{Kept}
 use Rattle.layout.proofs.KeptLaws.{same_kept}
 use Rattle.model.specs.Tree.{Tree}
 use Rattle.volume.specs.Changes.{Ending, Done, Nothing, Broken, IsTree, Changes, ending_of}
 use Rattle.volume.specs.Formed.{Shows}
-use Rattle.volume.specs.Held.{Held, IsSameVolume, StandsForOne, IsLeft, MayAdd, AddsTrees, kept_of, with_tree}
+use Rattle.volume.specs.VolumeState.{VolumeState, IsSameVolume, StandsForOne, IsLeft, MayAdd, AddsTrees, kept_of, with_tree}
 use Rattle.volume.specs.Shown.{ShowsAs}
 use Rattle.volume.specs.Stands.{StandsFor}
 use Rattle.volume.specs.declared.fault.VolumeFault.{VolumeFault}
@@ -28,7 +28,8 @@ counted_later before between after later counted = elim counted [
   ]
 ]
 
-module _ (keeps_word : Type 0) (was between now : Held) (after : Tree) (first middle last : ℕ)
+module _ (keeps_word : Type 0) (was between now : VolumeState) (after : Tree)
+    (first middle last : ℕ)
     (change : Changes keeps_word (λ kept lasts. (kept ≡ with_tree was after) × (lasts ≡ false)) was between first middle Done)
     (shown : Shows keeps_word after between.tree) where
   abbrev Flushes : Ending → Type 0
@@ -115,7 +116,7 @@ module _ (keeps_word : Type 0) (was between now : Held) (after : Tree) (first mi
     ends = record {
       down = flush.ends.down;
       cause = counted_later first middle last change.later flush.ends.cause;
-      shows = inr (λ kept lasts is. shows_between flush.ends.shows ∙ shown.outline ∙ ap blanked (sym (ap (λ (of : Kept). of.tree) is)));
+      shows = inr (λ kept lasts is. shows_between flush.ends.shows ∙ shown.outline ∙ ap without_data (sym (ap (λ (of : Kept). of.tree) is)));
     };
   }
 
@@ -129,7 +130,7 @@ module _ (keeps_word : Type 0) (was between now : Held) (after : Tree) (first mi
   keep_flushed (Err faults.Memory) flush down refuses = absurd (⊎_elim (λ (is : faults.Memory ≡ faults.Device). cc) (λ (is : faults.Memory ≡ faults.Down). cc) refuses)
 
 -- where the change did not answer, what is said of a change that may be lost holds of one that is kept
-pub unchanged : (keeps_word : Type 0) (was now : Held) (after : Tree) (first last : ℕ) (ending : Ending) → (ending ≡ Done → ⊥)
+pub unchanged : (keeps_word : Type 0) (was now : VolumeState) (after : Tree) (first last : ℕ) (ending : Ending) → (ending ≡ Done → ⊥)
     → Changes keeps_word (λ kept lasts. (kept ≡ with_tree was after) × (lasts ≡ false)) was now first last ending
     → Changes keeps_word (IsTree was after) was now first last ending
 unchanged keeps_word was now after first last Done never change = absurd (never refl)
@@ -156,7 +157,7 @@ unchanged keeps_word was now after first last Broken never change = record {
 }
 
 -- which is where it was refused
-pub refused_unchanged : (keeps_word : Type 0) (was now : Held) (after : Tree) (first last : ℕ) (fault : VolumeFault)
+pub refused_unchanged : (keeps_word : Type 0) (was now : VolumeState) (after : Tree) (first last : ℕ) (fault : VolumeFault)
     → Changes keeps_word (λ kept lasts. (kept ≡ with_tree was after) × (lasts ≡ false)) was now first last (ending_of {T = Unit {0}} (Err fault))
     → Changes keeps_word (IsTree was after) was now first last (ending_of {T = Unit {0}} (Err fault))
 refused_unchanged keeps_word was now after first last faults.NoSpace change = unchanged keeps_word was now after first last Nothing (λ done. cc) change

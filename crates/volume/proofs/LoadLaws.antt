@@ -11,7 +11,7 @@ use Rattle.node_table.specs.declared.fault.TableFault.TheVariants as tables
 use Rattle.disk.specs.Moments.{Image, IsSector}
 use Rattle.tree_transaction.proofs.KnownLaws.{card_at}
 use Rattle.tree_edits.proofs.PlaceLaws.{there_at}
-use Rattle.layout.specs.Cards.{Card, tree_of, cards_in}
+use Rattle.layout.specs.CachedNodes.{CachedNode, tree_of, cards_in}
 use Rattle.layout.specs.Laid.{AreLaid, HoldsPlace, HoldsCard, HoldsContent}
 use Rattle.layout.specs.Marks.{mark_in, mark_by}
 use Rattle.layout.specs.Stands as layout
@@ -50,21 +50,21 @@ abbrev HoldsSectors : (size : ℕ) → Image → Type 0
 HoldsSectors size image = (n : ℕ) → n < size → IsSector (image n)
 
 -- bytes are where a place of the data region is marked
-marked_bytes : (version : Version) (size nodes : ℕ) (image : Image) (cards : List (Option Card)) → IsLaid version size nodes image cards
+marked_bytes : (version : Version) (size nodes : ℕ) (image : Image) (cards : List (Option CachedNode)) → IsLaid version size nodes image cards
     → (bytes : (n : ℕ) → 148 + nodes ≤ n → n < size → IsSector (image n)) → HoldBytes image (mark_in nodes image)
 marked_bytes version size nodes image cards laid bytes n marked = elim (cases_lt n size) [
   | inl within ↦ (bytes n (laid.laid.behind n marked) within).bytes
   | inr past ↦ absurd (omega (arith, marked, laid.within n past))
 ]
 
--- The cards on the sectors, and as they are once each node has form two
-module _ (number : VersionNumber) (mark : Option ℕ) (seats : Seats) (size nodes run : ℕ) (image : Image) (cards : List (Option Card))
+-- The cached nodes on the sectors, and as they are once each node has form two
+module _ (number : VersionNumber) (mark : Option ℕ) (seats : Seats) (size nodes run : ℕ) (image : Image) (cards : List (Option CachedNode))
     (laid : IsLaid (version_by number mark seats) size nodes image cards) (read : cards ≡ cards_in nodes image) (sectors : HoldsSectors size image)
     (sized : IsTrue (is_size size nodes)) where
   below : 148 + nodes ≤ size
   below = let parts = sized_parts size nodes sized in omega (arith, parts.room)
 
-  abbrev second : List (Option Card)
+  abbrev second : List (Option CachedNode)
   second = all_second cards
 
   as_second : IsLaidSecond size nodes image cards
@@ -117,15 +117,16 @@ laid_told number size nodes run image kept first stands =
       subst (λ (n : VersionNumber). IsLaid (version_by n parts.1 seats) size nodes image (cards_in nodes image)) same there.laid,
     )
 
-some_form : (cards : List (Option Card)) (place : ℕ) (card : Card) → get_or (all_second cards) place None ≡ Some card → card.form ≡ Two
+some_form : (cards : List (Option CachedNode)) (place : ℕ) (card : CachedNode) → get_or (all_second cards) place None ≡ Some card → card.form ≡ Two
 some_form cards place card there = form_at (get_or cards place None) card (sym (second_at cards place) ∙ there)
   where
-    form_at : (one : Option Card) (card : Card) → in_second one ≡ Some card → card.form ≡ Two
+    form_at : (one : Option CachedNode) (card : CachedNode) → in_second one ≡ Some card
+        → card.form ≡ Two
     form_at None card e = absurd (cc)
     form_at (Some one) card e = cc
 
--- the cards are known on any device, once each has form two
-pub known_second : (sectors nodes : ℕ) (cards : List (Option Card)) (places : List Bool) → AreCards nodes (mark_by (148 + nodes) places) cards
+-- the cached nodes are known on any device, once each has form two
+pub known_second : (sectors nodes : ℕ) (cards : List (Option CachedNode)) (places : List Bool) → AreCards nodes (mark_by (148 + nodes) places) cards
     → sectors ≡ 148 + nodes + length places → IsKnown sectors nodes (all_second cards) places
 known_second sectors nodes cards places known whole = record {
   are_cards = known_as_second nodes (mark_by (148 + nodes) places) cards known;
@@ -134,26 +135,26 @@ known_second sectors nodes cards places known whole = record {
 }
 
 -- and each has a number
-pub second_numbered : (nodes : ℕ) (mark : ℕ → ℕ) (cards : List (Option Card)) → AreCards nodes mark cards → AreNumbered (all_second cards)
+pub second_numbered : (nodes : ℕ) (mark : ℕ → ℕ) (cards : List (Option CachedNode)) → AreCards nodes mark cards → AreNumbered (all_second cards)
 second_numbered nodes mark cards known place number there =
     let it = there_at (all_second cards) place number there in
     let is = card_at nodes mark (all_second cards) place it.card (known_as_second nodes mark cards known) it.there in
     omega (arith, is.number, it.number_is)
 
--- what is asked of the table is asked of the cards
-pub asked : (limits told : Limits) (at by : ℕ) (table cards : List (Option Card)) → limits ≡ told → at ≡ by → table ≡ cards
+-- what is asked of the table is asked of the cached nodes
+pub asked : (limits told : Limits) (at by : ℕ) (table cards : List (Option CachedNode)) → limits ≡ told → at ≡ by → table ≡ cards
     → AreWellFormed limits at table → AreWellFormed told by cards
 asked limits told at by table cards a b c are =
     subst (λ (l : Limits). AreWellFormed l by cards) a (subst (λ (n : ℕ). AreWellFormed limits n cards) b (subst (AreWellFormed limits at) c are))
 
 -- a node that the limits allow has few blocks
 
-few_blocks : (size nodes : ℕ) (image : Image) (kind : NodeKind) (card : Card) → HoldsContent image kind card → IsContentAllowed (limits_of size nodes) kind card
+few_blocks : (size nodes : ℕ) (image : Image) (kind : NodeKind) (card : CachedNode) → HoldsContent image kind card → IsContentAllowed (limits_of size nodes) kind card
     → blocks_of kind card.fields.size ≤ 4096
 few_blocks size nodes image kind.File card holds allowed = omega (arith, allowed)
 few_blocks size nodes image kind.Directory card holds allowed = omega (arith, holds.count, holds.names.few)
 
-few_at : (size nodes place : ℕ) (image : Image) (there : Option Card) (card : Card) → there ≡ Some card → HoldsPlace image place there
+few_at : (size nodes place : ℕ) (image : Image) (there : Option CachedNode) (card : CachedNode) → there ≡ Some card → HoldsPlace image place there
     → IsNodeAllowed (limits_of size nodes) card → length card.blocks ≤ 4096
 few_at size nodes place image None card is holds allowed = absurd (cc)
 few_at size nodes place image (Some other) card is holds allowed =
@@ -161,14 +162,14 @@ few_at size nodes place image (Some other) card is holds allowed =
     let held : HoldsCard image place card = subst (HoldsCard image place) same holds in
     omega (arith, held.node.blocks, few_blocks size nodes image card.fields.kind card held.content allowed.content)
 
-allowed_few : (size nodes : ℕ) (image : Image) (mark : ℕ → ℕ) (cards : List (Option Card)) → AreLaid nodes image mark cards
+allowed_few : (size nodes : ℕ) (image : Image) (mark : ℕ → ℕ) (cards : List (Option CachedNode)) → AreLaid nodes image mark cards
     → AreNodesAllowed (limits_of size nodes) cards → AreFew cards
 allowed_few size nodes image mark cards laid allowed place card there = elim (cases_lt place nodes) [
   | inl within ↦ few_at size nodes place image (get_or cards place None) card there (laid.held place within) (allowed.each place card there)
   | inr past ↦ absurd (none_some card (sym (get_or_past cards place None (omega (arith, laid.count, past))) ∙ there))
 ]
   where
-    none_some : (x : Card) → (let none : Option Card = None in none ≡ Some x) → ⊥
+    none_some : (x : CachedNode) → (let none : Option CachedNode = None in none ≡ Some x) → ⊥
     none_some x e = cc
 
 -- so where a tree stands, few blocks do

@@ -9,7 +9,7 @@ use Rattle.inode.specs.declared.node.Form.TheVariants as forms
 use Rattle.journal.specs.Commit.{AddsEither}
 use Rattle.journal.specs.Settled.{Settles, AreSame}
 use Rattle.journal.proofs.Images.{put_same, put_other}
-use Rattle.layout.specs.Cards.{node_sector}
+use Rattle.layout.specs.CachedNodes.{node_sector}
 use Rattle.layout.specs.Rewriting.{all_second, in_form, IsRewritten}
 use Rattle.layout.specs.Stands as layout
 use Rattle.layout.specs.Stands.{By, IsMark, Kept, MayKeep, Version, version_1, version_2, version_by}

@@ -11,7 +11,7 @@ use Rattle.volume.specs.declared.fault.MountFault.TheVariants as mounts
 use Rattle.volume.specs.declared.mount.Superblock.{Superblock}
 use Rattle.volume.specs.declared.volume.Unmounted.{Unmounted}
 use Rattle.volume.specs.declared.superblock.Verdict.TheVariants as verdicts
-use Rattle.volume.specs.Held.{Held, kept_of}
+use Rattle.volume.specs.VolumeState.{VolumeState, kept_of}
 use Rattle.volume.specs.MountAnswers.{first_verdict, HasMounted, OnlyReplays, HasReason, IsMountRefused, ComesBack}
 use Rattle.volume.specs.Mounts.{HasBegun, IsNotBegun}
 use Rattle.volume.specs.Refusals.{gate_fault}
@@ -101,7 +101,7 @@ module _ (sectors : ℕ) (old new : History) (sound : first_verdict sectors old 
 module _ (sectors : ℕ) (old mid : History) (found : Superblock) (base : Image) (sectors_is : found.sectors ≡ sectors) (few : found.nodes < 2 ^ 32) (counted : found.run < 2 ^ 32)
     (sound : first_verdict sectors old ≡ verdicts.Sound) (first : seen old.now 0 ≡ superblock found.version found.sectors found.nodes found.run)
     (settles : Settles sectors (seen old.now) base) (replays : AddsOnly (SettlesAs sectors (seen old.now)) old mid) where
-  pub begun_found : (held : Held) → AddsOnly (SettlesAs sectors (seen old.now)) (synced old) mid → HasBegun found base mid held → HasMounted sectors old held
+  pub begun_found : (held : VolumeState) → AddsOnly (SettlesAs sectors (seen old.now)) (synced old) mid → HasBegun found base mid held → HasMounted sectors old held
   begun_found held since begun = record {
     first = sound;
     found = record {

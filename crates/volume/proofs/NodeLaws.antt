@@ -1,10 +1,10 @@
--- What a card shows of its node.
+-- What a cached node shows of its node.
 use Rattle.std.proofs.Common.{◌≡◌, ℕ, List, Option, Some, None, get_or, refl, sym, ap, ◌∙◌}
 use Rattle.std.proofs.lemmas.List.{length-map}
 use Rattle.std.proofs.lemmas.List.FromFn.{length-range_with_len}
 use Rattle.std.specs.List.{range_with_len}
 use Rattle.disk.specs.Moments.{Image}
-use Rattle.layout.specs.Cards.{Card, byte_at, bytes_in, node_of, content_of, tree_of}
+use Rattle.layout.specs.CachedNodes.{CachedNode, byte_at, bytes_in, node_of, content_of, tree_of}
 use Rattle.layout.specs.Laid.{AreNumbered}
 use Rattle.layout.proofs.Answering.{tree-has}
 use Rattle.layout.proofs.Changing.{tree-lacks}
@@ -14,7 +14,7 @@ use Rattle.model.specs.declared.node.NodeKind.TheVariants as kind
 use Rattle.model.specs.Keyed.{at}
 use Rattle.volume.specs.Nodes.{ShowsContent, IsNodeOf}
 
-shows : (image : Image) (kind : NodeKind) (card : Card) → ShowsContent kind card (content_of image kind card)
+shows : (image : Image) (kind : NodeKind) (card : CachedNode) → ShowsContent kind card (content_of image kind card)
 unfolding bytes_in
 shows image kind.File card = record {
   bytes = bytes_in image card.blocks card.fields.size;
@@ -23,11 +23,11 @@ shows image kind.File card = record {
 }
 shows image kind.Directory card = refl
 
-shown_number : (card : Card) (option : Option Card) (number : ℕ) → option ≡ Some card → number_of option ≡ Some number → card.fields.number ≡ number
+shown_number : (card : CachedNode) (option : Option CachedNode) (number : ℕ) → option ≡ Some card → number_of option ≡ Some number → card.fields.number ≡ number
 shown_number card None number there is = absurd (cc)
 shown_number card (Some other) number there is = cc
 
-pub node_there : (image : Image) (cards : List (Option Card)) (place number : ℕ) (card : Card) → AreNumbered cards → get_or cards place None ≡ Some card
+pub node_there : (image : Image) (cards : List (Option CachedNode)) (place number : ℕ) (card : CachedNode) → AreNumbered cards → get_or cards place None ≡ Some card
     → number_at cards place ≡ Some number → IsNodeOf (tree_of image cards) number card
 unfolding node_of
 node_there image cards place number card apart there is =
@@ -44,5 +44,5 @@ node_there image cards place number card apart there is =
       content = shows image card.fields.kind card;
     }
 
-pub none_there : (image : Image) (cards : List (Option Card)) (number : ℕ) → HasNot cards number → at number (tree_of image cards) ≡ None
+pub none_there : (image : Image) (cards : List (Option CachedNode)) (number : ℕ) → HasNot cards number → at number (tree_of image cards) ≡ None
 none_there image cards number has_not = tree-lacks image cards number (λ i card there same. has_not i (ap number_of there ∙ ap (λ (n : ℕ). Some n) same))

@@ -12,9 +12,9 @@ use Rattle.tree_edits.specs.declared.edit.Edit.{Edit}
 use Rattle.tree_edits.specs.declared.edit.Edit.TheVariants as edit
 use Rattle.tree_edits.specs.Doing.{made_by, AreMade}
 use Rattle.tree_edits.specs.Edits.{edit_of, edits_of, fresh_node}
-use Rattle.tree_edits.specs.Outlines.{blanked, outline_of}
-use Rattle.tree_edits.proofs.BlankLaws.{names-blanked}
-use Rattle.layout.specs.Cards.{Card, tree_of}
+use Rattle.tree_edits.specs.Outlines.{without_data, tree_without_data}
+use Rattle.tree_edits.proofs.BlankLaws.{names-without_data}
+use Rattle.layout.specs.CachedNodes.{CachedNode, tree_of}
 use Rattle.layout.specs.Known.{AreCards}
 use Rattle.layout.specs.Marks.{once_if, times}
 use Rattle.model.specs.declared.limits.Limits.{Limits}
@@ -35,7 +35,7 @@ use Rattle.tree_check.proofs.TreeLaws.{find, Finds, There, Nowhere, numbered}
 use Rattle.volume.specs.Edits.{edited_by, named_by, put_by, HasPut, IsChange}
 use Rattle.volume.specs.Parents.{PutsParent}
 use Rattle.volume.specs.Formed.{IsFormed}
-use Rattle.volume.specs.Held.{Held}
+use Rattle.volume.specs.VolumeState.{VolumeState}
 use Rattle.volume.proofs.FormedLaws.{formed_tree}
 use Rattle.volume.proofs.EditLaws.{one_number, edited_alike, outline_alike}
 
@@ -197,31 +197,32 @@ others_none (first ∷ []) number other few among off =
     let none : once_if (eqb other first) ≡ 0 = rw (ne_eqb other first (λ same. off (same ∙ first_is))) refl in
     omega (arith, none)
 
--- Over a change of cards
+-- Over a change of cached nodes
 
-module _ (held : Held) (edits : List Edit) (change : IsChange held edits) (image : Image) (nodes : ℕ) (mark marked : ℕ → ℕ) (old new : List (Option Card)) (tree_is : held.tree ≡ tree_of image old)
+module _ (held : VolumeState) (edits : List Edit) (change : IsChange held edits) (image : Image) (nodes : ℕ) (mark marked : ℕ → ℕ) (old new : List (Option CachedNode)) (tree_is : held.tree ≡ tree_of image old)
     (known : AreCards nodes mark old) (new_known : AreCards nodes marked new) (made : AreMade old new (made_by edits))
-    (outline : outline_of new ≡ blanked (edited (edits_of edits) (outline_of old))) where
+    (outline : tree_without_data new
+    ≡ without_data (edited (edits_of edits) (tree_without_data old))) where
   -- the names of the outline are those of the tree after the edits
-  links_new : (of number : ℕ) → links_at (outline_of new) of number ≡ links_at (edited (edits_of edits) (outline_of old)) of number
-  links_new of number = ap (λ (tree : Tree). links_at tree of number) outline ∙ ap (links_in number) (names-blanked (edited (edits_of edits) (outline_of old)) of)
+  links_new : (of number : ℕ) → links_at (tree_without_data new) of number ≡ links_at (edited (edits_of edits) (tree_without_data old)) of number
+  links_new of number = ap (λ (tree : Tree). links_at tree of number) outline ∙ ap (links_in number) (names-without_data (edited (edits_of edits) (tree_without_data old)) of)
 
-  links_behind : (of number : ℕ) → links_at (outline_of new) of number ≡ links_at (edited_by held edits) of number
+  links_behind : (of number : ℕ) → links_at (tree_without_data new) of number ≡ links_at (edited_by held edits) of number
   links_behind of number =
-      let alike : blanked (outline_of old) ≡ blanked held.tree = outline_alike image old ∙ ap blanked (sym tree_is) in
-      ap (λ (tree : Tree). links_at tree of number) (outline ∙ edited_alike (edits_of edits) held.tree (outline_of old) alike)
-      ∙ ap (links_in number) (names-blanked (edited_by held edits) of)
+      let alike : without_data (tree_without_data old) ≡ without_data held.tree = outline_alike image old ∙ ap without_data (sym tree_is) in
+      ap (λ (tree : Tree). links_at tree of number) (outline ∙ edited_alike (edits_of edits) held.tree (tree_without_data old) alike)
+      ∙ ap (links_in number) (names-without_data (edited_by held edits) of)
 
   -- each name of another number was there
   name_was : (of number : ℕ) → times number (named_by edits) ≡ 0 → HasName new of number → HasName old of number
   name_was of number none has =
       let now = card_of_name nodes marked new new_known (λ n. []) number of has in
-      name_there (omega (arith, links_edited edits (outline_of old) of number none, links_new of number, links_node of number (outline_of new) now.0 now.1.0, now.1.1))
+      name_there (omega (arith, links_edited edits (tree_without_data old) of number none, links_new of number, links_node of number (tree_without_data new) now.0 now.1.0, now.1.1))
     where
-      name_there : 0 < links_at (outline_of old) of number → HasName old of number
-      name_there some = by_node (at of (outline_of old)) refl some
+      name_there : 0 < links_at (tree_without_data old) of number → HasName old of number
+      name_there some = by_node (at of (tree_without_data old)) refl some
         where
-          by_node : (found : Option Node) → at of (outline_of old) ≡ found → 0 < links_in number (names_of_node found) → HasName old of number
+          by_node : (found : Option Node) → at of (tree_without_data old) ≡ found → 0 < links_in number (names_of_node found) → HasName old of number
           by_node None is leads = absurd (omega (arith, leads))
           by_node (Some node) is leads = name_of_card nodes mark old known (λ n. []) number of node is leads
 
@@ -252,9 +253,9 @@ module _ (held : Held) (edits : List Edit) (change : IsChange held edits) (image
     put_is = put_some (edited_by held edits) edits number directory some change.put
 
     name_put_there : HasName new directory number
-    name_put_there = by_node (at directory (outline_of new)) refl (omega (arith, links_behind directory number, put_is.leads))
+    name_put_there = by_node (at directory (tree_without_data new)) refl (omega (arith, links_behind directory number, put_is.leads))
       where
-        by_node : (found : Option Node) → at directory (outline_of new) ≡ found → 0 < links_in number (names_of_node found) → HasName new directory number
+        by_node : (found : Option Node) → at directory (tree_without_data new) ≡ found → 0 < links_in number (names_of_node found) → HasName new directory number
         by_node None is leads = absurd (omega (arith, leads))
         by_node (Some node) is leads = name_of_card nodes marked new new_known (λ n. []) number directory node is leads
 
@@ -267,8 +268,8 @@ module _ (held : Held) (edits : List Edit) (change : IsChange held edits) (image
       names = λ of other off has. name_was of other (others_none (named_by edits) number other change.named put_is.among off) has;
     }
 
-  module _ (limits : Limits) (most : 1024 ≤ limits.names) (stamp : ℕ) (formed : IsFormed limits stamp (outline_of new)) (parents : List ℕ) (are : AreParents old parents) where
-    -- the cards after it are one tree
+  module _ (limits : Limits) (most : 1024 ≤ limits.names) (stamp : ℕ) (formed : IsFormed limits stamp (tree_without_data new)) (parents : List ℕ) (are : AreParents old parents) where
+    -- the cached nodes after it are one tree
     one_tree : ∥ IsOneTree new ∥₁
     one_tree = formed_tree limits most stamp nodes marked new new_known formed
 

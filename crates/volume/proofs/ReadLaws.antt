@@ -4,7 +4,7 @@ use Rattle.std.proofs.lemmas.Bool.{cases_lt}
 use Rattle.std.specs.Prelude.{IsSome, IfSome, IfNone}
 use Rattle.disk.specs.Moments.{Image}
 use Rattle.node_table.specs.Tables.{number_at, HasNot}
-use Rattle.layout.specs.Cards.{Card, bytes_in, content_of, node_of, tree_of}
+use Rattle.layout.specs.CachedNodes.{CachedNode, bytes_in, content_of, node_of, tree_of}
 use Rattle.layout.specs.Laid.{AreNumbered}
 use Rattle.layout.specs.Marks.{named_by}
 use Rattle.layout.proofs.Answering.{tree-has}
@@ -22,7 +22,7 @@ use Rattle.volume.specs.Reading.{HasFile}
 use Rattle.volume.proofs.NodeLaws.{node_there, none_there}
 
 -- its blocks are the volume's
-pub blocks_within : (size nodes place : ℕ) (cards : List (Option Card)) (places : List Bool) (card : Card) → IsKnown size nodes cards places → get_or cards place None ≡ Some card → AreWithin size card.blocks
+pub blocks_within : (size nodes place : ℕ) (cards : List (Option CachedNode)) (places : List Bool) (card : CachedNode) → IsKnown size nodes cards places → get_or cards place None ≡ Some card → AreWithin size card.blocks
 unfolding named_by
 blocks_within size nodes place cards places card known there block sector is =
     let each = each_mark (148 + nodes) places 0 in
@@ -33,12 +33,12 @@ blocks_within size nodes place cards places card known there block sector is =
       | inr high ↦ absurd (let none = each.within sector (omega (arith, known.whole)) in omega (arith, named-at sector cards place, known.are_cards.marks sector))
     ]
 
-content_bytes : (image : Image) (of : NodeKind) (card : Card) → kind_of (content_of image of card) ≡ kind.File → bytes_of (content_of image of card) ≡ bytes_in image card.blocks card.fields.size
+content_bytes : (image : Image) (of : NodeKind) (card : CachedNode) → kind_of (content_of image of card) ≡ kind.File → bytes_of (content_of image of card) ≡ bytes_in image card.blocks card.fields.size
 content_bytes image kind.File card is = refl
 content_bytes image kind.Directory card is = absurd (cc)
 
--- its bytes are those of its card
-pub file_bytes : (image : Image) (cards : List (Option Card)) (place number : ℕ) (card : Card) → AreNumbered cards → get_or cards place None ≡ Some card → number_at cards place ≡ Some number
+-- its bytes are those of its cached node
+pub file_bytes : (image : Image) (cards : List (Option CachedNode)) (place number : ℕ) (card : CachedNode) → AreNumbered cards → get_or cards place None ≡ Some card → number_at cards place ≡ Some number
     → HasFile (tree_of image cards) number → bytes_at (tree_of image cards) number ≡ bytes_in image card.blocks card.fields.size
 unfolding node_of
 file_bytes image cards place number card apart there is file =
@@ -49,7 +49,7 @@ file_bytes image cards place number card apart there is file =
     ap bytes_of_node found ∙ content_bytes image card.fields.kind card (ap (λ (n : Node). kind_of n.content) (sym node) ∙ file.file)
 
 -- and its place is there
-pub place_there : (image : Image) (cards : List (Option Card)) (number : ℕ) (place : Option ℕ) → IfNone place (HasNot cards number) → HasFile (tree_of image cards) number → IsSome place
+pub place_there : (image : Image) (cards : List (Option CachedNode)) (number : ℕ) (place : Option ℕ) → IfNone place (HasNot cards number) → HasFile (tree_of image cards) number → IsSome place
 place_there image cards number (Some place) none file = refl
 place_there image cards number None none file = absurd (let lacks = none_there image cards number none in let there = file.there in cc)
 

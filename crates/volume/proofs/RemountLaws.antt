@@ -8,7 +8,7 @@ use Rattle.journal.proofs.Moments.{seen-may_hold}
 use Rattle.disk.specs.Moments.{Image, Moment, History, Left, LeftSince, LeftWithin, at_rest, moment, seen}
 use Rattle.layout.specs.Stands.{Kept, current_number}
 use Rattle.volume.specs.Stands.{StandsFor, StandsForIn}
-use Rattle.volume.specs.Held.{Held, kept_of}
+use Rattle.volume.specs.VolumeState.{VolumeState, kept_of}
 use Rattle.volume.specs.Remounts.{AddsMount, IsFound, IsFront, Now, Before, Remounts, Stays, Mounts, Ends, Stops, StandsForGood, LeavesGood, ServesGood, EveryRemount, StillStands}
 use Rattle.volume.proofs.OneTree.{one_stands}
 
@@ -79,7 +79,7 @@ module _ (sectors nodes run : ℕ) (good : Kept → Type 0) where
         leaves = λ image left. subst Good (sym (rests_left stopped image left)) ((lasting first since old at good before).leaves stopped was);
       }
 
-  pub served_good : (first : History) (since : ℕ) (device : History) (from : ℕ) (held : Held) → LeavesGood sectors nodes run good first since
+  pub served_good : (first : History) (since : ℕ) (device : History) (from : ℕ) (held : VolumeState) → LeavesGood sectors nodes run good first since
       → Remounts sectors first since device from → IsFound sectors device held → ServesGood nodes run good held
   served_good first since device from held leaves remounts found =
       let now = (lasting first since device from leaves remounts).leaves (seen device.now) (inl (seen_left device.now)) in

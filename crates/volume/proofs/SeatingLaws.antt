@@ -18,7 +18,7 @@ use Rattle.journal.specs.declared.fault.JournalFault.{JournalFault}
 use Rattle.journal.specs.declared.fault.JournalFault.TheVariants as faults
 use Rattle.journal.proofs.Fronts.{applied_all-push}
 use Rattle.journal.proofs.Joins.{front_moved}
-use Rattle.layout.specs.Cards.{Card, cards_in, node_sector, tree_of}
+use Rattle.layout.specs.CachedNodes.{CachedNode, cards_in, node_sector, tree_of}
 use Rattle.layout.specs.Rewriting.{IsRewritten}
 use Rattle.layout.specs.Stands as layout
 use Rattle.layout.specs.Stands.{HoldSeats, Kept, StandsNow, current, seats_at, spare_by}
@@ -31,11 +31,11 @@ use Rattle.model.specs.Tree.{Tree}
 use Rattle.seating.specs.Edits.{AreUpdates}
 use Rattle.seats.specs.Spelling.{ArePlaces, seat_sector, seats_sector}
 use Rattle.volume.specs.Changes.{Done, Broken, IsSeats, Changes, ending_of}
-use Rattle.volume.specs.Held.{Held, Holds, IsRecent, IsSameVolume, MayAdd, StandsForOne, AddsTrees, with_tree}
+use Rattle.volume.specs.VolumeState.{VolumeState, Holds, IsRecent, IsSameVolume, MayAdd, StandsForOne, AddsTrees, with_tree}
 use Rattle.volume.specs.Known.{IsServing, kept_in}
 use Rattle.volume.specs.Refusals.{fault_of}
 use Rattle.volume.specs.Stands.{Stands}
-use Rattle.volume.specs.Views.{held_by}
+use Rattle.volume.specs.Views.{volume_state_by}
 use Rattle.volume.proofs.ApplyLaws.{StandsWith, listed_with, moved_seats, moved_serves, moved_tree, stands_after, then_seats, then_serves, then_tree}
 use Rattle.volume.proofs.ChangeLaws.{StandsWith-prop}
 use Rattle.volume.proofs.FrontLaws.{front_among}
@@ -44,13 +44,13 @@ use Rattle.volume.proofs.OneTree.{Seats-set, Tree-set}
 use Rattle.volume.proofs.ServeLaws.{among_one, flush_adds, flush_keeps, flush_refused, flush_seats, holds_base, served_stands, still_serving}
 use Rattle.volume.proofs.StandLaws.{stands_same}
 
--- What stands after the transaction: the same cards and tree, with the edited seats
+-- What stands after the transaction: the same cached nodes and tree, with the edited seats
 
 -- the two sectors behind the seats are those of no seat
 behind_seats : (seats : Seats) (n : ℕ) → length seats ≡ 5 → 45 ≤ n → n < 47 → seats_sector n seats ≡ seat_sector (n % 9) None
 behind_seats seats n five low high = ap (seat_sector (n % 9)) (get_or_past seats (n / 9) None (omega (arith, five, low)))
 
-module _ (nodes run : ℕ) (log : Log) (cards : List (Option Card)) (edits : List SeatEdit) (updates : List Update) (are : AreUpdates edits updates)
+module _ (nodes run : ℕ) (log : Log) (cards : List (Option CachedNode)) (edits : List SeatEdit) (updates : List Update) (are : AreUpdates edits updates)
     (read : cards ≡ cards_in nodes (contents log)) (stood : StandsNow log.size nodes (contents log) run (kept_in (contents log) cards))
     (can : AreEdits run edits (seats_at (contents log))) where
   abbrev image : Image
@@ -128,7 +128,7 @@ module _ (nodes run : ℕ) (log : Log) (cards : List (Option Card)) (edits : Lis
   }
 
 -- where a volume serves
-pub seats_behind : (nodes run : ℕ) (log : Log) (cards : List (Option Card)) (edits : List SeatEdit) (updates : List Update) → AreUpdates edits updates
+pub seats_behind : (nodes run : ℕ) (log : Log) (cards : List (Option CachedNode)) (edits : List SeatEdit) (updates : List Update) → AreUpdates edits updates
     → AreEdits run edits (seats_at (contents log)) → ∥ IsServing log nodes run cards ∥₁
     → StandsWith nodes run log updates cards (record { tree = tree_of (contents log) cards; seats = edited_all edits (seats_at (contents log)) })
 seats_behind nodes run log cards edits updates are can serving =
@@ -137,15 +137,15 @@ seats_behind nodes run log cards edits updates are can serving =
 
 -- The transaction goes into the journal, and a flush takes it into the base
 
-module _ (keeps_word : Type 0) (limits : Limits) (run : ℕ) (cards : List (Option Card)) (old mid new : Log) (updates : List Update) (seats : Seats) (first middle last : ℕ)
+module _ (keeps_word : Type 0) (limits : Limits) (run : ℕ) (cards : List (Option CachedNode)) (old mid new : Log) (updates : List Update) (seats : Seats) (first middle last : ℕ)
     (safe : IsSafe keeps_word old mid) (later : first ≤ middle) (up : mid.is_down ≡ false) (told : middle ≡ first) (has : HasApplied keeps_word updates old mid)
     (serves : keeps_word → ∥ IsServing old limits.nodes run cards ∥₁)
     (behind : keeps_word → StandsWith limits.nodes run old updates cards (record { tree = tree_of (contents old) cards; seats = seats })) where
-  abbrev before : Held
-  before = held_by limits run cards old
+  abbrev before : VolumeState
+  before = volume_state_by limits run cards old
 
-  abbrev now_held : Held
-  now_held = held_by limits run cards new
+  abbrev now_held : VolumeState
+  now_held = volume_state_by limits run cards new
 
   abbrev after : Kept
   after = record { tree = before.tree; seats = seats }

@@ -12,7 +12,7 @@ use Rattle.tree_edits.proofs.BlankLaws.{each_outline}
 use Rattle.journal.specs.Calls.{IsSafe, HasFlushed}
 use Rattle.journal.specs.Log.{Log, IsSettled, StandsForFront, contents, applied_all, AddsFronts, Answers}
 use Rattle.journal.specs.Settled.{AreSame}
-use Rattle.layout.specs.Cards.{Card, tree_of, cards_in}
+use Rattle.layout.specs.CachedNodes.{CachedNode, tree_of, cards_in}
 use Rattle.layout.specs.MarkLaws.{SeesSame}
 use Rattle.layout.specs.Stands.{Kept, StandsNow, Version, current, seats_at}
 use Rattle.layout.proofs.KeptLaws.{same_kept, stands_now}
@@ -22,20 +22,20 @@ use Rattle.journal.specs.declared.fault.JournalFault.{JournalFault}
 use Rattle.journal.specs.declared.fault.JournalFault.TheVariants as faults
 use Rattle.volume.specs.Changes.{Given, Done, Nothing, Broken, IsTree, Changes, ending_of}
 use Rattle.volume.specs.Refusals.{fault_of}
-use Rattle.volume.specs.Held.{Held, IsSameVolume, Holds, MayAdd, StandsForOne, AddsTrees, fronts_from, with_tree}
+use Rattle.volume.specs.VolumeState.{VolumeState, IsSameVolume, Holds, MayAdd, StandsForOne, AddsTrees, fronts_from, with_tree}
 use Rattle.volume.specs.Known.{IsServing, kept_in}
 use Rattle.volume.specs.Stands.{Stands}
-use Rattle.volume.specs.Views.{held_by}
+use Rattle.volume.specs.Views.{volume_state_by}
 use Rattle.volume.proofs.FrontLaws.{front_among}
 use Rattle.volume.proofs.OneTree.{Seats-set, Tree-set}
 use Rattle.volume.proofs.StandLaws.{now_same, seats_same, sized}
 
 -- what serves stands with its seats
-pub served_stands : (nodes run : ℕ) (cards : List (Option Card)) (log : Log) → IsServing log nodes run cards
+pub served_stands : (nodes run : ℕ) (cards : List (Option CachedNode)) (log : Log) → IsServing log nodes run cards
     → ∥ Stands log.size nodes (contents log) run (kept_in (contents log) cards) ∥₁
 served_stands nodes run cards log serving = ∥∥₁_map serving.stands (stands_now log.size nodes (contents log) run (kept_in (contents log) cards))
 
-module _ (nodes run : ℕ) (cards : List (Option Card)) (old new : Log) (same : AreSame old.size (contents old) (contents new)) where
+module _ (nodes run : ℕ) (cards : List (Option CachedNode)) (old new : Log) (same : AreSame old.size (contents old) (contents new)) where
   abbrev now : Version
   now = current (seats_at (contents old))
 
@@ -69,24 +69,24 @@ module _ (nodes run : ℕ) (cards : List (Option Card)) (old new : Log) (same : 
   })
 
 -- a flush keeps the tree
-pub flush_keeps : (keeps_word : Type 0) (nodes run : ℕ) (cards : List (Option Card)) (old new : Log) → HasFlushed keeps_word old new → (keeps_word → ∥ IsServing old nodes run cards ∥₁)
+pub flush_keeps : (keeps_word : Type 0) (nodes run : ℕ) (cards : List (Option CachedNode)) (old new : Log) → HasFlushed keeps_word old new → (keeps_word → ∥ IsServing old nodes run cards ∥₁)
     → keeps_word → tree_of (contents new) cards ≡ tree_of (contents old) cards
 flush_keeps keeps_word nodes run cards old new flushed serves k =
     ∥∥₁_elim (serves k) (Tree-set (tree_of (contents new) cards) (tree_of (contents old) cards)) (tree_stays nodes run cards old new (flushed.contents k))
 
-pub flush_seats : (keeps_word : Type 0) (nodes run : ℕ) (cards : List (Option Card)) (old new : Log) → HasFlushed keeps_word old new → (keeps_word → ∥ IsServing old nodes run cards ∥₁)
+pub flush_seats : (keeps_word : Type 0) (nodes run : ℕ) (cards : List (Option CachedNode)) (old new : Log) → HasFlushed keeps_word old new → (keeps_word → ∥ IsServing old nodes run cards ∥₁)
     → keeps_word → seats_at (contents new) ≡ seats_at (contents old)
 flush_seats keeps_word nodes run cards old new flushed serves k =
     ∥∥₁_elim (serves k) (Seats-set (seats_at (contents new)) (seats_at (contents old))) (seats_stay nodes run cards old new (flushed.contents k))
 
 -- what a flush adds to what a stop may leave are trees that it may leave already
-pub flush_adds : (limits : Limits) (run : ℕ) (cards : List (Option Card)) (old new : Log) (after : Kept) → AddsFronts old new
-    → AddsTrees (held_by limits run cards old) after new.history
+pub flush_adds : (limits : Limits) (run : ℕ) (cards : List (Option CachedNode)) (old new : Log) (after : Kept) → AddsFronts old new
+    → AddsTrees (volume_state_by limits run cards old) after new.history
 flush_adds limits run cards old new after adds recent is = AddsOnly-weaken
-    (StandsForFront old.size old.base old.list) (StandsForOne (held_by limits run cards old) (MayAdd (held_by limits run cards old) recent after)) old.history new.history
+    (StandsForFront old.size old.base old.list) (StandsForOne (volume_state_by limits run cards old) (MayAdd (volume_state_by limits run cards old) recent after)) old.history new.history
     (λ image front.
     let covered = is.covers (applied_all (take front.count old.list) old.base) (front_among old.base old.list front.count front.within) in (
-      with_tree (held_by limits run cards old) covered.0,
+      with_tree (volume_state_by limits run cards old) covered.0,
       inl (covered.1, refl),
       ∥∥₁_map covered.2 (λ stands. record { base = applied_all (take front.count old.list) old.base; settles = front.settles; stands = stands }),
     ))
@@ -100,8 +100,8 @@ among_one only other among = by_place among.0 among.1.0 among.1.1
     by_place (suc place) less e = absurd (omega arith)
 
 -- where nothing is left to flush, each map left stands for what the base does, and so does its only front
-pub holds_base : (limits : Limits) (run : ℕ) (cards : List (Option Card)) (log : Log) → log.list ≡ []
-    → ∥ Stands log.size limits.nodes (contents log) run (kept_in (contents log) cards) ∥₁ → IsSettled log → Holds (held_by limits run cards log)
+pub holds_base : (limits : Limits) (run : ℕ) (cards : List (Option CachedNode)) (log : Log) → log.list ≡ []
+    → ∥ Stands log.size limits.nodes (contents log) run (kept_in (contents log) cards) ∥₁ → IsSettled log → Holds (volume_state_by limits run cards log)
 holds_base limits run cards log listed stands settled =
     let base : contents log ≡ log.base = ap (λ l. applied_all l log.base) listed in
     let kept = kept_in (contents log) cards in
@@ -126,12 +126,12 @@ if_some_so (Some x) P Q so is = so x is
 if_some_so None P Q so is = tt
 
 -- A flush of the journal, as the volume tells it
-module _ (keeps_word : Type 0) (limits : Limits) (run : ℕ) (cards : List (Option Card)) (old new : Log) (before after : ℕ) where
-  abbrev was : Held
-  was = held_by limits run cards old
+module _ (keeps_word : Type 0) (limits : Limits) (run : ℕ) (cards : List (Option CachedNode)) (old new : Log) (before after : ℕ) where
+  abbrev was : VolumeState
+  was = volume_state_by limits run cards old
 
-  abbrev is : Held
-  is = held_by limits run cards new
+  abbrev is : VolumeState
+  is = volume_state_by limits run cards new
 
   same_volume : new.size ≡ old.size → IsSameVolume was is
   same_volume size = record { sectors = size; limits = refl; run = refl }
@@ -188,7 +188,7 @@ module _ (keeps_word : Type 0) (limits : Limits) (run : ℕ) (cards : List (Opti
       later = later;
       none = λ other. told;
       moments = λ k kept lasts of. flush_adds limits run cards old new kept (safe.moments k);
-      ends = ap (held_by limits run cards) same;
+      ends = ap (volume_state_by limits run cards) same;
     }
 
     -- and it serves on
@@ -214,9 +214,9 @@ up_answered keeps_word old new before after P (Err fault) answered answers refus
     (λ (down : fault ≡ faults.Down). absurd (down_up new.is_down (ap (λ (log : Log). log.is_down) (answers.untouched (ap Err down)).0 ∙ answers.down.0 (ap Err down)) is_up))
     refuses
 
-pub flush_refused : (keeps_word : Type 0) (given : Given) (limits : Limits) (run : ℕ) (cards : List (Option Card)) (old new : Log) (before after : ℕ) (fault : JournalFault)
+pub flush_refused : (keeps_word : Type 0) (given : Given) (limits : Limits) (run : ℕ) (cards : List (Option CachedNode)) (old new : Log) (before after : ℕ) (fault : JournalFault)
     → IsSafe keeps_word old new → Answers {T = Unit {0}} old new before after (Err fault) → (fault ≡ faults.Fault) ⊎ (fault ≡ faults.Down)
-    → Changes keeps_word given (held_by limits run cards old) (held_by limits run cards new) before after (ending_of {T = Unit {0}} (Err (fault_of fault)))
+    → Changes keeps_word given (volume_state_by limits run cards old) (volume_state_by limits run cards new) before after (ending_of {T = Unit {0}} (Err (fault_of fault)))
 flush_refused keeps_word given limits run cards old new before after faults.Fault safe answers refuses =
     flush_broken keeps_word limits run cards old new before after safe answers.later given (answers.goes_down refl) (answers.counted refl)
 flush_refused keeps_word given limits run cards old new before after faults.Down safe answers refuses =

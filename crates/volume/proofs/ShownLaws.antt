@@ -3,10 +3,10 @@ use Rattle.std.proofs.Common.{◌≡◌, ℕ, zero, suc, List, [], ◌∷◌, Op
 use Rattle.std.specs.Prelude.{if◌then◌else◌, nat_lt, ◌==◌, option_map}
 use Rattle.std.specs.List.{list_any}
 use Rattle.std.proofs.lemmas.Option.{same_Some}
-use Rattle.tree_edits.specs.Outlines.{blank, blank_node, blanked}
-use Rattle.tree_edits.proofs.BlankLaws.{at-blanked, length-blanked, length-zeros}
+use Rattle.tree_edits.specs.Outlines.{blank, blank_node, without_data}
+use Rattle.tree_edits.proofs.BlankLaws.{at-without_data, length-without_data, length-zeros}
 use Rattle.tree_edits.proofs.FitLaws.{fits_alike}
-use Rattle.layout.specs.Cards.{Card}
+use Rattle.layout.specs.CachedNodes.{CachedNode}
 use Rattle.model.specs.declared.node.NodeKind.{NodeKind}
 use Rattle.model.specs.declared.node.NodeKind.TheVariants as kind
 use Rattle.model.specs.Ancestors.{parent_of, ancestors_in, is_below}
@@ -18,31 +18,31 @@ use Rattle.volume.specs.Shown.{ShowsAs, AnswersByShown}
 
 -- Parents and ancestors
 
-links-blanked : (number : ℕ) (node : Node) → links_from number (blank_node node) ≡ links_from number node
-links-blanked number node = by_content node.content
+links-without_data : (number : ℕ) (node : Node) → links_from number (blank_node node) ≡ links_from number node
+links-without_data number node = by_content node.content
   where
     by_content : (content : Content) → links_in number (names_of (blank content)) ≡ links_in number (names_of content)
     by_content (File bytes) = refl
     by_content (Directory names) = refl
 
-pub parent-blanked : (tree : Tree) (number : ℕ) → parent_of (blanked tree) number ≡ parent_of tree number
-parent-blanked [] number = refl
-parent-blanked (entry ∷ rest) number =
-    ap₂ (λ (n other : ℕ). if nat_lt 0 n then entry.0 else other) (links-blanked number entry.1) (parent-blanked rest number)
+pub parent-without_data : (tree : Tree) (number : ℕ) → parent_of (without_data tree) number ≡ parent_of tree number
+parent-without_data [] number = refl
+parent-without_data (entry ∷ rest) number =
+    ap₂ (λ (n other : ℕ). if nat_lt 0 n then entry.0 else other) (links-without_data number entry.1) (parent-without_data rest number)
 
-ancestors-blanked : (steps : ℕ) (tree : Tree) (number : ℕ) → ancestors_in steps (blanked tree) number ≡ ancestors_in steps tree number
-ancestors-blanked zero tree number = refl
-ancestors-blanked (suc steps) tree number = ap (λ (l : List ℕ). number ∷ (if number == root then [] else l))
-    (ap (ancestors_in steps (blanked tree)) (parent-blanked tree number) ∙ ancestors-blanked steps tree (parent_of tree number))
+ancestors-without_data : (steps : ℕ) (tree : Tree) (number : ℕ) → ancestors_in steps (without_data tree) number ≡ ancestors_in steps tree number
+ancestors-without_data zero tree number = refl
+ancestors-without_data (suc steps) tree number = ap (λ (l : List ℕ). number ∷ (if number == root then [] else l))
+    (ap (ancestors_in steps (without_data tree)) (parent-without_data tree number) ∙ ancestors-without_data steps tree (parent_of tree number))
 
-pub below-blanked : (tree : Tree) (upper number : ℕ) → is_below (blanked tree) upper number ≡ is_below tree upper number
-below-blanked tree upper number = ap (list_any (λ (of : ℕ). of == upper))
-    (ap (λ (n : ℕ). ancestors_in n (blanked tree) number) (length-blanked tree) ∙ ancestors-blanked (length tree) tree number)
+pub below-without_data : (tree : Tree) (upper number : ℕ) → is_below (without_data tree) upper number ≡ is_below tree upper number
+below-without_data tree upper number = ap (list_any (λ (of : ℕ). of == upper))
+    (ap (λ (n : ℕ). ancestors_in n (without_data tree) number) (length-without_data tree) ∙ ancestors-without_data (length tree) tree number)
 
 -- Nodes
 
--- a content of the same blank is shown by the same cards
-content_alike : (of : NodeKind) (card : Card) (content other : Content) → blank other ≡ blank content → ShowsContent of card content → ShowsContent of card other
+-- a content of the same blank is shown by the same cached nodes
+content_alike : (of : NodeKind) (card : CachedNode) (content other : Content) → blank other ≡ blank content → ShowsContent of card content → ShowsContent of card other
 content_alike kind.File card content (File bytes) alike shown = record {
   bytes = bytes;
   file = refl;
@@ -55,13 +55,14 @@ content_alike kind.Directory card (File bytes) other alike shown = absurd (cc)
 
 module _ (tree shown : Tree) (alike : ShowsAs tree shown) where
   found_alike : (number : ℕ) → option_map blank_node (at number shown) ≡ option_map blank_node (at number tree)
-  found_alike number = sym (at-blanked shown number) ∙ ap (at number) alike ∙ at-blanked tree number
+  found_alike number = sym (at-without_data shown number) ∙ ap (at number) alike
+      ∙ at-without_data tree number
 
   none_alike : (number : ℕ) (found : Option Node) → at number shown ≡ found → at number tree ≡ None → found ≡ None
   none_alike number None is none = refl
   none_alike number (Some node) is none = absurd (let same = found_alike number in cc)
 
-  module _ (number : ℕ) (card : Card) (is : IsNodeOf tree number card) where
+  module _ (number : ℕ) (card : CachedNode) (is : IsNodeOf tree number card) where
     node_alike : (found : Option Node) → at number shown ≡ found → IsNodeOf shown number card
     node_alike None there = absurd (let same = found_alike number in let stands = is.there in cc)
     node_alike (Some node) there =
@@ -83,7 +84,7 @@ pub answers_by_shown : AnswersByShown
 answers_by_shown tree shown alike = record {
   node = λ number card is. node_alike tree shown alike number card is (at number shown) refl;
   none = λ number none. none_alike tree shown alike number (at number shown) refl none;
-  parent = λ number. sym (parent-blanked shown number) ∙ ap (λ (t : Tree). parent_of t number) alike ∙ parent-blanked tree number;
-  below = λ upper number. sym (below-blanked shown upper number) ∙ ap (λ (t : Tree). is_below t upper number) alike ∙ below-blanked tree upper number;
+  parent = λ number. sym (parent-without_data shown number) ∙ ap (λ (t : Tree). parent_of t number) alike ∙ parent-without_data tree number;
+  below = λ upper number. sym (below-without_data shown upper number) ∙ ap (λ (t : Tree). is_below t upper number) alike ∙ below-without_data tree upper number;
   fits = λ limits edits. fits_alike limits tree shown edits alike;
 }

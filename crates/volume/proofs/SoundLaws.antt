@@ -8,10 +8,10 @@ use Rattle.std.proofs.lemmas.Option.{same_Some}
 use Rattle.tree_edits.specs.declared.edit.Edit.{Edit}
 use Rattle.tree_edits.specs.declared.edit.Edit.TheVariants as declared
 use Rattle.tree_edits.specs.Edits.{edits_of, fresh_node}
-use Rattle.tree_edits.specs.Outlines.{blank, blank_node, blanked}
+use Rattle.tree_edits.specs.Outlines.{blank, blank_node, without_data}
 use Rattle.tree_edits.specs.Parts.{PartsAreBytes}
-use Rattle.tree_edits.proofs.BlankLaws.{length-zeros, at-blanked, key-blanked, directory-blanked, names-blanked}
-use Rattle.tree_edits.proofs.FitLaws.{fits-blanked}
+use Rattle.tree_edits.proofs.BlankLaws.{length-zeros, at-without_data, key-without_data, directory-without_data, names-without_data}
+use Rattle.tree_edits.proofs.FitLaws.{fits-without_data}
 use Rattle.tree_transaction.specs.Nodes.{shown_of}
 use Rattle.model.specs.declared.limits.Limits.{Limits}
 use Rattle.model.specs.declared.node.NodeKind.{NodeKind}
@@ -112,26 +112,28 @@ edited_bytes (declared.SetSize file size ∷ edits) parts tree are = edited_byte
 
 -- What a tree is, it is with zeros for the bytes of its files
 
-pub above_blanked : (least : ℕ) (tree : Tree) → IsAbove least (blanked tree) → IsAbove least tree
+pub above_blanked : (least : ℕ) (tree : Tree) → IsAbove least (without_data tree)
+    → IsAbove least tree
 above_blanked least [] above = tt
 above_blanked least (entry ∷ rest) above = (above.0, above_blanked entry.0 rest above.1)
 
-total_blanked : (worth : Node → ℕ) → ((node : Node) → worth (blank_node node) ≡ worth node) → (tree : Tree) → total worth (blanked tree) ≡ total worth tree
+total_blanked : (worth : Node → ℕ) → ((node : Node) → worth (blank_node node) ≡ worth node) → (tree : Tree) → total worth (without_data tree) ≡ total worth tree
 total_blanked worth same [] = refl
 total_blanked worth same (entry ∷ rest) = ap₂ (λ (n m : ℕ). n + m) (same entry.1) (total_blanked worth same rest)
 
 -- the tree of this node alone tells it
 node_names : (node : Node) → names_of (blank_node node).content ≡ names_of node.content
-node_names node = names-blanked ((0, node) ∷ []) 0
+node_names node = names-without_data ((0, node) ∷ []) 0
 
-links_blanked : (tree : Tree) (number : ℕ) → links_to (blanked tree) number ≡ links_to tree number
+links_blanked : (tree : Tree) (number : ℕ)
+    → links_to (without_data tree) number ≡ links_to tree number
 links_blanked tree number = total_blanked (links_from number) (λ node. ap (links_in number) (node_names node)) tree
 
-stamped_blanked : (tree : Tree) (stamp : ℕ) → stamped_in (blanked tree) stamp ≡ stamped_in tree stamp
+stamped_blanked : (tree : Tree) (stamp : ℕ) → stamped_in (without_data tree) stamp ≡ stamped_in tree stamp
 stamped_blanked tree stamp = total_blanked (is_stamped stamp) (λ node. ap (λ (names : Keyed DirEntry). one_if (is_key stamp names)) (node_names node)) tree
 
-owed_blanked : (tree : Tree) (number : ℕ) → links_owed (blanked tree) number ≡ links_owed tree number
-owed_blanked tree number = ap (λ (is : Bool). one_if (is && not (number == root))) (key-blanked tree number)
+owed_blanked : (tree : Tree) (number : ℕ) → links_owed (without_data tree) number ≡ links_owed tree number
+owed_blanked tree number = ap (λ (is : Bool). one_if (is && not (number == root))) (key-without_data tree number)
 
 pub kind_blank : (content : Content) → kind_of (blank content) ≡ kind_of content
 kind_blank (File bytes) = refl
@@ -148,24 +150,24 @@ node_blank limits node is has = record {
 }
 
 module _ (tree : Tree) where
-  there_blanked : (number : ℕ) (node : Node) → at number tree ≡ Some node → at number (blanked tree) ≡ Some (blank_node node)
-  there_blanked number node there = at-blanked tree number ∙ ap (λ (found : Option Node). option_map blank_node found) there
+  there_blanked : (number : ℕ) (node : Node) → at number tree ≡ Some node → at number (without_data tree) ≡ Some (blank_node node)
+  there_blanked number node there = at-without_data tree number ∙ ap (λ (found : Option Node). option_map blank_node found) there
 
   module _ (limits : Limits) (are : AreBytes tree) where
-    well_formed : IsWellFormed limits (blanked tree) → IsWellFormed limits tree
+    well_formed : IsWellFormed limits (without_data tree) → IsWellFormed limits tree
     well_formed well = record {
       numbered = above_blanked 0 tree well.numbered;
-      rooted = subst IsTrue (directory-blanked tree root) well.rooted;
+      rooted = subst IsTrue (directory-without_data tree root) well.rooted;
       linked = λ number. sym (links_blanked tree number) ∙ well.linked number ∙ owed_blanked tree number;
-      reached = λ number key. from_more (blanked tree) tree
-          (λ directory stamp entry has. ap (at stamp) (sym (names-blanked tree directory)) ∙ has) root number
-          (well.reached number (subst IsTrue (sym (key-blanked tree number)) key));
+      reached = λ number key. from_more (without_data tree) tree
+          (λ directory stamp entry has. ap (at stamp) (sym (names-without_data tree directory)) ∙ has) root number
+          (well.reached number (subst IsTrue (sym (key-without_data tree number)) key));
       stamped = λ stamp. (let once = well.stamped stamp in omega (arith, once, stamped_blanked tree stamp));
       nodes = λ number node there. node_blank limits node (well.nodes number (blank_node node) (there_blanked number node there)) (are number node there);
-      fitting = subst IsTrue (fits-blanked limits tree) well.fitting;
+      fitting = subst IsTrue (fits-without_data limits tree) well.fitting;
     }
 
-  before : (stamp : ℕ) → IsBefore stamp (blanked tree) → IsBefore stamp tree
+  before : (stamp : ℕ) → IsBefore stamp (without_data tree) → IsBefore stamp tree
   before stamp is = record {
     number = λ number node there. is.number number (blank_node node) (there_blanked number node there);
     change = λ number node there. is.change number (blank_node node) (there_blanked number node there);

@@ -3,7 +3,7 @@ use Rattle.std.proofs.Common.{ℕ, ◌≡◌, ◌≤◌, inl, inr, refl, rules, 
 use Rattle.std.specs.Prelude.{IsTrue}
 use Rattle.disk.specs.Moments.{Image}
 use Rattle.journal.specs.Settled.{AreSame}
-use Rattle.layout.specs.Cards.{cards_in}
+use Rattle.layout.specs.CachedNodes.{cards_in}
 use Rattle.layout.specs.Stands as layout
 use Rattle.layout.specs.Stands.{Kept, StandsNow, current, seats_at}
 use Rattle.layout.specs.Superblock.{is_size}
@@ -51,7 +51,7 @@ pub seats_same : (sectors nodes : ℕ) (a b : Image) (run : ℕ) (kept : Kept) �
 seats_same sectors nodes a b run kept same now =
     now_told sectors nodes b run kept (now_same sectors nodes a b run kept same now) ∙ sym (now_told sectors nodes a run kept now)
 
--- and so are the cards
+-- and so are the cached nodes
 pub cards_same : (version : layout.Version) (sectors nodes : ℕ) (a b : Image) (run : ℕ) (tree : Tree) → AreSame sectors a b
     → layout.Stands version sectors nodes a run tree → cards_in nodes b ≡ cards_in nodes a
 cards_same version sectors nodes a b run tree same stands =

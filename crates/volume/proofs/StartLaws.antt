@@ -6,7 +6,7 @@ use Rattle.std.specs.Option.{unwrap_or}
 use Rattle.disk.specs.Moments.{Image, History, AddsOnly}
 use Rattle.disk.proofs.MomentLemmas.{AddsOnly-weaken, AddsOnly-join}
 use Rattle.journal.specs.Log.{Log}
-use Rattle.layout.specs.Cards.{Card, cards_in, tree_of}
+use Rattle.layout.specs.CachedNodes.{CachedNode, cards_in, tree_of}
 use Rattle.layout.specs.Rewriting.{all_second}
 use Rattle.layout.specs.Stands as layout
 use Rattle.layout.specs.Stands.{IsMark, Kept, MayKeep, StandsNow, bare, current, current_number, mark_held, moved_by, number_of, version_1, version_2, version_by}
@@ -47,7 +47,7 @@ pub ends_at_rest : {T E : Type 0} (log : Log) (result : Result T E) → OnOk res
 ends_at_rest log result is = so_moves result (Rests log) (IsAtRest log) (λ rests. record { up = rests.up; listed = rests.listed }) is
 
 -- Nodes of version 1 move
-module _ (keeps_word : Type 0) (found : Superblock) (mark : Option ℕ) (cards : List (Option Card)) (seats : Seats) (places : List Bool) (old new : Log)
+module _ (keeps_word : Type 0) (found : Superblock) (mark : Option ℕ) (cards : List (Option CachedNode)) (seats : Seats) (places : List Bool) (old new : Log)
     (size : found.sectors ≡ old.size) (one : found.version ≡ One) (loaded : AreLoaded keeps_word found old.base mark cards seats places) where
   count : length cards ≡ found.nodes
   count = loaded.known.are_cards.count
@@ -193,7 +193,7 @@ module _ (found : Superblock) (mark : Option ℕ) (old : Log) (marked : IsMark f
             (clears kept (second_stands kept at))))
 
         -- and the nodes that were read are served
-        pub serves_from : (cards : List (Option Card)) (seats : Seats) (new : Log) → cards ≡ all_second (cards_in found.nodes old.base) → StandsIn found mark old.base (read_as old.base cards seats)
+        pub serves_from : (cards : List (Option CachedNode)) (seats : Seats) (new : Log) → cards ≡ all_second (cards_in found.nodes old.base) → StandsIn found mark old.base (read_as old.base cards seats)
             → ((kept : Kept) → StandsInSecond then_mark raised.size found.nodes (found.run + 1) raised.base kept → IsCleared found.nodes (found.run + 1) kept raised new)
             → ServesFrom found cards seats old.base new.base
         serves_from cards seats new read stood clears =

@@ -8,7 +8,8 @@ use Rattle.model.specs.Seats.{Seats}
 use Rattle.model.specs.Tree.{Tree}
 use Rattle.volume.specs.declared.fault.VolumeFault.{VolumeFault}
 use Rattle.volume.specs.declared.fault.VolumeFault.TheVariants as fault
-use Rattle.volume.specs.Held.{Held, IsSameVolume, IsRecent, AddsTrees, kept_of, with_tree}
+use Rattle.volume.specs.VolumeState.{VolumeState, IsSameVolume, IsRecent, AddsTrees, kept_of}
+use Rattle.volume.specs.VolumeState.{with_tree}
 use Rattle.volume.specs.Shown.{ShowsAs}
 
 -- how a call ends: it answered, it left all as it was, or the device failed in it
@@ -31,20 +32,20 @@ abbrev pub Given : Type 1
 Given = (after : Kept) → (lasts : Bool) → Type 0
 
 -- that it is this tree, and the seats as they were
-abbrev pub IsTree : Held → Tree → Given
+abbrev pub IsTree : VolumeState → Tree → Given
 IsTree held tree after lasts = after ≡ with_tree held tree
 
 -- that it is the tree as it was, with these seats
-abbrev pub IsSeats : Held → Seats → Given
+abbrev pub IsSeats : VolumeState → Seats → Given
 IsSeats held seats after lasts = after ≡ record { tree = held.tree; seats = seats }
 
 -- that it is as it was, and that nothing has to last that did not before
-abbrev pub Stays : Held → Given
+abbrev pub Stays : VolumeState → Given
 Stays held after lasts = (after ≡ kept_of held) × (lasts ≡ false)
 
 -- a stop after the call leaves these trees: of those before and the one after it, and of what has
 -- to last that one alone; and the seats after it
-pub record Leaves (new : Held) (after : Kept) (lasts : Bool) (recent left : List Tree)
+pub record Leaves (new : VolumeState) (after : Kept) (lasts : Bool) (recent left : List Tree)
     : Type 0 where
   pub ready : IsRecent new left
   pub seats : new.seats ≡ after.seats
@@ -52,11 +53,11 @@ pub record Leaves (new : Held) (after : Kept) (lasts : Bool) (recent left : List
   pub durable : lasts ≡ true → (tree : Tree) → IsAmong left tree → tree ≡ after.tree
 
 -- whichever trees a stop may leave before it
-abbrev pub LeavesTrees : (old new : Held) → (after : Kept) → (lasts : Bool) → Type 0
+abbrev pub LeavesTrees : (old new : VolumeState) → (after : Kept) → (lasts : Bool) → Type 0
 LeavesTrees old new after lasts = (recent : List Tree) → IsRecent old recent
     → (left : List Tree) × Leaves new after lasts recent left
 
-pub record HasAnswered (keeps_word : Type 0) (given : Given) (old new : Held) : Type 0 where
+pub record HasAnswered (keeps_word : Type 0) (given : Given) (old new : VolumeState) : Type 0 where
   pub still_up : new.is_down ≡ false
   pub seats : keeps_word → (after : Kept) (lasts : Bool) → given after lasts
       → new.seats ≡ after.seats
@@ -65,21 +66,21 @@ pub record HasAnswered (keeps_word : Type 0) (given : Given) (old new : Held) : 
 
 -- it is down, and the device counted a failure; and on any device it shows what it showed before
 -- the call, or the tree after it
-pub record HasBroken (given : Given) (old new : Held) (failed_before failed_after : ℕ)
+pub record HasBroken (given : Given) (old new : VolumeState) (failed_before failed_after : ℕ)
     : Type 0 where
   pub down : new.is_down ≡ true
   pub cause : IsCounted failed_before failed_after
   pub shows : ShowsAs old.tree new.tree
       ⊎ ((after : Kept) (lasts : Bool) → given after lasts → ShowsAs after.tree new.tree)
 
-abbrev pub EndsAs : (keeps_word : Type 0) → Given → (old new : Held) → (before after : ℕ)
+abbrev pub EndsAs : (keeps_word : Type 0) → Given → (old new : VolumeState) → (before after : ℕ)
     → Ending → Type 0
 EndsAs keeps_word given old new before after Done = HasAnswered keeps_word given old new
 EndsAs keeps_word given old new before after Nothing = new ≡ old
 EndsAs keeps_word given old new before after Broken = HasBroken given old new before after
 
 -- how often the device has failed stands before and after
-pub record Changes (keeps_word : Type 0) (given : Given) (old new : Held)
+pub record Changes (keeps_word : Type 0) (given : Given) (old new : VolumeState)
     (failed_before failed_after : ℕ) (ending : Ending) : Type 0 where
   pub same : IsSameVolume old new
   pub later : failed_before ≤ failed_after

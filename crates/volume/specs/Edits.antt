@@ -13,14 +13,14 @@ use Rattle.model.specs.Stamp.{stamp}
 use Rattle.model.specs.Tree.{Tree, names_at}
 use Rattle.volume.specs.Changes.{Given}
 use Rattle.volume.specs.Formed.{IsFormed}
-use Rattle.volume.specs.Held.{Held, with_tree}
+use Rattle.volume.specs.VolumeState.{VolumeState, with_tree}
 
 -- the tree after edits
-abbrev pub edited_by : Held → List Edit → Tree
+abbrev pub edited_by : VolumeState → List Edit → Tree
 edited_by held edits = edited (edits_of edits) held.tree
 
 -- the tree after so many of them
-abbrev pub front_of : Held → List Edit → (count : ℕ) → Tree
+abbrev pub front_of : VolumeState → List Edit → (count : ℕ) → Tree
 front_of held edits count = edited (take count (edits_of edits)) held.tree
 
 -- the numbers that names are put for
@@ -67,12 +67,12 @@ HasPut tree (edit.PutBytes file offset bytes ∷ edits) = HasPut tree edits
 HasPut tree (edit.SetSize file size ∷ edits) = HasPut tree edits
 
 -- a number above those of all nodes
-abbrev pub IsAboveAll : Held → (number : ℕ) → Type 0
+abbrev pub IsAboveAll : VolumeState → (number : ℕ) → Type 0
 IsAboveAll held number = (other : ℕ) → IsTrue (is_key other held.tree) → other < number
 
 -- What a change asks of its edits: there are few, each can be done in the tree that those before it
 -- give, and the tree after all of them is well formed where it fits
-pub record IsChange (held : Held) (edits : List Edit) : Type 0 where
+pub record IsChange (held : VolumeState) (edits : List Edit) : Type 0 where
   pub few : updates_of_all edits ≤ 46
   pub doable : AreDoable held.tree edits
   -- one name is put at most; a node that is made has it, and a number above all others
@@ -88,6 +88,6 @@ pub record IsChange (held : Held) (edits : List Edit) : Type 0 where
       → IsFormed held.limits (stamp (held.run + 1) 0) (edited_by held edits)
 
 -- the tree after the edits; a stop may lose it until the next flush
-abbrev pub IsEdited : Held → List Edit → Given
+abbrev pub IsEdited : VolumeState → List Edit → Given
 IsEdited held edits after lasts =
     (after ≡ with_tree held (edited_by held edits)) × (lasts ≡ false)

@@ -6,7 +6,7 @@ use Rattle.disk.specs.Moments.{Image, History, AddsOnly, Left}
 use Rattle.inode.specs.declared.node.Form.TheVariants.{Two}
 use Rattle.inode.specs.Spelling.{inode_sector}
 use Rattle.layout.specs.FreshLaws.{root_fields}
-use Rattle.layout.specs.Cards.{node_sector}
+use Rattle.layout.specs.CachedNodes.{node_sector}
 use Rattle.journal.specs.Settled.{Settles}
 use Rattle.layout.specs.Stands.{Stands, current}
 use Rattle.model.specs.Seats.{no_seats}

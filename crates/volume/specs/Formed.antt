@@ -1,6 +1,6 @@
 -- What is known of a volume's tree on any device.
 use Rattle.std.specs.Prelude.{◌≡◌, ℕ}
-use Rattle.tree_edits.specs.Outlines.{blanked}
+use Rattle.tree_edits.specs.Outlines.{without_data}
 use Rattle.model.specs.declared.limits.Limits.{Limits}
 use Rattle.model.specs.Tree.{Tree}
 use Rattle.model.specs.WellFormed.{IsWellFormed, IsBefore}
@@ -8,11 +8,11 @@ use Rattle.model.specs.WellFormed.{IsWellFormed, IsBefore}
 -- Nothing is known there of what the bytes of its files are: with zeros for them it is well formed,
 -- and all its stamps are from before this one
 pub record IsFormed (limits : Limits) (before_stamp : ℕ) (tree : Tree) : Type 0 where
-  pub well_formed : ∥ IsWellFormed limits (blanked tree) ∥₁
-  pub before : IsBefore before_stamp (blanked tree)
+  pub well_formed : ∥ IsWellFormed limits (without_data tree) ∥₁
+  pub before : IsBefore before_stamp (without_data tree)
 
 -- what a call leaves shows a tree: all of it but the bytes of files on any device, and the tree
 -- where the device keeps its word
 pub record Shows (keeps_word : Type 0) (tree shown : Tree) : Type 0 where
-  pub outline : blanked shown ≡ blanked tree
+  pub outline : without_data shown ≡ without_data tree
   pub tree_is : keeps_word → shown ≡ tree

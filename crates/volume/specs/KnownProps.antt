@@ -1,7 +1,7 @@
 -- What a volume knows of its nodes has one proof at most.
 use Rattle.std.specs.Prelude.{ℕ, Bool, List, Option}
 use Rattle.std.proofs.Props.{props}
-use Rattle.layout.specs.Cards.{Card}
+use Rattle.layout.specs.CachedNodes.{CachedNode}
 use Rattle.layout.specs.KnownProps.{AreCards-prop}
 use Rattle.layout.specs.LaidProps.{HaveForms-prop}
 use Rattle.model.specs.declared.limits.Limits.{Limits}
@@ -9,7 +9,7 @@ use Rattle.model.specs.Tree.{Tree}
 use Rattle.volume.specs.Formed.{IsFormed}
 use Rattle.volume.specs.Known.{IsKnown}
 
-pub IsKnown-prop : (sectors nodes : ℕ) (cards : List (Option Card)) (places : List Bool)
+pub IsKnown-prop : (sectors nodes : ℕ) (cards : List (Option CachedNode)) (places : List Bool)
     → IsProp (IsKnown sectors nodes cards places)
 IsKnown-prop sectors nodes cards places = Prim.hlevel (props, AreCards-prop, HaveForms-prop)
 

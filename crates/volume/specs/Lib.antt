@@ -4,7 +4,6 @@ pub mod Edits
 pub mod Formats
 pub mod Formed
 pub mod Fronts
-pub mod Held
 pub mod Kept
 pub mod Known
 pub mod KnownProps
@@ -21,3 +20,4 @@ pub mod Stands
 pub mod Starts
 pub mod Superblock
 pub mod Views
+pub mod VolumeState

@@ -2,7 +2,7 @@
 use Rattle.std.specs.Prelude.{◌≡◌, ◌<◌, ◌+◌, ℕ, Bool, List, Option}
 use Rattle.disk.specs.Moments.{Image, IsSector}
 use Rattle.journal.specs.Log.{Log}
-use Rattle.layout.specs.Cards.{Card, tree_of, cards_in}
+use Rattle.layout.specs.CachedNodes.{CachedNode, tree_of, cards_in}
 use Rattle.layout.specs.Health.{Health, Reads}
 use Rattle.layout.specs.Rewriting.{all_second}
 use Rattle.layout.specs.Stands.{AreKept, IsMark, Kept, MayKeep, mark_held}
@@ -24,13 +24,13 @@ abbrev pub HoldsBase : Superblock → Log → Type 0
 HoldsBase found log = HoldsVolume found log.size log.base
 
 -- what was read of an image
-abbrev pub read_as : Image → List (Option Card) → Seats → Kept
+abbrev pub read_as : Image → List (Option CachedNode) → Seats → Kept
 read_as image cards seats = record { tree = tree_of image cards; seats = seats }
 
--- The cards are those of the sectors, as they are once each has form two, and their tree stands
--- there with the seats, in the version that was found and with this mark
+-- The cached nodes are those of the sectors, as they are once each has form two, and their tree
+-- stands there with the seats, in the version that was found and with this mark
 pub record AreLoaded (keeps_word : Type 0) (found : Superblock) (image : Image)
-    (mark : Option ℕ) (cards : List (Option Card)) (seats : Seats) (places : List Bool)
+    (mark : Option ℕ) (cards : List (Option CachedNode)) (seats : Seats) (places : List Bool)
     : Type 0 where
   pub known : IsKnown found.sectors found.nodes cards places
   pub well_formed : ∥ AreWellFormed (limits_of found.sectors found.nodes)
@@ -43,7 +43,7 @@ pub record AreLoaded (keeps_word : Type 0) (found : Superblock) (image : Image)
   pub stood : keeps_word → ∥ StandsIn found mark image (read_as image cards seats) ∥₁
 
 abbrev pub IsLoaded : (keeps_word : Type 0) → Superblock → Log → (mark : Option ℕ)
-    → List (Option Card) → Seats → List Bool → Type 0
+    → List (Option CachedNode) → Seats → List Bool → Type 0
 IsLoaded keeps_word found log mark cards seats places =
     AreLoaded keeps_word found log.base mark cards seats places
 

@@ -5,7 +5,7 @@ use Rattle.disk.specs.Moments.{Image, History, AddsOnly, seen, synced}
 use Rattle.journal.specs.Settled.{Settles, SettlesAs}
 use Rattle.layout.specs.Stands.{Kept}
 use Rattle.model.specs.Seats.{Seats, AreOfRuns}
-use Rattle.volume.specs.Held.{Held, Holds, IsNew, LeavesCurrent}
+use Rattle.volume.specs.VolumeState.{VolumeState, Holds, IsNew, LeavesCurrent}
 use Rattle.volume.specs.Remounts.{AddsMount, IsFound}
 use Rattle.volume.specs.Stands.{IsBase}
 use Rattle.volume.specs.Superblock.{verdict}
@@ -25,7 +25,7 @@ NoTree sectors old =
 
 -- A mount that serves: the first sector is sound, the tree that stood is served, and a crash leaves
 -- it in the current version, under the new count
-pub record HasMounted (sectors : ℕ) (old : History) (held : Held) : Type 0 where
+pub record HasMounted (sectors : ℕ) (old : History) (held : VolumeState) : Type 0 where
   pub first : first_verdict sectors old ≡ verdicts.Sound
   pub found : IsFound sectors old held
   pub moments : AddsMount sectors old held.history
@@ -36,7 +36,7 @@ pub record HasMounted (sectors : ℕ) (old : History) (held : Held) : Type 0 whe
 
 -- The seats that a mount hands over: of sessions of the runs before this one, on any device; and
 -- those of the volume where the device keeps its word
-pub record FindsSeats (keeps_word : Type 0) (held : Held) (seats : Seats) : Type 0 where
+pub record FindsSeats (keeps_word : Type 0) (held : VolumeState) (seats : Seats) : Type 0 where
   pub count : ℕ
   pub counted : held.run ≡ count + 1
   pub of_runs : AreOfRuns count seats
@@ -93,7 +93,7 @@ pub record ComesBack {D : Type 0} (size failed : D → ℕ) (sectors failures : 
 -- What a mount says after an `Ok`, and each layer above hands on: what it serves, and that its
 -- device has not failed
 pub record MountServes {D : Type 0} (keeps_word : Type 0) (size failed : D → ℕ)
-    (history : D → History) (device : D) (held : Held) (failures : ℕ) : Type 0 where
+    (history : D → History) (device : D) (held : VolumeState) (failures : ℕ) : Type 0 where
   pub new : IsNew (size device) held
   pub counted : failures ≡ failed device
   pub mounted : keeps_word → HasMounted (size device) (history device) held

@@ -2,14 +2,14 @@
 use Rattle.std.specs.Prelude.{ℕ, ⊤, false, [], Option, Some, Result, Ok, Err, ◌≡◌, ◌<◌, ◌+◌, ◌^◌, ◌⊎◌, List, IsTrue}
 use Rattle.disk.specs.Moments.{Image, History, AddsOnly}
 use Rattle.journal.specs.Log.{Log, IsSettled}
-use Rattle.layout.specs.Cards.{cards_in}
+use Rattle.layout.specs.CachedNodes.{cards_in}
 use Rattle.layout.specs.Rewriting.{all_second}
 use Rattle.layout.specs.Stands as layout
 use Rattle.layout.specs.Stands.{AreKept, IsMark, Kept, MayKeep, current_number, number_of, version_2, version_by}
 use Rattle.layout.specs.Superblock.{is_size}
 use Rattle.layout.specs.declared.versions.VersionNumber.{VersionNumber}
 use Rattle.layout.specs.declared.versions.VersionNumber.TheVariants as numbers
-use Rattle.volume.specs.Held.{Held, Holds, LeavesCurrent, kept_of}
+use Rattle.volume.specs.VolumeState.{VolumeState, Holds, LeavesCurrent, kept_of}
 use Rattle.volume.specs.Stands.{Stands, StandsForIn}
 use Rattle.volume.specs.Superblock.{superblock, verdict}
 use Rattle.volume.specs.declared.fault.MountFault.{MountFault}
@@ -74,7 +74,8 @@ pub record StandsIn (found : Superblock) (mark : Option ℕ) (base : Image) (kep
   pub stands : layout.Stands (version_by found.version mark kept.seats)
       found.sectors found.nodes base found.run kept.tree
 
--- They stand in version 2, under the next count, with the cards that there were but for their forms
+-- They stand in version 2, under the next count, with the cached nodes that there were but for
+-- their forms
 pub record IsRaisedTo (mark : Option ℕ) (found : Superblock) (kept : Kept) (old new : Image)
     : Type 0 where
   pub may : MayKeep numbers.Two mark kept.seats
@@ -97,7 +98,8 @@ pub record IsRaised (keeps_word : Type 0) (found : Superblock) (old new : Log) :
   pub settled : keeps_word → IsSettled new
 
 -- a run that begins on a base
-pub record HasBegun (found : Superblock) (base : Image) (old : History) (held : Held) : Type 0 where
+pub record HasBegun (found : Superblock) (base : Image) (old : History) (held : VolumeState)
+    : Type 0 where
   pub run : held.run ≡ found.run + 1
   pub nodes : held.limits.nodes ≡ found.nodes
   pub stood : ∥ StandsOn found base (kept_of held) ∥₁

@@ -1,7 +1,7 @@
--- What the card of a node shows of it: all but a file's bytes, of which it has the count.
+-- What the cached node of a node shows of it: all but a file's bytes, of which it has the count.
 use Rattle.std.specs.Prelude.{◌≡◌, ℕ, List, Some, length}
 use Rattle.directory.specs.Listing.{by_stamp}
-use Rattle.layout.specs.Cards.{Card}
+use Rattle.layout.specs.CachedNodes.{CachedNode}
 use Rattle.model.specs.declared.node.NodeKind.{NodeKind}
 use Rattle.model.specs.declared.node.NodeKind.TheVariants as kind
 use Rattle.model.specs.Keyed.{at}
@@ -13,11 +13,11 @@ pub record IsFile (size : ℕ) (content : Content) : Type 0 where
   pub file : content ≡ File bytes
   pub size_is : length bytes ≡ size
 
-abbrev pub ShowsContent : NodeKind → Card → Content → Type 0
+abbrev pub ShowsContent : NodeKind → CachedNode → Content → Type 0
 ShowsContent kind.File card content = IsFile card.fields.size content
 ShowsContent kind.Directory card content = content ≡ Directory (by_stamp card.names)
 
-pub record IsNodeOf (tree : Tree) (number : ℕ) (card : Card) : Type 0 where
+pub record IsNodeOf (tree : Tree) (number : ℕ) (card : CachedNode) : Type 0 where
   pub number_is : card.fields.number ≡ number
   pub node : Node
   pub there : at number tree ≡ Some node

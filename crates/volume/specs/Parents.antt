@@ -1,10 +1,10 @@
 -- The parents of a volume's nodes, by place, after a change.
 use Rattle.std.specs.Prelude.{◌≡◌, ℕ, List, Option, Some, None, set}
 use Rattle.node_table.specs.Tables.{number_at}
-use Rattle.layout.specs.Cards.{Card}
+use Rattle.layout.specs.CachedNodes.{CachedNode}
 
 -- the directory of a name that was put stands at the place of the name's number
-pub record PutsParent (cards : List (Option Card)) (old new : List ℕ) (put : Option (ℕ × ℕ))
+pub record PutsParent (cards : List (Option CachedNode)) (old new : List ℕ) (put : Option (ℕ × ℕ))
     : Type 0 where
   pub none : put ≡ None → new ≡ old
   pub some : (number directory place : ℕ) → put ≡ Some (number, directory)

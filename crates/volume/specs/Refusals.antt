@@ -1,8 +1,8 @@
 -- How a refusal of a layer below is answered.
 use Rattle.node_table.specs.declared.fault.TableFault.{TableFault}
 use Rattle.node_table.specs.declared.fault.TableFault.TheVariants as tables
-use Rattle.tree_transaction.specs.declared.fault.DraftFault.{DraftFault}
-use Rattle.tree_transaction.specs.declared.fault.DraftFault.TheVariants as drafts
+use Rattle.tree_transaction.specs.declared.fault.TransactionFault.{TransactionFault}
+use Rattle.tree_transaction.specs.declared.fault.TransactionFault.TheVariants as transactions
 use Rattle.journal.specs.declared.fault.JournalFault.{JournalFault}
 use Rattle.journal.specs.declared.fault.JournalFault.TheVariants as journals
 use Rattle.migration.specs.declared.fault.MigrationFault.{MigrationFault}
@@ -44,7 +44,7 @@ table_fault tables.SameNumber = mounts.Damaged
 table_fault tables.Memory = mounts.Memory
 
 -- Full never comes where each front of a change has room
-abbrev pub draft_fault : DraftFault → VolumeFault
-draft_fault drafts.Device = faults.Device
-draft_fault drafts.Memory = faults.Memory
-draft_fault drafts.Full = faults.NoSpace
+abbrev pub transaction_fault : TransactionFault → VolumeFault
+transaction_fault transactions.Device = faults.Device
+transaction_fault transactions.Memory = faults.Memory
+transaction_fault transactions.Full = faults.NoSpace

@@ -3,7 +3,7 @@ use Rattle.std.specs.Prelude.{ℕ, ◌∷◌, List, ◌≡◌, ◌<◌, ◌≤�
 use Rattle.std.specs.List.{IsAmong}
 use Rattle.disk.specs.Moments.{Image, Moment, History, LeftSince, AddsOnly, at_rest, moment, seen}
 use Rattle.layout.specs.Stands.{Kept, current_number}
-use Rattle.volume.specs.Held.{Held, kept_of}
+use Rattle.volume.specs.VolumeState.{VolumeState, kept_of}
 use Rattle.volume.specs.Stands.{IsBase, StandsFor, StandsForIn}
 
 -- What a mount adds to what a crash may leave, at each moment of it: the tree and the seats that
@@ -17,7 +17,7 @@ AddsMount sectors old new =
     ⊎ StandsForIn current_number sectors nodes (run + 1) kept image) old new
 
 -- A mount serves the tree and the seats that stood, and raised their restart count.
-pub record IsFound (sectors : ℕ) (old : History) (held : Held) : Type 0 where
+pub record IsFound (sectors : ℕ) (old : History) (held : VolumeState) : Type 0 where
   pub run : ℕ
   pub raised : held.run ≡ run + 1
   pub stood : StandsFor sectors held.limits.nodes run (kept_of held) (seen old.now)
@@ -64,7 +64,7 @@ StillStands =
     → LeavesGood sectors nodes run (IsAmong good) device from
 
 -- And the next mount that serves has such a tree and such seats, under a greater restart count.
-pub record ServesGood (nodes run : ℕ) (good : Kept → Type 0) (held : Held) : Type 0 where
+pub record ServesGood (nodes run : ℕ) (good : Kept → Type 0) (held : VolumeState) : Type 0 where
   pub kept_is : ∥ good (kept_of held) ∥₁
   pub nodes_are : held.limits.nodes ≡ nodes
   pub greater : run < held.run
@@ -72,6 +72,6 @@ pub record ServesGood (nodes run : ℕ) (good : Kept → Type 0) (held : Held) :
 abbrev pub EveryRemount : Type 0
 EveryRemount =
     (sectors nodes run : ℕ) (good : List Kept) (first : History) (since : ℕ) (device : History)
-    (from : ℕ) (held : Held) → LeavesGood sectors nodes run (IsAmong good) first since
+    (from : ℕ) (held : VolumeState) → LeavesGood sectors nodes run (IsAmong good) first since
     → Remounts sectors first since device from → IsFound sectors device held
     → ServesGood nodes run (IsAmong good) held

@@ -1,8 +1,8 @@
 -- What a volume shows of its tree: all but the bytes of its files. What is asked of it without its
 -- device is answered by that.
 use Rattle.std.specs.Prelude.{◌≡◌, ℕ, List, None}
-use Rattle.tree_edits.specs.Outlines.{blanked}
-use Rattle.layout.specs.Cards.{Card}
+use Rattle.tree_edits.specs.Outlines.{without_data}
+use Rattle.layout.specs.CachedNodes.{CachedNode}
 use Rattle.model.specs.declared.limits.Limits.{Limits}
 use Rattle.model.specs.Ancestors.{is_below, parent_of}
 use Rattle.model.specs.Charge.{fits}
@@ -13,11 +13,12 @@ use Rattle.volume.specs.Nodes.{IsNodeOf}
 
 -- it is shown as this tree is
 abbrev pub ShowsAs : Tree → Tree → Type 0
-ShowsAs tree shown = blanked shown ≡ blanked tree
+ShowsAs tree shown = without_data shown ≡ without_data tree
 
 -- the calls of a volume answer the same of both
 pub record AnswerAlike (tree shown : Tree) : Type 0 where
-  pub node : (number : ℕ) (card : Card) → IsNodeOf tree number card → IsNodeOf shown number card
+  pub node : (number : ℕ) (card : CachedNode) → IsNodeOf tree number card
+      → IsNodeOf shown number card
   pub none : (number : ℕ) → at number tree ≡ None → at number shown ≡ None
   pub parent : (number : ℕ) → parent_of shown number ≡ parent_of tree number
   pub below : (upper number : ℕ) → is_below shown upper number ≡ is_below tree upper number

@@ -4,7 +4,7 @@ use Rattle.disk.specs.Cause.{IsCounted}
 use Rattle.disk.specs.Moments.{Image, AddsOnly}
 use Rattle.journal.specs.Log.{Log, IsSettled}
 use Rattle.journal.specs.declared.fault.JournalFault.{JournalFault}
-use Rattle.layout.specs.Cards.{Card, cards_in, tree_of}
+use Rattle.layout.specs.CachedNodes.{CachedNode, cards_in, tree_of}
 use Rattle.layout.specs.Rewriting.{all_second}
 use Rattle.layout.specs.Stands as layout
 use Rattle.layout.specs.Stands.{AreKept, IsMark, Kept, MayKeep, StandsNow, current_number, number_of, version_2}
@@ -34,7 +34,7 @@ is_marked One mark = true
 is_marked Two None = false
 is_marked Two (Some moved) = true
 
--- what stood stands so, with the cards that there were but for their forms
+-- what stood stands so, with the cached nodes that there were but for their forms
 pub record HasMovedTo (found : Superblock) (mark : Option ℕ) (kept : Kept) (old new : Image)
     : Type 0 where
   pub stands : StandsIn found (moved_mark found.version found.nodes mark) new kept
@@ -59,7 +59,7 @@ pub record StandsInSecond (mark : Option ℕ) (size nodes run : ℕ) (base : Ima
   pub keeps : AreKept run kept.seats
   pub stands : layout.Stands (version_2 mark kept.seats) size nodes base run kept.tree
 
--- it stands in the current version, with the cards that there were but for their forms
+-- it stands in the current version, with the cached nodes that there were but for their forms
 pub record IsCleared (nodes run : ℕ) (kept : Kept) (old new : Log) : Type 0 where
   pub stands : StandsNow old.size nodes new.base run kept
   pub cards : all_second (cards_in nodes new.base) ≡ all_second (cards_in nodes old.base)
@@ -77,14 +77,14 @@ pub record Clears (keeps_word : Type 0) (marked : Bool) (old new : Log)
       → is_some mark ≡ marked → StandsInSecond mark old.size nodes run old.base kept
       → IsCleared nodes run kept old new)
 
--- The run has begun: these cards are those of the sectors, and their tree stands with the seats in
--- the current version, under the next count
-pub record ServesFrom (found : Superblock) (cards : List (Option Card)) (seats : Seats)
+-- The run has begun: these cached nodes are those of the sectors, and their tree stands with the
+-- seats in the current version, under the next count
+pub record ServesFrom (found : Superblock) (cards : List (Option CachedNode)) (seats : Seats)
     (old new : Image) : Type 0 where
   pub read : cards ≡ cards_in found.nodes new
   pub stands : StandsNow found.sectors found.nodes new (found.run + 1) (read_as old cards seats)
 
-pub record HasStarted (keeps_word : Type 0) (found : Superblock) (cards : List (Option Card))
+pub record HasStarted (keeps_word : Type 0) (found : Superblock) (cards : List (Option CachedNode))
     (seats : Seats) (old new : Log) : Type 0 where
   pub rests : IsAtRest new
   pub serves : keeps_word → ∥ ServesFrom found cards seats old.base new.base ∥₁

@@ -2,16 +2,16 @@
 use Rattle.std.specs.Prelude.{ℕ, List, Option}
 use Rattle.journal.specs.Journal.{log_of, failures_of}
 use Rattle.journal.specs.Log.{Log, contents}
-use Rattle.layout.specs.Cards.{Card, tree_of}
+use Rattle.layout.specs.CachedNodes.{CachedNode, tree_of}
 use Rattle.layout.specs.Stands.{seats_at}
 use Rattle.model.specs.declared.limits.Limits.{Limits}
 use Rattle.volume.specs.Changes.{Given, Ending, Changes}
-use Rattle.volume.specs.Held.{Held, fronts_from}
+use Rattle.volume.specs.VolumeState.{VolumeState, fronts_from}
 use Rattle.volume.specs.declared.volume.Volume.{Volume}
 
 -- what is seen of these nodes over a journal
-abbrev pub held_by : Limits → (run : ℕ) → List (Option Card) → Log → Held
-held_by limits run cards log = record {
+abbrev pub volume_state_by : Limits → (run : ℕ) → List (Option CachedNode) → Log → VolumeState
+volume_state_by limits run cards log = record {
   limits = limits;
   run = run;
   tree = tree_of (contents log) cards;
@@ -22,8 +22,9 @@ held_by limits run cards log = record {
   fronts = fronts_from log.base log.list;
 }
 
-unfoldable pub held_of : {D : _} {g : _} → Volume D g → Held
-held_of volume = held_by volume.limits volume.run volume.table (log_of volume.store.journal)
+unfoldable pub volume_state : {D : _} {g : _} → Volume D g → VolumeState
+volume_state volume =
+    volume_state_by volume.limits volume.run volume.table (log_of volume.store.journal)
 
 -- how often its device has failed
 unfoldable pub volume_failures : {D : _} {g : _} → Volume D g → ℕ
@@ -32,5 +33,5 @@ volume_failures volume = failures_of volume.store.journal
 -- what a call makes of it, and of how often its device has failed
 abbrev pub Alters : {D : _} {g : _} → (old new : Volume D g) → Given → Ending → Type 0
 Alters {D} {g} old new given ending =
-    Changes g.keeps_word given (held_of old) (held_of new)
+    Changes g.keeps_word given (volume_state old) (volume_state new)
     (volume_failures old) (volume_failures new) ending

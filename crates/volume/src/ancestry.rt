@@ -48,16 +48,16 @@ pub(crate) fn put_parent(parents: &mut Parents, table: &Table, put: Option<(u64,
     }
 }
 
-#[tactic(auto, unfolding(crate::specs::Views::held_of))]
+#[tactic(auto, unfolding(crate::specs::Views::volume_state))]
 impl<D: Device> Volume<D> {
     ghost use Rattle.std.specs.Prelude.{◌≡◌};
     ghost use Rattle.model.specs.Ancestors.{is_below, parent_of};
-    ghost use Rattle.volume.specs.Views.{held_of};
+    ghost use Rattle.volume.specs.Views.{volume_state};
 
     /// The number of the directory that has a node's name: 0 of the root, and of a number that no
     /// node has. It is answered where the volume is down too, as [`Volume::node`] is.
     pub fn parent(&self, number: u64) -> u64
-        ensures { result ≡ parent_of (held_of self.now).tree number }
+        ensures { result ≡ parent_of (volume_state self.now).tree number }
     {
         parent_of(&self.table, &self.parents, number)
     }
@@ -66,7 +66,7 @@ impl<D: Device> Volume<D> {
     /// most as many steps as there are nodes. It is answered where the volume is down too, as
     /// [`Volume::node`] is.
     pub fn is_below(&self, upper: u64, number: u64) -> bool
-        ensures { result ≡ is_below (held_of self.now).tree upper number }
+        ensures { result ≡ is_below (volume_state self.now).tree upper number }
     {
         is_below(&self.table, &self.parents, upper, number)
     }

@@ -1,7 +1,7 @@
 //! Changes of the tree.
 
 ghost use Rattle.std.specs.Prelude.{◌≡◌};
-ghost use Rattle.volume.specs.Refusals.{draft_fault};
+ghost use Rattle.volume.specs.Refusals.{transaction_fault};
 
 use crate::ancestry::{put_by, put_parent};
 use crate::fault::VolumeFault;
@@ -9,21 +9,21 @@ use crate::volume::Volume;
 use disk::Device;
 use model::node::NodeKind;
 use tree_edits::{Edit, fits, has_room, outcome_of};
-use tree_transaction::{DraftFault, Outcome};
+use tree_transaction::{PreparedTransaction, TransactionFault};
 
-impl From<DraftFault> for VolumeFault {
-    ghost from_gives = { λ refusal fault. fault ≡ draft_fault refusal };
+impl From<TransactionFault> for VolumeFault {
+    ghost from_gives = { λ refusal fault. fault ≡ transaction_fault refusal };
 
-    fn from(fault: DraftFault) -> Self {
+    fn from(fault: TransactionFault) -> Self {
         match fault {
-            DraftFault::Device => VolumeFault::Device,
-            DraftFault::Memory => VolumeFault::Memory,
-            DraftFault::Full => VolumeFault::NoSpace,
+            TransactionFault::Device => VolumeFault::Device,
+            TransactionFault::Memory => VolumeFault::Memory,
+            TransactionFault::Full => VolumeFault::NoSpace,
         }
     }
 }
 
-#[tactic(auto, unfolding(crate::specs::Views::held_of, crate::specs::Views::volume_failures))]
+#[tactic(auto, unfolding(crate::specs::Views::volume_state, crate::specs::Views::volume_failures))]
 impl<D: Device> Volume<D> {
     ghost use Rattle.std.specs.Prelude.{◌≡◌, ◌↔◌, true, false, OnOk, OnErr, IsErrOf};
     ghost use Rattle.tree_edits.specs.Edits.{AreDoable};
@@ -35,15 +35,15 @@ impl<D: Device> Volume<D> {
     ghost use Rattle.volume.specs.Edits.{IsChange, IsEdited, edited_by};
     ghost use Rattle.volume.specs.Formed.{Shows};
     ghost use Rattle.volume.specs.Shown.{ShowsAs};
-    ghost use Rattle.volume.specs.Views.{held_of, Alters};
+    ghost use Rattle.volume.specs.Views.{volume_state, Alters};
 
     /// Whether the tree after edits has room: what [`Volume::change`] asks first. Each must be one
     /// that can be done in the tree that those before it give. It is answered where the volume is
     /// down too, as [`Volume::node`] is.
     pub fn fits(&self, edits: &[Edit<'_>]) -> bool
-        requires { AreDoable (held_of self.now).tree edits.now }
-        ensures { result ≡ fits (held_of self.now).limits
-            (edited_by (held_of self.now) edits.now) }
+        requires { AreDoable (volume_state self.now).tree edits.now }
+        ensures { result ≡ fits (volume_state self.now).limits
+            (edited_by (volume_state self.now) edits.now) }
     {
         fits(&self.table, &self.limits, edits)
     }
@@ -52,9 +52,10 @@ impl<D: Device> Volume<D> {
     /// bytes, and for its name in a directory. It is answered as [`Volume::fits`] is, and the same
     /// whichever number and stamp the node and the name get.
     pub fn has_room(&self, directory: u64, kind: NodeKind, size: u64) -> bool
-        requires { is_directory_at (held_of self.now).tree directory ≡ true }
-        ensures { (edits : _) → IsMaking (held_of self.now).tree directory kind size edits
-            → result ≡ fits (held_of self.now).limits (edited edits (held_of self.now).tree) }
+        requires { is_directory_at (volume_state self.now).tree directory ≡ true }
+        ensures { (edits : _) → IsMaking (volume_state self.now).tree directory kind size edits
+            → result ≡ fits (volume_state self.now).limits
+            (edited edits (volume_state self.now).tree) }
     {
         has_room(&self.table, &self.limits, directory, kind, size)
     }
@@ -68,17 +69,18 @@ impl<D: Device> Volume<D> {
     /// the edits would not fit; [`VolumeFault::Memory`]; [`VolumeFault::Device`] where the device
     /// failed. None of them changes what is shown of the tree.
     pub fn change(&mut self, edits: Vec<Edit<'_>>) -> Result<(), VolumeFault>
-        requires { IsChange (held_of self.old) edits.items }
+        requires { IsChange (volume_state self.old) edits.items }
         ensures volume { Alters self.old self.new
-            (IsEdited (held_of self.old) edits.entry.items) (ending_of result) }
+            (IsEdited (volume_state self.old) edits.entry.items) (ending_of result) }
         ensures shows { OnOk result (Shows D.keeps_word
-            (edited_by (held_of self.old) edits.entry.items) (held_of self.new).tree) }
+            (edited_by (volume_state self.old) edits.entry.items) (volume_state self.new).tree) }
         // Refused
-        ensures stays { OnErr result (ShowsAs (held_of self.old).tree (held_of self.new).tree) }
-        ensures down { IsErrOf result VolumeFault.Down ↔ ((held_of self.old).is_down ≡ true) }
-        ensures no_space { (held_of self.old).is_down ≡ false
-            → IsErrOf result VolumeFault.NoSpace ↔ (fits (held_of self.old).limits
-            (edited_by (held_of self.old) edits.entry.items) ≡ false) }
+        ensures stays { OnErr result
+            (ShowsAs (volume_state self.old).tree (volume_state self.new).tree) }
+        ensures down { IsErrOf result VolumeFault.Down ↔ ((volume_state self.old).is_down ≡ true) }
+        ensures no_space { (volume_state self.old).is_down ≡ false
+            → IsErrOf result VolumeFault.NoSpace ↔ (fits (volume_state self.old).limits
+            (edited_by (volume_state self.old) edits.entry.items) ≡ false) }
     {
         if self.store.journal.is_down() {
             return Err(VolumeFault::Down);
@@ -94,7 +96,7 @@ impl<D: Device> Volume<D> {
             &self.places,
             edits,
         )?;
-        let Outcome {
+        let PreparedTransaction {
             updates,
             places,
             changes,
@@ -113,17 +115,17 @@ impl<D: Device> Volume<D> {
     ///
     /// Those of [`Volume::change`].
     pub fn keep(&mut self, edits: Vec<Edit<'_>>) -> Result<(), VolumeFault>
-        requires { IsChange (held_of self.old) edits.items }
+        requires { IsChange (volume_state self.old) edits.items }
         ensures volume { Alters self.old self.new
-            (IsTree (held_of self.old) (edited_by (held_of self.old) edits.entry.items))
+            (IsTree (volume_state self.old) (edited_by (volume_state self.old) edits.entry.items))
             (ending_of result) }
         ensures shows { OnOk result (Shows D.keeps_word
-            (edited_by (held_of self.old) edits.entry.items) (held_of self.new).tree) }
+            (edited_by (volume_state self.old) edits.entry.items) (volume_state self.new).tree) }
         // Refused
-        ensures down { IsErrOf result VolumeFault.Down ↔ ((held_of self.old).is_down ≡ true) }
-        ensures no_space { (held_of self.old).is_down ≡ false
-            → IsErrOf result VolumeFault.NoSpace ↔ (fits (held_of self.old).limits
-            (edited_by (held_of self.old) edits.entry.items) ≡ false) }
+        ensures down { IsErrOf result VolumeFault.Down ↔ ((volume_state self.old).is_down ≡ true) }
+        ensures no_space { (volume_state self.old).is_down ≡ false
+            → IsErrOf result VolumeFault.NoSpace ↔ (fits (volume_state self.old).limits
+            (edited_by (volume_state self.old) edits.entry.items) ≡ false) }
     {
         self.change(edits)?;
         self.flush()

@@ -4,7 +4,7 @@ ghost use Rattle.volume.specs.Checks.{Checks};
 
 use crate::fault::MountFault;
 use crate::load::read_nodes;
-use crate::mount::look;
+use crate::mount::read_superblock;
 use crate::view_store::ViewStore;
 use disk::Device;
 use journal::Journal;
@@ -32,7 +32,7 @@ pub struct Checked {
 pub fn check<D: Device>(alloc: Global, device: &mut D) -> Result<Checked, MountFault>
     ensures { Checks D.keeps_word D.size D.failed D.history device.old device.new result }
 {
-    let found = match look(device) {
+    let found = match read_superblock(device) {
         Ok(found) => found,
         Err(fault) => return Err(fault),
     };

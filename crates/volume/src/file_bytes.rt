@@ -19,14 +19,14 @@ impl From<ReadingFault> for VolumeFault {
     }
 }
 
-#[tactic(auto, unfolding(crate::specs::Views::held_of, crate::specs::Views::volume_failures))]
+#[tactic(auto, unfolding(crate::specs::Views::volume_state, crate::specs::Views::volume_failures))]
 impl<D: Device> Volume<D> {
     ghost use Rattle.std.specs.Prelude.{◌≡◌, ◌++◌, ◌⊎◌, ◌↔◌, true, take, drop};
     ghost use Rattle.std.specs.Prelude.{OnOk, OnErr, IfErr, IsErrOf};
     ghost use Rattle.model.specs.Files.{bytes_at};
     ghost use Rattle.volume.specs.Changes.{IsTree};
     ghost use Rattle.volume.specs.Reading.{HasFile, ending_of_reading};
-    ghost use Rattle.volume.specs.Views.{held_of, Alters};
+    ghost use Rattle.volume.specs.Views.{volume_state, Alters};
 
     /// Appends to `out` the bytes of a file from `offset` on: `len` of them, or as many as there
     /// are up to its end.
@@ -42,15 +42,16 @@ impl<D: Device> Volume<D> {
         len: usize,
         out: &mut Vec<u8>,
     ) -> Result<(), VolumeFault>
-        requires file { HasFile (held_of self.old).tree number }
+        requires file { HasFile (volume_state self.old).tree number }
         ensures bytes { D.keeps_word → OnOk result (out.new.items ≡ out.old.items
-            ++ take len (drop offset (bytes_at (held_of self.old).tree number))) }
+            ++ take len (drop offset (bytes_at (volume_state self.old).tree number))) }
         ensures err { OnErr result (out.new.items ≡ out.old.items) }
         // It only reads
         ensures volume { Alters self.old self.new
-            (IsTree (held_of self.old) (held_of self.old).tree) (ending_of_reading result) }
+            (IsTree (volume_state self.old) (volume_state self.old).tree)
+            (ending_of_reading result) }
         // Refused
-        ensures down { IsErrOf result VolumeFault.Down ↔ ((held_of self.old).is_down ≡ true) }
+        ensures down { IsErrOf result VolumeFault.Down ↔ ((volume_state self.old).is_down ≡ true) }
         ensures refuses { IfErr result (λ fault. (fault ≡ VolumeFault.Device)
             ⊎ ((fault ≡ VolumeFault.Memory) ⊎ (fault ≡ VolumeFault.Down))) }
     {

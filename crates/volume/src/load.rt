@@ -19,7 +19,7 @@ use inode::Form;
 use layout::sectors::Sectors;
 use model::limits::Limits;
 use model::seats::Seats;
-use node_table::{Card, Table};
+use node_table::{CachedNode, Table};
 use parents::Parents;
 use std::alloc::{AllocError, Global};
 use tree_check::are_well_formed;
@@ -38,8 +38,8 @@ pub(crate) struct Loaded {
     pub(crate) parents: Parents,
 }
 
-/// The card of a place as it is once its node has form two.
-fn in_second(card: Option<Card>) -> Option<Card>
+/// The cached node of a place as it is once its node has form two.
+fn in_second(card: Option<CachedNode>) -> Option<CachedNode>
     ensures { result ≡ in_second card }
 {
     let mut card = card?;
@@ -47,8 +47,11 @@ fn in_second(card: Option<Card>) -> Option<Card>
     Some(card)
 }
 
-/// The cards of all places as they are then.
-fn all_second(alloc: Global, cards: Vec<Option<Card>>) -> Result<Vec<Option<Card>>, AllocError>
+/// The cached nodes of all places as they are then.
+fn all_second(
+    alloc: Global,
+    cards: Vec<Option<CachedNode>>,
+) -> Result<Vec<Option<CachedNode>>, AllocError>
     ensures { IfOk result (λ second. second.items ≡ all_second cards.items) }
 {
     let mut second = Vec::with_capacity(alloc, cards.len())?;

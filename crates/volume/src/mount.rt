@@ -53,7 +53,7 @@ fn read_first<D: Device>(device: &mut D) -> Result<[u8; SECTOR], MountFault>
 
 /// Finds a volume that can be mounted, by the first sector of its device.
 #[tactic(auto, using(crate::proofs::FirstLaws::sound_size, crate::proofs::FirstLaws::sound_run, crate::proofs::FirstLaws::sound_first, crate::proofs::FirstLaws::not_volume_on_few))]
-pub(crate) fn find<D: Device>(device: &mut D) -> Result<Superblock, MountFault>
+pub(crate) fn read_mountable_superblock<D: Device>(device: &mut D) -> Result<Superblock, MountFault>
     ensures volume { IfOk result (IsVolumeOf (D.size device.old)) }
     ensures told { D.keeps_word
         → IsTold (D.size device.old) (seen (D.history device.old).now 0) result }
@@ -88,7 +88,7 @@ pub(crate) fn find<D: Device>(device: &mut D) -> Result<Superblock, MountFault>
 
 /// Finds a volume by the first sector of its device, whether it can be mounted once more or not.
 #[tactic(auto, using(crate::proofs::FirstLaws::not_volume_on_few, crate::proofs::FirstLaws::seen_size))]
-pub(crate) fn look<D: Device>(device: &mut D) -> Result<Superblock, MountFault>
+pub(crate) fn read_superblock<D: Device>(device: &mut D) -> Result<Superblock, MountFault>
     ensures volume { IfOk result (HasSize (D.size device.old)) }
     ensures seen { D.keeps_word
         → IsSeen (D.size device.old) (seen (D.history device.old).now 0) result }

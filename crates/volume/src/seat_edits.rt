@@ -6,13 +6,13 @@ use disk::Device;
 use model::seats::SeatEdits;
 use seating::updates_of;
 
-#[tactic(auto, unfolding(crate::specs::Views::held_of, crate::specs::Views::volume_failures))]
+#[tactic(auto, unfolding(crate::specs::Views::volume_state, crate::specs::Views::volume_failures))]
 impl<D: Device> Volume<D> {
     ghost use Rattle.std.specs.Prelude.{◌≡◌, ◌↔◌, ◌⊎◌, true, OnOk, IfErr, IsErrOf};
     ghost use Rattle.model.specs.SeatEdits.{AreEdits, edited_all, edits_view};
     ghost use Rattle.volume.specs.Changes.{IsSeats, ending_of};
     ghost use Rattle.volume.specs.Formed.{Shows};
-    ghost use Rattle.volume.specs.Views.{held_of, Alters};
+    ghost use Rattle.volume.specs.Views.{volume_state, Alters};
 
     /// Edits the seats as one transaction, and keeps it: after `Ok` a crash leaves the new ones,
     /// and every change of the tree so far. Within it a crash leaves the old ones or the new.
@@ -22,15 +22,15 @@ impl<D: Device> Volume<D> {
     /// [`VolumeFault::Down`]; [`VolumeFault::Memory`], and nothing changed; [`VolumeFault::Device`]
     /// where the device failed.
     pub fn put_seats(&mut self, edits: &SeatEdits) -> Result<(), VolumeFault>
-        requires { D.keeps_word → AreEdits (held_of self.old).run (edits_view edits.now)
-            (held_of self.old).seats }
+        requires { D.keeps_word → AreEdits (volume_state self.old).run (edits_view edits.now)
+            (volume_state self.old).seats }
         ensures volume { Alters self.old self.new
-            (IsSeats (held_of self.old)
-            (edited_all (edits_view edits.now) (held_of self.old).seats)) (ending_of result) }
-        ensures shows { OnOk result (Shows D.keeps_word (held_of self.old).tree
-            (held_of self.new).tree) }
+            (IsSeats (volume_state self.old)
+            (edited_all (edits_view edits.now) (volume_state self.old).seats)) (ending_of result) }
+        ensures shows { OnOk result (Shows D.keeps_word (volume_state self.old).tree
+            (volume_state self.new).tree) }
         // Refused
-        ensures down { IsErrOf result VolumeFault.Down ↔ ((held_of self.old).is_down ≡ true) }
+        ensures down { IsErrOf result VolumeFault.Down ↔ ((volume_state self.old).is_down ≡ true) }
         ensures refuses { IfErr result (λ fault. (fault ≡ VolumeFault.Memory)
             ⊎ ((fault ≡ VolumeFault.Device) ⊎ (fault ≡ VolumeFault.Down))) }
     {

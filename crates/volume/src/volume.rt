@@ -5,7 +5,7 @@ ghost use Rattle.journal.specs.Journal.{log_of};
 ghost use Rattle.layout.specs.Superblock.{is_size};
 ghost use Rattle.model.specs.Limits.{limits_of};
 ghost use Rattle.model.specs.Stamp.{stamp};
-ghost use Rattle.tree_edits.specs.Outlines.{outline_of};
+ghost use Rattle.tree_edits.specs.Outlines.{tree_without_data};
 ghost use Rattle.parents.specs.Parents.{AreParents};
 ghost use Rattle.parents.specs.ParentProps.{AreParents-prop};
 ghost use Rattle.volume.specs.Formed.{IsFormed};
@@ -14,7 +14,7 @@ ghost use Rattle.volume.specs.KnownProps.{IsKnown-prop, IsFormed-prop};
 
 use crate::fault::{MountFault, VolumeFault};
 use crate::load::load;
-use crate::mount::{Superblock, find};
+use crate::mount::{Superblock, read_mountable_superblock};
 use crate::start::start;
 use crate::store::Store;
 use disk::Device;
@@ -22,7 +22,7 @@ use freemap::Bitmap;
 use journal::{CACHED_SECTORS, Journal};
 use model::limits::Limits;
 use model::seats::Seats;
-use node_table::{Card, Table};
+use node_table::{CachedNode, Table};
 use parents::Parents;
 use std::alloc::Global;
 use std::num::NonZeroUsize;
@@ -44,7 +44,7 @@ pub struct Volume<D: Device> {
     ghost bounded: { run < 2 ^ 32 },
     ghost sized: { IsTrue (is_size (log_of store.journal).size limits.nodes) },
     ghost limited: { limits ≡ limits_of (log_of store.journal).size limits.nodes },
-    ghost formed: { IsFormed limits (stamp (run + 1) 0) (outline_of table) } by { IsFormed-prop limits (stamp (run + 1) 0) (outline_of table) },
+    ghost formed: { IsFormed limits (stamp (run + 1) 0) (tree_without_data table) } by { IsFormed-prop limits (stamp (run + 1) 0) (tree_without_data table) },
     ghost known: { IsKnown (log_of store.journal).size limits.nodes table places } by { IsKnown-prop (log_of store.journal).size limits.nodes table places },
     ghost named: { AreParents table parents } by { AreParents-prop table parents },
     ghost serves: { D.keeps_word → (log_of store.journal).is_down ≡ false
@@ -66,7 +66,7 @@ pub struct Unmounted<D: Device> {
     pub device: D,
 }
 
-#[tactic(auto, unfolding(crate::specs::Views::held_of, crate::specs::Views::volume_failures))]
+#[tactic(auto, unfolding(crate::specs::Views::volume_state, crate::specs::Views::volume_failures))]
 impl<D: Device> Volume<D> {
     ghost use Rattle.std.specs.Prelude.{◌≡◌, ◌≤◌, ◌↔◌, ◌⊎◌, true, None, length};
     ghost use Rattle.std.specs.Prelude.{IfSome, IfNone, IfOk, IfErr, OnOk, IsErrOf};
@@ -77,12 +77,12 @@ impl<D: Device> Volume<D> {
     ghost use Rattle.model.specs.SeatViews.{seats_view};
     ghost use Rattle.volume.specs.Changes.{IsTree, Stays, ending_of};
     ghost use Rattle.volume.specs.Formed.{Shows};
-    ghost use Rattle.volume.specs.Held.{IsNew, KeepsRecent};
+    ghost use Rattle.volume.specs.VolumeState.{IsNew, KeepsRecent};
     ghost use Rattle.volume.specs.Loads.{HoldsBase};
     ghost use Rattle.volume.specs.MountAnswers.{FindsSeats, MountServes, MountGivesBack, ComesBack};
     ghost use Rattle.volume.specs.Mounts.{IsVolumeOf, IsAtRest, HasBegun, IsNotBegun};
     ghost use Rattle.volume.specs.Nodes.{IsNodeOf};
-    ghost use Rattle.volume.specs.Views.{held_of, volume_failures, Alters};
+    ghost use Rattle.volume.specs.Views.{volume_state, volume_failures, Alters};
 
     /// Mounts the volume: finds it by its first sector, copies home what an open gate shows, reads
     /// its nodes and seats, migrates one of version 1, and raises the restart count. Every map that
@@ -94,7 +94,7 @@ impl<D: Device> Volume<D> {
     /// As [`Volume::mount_seated`].
     pub fn mount(alloc: Global, device: D) -> Result<Volume<D>, Unmounted<D>>
         ensures serves { IfOk result (λ volume. MountServes D.keeps_word D.size D.failed D.history
-            device (held_of volume) (volume_failures volume)) }
+            device (volume_state volume) (volume_failures volume)) }
         ensures gives_back { IfErr result (MountGivesBack D.keeps_word D.size D.failed D.history
             device) }
     {
@@ -113,7 +113,7 @@ impl<D: Device> Volume<D> {
         cached: NonZeroUsize,
     ) -> Result<Volume<D>, Unmounted<D>>
         ensures serves { IfOk result (λ volume. MountServes D.keeps_word D.size D.failed D.history
-            device (held_of volume) (volume_failures volume)) }
+            device (volume_state volume) (volume_failures volume)) }
         ensures gives_back { IfErr result (MountGivesBack D.keeps_word D.size D.failed D.history
             device) }
     {
@@ -134,15 +134,16 @@ impl<D: Device> Volume<D> {
         cached: Option<NonZeroUsize>,
     ) -> Result<Mounted<D>, Unmounted<D>>
         ensures serves { IfOk result (λ mounted. MountServes D.keeps_word D.size D.failed D.history
-            device (held_of mounted.volume) (volume_failures mounted.volume)) }
-        ensures seats { IfOk result (λ mounted. FindsSeats D.keeps_word (held_of mounted.volume)
+            device (volume_state mounted.volume) (volume_failures mounted.volume)) }
+        ensures seats { IfOk result
+            (λ mounted. FindsSeats D.keeps_word (volume_state mounted.volume)
             (seats_view mounted.seats)) }
         ensures gives_back { IfErr result (MountGivesBack D.keeps_word D.size D.failed D.history
             device) }
     {
         let own = NonZeroUsize::new(CACHED_SECTORS).unwrap_or(NonZeroUsize::MIN);
         let mut device = device;
-        let found = match find(&mut device) {
+        let found = match read_mountable_superblock(&mut device) {
             Ok(found) => found,
             Err(fault) => return Err(Unmounted { fault, device }),
         };
@@ -165,12 +166,13 @@ impl<D: Device> Volume<D> {
         requires rests { IsAtRest (log_of journal) }
         requires base { D.keeps_word → HoldsBase found (log_of journal) }
         ensures new { IfOk result (λ mounted.
-            IsNew (log_of journal).size (held_of mounted.volume)) }
+            IsNew (log_of journal).size (volume_state mounted.volume)) }
         ensures counted { IfOk result (λ mounted.
             volume_failures mounted.volume ≡ failures_of journal) }
         ensures begun { D.keeps_word → IfOk result (λ mounted. HasBegun found
-            (log_of journal).base (log_of journal).history (held_of mounted.volume)) }
-        ensures seats { IfOk result (λ mounted. FindsSeats D.keeps_word (held_of mounted.volume)
+            (log_of journal).base (log_of journal).history (volume_state mounted.volume)) }
+        ensures seats { IfOk result
+            (λ mounted. FindsSeats D.keeps_word (volume_state mounted.volume)
             (seats_view mounted.seats)) }
         // Refused
         ensures back { IfErr result (ComesBack D.size D.failed (log_of journal).size
@@ -211,15 +213,15 @@ impl<D: Device> Volume<D> {
 
     /// The run of this mount: the restart count that it wrote.
     pub fn restart_count(&self) -> u32
-        ensures { result ≡ (held_of self.now).run }
+        ensures { result ≡ (volume_state self.now).run }
     {
         self.run
     }
 
     /// The device, as it is now. What stands on it is the next mount's.
     pub fn into_device(self) -> D
-        ensures history { D.history result ≡ (held_of self).history }
-        ensures size { D.size result ≡ (held_of self).sectors }
+        ensures history { D.history result ≡ (volume_state self).history }
+        ensures size { D.size result ≡ (volume_state self).sectors }
         ensures failures { D.failed result ≡ volume_failures self }
     {
         self.store.journal.into_device()
@@ -227,25 +229,26 @@ impl<D: Device> Volume<D> {
 
     /// The limits of the volume. They stay as they are, also where it is down.
     pub fn limits(&self) -> &Limits
-        ensures limits { result.now ≡ (held_of self.now).limits }
+        ensures limits { result.now ≡ (volume_state self.now).limits }
         ensures sized { result.now
-            ≡ limits_of (held_of self.now).sectors (held_of self.now).limits.nodes }
+            ≡ limits_of (volume_state self.now).sectors (volume_state self.now).limits.nodes }
     {
         &self.limits
     }
 
     /// Whether the device failed: nothing is read from it or written to it from then on.
     pub fn is_down(&self) -> bool
-        ensures { result ≡ (held_of self.now).is_down }
+        ensures { result ≡ (volume_state self.now).is_down }
     {
         self.store.journal.is_down()
     }
 
     /// The node of this number: all of it but the bytes of a file. Where the volume is down, that of
     /// the tree before the call that failed or after it.
-    pub fn node(&self, number: u64) -> Option<&Card>
-        ensures some { IfSome result (λ card. IsNodeOf (held_of self.now).tree number card.now) }
-        ensures none { IfNone result (at number (held_of self.now).tree ≡ None) }
+    pub fn node(&self, number: u64) -> Option<&CachedNode>
+        ensures some { IfSome result
+            (λ card. IsNodeOf (volume_state self.now).tree number card.now) }
+        ensures none { IfNone result (at number (volume_state self.now).tree ≡ None) }
         ensures fit { IfSome result (λ card. IsCard card.now) }
         ensures few { IfSome result (λ card. length card.now.fields.acl ≤ MAX_STORED) }
     {
@@ -261,11 +264,11 @@ impl<D: Device> Volume<D> {
     /// call.
     pub fn flush(&mut self) -> Result<(), VolumeFault>
         ensures volume { Alters self.old self.new
-            (IsTree (held_of self.old) (held_of self.old).tree) (ending_of result) }
-        ensures shows { OnOk result (Shows D.keeps_word (held_of self.old).tree
-            (held_of self.new).tree) }
+            (IsTree (volume_state self.old) (volume_state self.old).tree) (ending_of result) }
+        ensures shows { OnOk result (Shows D.keeps_word (volume_state self.old).tree
+            (volume_state self.new).tree) }
         // Refused
-        ensures down { IsErrOf result VolumeFault.Down ↔ ((held_of self.old).is_down ≡ true) }
+        ensures down { IsErrOf result VolumeFault.Down ↔ ((volume_state self.old).is_down ≡ true) }
         ensures refuses { IfErr result (λ fault.
             (fault ≡ VolumeFault.Device) ⊎ (fault ≡ VolumeFault.Down)) }
     {
@@ -281,13 +284,13 @@ impl<D: Device> Volume<D> {
     /// Those of [`Volume::flush`].
     pub fn checkpoint(&mut self) -> Result<(), VolumeFault>
         ensures volume { Alters self.old self.new
-            (Stays (held_of self.old)) (ending_of result) }
-        ensures shows { OnOk result (Shows D.keeps_word (held_of self.old).tree
-            (held_of self.new).tree) }
+            (Stays (volume_state self.old)) (ending_of result) }
+        ensures shows { OnOk result (Shows D.keeps_word (volume_state self.old).tree
+            (volume_state self.new).tree) }
         ensures recent { D.keeps_word → OnOk result
-            (KeepsRecent (held_of self.old) (held_of self.new)) }
+            (KeepsRecent (volume_state self.old) (volume_state self.new)) }
         // Refused
-        ensures down { IsErrOf result VolumeFault.Down ↔ ((held_of self.old).is_down ≡ true) }
+        ensures down { IsErrOf result VolumeFault.Down ↔ ((volume_state self.old).is_down ≡ true) }
         ensures refuses { IfErr result (λ fault.
             (fault ≡ VolumeFault.Device) ⊎ (fault ≡ VolumeFault.Down)) }
     {

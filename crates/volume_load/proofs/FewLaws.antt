@@ -12,22 +12,22 @@ use Rattle.model.specs.Charge.{blocks_of}
 use Rattle.model.specs.Keyed.{at}
 use Rattle.model.specs.Limits.{limits_of}
 use Rattle.model.specs.WellFormed.{IsContent, IsNode}
-use Rattle.layout.specs.Cards.{Card, cards_in, content_of, node_of}
+use Rattle.layout.specs.CachedNodes.{CachedNode, cards_in, content_of, node_of}
 use Rattle.layout.specs.Laid.{HoldsPlace, HoldsContent, HoldsCard}
 use Rattle.layout.specs.Marks.{mark_in}
 use Rattle.layout.proofs.Answering.{each_answer}
 use Rattle.layout.proofs.StepLaws.{length-bytes_in}
 use Rattle.volume_load.specs.Volumes.{StandsIsFew}
 
-content-is : (image : Image) (card : Card) → (node_of image card).content ≡ content_of image card.fields.kind card
+content-is : (image : Image) (card : CachedNode) → (node_of image card).content ≡ content_of image card.fields.kind card
 unfolding node_of
 content-is image card = refl
 
-few_blocks : (size nodes : ℕ) (image : Image) (kind : NodeKind) (card : Card) → IsContent (limits_of size nodes) (content_of image kind card) → HoldsContent image kind card → blocks_of kind card.fields.size ≤ 4096
+few_blocks : (size nodes : ℕ) (image : Image) (kind : NodeKind) (card : CachedNode) → IsContent (limits_of size nodes) (content_of image kind card) → HoldsContent image kind card → blocks_of kind card.fields.size ≤ 4096
 few_blocks size nodes image kind.File card is holds = let long = length-bytes_in image card.blocks card.fields.size in let few = is.1 in omega arith
 few_blocks size nodes image kind.Directory card is holds = omega (arith, holds.count, holds.names.few)
 
-few_at : (size nodes : ℕ) (image : Image) (place : ℕ) (card : Card) → IsNode (limits_of size nodes) (node_of image card) → HoldsCard image place card → length card.blocks ≤ 4096
+few_at : (size nodes : ℕ) (image : Image) (place : ℕ) (card : CachedNode) → IsNode (limits_of size nodes) (node_of image card) → HoldsCard image place card → length card.blocks ≤ 4096
 few_at size nodes image place card is holds =
     omega (arith, holds.node.blocks, few_blocks size nodes image card.fields.kind card (subst (IsContent (limits_of size nodes)) (content-is image card) is.content) holds.content)
 

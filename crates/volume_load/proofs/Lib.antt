@@ -1,4 +1,4 @@
-pub mod CardLaws
+pub mod CachedNodeLaws
 pub mod FewLaws
 pub mod MarkingLaws
 pub mod MigrationLaws

@@ -8,7 +8,7 @@ use Rattle.directory.specs.Records.{Record, IsRecord, record_from}
 use Rattle.directory.specs.Spelling.{record_bytes, directory_sector}
 use Rattle.directory.specs.Reading.{records_in}
 use Rattle.directory.proofs.ReadBack.{records-back}
-use Rattle.layout.specs.Cards.{content_at}
+use Rattle.layout.specs.CachedNodes.{content_at}
 use Rattle.layout.specs.Laid.{names_of_block}
 use Rattle.volume_load.specs.Names.{FindsPart, FindsRecords, FindsNames}
 use Rattle.volume_load.proofs.RunLaws.{all-append, all-take, all-drop}

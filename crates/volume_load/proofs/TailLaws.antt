@@ -3,7 +3,7 @@ use Rattle.std.proofs.Common.{◌≡◌, ◌<◌, ◌+◌, ◌*◌, ◌/◌, ◌
 use Rattle.std.proofs.lemmas.Bool.{cases_lt}
 use Rattle.std.proofs.lemmas.List.{get_or_past}
 use Rattle.disk.specs.Moments.{Image}
-use Rattle.layout.specs.Cards.{content_at, byte_at}
+use Rattle.layout.specs.CachedNodes.{content_at, byte_at}
 use Rattle.volume_load.specs.Names.{HasTail}
 use Rattle.volume_load.specs.Sectors.{AreZeroFrom}
 

@@ -5,16 +5,16 @@ use Rattle.std.proofs.lemmas.List.{ext_get_or, get_or_past}
 use Rattle.disk.specs.Moments.{Image}
 use Rattle.freemap.specs.Places.{Shows, mark_of, bit_of, bit_in}
 use Rattle.inode.specs.declared.node.Form.{Form}
-use Rattle.layout.specs.Cards.{Card}
+use Rattle.layout.specs.CachedNodes.{CachedNode}
 use Rattle.layout.specs.Known.{AreCards}
 use Rattle.layout.specs.Laid.{AreLaid, AreNumbered}
 use Rattle.layout.specs.Marks.{named, mark_in, mark_by}
 use Rattle.layout.specs.Stands.{HoldSeats, Version, AreKept, HaveForms, IsLaid, IsMark, MayKeep, mark_held, version_by}
 use Rattle.layout.specs.declared.versions.VersionNumber.{VersionNumber}
 use Rattle.model.specs.Seats.{Seats, no_seats}
-use Rattle.layout.proofs.CardLaws.{cards-back}
+use Rattle.layout.proofs.CachedNodeLaws.{cards-back}
 use Rattle.layout.proofs.MarkProofs.{mark-back, each_mark, marks_laid}
-use Rattle.volume_load.specs.Cards.{FindsPlace, IsFound, CanHold}
+use Rattle.volume_load.specs.CachedNodes.{FindsPlace, IsFound, CanHold}
 use Rattle.volume_load.specs.Sectors.{AreBits, AreSpare}
 use Rattle.volume_load.specs.Volumes.{AreFew, IsRead}
 use Rattle.volume_load.proofs.MarkingLaws.{most-in}
@@ -22,9 +22,9 @@ use Rattle.volume_load.proofs.MigrationLaws.{mark_fits, one_mark, mark_there, sa
 use Rattle.volume_load.proofs.MigrationLaws.{spare_there}
 use Rattle.volume_load.proofs.TableLaws.{place_held, place_known, place_found, one_place}
 
--- Cards that are laid can be held
+-- Cached nodes that are laid can be held
 
-pub laid_can : (word : Type 0) (number : VersionNumber) (mark : Option ℕ) (seats : Seats) (image : Image) (size nodes count : ℕ) (cards : List (Option Card)) → size ≡ 148 + nodes + count → IsLaid (version_by number mark seats) size nodes image cards → AreFew cards
+pub laid_can : (word : Type 0) (number : VersionNumber) (mark : Option ℕ) (seats : Seats) (image : Image) (size nodes count : ℕ) (cards : List (Option CachedNode)) → size ≡ 148 + nodes + count → IsLaid (version_by number mark seats) size nodes image cards → AreFew cards
     → CanHold word (version_by number mark no_seats).form image nodes count cards
 laid_can word number mark seats image size nodes count cards sized laid few = record {
   many = laid.laid.count;
@@ -42,11 +42,11 @@ laid_can word number mark seats image size nodes count cards sized laid few = re
 }
 
 -- by the one mark that stands there
-pub record LaidHere (number : VersionNumber) (mark : Option ℕ) (seats : Seats) (image : Image) (size nodes : ℕ) (cards : List (Option Card)) : Type 0 where
+pub record LaidHere (number : VersionNumber) (mark : Option ℕ) (seats : Seats) (image : Image) (size nodes : ℕ) (cards : List (Option CachedNode)) : Type 0 where
   pub may : MayKeep number mark seats
   pub laid : IsLaid (version_by number mark seats) size nodes image cards
 
-pub laid_here : (number : VersionNumber) (mark other : Option ℕ) (seats : Seats) (image : Image) (size nodes : ℕ) (cards : List (Option Card)) → nodes < 2 ^ 32 → IsMark number nodes mark → image 147 ≡ mark_held mark → IsMark number nodes other → MayKeep number other seats
+pub laid_here : (number : VersionNumber) (mark other : Option ℕ) (seats : Seats) (image : Image) (size nodes : ℕ) (cards : List (Option CachedNode)) → nodes < 2 ^ 32 → IsMark number nodes mark → image 147 ≡ mark_held mark → IsMark number nodes other → MayKeep number other seats
     → IsLaid (version_by number other seats) size nodes image cards → LaidHere number mark seats image size nodes cards
 laid_here number mark other seats image size nodes cards small is there one may laid =
     let same : other ≡ mark = one_mark other mark (mark_fits number nodes other small one) (mark_fits number nodes mark small is) (sym (mark_there number other seats image may laid.spare) ∙ there) in
@@ -56,7 +56,7 @@ laid_here number mark other seats image size nodes cards small is there one may 
     }
 
 -- and are those that were found
-pub one_table : (word : Type 0) (form : ℕ → Form) (image : Image) (nodes count : ℕ) (cards others : List (Option Card)) (places : List Bool) → word → IsFound word form image nodes count cards places → CanHold word form image nodes count others → cards ≡ others
+pub one_table : (word : Type 0) (form : ℕ → Form) (image : Image) (nodes count : ℕ) (cards others : List (Option CachedNode)) (places : List Bool) → word → IsFound word form image nodes count cards places → CanHold word form image nodes count others → cards ≡ others
 one_table word form image nodes count cards others places w found can =
     ext_get_or None cards others (found.many ∙ sym can.many) (λ p h. one_place word (form p) image p (get_or cards p None) (get_or others p None) w (found.each p (omega (arith, found.many))) (can.each p (omega (arith, found.many))))
 
@@ -86,15 +86,15 @@ module _ (nodes : ℕ) (image : Image) (places : List Bool) (marks : (n : ℕ) �
   part_bits (suc zero) h = high_bits
   part_bits (suc (suc part)) h = absurd (omega arith)
 
--- of cards that are laid the marks that were made are those of the bitmap
-pub same_marks : (word : Type 0) (version : Version) (form : ℕ → Form) (image : Image) (size nodes count : ℕ) (cards others : List (Option Card)) (places : List Bool) → word → IsFound word form image nodes count cards places → CanHold word form image nodes count others → IsLaid version size nodes image others
+-- of cached nodes that are laid the marks that were made are those of the bitmap
+pub same_marks : (word : Type 0) (version : Version) (form : ℕ → Form) (image : Image) (size nodes count : ℕ) (cards others : List (Option CachedNode)) (places : List Bool) → word → IsFound word form image nodes count cards places → CanHold word form image nodes count others → IsLaid version size nodes image others
     → (n : ℕ) → mark_in nodes image n ≡ mark_by (148 + nodes) places n
 same_marks word version form image size nodes count cards others places w found can laid n =
     sym (laid.laid.marks n) ∙ ap (named n) (sym (one_table word form image nodes count cards others places w found can)) ∙ sym (found.marks n)
 
 -- What is found of all is read
 
-module _ (word : Type 0) (number : VersionNumber) (run : ℕ) (mark : Option ℕ) (seats : Seats) (image : Image) (size nodes count : ℕ) (cards : List (Option Card)) (places : List Bool) (sized : size ≡ 148 + nodes + count) (small : count ≤ 65536) (marked : IsMark number nodes mark) (may : MayKeep number mark seats) (keeps : AreKept run seats)
+module _ (word : Type 0) (number : VersionNumber) (run : ℕ) (mark : Option ℕ) (seats : Seats) (image : Image) (size nodes count : ℕ) (cards : List (Option CachedNode)) (places : List Bool) (sized : size ≡ 148 + nodes + count) (small : count ≤ 65536) (marked : IsMark number nodes mark) (may : MayKeep number mark seats) (keeps : AreKept run seats)
     (found : IsFound word (version_by number mark no_seats).form image nodes count cards places) (apart : AreNumbered cards) (low : word → Shows (image 98) places 0) (high : word → Shows (image 99) places 32768) (there : word → image 147 ≡ mark_held mark) (holds : word → HoldSeats image seats) (spare : word → AreSpare image) where
   known : AreCards nodes (mark_by (148 + nodes) places) cards
   known =
@@ -123,13 +123,14 @@ module _ (word : Type 0) (number : VersionNumber) (run : ℕ) (mark : Option ℕ
         once = λ n. omega (arith, same w n, each.once n);
       }
 
-  found_at : (place : ℕ) (card : Card) → get_or cards place None ≡ Some card → FindsPlace word ((version_by number mark no_seats).form place) image place (Some card)
+  found_at : (place : ℕ) (card : CachedNode) → get_or cards place None ≡ Some card → FindsPlace word ((version_by number mark no_seats).form place) image place (Some card)
   found_at place card is = elim (cases_lt place nodes) [
     | inl h ↦ subst (FindsPlace word ((version_by number mark no_seats).form place) image place) is (found.each place h)
     | inr past ↦ absurd (none_some card (sym (get_or_past cards place None (omega (arith, found.many))) ∙ is))
   ]
     where
-      none_some : (card : Card) → (let none : Option Card = None in none ≡ Some card) → ⊥
+      none_some : (card : CachedNode) → (let none : Option CachedNode = None in none ≡ Some card)
+          → ⊥
       none_some card e = cc
 
   few : AreFew cards

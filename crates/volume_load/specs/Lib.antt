@@ -1,4 +1,4 @@
-pub mod Cards
+pub mod CachedNodes
 pub mod Faults
 pub mod Marking
 pub mod Names

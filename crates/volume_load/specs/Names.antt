@@ -7,7 +7,7 @@ use Rattle.model.specs.declared.node.NodeKind.{NodeKind}
 use Rattle.model.specs.declared.node.NodeKind.TheVariants as kind
 use Rattle.directory.specs.Records.{Record, IsRecord, IsDirectory, AreStamped}
 use Rattle.directory.specs.Spelling.{directory_sector}
-use Rattle.layout.specs.Cards.{byte_at}
+use Rattle.layout.specs.CachedNodes.{byte_at}
 use Rattle.layout.specs.Laid.{AreSpelled}
 
 -- each block that has a sector can be read

@@ -3,7 +3,7 @@ use Rattle.std.specs.Prelude.{◌≡◌, ◌≤◌, ◌+◌, ℕ, Bool, List, Op
 use Rattle.std.specs.Prelude.{slice_index_or}
 use Rattle.disk.specs.Moments.{Image}
 use Rattle.layout.specs.declared.versions.VersionNumber.{VersionNumber}
-use Rattle.layout.specs.Cards.{Card, cards_in}
+use Rattle.layout.specs.CachedNodes.{CachedNode, cards_in}
 use Rattle.model.specs.Seats.{Seats}
 use Rattle.model.specs.Tree.{Tree}
 use Rattle.layout.specs.Known.{AreCards}
@@ -12,16 +12,16 @@ use Rattle.layout.specs.Stands.{Version, AreKept, HaveForms, IsLaid, IsMark, May
 use Rattle.layout.specs.Stands.{version_by}
 
 -- no node has more blocks than a file may have
-abbrev pub AreFew : List (Option Card) → Type 0
-AreFew cards = (place : ℕ) (card : Card) → slice_index_or cards place None ≡ Some card
+abbrev pub AreFew : List (Option CachedNode) → Type 0
+AreFew cards = (place : ℕ) (card : CachedNode) → slice_index_or cards place None ≡ Some card
     → length card.blocks ≤ 4096
 
--- A mark of a migration, seats that a volume with it may keep after so many mounts, cards in the
--- forms that it tells, and marks of the whole data region that are what they name, whatever the
+-- A mark of a migration, seats that a volume with it may keep after so many mounts, cached nodes in
+-- the forms that it tells, and marks of the whole data region that are what they name, whatever the
 -- sectors hold; and where the device keeps its word the sectors hold this mark, these seats and
--- these cards, which are those that are read of the image
+-- these cached nodes, which are those that are read of the image
 pub record IsRead (word : Type 0) (size nodes : ℕ) (number : VersionNumber) (run : ℕ)
-    (mark : Option ℕ) (seats : Seats) (image : Image) (cards : List (Option Card))
+    (mark : Option ℕ) (seats : Seats) (image : Image) (cards : List (Option CachedNode))
     (places : List Bool) : Type 0 where
   pub marked : IsMark number nodes mark
   pub may : MayKeep number mark seats
@@ -33,7 +33,7 @@ pub record IsRead (word : Type 0) (size nodes : ℕ) (number : VersionNumber) (r
   pub laid : word → IsLaid (version_by number mark seats) size nodes image cards
   pub read : word → cards ≡ cards_in nodes image
 
--- where a volume stands for a tree, the cards that are read of it are so few
+-- where a volume stands for a tree, the cached nodes that are read of it are so few
 abbrev pub StandsIsFew : Type 0
 StandsIsFew = (version : Version) (size nodes : ℕ) (image : Image) (run : ℕ) (tree : Tree)
     → Stands version size nodes image run tree → AreFew (cards_in nodes image)

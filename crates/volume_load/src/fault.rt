@@ -17,7 +17,7 @@ pub enum ScanFault {
     /// The device failed.
     #[error("device fault")]
     Device,
-    /// The sectors hold no cards.
+    /// The sectors hold no cached nodes.
     #[error("damaged")]
     Damaged,
     /// Memory ran out.

@@ -1,4 +1,4 @@
-//! What a volume that stands for a tree tells of its cards.
+//! What a volume that stands for a tree tells of its cached nodes.
 
 ghost use Rattle.volume_load.specs.Volumes.{StandsIsFew};
 

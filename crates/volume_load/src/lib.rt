@@ -1,4 +1,4 @@
-//! What a mount reads of a volume: the cards of its nodes, or that its sectors hold none.
+//! What a mount reads of a volume: the cached nodes of its nodes, or that its sectors hold none.
 #![tactic(auto)]
 
 mod fault;

@@ -3,7 +3,7 @@
 ghost use Rattle.std.specs.Prelude.{◌≡◌, ◌<◌, ◌+◌, ◌^◌, Option, option_map, IfOk, IsErrOf};
 ghost use Rattle.inode.specs.Fields.{Fields, fields_of};
 ghost use Rattle.volume_load.specs.Places.{FindsFields};
-ghost use Rattle.layout.specs.Cards.{node_sector};
+ghost use Rattle.layout.specs.CachedNodes.{node_sector};
 ghost use Rattle.layout.specs.Health.{Reads};
 
 use crate::fault::ScanFault;

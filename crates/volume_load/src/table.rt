@@ -1,10 +1,10 @@
-//! The card of a place, and those of a table.
+//! The cached node of a place, and those of a table.
 
 ghost use Rattle.std.specs.Prelude.{◌≡◌, ◌<◌, ◌+◌, ◌/◌, ◌^◌, ℕ, List, Option, Some, length};
 ghost use Rattle.std.specs.Prelude.{replicate, false, IfOk, IsErrOf, None, IsTrue, ◌↔◌};
 ghost use Rattle.extents.specs.declared.run.Run.{Run};
 ghost use Rattle.inode.specs.Fields.{fields_of, IsInode};
-ghost use Rattle.layout.specs.Cards as layout;
+ghost use Rattle.layout.specs.CachedNodes as layout;
 ghost use Rattle.layout.specs.Health.{Reads};
 ghost use Rattle.layout.specs.Laid.{AreNumbered};
 ghost use Rattle.layout.specs.Marks.{named_by};
@@ -12,9 +12,9 @@ ghost use Rattle.layout.specs.Stands.{version_by};
 ghost use Rattle.model.specs.Seats.{no_seats};
 ghost use Rattle.volume_load.specs.Names.{AreSetWithin};
 ghost use Rattle.volume_load.specs.Marking.{CanMark, AreMarked};
-ghost use Rattle.volume_load.specs.Cards.{uses, FindsBlocks, FindsRest, FindsPlace, IsFound};
-ghost use Rattle.volume_load.specs.Cards.{CanHold};
-ghost use Rattle.volume_load.specs.Cards.{numbers_of};
+ghost use Rattle.volume_load.specs.CachedNodes.{uses, FindsBlocks, FindsRest, FindsPlace, IsFound};
+ghost use Rattle.volume_load.specs.CachedNodes.{CanHold};
+ghost use Rattle.volume_load.specs.CachedNodes.{numbers_of};
 
 use crate::fault::ScanFault;
 use crate::marks::{mark_blocks, mark_sectors};
@@ -28,7 +28,7 @@ use inode::{Form, Inode};
 use layout::places::NODES;
 use layout::sectors::Sectors;
 use layout::versions::{VersionNumber, form_at};
-use node_table::Card;
+use node_table::CachedNode;
 use std::alloc::{AllocError, Global};
 
 /// The runs and the blocks of a node.
@@ -75,7 +75,7 @@ fn read_blocks<S: Sectors>(
     Ok(Laid { runs, blocks })
 }
 
-/// The card of a node: what the sectors hold that it names, which are marked.
+/// The cached node of a node: what the sectors hold that it names, which are marked.
 fn read_card<S: Sectors>(
     alloc: Global,
     sectors: &mut S,
@@ -83,7 +83,7 @@ fn read_card<S: Sectors>(
     first: u32,
     form: Form,
     inode: Inode,
-) -> Result<Card, ScanFault>
+) -> Result<CachedNode, ScanFault>
     requires fits { IsInode form (fields_of inode) }
     requires size { first + length places.old ≡ S.size (S.kept sectors.old) }
     ensures fields { IfOk result (λ card. card.fields ≡ fields_of inode) }
@@ -92,7 +92,7 @@ fn read_card<S: Sectors>(
     ensures marked { IfOk result (λ card. AreMarked first places.old places.new
         (uses card.fields card.blocks)) }
     // Refused
-    ensures damaged { S.keeps_word → IsErrOf result ScanFault.Damaged → (card : layout.Card)
+    ensures damaged { S.keeps_word → IsErrOf result ScanFault.Damaged → (card : layout.CachedNode)
         → card.fields ≡ fields_of inode
         → FindsRest S.keeps_word (S.image (S.kept sectors.old)) card
         → ¬ CanMark first places.old (uses card.fields card.blocks) }
@@ -104,7 +104,7 @@ fn read_card<S: Sectors>(
     let laid = read_blocks(alloc, sectors, places, first, &inode)?;
     let names = read_content(alloc, sectors, inode.kind, inode.size, &laid.blocks)?;
     let runs = Runs::from_vec(laid.runs)?;
-    Ok(Card {
+    Ok(CachedNode {
         form,
         inode,
         runs,
@@ -113,7 +113,7 @@ fn read_card<S: Sectors>(
     })
 }
 
-/// The card of a place, whose node is to have this form; none where it is free.
+/// The cached node of a place, whose node is to have this form; none where it is free.
 fn read_place<S: Sectors>(
     alloc: Global,
     sectors: &mut S,
@@ -121,7 +121,7 @@ fn read_place<S: Sectors>(
     first: u32,
     place: u32,
     form: Form,
-) -> Result<Option<Card>, ScanFault>
+) -> Result<Option<CachedNode>, ScanFault>
     requires place { NODES + place < first }
     requires size { first + length places.old ≡ S.size (S.kept sectors.old) }
     ensures found { IfOk result
@@ -130,7 +130,7 @@ fn read_place<S: Sectors>(
         (λ n. named_by n card)) }
     // Refused
     ensures damaged { S.keeps_word → IsErrOf result ScanFault.Damaged
-        → (card : Option layout.Card)
+        → (card : Option layout.CachedNode)
         → FindsPlace S.keeps_word form (S.image (S.kept sectors.old)) place card
         → ¬ CanMark first places.old (λ n. named_by n card) }
     // It only reads
@@ -145,8 +145,8 @@ fn read_place<S: Sectors>(
     Ok(Some(card))
 }
 
-/// The cards of so many places, in the forms of the version and its mark, and the marks of what
-/// they name.
+/// The cached nodes of so many places, in the forms of the version and its mark, and the marks of
+/// what they name.
 pub(crate) fn read_table<S: Sectors>(
     alloc: Global,
     sectors: &mut S,
@@ -154,7 +154,7 @@ pub(crate) fn read_table<S: Sectors>(
     nodes: u32,
     number: VersionNumber,
     mark: Option<u32>,
-) -> Result<Vec<Option<Card>>, ScanFault>
+) -> Result<Vec<Option<CachedNode>>, ScanFault>
     requires few { NODES + nodes < 2 ^ 32 }
     requires size { NODES + nodes + length places.old ≡ S.size (S.kept sectors.old) }
     requires free { places.old ≡ replicate (length places.old) false }
@@ -163,7 +163,7 @@ pub(crate) fn read_table<S: Sectors>(
         (length places.old) cards.items places.new) }
     // Refused
     ensures damaged { S.keeps_word → IsErrOf result ScanFault.Damaged
-        → (cards : List (Option layout.Card))
+        → (cards : List (Option layout.CachedNode))
         → ¬ CanHold S.keeps_word (version_by number mark no_seats).form
         (S.image (S.kept sectors.old)) nodes (length places.old) cards }
     // It only reads
@@ -181,7 +181,7 @@ pub(crate) fn read_table<S: Sectors>(
 }
 
 /// The numbers of the nodes.
-fn numbers_in(alloc: Global, cards: &[Option<Card>]) -> Result<Vec<u64>, AllocError>
+fn numbers_in(alloc: Global, cards: &[Option<CachedNode>]) -> Result<Vec<u64>, AllocError>
     ensures { IfOk result (λ numbers. numbers.items ≡ numbers_of cards.now) }
 {
     let mut numbers = Vec::with_capacity(alloc, cards.len())?;
@@ -194,7 +194,7 @@ fn numbers_in(alloc: Global, cards: &[Option<Card>]) -> Result<Vec<u64>, AllocEr
 }
 
 /// Whether no two nodes have one number.
-pub(crate) fn are_numbered(alloc: Global, cards: &[Option<Card>]) -> Result<bool, AllocError>
+pub(crate) fn are_numbered(alloc: Global, cards: &[Option<CachedNode>]) -> Result<bool, AllocError>
     ensures { IfOk result (λ are. IsTrue are ↔ AreNumbered cards.now) }
 {
     let numbers = numbers_in(alloc, cards)?;

@@ -3,7 +3,7 @@
 ghost use Rattle.std.specs.Prelude.{◌≡◌, ◌≤◌, ◌<◌, ◌+◌, ◌*◌, ℕ, List, Option, IfOk, OnOk, IsErrOf};
 ghost use Rattle.std.specs.Prelude.{IsTrue};
 ghost use Rattle.freemap.specs.Places.{Shows};
-ghost use Rattle.layout.specs.Cards as layout;
+ghost use Rattle.layout.specs.CachedNodes as layout;
 ghost use Rattle.layout.specs.Health.{Reads};
 ghost use Rattle.layout.specs.Stands.{AreKept, IsLaid, IsMark, MayKeep, version_by};
 ghost use Rattle.layout.specs.Superblock.{is_size};
@@ -23,14 +23,14 @@ use layout::places::{BEHIND_SEATS, BITMAP, MARK, NODES};
 use layout::sectors::Sectors;
 use layout::versions::VersionNumber;
 use model::seats::Seats;
-use node_table::Card;
+use node_table::CachedNode;
 use std::alloc::Global;
 
-/// What a volume holds: the cards of its nodes by their places, and which places of its data region
-/// they use.
+/// What a volume holds: the cached nodes of its nodes by their places, and which places of its data
+/// region they use.
 #[derive(Drop)]
 pub struct Contents {
-    pub cards: Vec<Option<Card>>,
+    pub cards: Vec<Option<CachedNode>>,
     pub places: Bitmap,
     /// How far a migration came, as its mark tells.
     pub mark: Option<u32>,
@@ -84,14 +84,15 @@ fn check_spare<S: Sectors>(sectors: &mut S) -> Result<(), ScanFault>
 }
 
 /// Reads a volume of so many sectors and nodes, of this version and mounted so often, as its
-/// superblock tells them: the mark of its migration, the seats that it keeps, the cards that its
-/// sectors hold, each in the form of its place, and the places of the data region that these use.
+/// superblock tells them: the mark of its migration, the seats that it keeps, the cached nodes that
+/// its sectors hold, each in the form of its place, and the places of the data region that these
+/// use.
 ///
 /// # Errors
 ///
 /// [`ScanFault::Damaged`] exactly where the sectors hold no mark with seats that it may keep and
-/// cards of nodes that have 4,096 blocks at most; [`ScanFault::Device`] where the device failed,
-/// and [`ScanFault::Memory`].
+/// cached nodes of nodes that have 4,096 blocks at most; [`ScanFault::Device`] where the device
+/// failed, and [`ScanFault::Memory`].
 pub fn read_volume<S: Sectors>(
     alloc: Global,
     sectors: &mut S,
@@ -107,7 +108,7 @@ pub fn read_volume<S: Sectors>(
         contents.places) }
     // Refused
     ensures damaged { S.keeps_word → IsErrOf result ScanFault.Damaged
-        → (mark : Option ℕ) (seats : model.Seats) (cards : List (Option layout.Card))
+        → (mark : Option ℕ) (seats : model.Seats) (cards : List (Option layout.CachedNode))
         → IsMark number nodes mark → MayKeep number mark seats → AreKept run seats
         → IsLaid (version_by number mark seats) size nodes (S.image (S.kept sectors.old)) cards
         → ¬ AreFew cards }

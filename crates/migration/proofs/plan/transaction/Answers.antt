@@ -1,7 +1,7 @@
 use Rattle.std.proofs.Common.{◌≡◌, ◌≤◌, ◌+◌, ◌-◌, ◌++◌, ◌∙◌, ◌∷◌, [], ℕ, suc, List, Option, Some, None, Vec, Global, get_or, sym, ap, arith}
 use Rattle.std.proofs.lemmas.List.{append-nil}
 use Rattle.disk.specs.declared.update.Update.{Update}
-use Rattle.layout.specs.Cards.{Card}
+use Rattle.layout.specs.CachedNodes.{CachedNode}
 use Rattle.migration.specs.Plans.{moved_node}
 use Rattle.migration.proofs.Transactions.{nodes_of, nodes_more}
 use Rattle.migration.proofs.plan.transaction.Goals as goal
@@ -11,11 +11,11 @@ pub moved_node-requires-clause-fit : goal.moved_node-requires-clause-fit
 moved_node-requires-clause-fit c = c.requires.fit c.loop-place.place c.in-Some.card.now c.in-Some.ensures.some
 
 -- one place more, which holds this
-more : (cards : List (Option Card)) (from place : ℕ) (card : Option Card) (updates : List Update) → from ≤ place → get_or cards place None ≡ card
+more : (cards : List (Option CachedNode)) (from place : ℕ) (card : Option CachedNode) (updates : List Update) → from ≤ place → get_or cards place None ≡ card
     → updates ≡ nodes_of cards from (place - from) ++ moved_node place card → updates ≡ nodes_of cards from (place + 1 - from)
 more cards from place card updates low there are =
     are
-    ∙ ap (λ (one : Option Card). nodes_of cards from (place - from) ++ moved_node place one) (sym there)
+    ∙ ap (λ (one : Option CachedNode). nodes_of cards from (place - from) ++ moved_node place one) (sym there)
     ∙ ap (λ (p : ℕ). nodes_of cards from (place - from) ++ moved_node p (get_or cards p None)) (let q : place ≡ from + (place - from) = omega arith in q)
     ∙ sym (nodes_more cards from (place - from))
     ∙ ap (nodes_of cards from) (let q : suc (place - from) ≡ place + 1 - from = omega arith in q)

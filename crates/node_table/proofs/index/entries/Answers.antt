@@ -1,7 +1,7 @@
 use Rattle.std.proofs.Common.{◌≡◌, ◌++◌, [], ◌∷◌, ℕ, Option, ap, sym, ◌∙◌, arith}
 use Rattle.std.proofs.lemmas.List.{append-nil}
 use Rattle.model.specs.Keyed.{Keyed}
-use Rattle.layout.specs.Cards.{Card}
+use Rattle.layout.specs.CachedNodes.{CachedNode}
 use Rattle.node_table.proofs.FillingLaws.{entries-step, entry_from}
 use Rattle.node_table.proofs.index.entries.Goals as goal
 use Rattle.node_table.proofs.index.entries.Goals.{in-Some, in_default}
@@ -16,7 +16,7 @@ loop-place-preserved c =
     elim c.match-card.branch [
       | in-Some w ↦
           let added : (w.card.inside.inode.number, c.loop-place.place) ∷ [] ≡ entry_from c.loop-place.place c.index-cards-place.result =
-          ap (λ (card : Card). (card.fields.number, c.loop-place.place) ∷ []) w.card.view_is ∙ ap (entry_from c.loop-place.place) (sym w.in-Some.is) in
+          ap (λ (card : CachedNode). (card.fields.number, c.loop-place.place) ∷ []) w.card.view_is ∙ ap (entry_from c.loop-place.place) (sym w.in-Some.is) in
           rw w.index-is (record {
             entries = w.push_reserved.ensures.items ∙ ap (λ (l : Keyed ℕ). c.loop-place.index.items ++ l) added ∙ step;
             few = omega (arith, w.push_reserved.ensures.len, inv.few);
@@ -24,7 +24,7 @@ loop-place-preserved c =
           })
       | in_default w ↦
           rw w.index-is (record {
-            entries = sym (append-nil c.loop-place.index.items) ∙ ap (λ (card : Option Card). c.loop-place.index.items ++ entry_from c.loop-place.place card) (sym w.in_default.is) ∙ step;
+            entries = sym (append-nil c.loop-place.index.items) ∙ ap (λ (card : Option CachedNode). c.loop-place.index.items ++ entry_from c.loop-place.place card) (sym w.in_default.is) ∙ step;
             few = omega (arith, inv.few);
             room = inv.room;
           })

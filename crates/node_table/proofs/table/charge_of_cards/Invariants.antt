@@ -1,5 +1,5 @@
 use Rattle.std.proofs.Common.{◌≡◌, ◌≤◌, ◌<◌, ◌*◌, ℕ, Some, None, length, take, get_or}
-use Rattle.layout.specs.Cards.{Card}
+use Rattle.layout.specs.CachedNodes.{CachedNode}
 use Rattle.node_table.specs.Tables.{charge_of_all}
 use Rattle.node_table.proofs.table.charge_of_cards.Given as goal
 
@@ -8,5 +8,5 @@ abbrev pub invariant-loop-card : goal.invariant-loop-card
 invariant-loop-card l = record {
   charge : l.charge ≡ charge_of_all (take l.card-index l.cards);
   most : l.charge ≤ 4105 * l.card-index;
-  few : (place : ℕ) (card : Card) → place < l.card-index → get_or l.cards place None ≡ Some card → length card.blocks ≤ 4096;
+  few : (place : ℕ) (card : CachedNode) → place < l.card-index → get_or l.cards place None ≡ Some card → length card.blocks ≤ 4096;
 }

@@ -1,5 +1,5 @@
 use Rattle.std.proofs.Common.{sym, ap, ◌∙◌, arith}
-use Rattle.layout.specs.Cards.{tree_of}
+use Rattle.layout.specs.CachedNodes.{tree_of}
 use Rattle.parents.proofs.BelowLaws.{at-root, further, here, is_met}
 use Rattle.parents.proofs.TreeLaws.{known-count}
 use Rattle.parents.proofs.ancestors.is_below.Goals as goal

@@ -1,6 +1,6 @@
 use Rattle.std.proofs.Common.{◌≡◌, ◌-◌}
 use Rattle.disk.specs.Moments.{Image}
-use Rattle.layout.specs.Cards.{tree_of}
+use Rattle.layout.specs.CachedNodes.{tree_of}
 use Rattle.model.specs.Ancestors.{is_below}
 use Rattle.parents.proofs.BelowLaws.{is_met}
 use Rattle.parents.proofs.ancestors.is_below.Given as goal

@@ -1,12 +1,12 @@
 use Rattle.std.proofs.Common.{sym, subst}
-use Rattle.layout.specs.Cards.{Card}
+use Rattle.layout.specs.CachedNodes.{CachedNode}
 use Rattle.reading.specs.Files.{AreWithin}
 use Rattle.reading.proofs.PartLaws.{read_whole, read_more, on_ok}
 use Rattle.reading.proofs.file.read_bytes.Goals as goal
 
 pub read_blocks-read-requires-clause-within : goal.read_blocks-read-requires-clause-within
 read_blocks-read-requires-clause-within g c =
-    subst (λ (card : Card). AreWithin (g.S.Sectors.size (g.S.Sectors.kept c.args.base.now)) card.blocks) (sym c.card.view_is) c.requires.within
+    subst (λ (card : CachedNode). AreWithin (g.S.Sectors.size (g.S.Sectors.kept c.args.base.now)) card.blocks) (sym c.card.view_is) c.requires.within
 
 pub returns-else-is_err-clause-bytes : goal.returns-else-is_err-clause-bytes
 returns-else-is_err-clause-bytes g c w =

@@ -1,7 +1,7 @@
 use Rattle.std.proofs.Common.{◌≡◌, ◌<◌, ℕ, Some, None, get_or}
-use Rattle.layout.specs.Cards.{Card}
+use Rattle.layout.specs.CachedNodes.{CachedNode}
 use Rattle.tree_check.specs.Nodes.{IsRootDirectory}
 use Rattle.tree_check.proofs.nodes.has_root_directory.Given as goal
 
 abbrev pub invariant-loop-place : goal.invariant-loop-place
-invariant-loop-place l = (place : ℕ) (card : Card) → place < l.place → get_or l.table place None ≡ Some card → IsRootDirectory card → ⊥
+invariant-loop-place l = (place : ℕ) (card : CachedNode) → place < l.place → get_or l.table place None ≡ Some card → IsRootDirectory card → ⊥

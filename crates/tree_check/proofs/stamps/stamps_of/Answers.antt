@@ -1,6 +1,6 @@
 use Rattle.std.proofs.Common.{◌≡◌, ◌+◌, ◌++◌, ℕ, suc, Vec, Global, take, get_or, None, sym, ap, ◌∙◌, arith}
 use Rattle.std.proofs.lemmas.List.{append-nil}
-use Rattle.layout.specs.Cards.{Card}
+use Rattle.layout.specs.CachedNodes.{CachedNode}
 use Rattle.tree_check.specs.Stamps.{stamps_of, stamped_by, entry_stamps}
 use Rattle.tree_check.proofs.StampLaws.{stamps-take}
 use Rattle.tree_check.proofs.stamps.stamps_of.Goals as goal
@@ -19,7 +19,7 @@ loop-place-preserved c =
           ∙ (w.in_ok-push_stamps.ensures
           ∙ (ap (λ l. l ++ stamps_of w.card-in-Some.inside.names) c.loop-place.invariant
           ∙ (ap (λ l. entry_stamps (take place table) ++ l)
-          (ap (λ (card : Card). stamps_of card.names) w.card-in-Some.view_is ∙ sym (ap stamped_by w.in-Some.ensures.some))
+          (ap (λ (card : CachedNode). stamps_of card.names) w.card-in-Some.view_is ∙ sym (ap stamped_by w.in-Some.ensures.some))
           ∙ sym more)))
       | in_default w ↦
           ap (λ (v : Vec ℕ Global). v.items) w.stamps-is

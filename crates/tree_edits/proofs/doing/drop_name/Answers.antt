@@ -1,28 +1,28 @@
 use Rattle.std.proofs.Common.{◌+◌, ℕ, [], refl, subst, arith}
 use Rattle.directory.specs.Records.{record_from}
-use Rattle.tree_transaction.specs.Drafts.{cards_of, MakesOver}
+use Rattle.tree_transaction.specs.Transactions.{cards_of, MakesOver}
 use Rattle.tree_transaction.specs.Naming.{without_name}
 use Rattle.layout.specs.Marks.{mark_by}
 use Rattle.model.specs.Edit.{DropName, name_dropped}
 use Rattle.tree_edits.proofs.DoingLaws.{turned, turned_forms, turned_made, node_unnamed, all_ok}
 use Rattle.tree_edits.proofs.NamedLaws.{has_name, names_without, entry_there}
 use Rattle.tree_edits.proofs.PlaceLaws.{IsThere, there_at, directory_there, directory_key}
-use Rattle.tree_edits.specs.Outlines.{outline_of}
+use Rattle.tree_edits.specs.Outlines.{tree_without_data}
 use Rattle.tree_edits.proofs.doing.drop_name.Goals as goal
 
 pub place_of-place-requires : goal.place_of-place-requires
-place_of-place-requires c = directory_key (outline_of (cards_of c.args.draft.now)) c.args.directory c.requires.can.there
+place_of-place-requires c = directory_key (tree_without_data (cards_of c.args.transaction.now)) c.args.directory c.requires.can.there
 
 pub drop_name-requires-clause-names : goal.drop_name-requires-clause-names
 drop_name-requires-clause-names c =
-    let old = c.args.draft.now in
+    let old = c.args.transaction.now in
     let it : IsThere (cards_of old) c.place_of-place.result c.args.directory = there_at (cards_of old) c.place_of-place.result c.args.directory c.place_of-place.ensures in
     let is = directory_there (cards_of old) c.requires.known.cards.apart c.place_of-place.result c.args.directory it c.requires.can.there in
     has_name old.nodes (mark_by (148 + old.nodes) old.places) (cards_of old) c.requires.known.cards c.place_of-place.result c.args.directory it is c.args.stamp c.args.name.now c.requires.can
 
 pub returns-clause-done : goal.returns-clause-done
 returns-clause-done c =
-    let old = c.args.draft.now in
+    let old = c.args.transaction.now in
     let new = c.drop_name.new.self in
     let place = c.place_of-place.result in
     let name = c.args.name.now in

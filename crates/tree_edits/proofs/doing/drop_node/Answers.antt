@@ -1,7 +1,7 @@
 use Rattle.std.proofs.Common.{List, [], Option, sym, subst, arith}
-use Rattle.tree_transaction.specs.Drafts.{cards_of}
+use Rattle.tree_transaction.specs.Transactions.{cards_of}
 use Rattle.tree_edits.specs.Doing.{AreMade}
-use Rattle.layout.specs.Cards.{Card}
+use Rattle.layout.specs.CachedNodes.{CachedNode}
 use Rattle.layout.specs.Stands.{HaveCurrentForms}
 use Rattle.model.specs.Edit.{DropNode}
 use Rattle.tree_edits.proofs.DoingLaws.{over_number, dropped, all_ok}
@@ -10,12 +10,12 @@ use Rattle.tree_edits.proofs.doing.drop_node.Goals as goal
 
 pub free-requires-clause-node : goal.free-requires-clause-node
 free-requires-clause-node c =
-    let it = there_at (cards_of c.args.draft.now) c.place_of-place.result c.args.number c.place_of-place.ensures in
+    let it = there_at (cards_of c.args.transaction.now) c.place_of-place.result c.args.number c.place_of-place.ensures in
     record { card = it.card; there = it.there }
 
 pub returns-clause-done : goal.returns-clause-done
 returns-clause-done c =
-    let old = c.args.draft.now in
+    let old = c.args.transaction.now in
     let new = c.free.new.self in
     let place = c.place_of-place.result in
     let it : IsThere (cards_of old) place c.args.number = there_at (cards_of old) place c.args.number c.place_of-place.ensures in
@@ -24,7 +24,7 @@ returns-clause-done c =
       known = known;
       outline = dropped old new c.requires.known place c.args.number it cards;
       forms = λ forms. subst HaveCurrentForms (sym cards) (none_forms (cards_of old) place forms);
-      made = subst (λ (now : List (Option Card)). AreMade (cards_of old) now []) (sym cards) (made_none (cards_of old) place []);
+      made = subst (λ (now : List (Option CachedNode)). AreMade (cards_of old) now []) (sym cards) (made_none (cards_of old) place []);
       tree = λ word is. over_number old new c.requires.known place c.args.number it base size DropNode (λ card there. freed card there base size) is;
       count = omega (arith, c.free.ensures.count);
     })

@@ -1,15 +1,15 @@
 use Rattle.std.proofs.Common.{List, [], ◌∷◌, sym, ap, ◌∙◌, subst, arith}
 use Rattle.std.specs.Prelude.{Err}
 use Rattle.std.proofs.lemmas.List.{nil_from_length}
-use Rattle.tree_transaction.specs.declared.draft.Draft.{Draft}
-use Rattle.tree_transaction.specs.Drafts.{cards_of}
+use Rattle.tree_transaction.specs.declared.transaction.Transaction.{Transaction}
+use Rattle.tree_transaction.specs.Transactions.{cards_of}
 use Rattle.tree_transaction.proofs.FaultLaws.{told}
-use Rattle.tree_transaction.specs.declared.fault.DraftFault.{DraftFault}
-use Rattle.tree_transaction.specs.declared.fault.DraftFault.TheVariants as fault
+use Rattle.tree_transaction.specs.declared.fault.TransactionFault.{TransactionFault}
+use Rattle.tree_transaction.specs.declared.fault.TransactionFault.TheVariants as fault
 use Rattle.tree_edits.specs.declared.edit.Edit.{Edit}
 use Rattle.tree_edits.specs.Doing.{Does, Overfills}
 use Rattle.tree_edits.specs.Edits.{AreDoable, StayFew}
-use Rattle.tree_edits.specs.Outlines.{outline_of}
+use Rattle.tree_edits.specs.Outlines.{tree_without_data}
 use Rattle.tree_edits.specs.Parts.{PartsAreBytes}
 use Rattle.tree_edits.proofs.ListLaws.{does_nothing, goes_on, still_doable, still_few, overfills_later, overfills_first}
 use Rattle.tree_edits.proofs.doing.edit_all.Goals as goal
@@ -17,8 +17,8 @@ use Rattle.tree_edits.proofs.doing.edit_all.Goals as goal
 pub loop-edit-preserved : goal.loop-edit-preserved
 loop-edit-preserved g c =
     let S = g.S.Sectors in
-    let old : Draft = c.loop-edit.draft in
-    let mid : Draft = c.edit_one.new.draft in
+    let old : Transaction = c.loop-edit.transaction in
+    let mid : Transaction = c.edit_one.new.transaction in
     let kept = S.kept c.args.base.now in
     let edit : Edit = c.in-Some.edit in
     let rest : List Edit = c.next.new.self.rest.items in
@@ -30,8 +30,8 @@ loop-edit-preserved g c =
       known = first.known.known;
       within = omega (arith, first.known.nodes, first.known.places, so_far.within);
       forms = first.forms so_far.forms;
-      can = still_doable S.keeps_word (S.image kept) (S.size kept) old mid edit first rest (subst (AreDoable (outline_of (cards_of old))) next so_far.can);
-      few = still_few S.keeps_word (S.image kept) (S.size kept) old mid edit first rest (subst (StayFew (outline_of (cards_of old))) next so_far.few);
+      can = still_doable S.keeps_word (S.image kept) (S.size kept) old mid edit first rest (subst (AreDoable (tree_without_data (cards_of old))) next so_far.can);
+      few = still_few S.keeps_word (S.image kept) (S.size kept) old mid edit first rest (subst (StayFew (tree_without_data (cards_of old))) next so_far.few);
       does = λ new does. so_far.does new (subst (λ (l : List Edit). Does S.keeps_word (S.image kept) (S.size kept) old new l) (sym next)
           (goes_on S.keeps_word (S.image kept) (S.size kept) old mid edit first new rest does));
       full = λ over. so_far.full (subst (Overfills old) (sym next) (overfills_later S.keeps_word (S.image kept) (S.size kept) old mid edit first rest over));
@@ -46,18 +46,18 @@ returns-in_err-edit_one-clause-full g c = λ full.
     let edit : Edit = c.in-Some.edit in
     let rest : List Edit = c.next.new.self.rest.items in
     let so_far = c.loop-edit.invariant in
-    so_far.full (subst (Overfills c.loop-edit.draft) (sym c.in-Some.ensures.steps.0)
-    (overfills_first c.loop-edit.draft edit rest (c.in_err-edit_one.ensures.full
-    (ap (λ (f : DraftFault). Err f) (told c.from_residual.result c.in_err-edit_one.field-0.0 fault.Full c.from_residual.ensures.1 full)))))
+    so_far.full (subst (Overfills c.loop-edit.transaction) (sym c.in-Some.ensures.steps.0)
+    (overfills_first c.loop-edit.transaction edit rest (c.in_err-edit_one.ensures.full
+    (ap (λ (f : TransactionFault). Err f) (told c.from_residual.result c.in_err-edit_one.field-0.0 fault.Full c.from_residual.ensures.1 full)))))
 
 pub returns-clause-done : goal.returns-clause-done
 returns-clause-done g c =
     let S = g.S.Sectors in
     let kept = S.kept c.args.base.now in
     let so_far = c.loop-edit.invariant in
-    so_far.does c.loop-edit.draft (subst (λ (l : List Edit). Does S.keeps_word (S.image kept) (S.size kept) c.loop-edit.draft c.loop-edit.draft l)
+    so_far.does c.loop-edit.transaction (subst (λ (l : List Edit). Does S.keeps_word (S.image kept) (S.size kept) c.loop-edit.transaction c.loop-edit.transaction l)
     (sym (nil_from_length c.loop-edit.edit-iterator.rest.items (sym c.loop-edit.edit-iterator.rest.ok.0 ∙ c.in-None.ensures.steps.0)))
-    (does_nothing S.keeps_word (S.image kept) (S.size kept) c.loop-edit.draft so_far.known))
+    (does_nothing S.keeps_word (S.image kept) (S.size kept) c.loop-edit.transaction so_far.known))
 
 pub returns-clause-parts : goal.returns-clause-parts
 returns-clause-parts g c = c.loop-edit.invariant.parts (subst PartsAreBytes

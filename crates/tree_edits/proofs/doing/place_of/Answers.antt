@@ -1,7 +1,7 @@
 use Rattle.std.proofs.Common.{Option, Some, None, refl}
 use Rattle.std.specs.Prelude.{IfNone, IsSome}
 use Rattle.tree_edits.proofs.PlaceLaws.{no_number, none_key}
-use Rattle.tree_edits.specs.Outlines.{outline_of}
+use Rattle.tree_edits.specs.Outlines.{tree_without_data}
 use Rattle.model.specs.Keyed.{at}
 use Rattle.tree_edits.proofs.doing.place_of.Goals as goal
 
@@ -11,4 +11,4 @@ some_or (Some it) none never = refl
 
 pub unwrap-requires : goal.unwrap-requires
 unwrap-requires c = some_or c.find.result c.find.ensures.none
-    (λ lacks. none_key (at c.args.number (outline_of c.args.draft.now.cards.cards)) (no_number c.args.draft.now.cards.cards c.args.number lacks) c.requires)
+    (λ lacks. none_key (at c.args.number (tree_without_data c.args.transaction.now.cards.cards)) (no_number c.args.transaction.now.cards.cards c.args.number lacks) c.requires)

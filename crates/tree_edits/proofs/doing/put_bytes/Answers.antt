@@ -1,5 +1,5 @@
 use Rattle.std.proofs.Common.{◌+◌, [], refl, arith, length}
-use Rattle.tree_transaction.specs.Drafts.{cards_of}
+use Rattle.tree_transaction.specs.Transactions.{cards_of}
 use Rattle.tree_transaction.specs.Grown.{reaching, blocks_to}
 use Rattle.layout.specs.Marks.{mark_by}
 use Rattle.model.specs.Edit.{PutBytes, with_content, overwritten}
@@ -15,13 +15,13 @@ place_of-place-requires g c = c.requires.can.there
 
 pub write-requires-clause-file : goal.write-requires-clause-file
 write-requires-clause-file g c =
-    let old = c.args.draft.now in
+    let old = c.args.transaction.now in
     let it : IsThere (cards_of old) c.place_of-place.result c.args.file = there_at (cards_of old) c.place_of-place.result c.args.file c.place_of-place.ensures in
     can_write (cards_of old) old.nodes (mark_by (148 + old.nodes) old.places) c.requires.known.0.cards c.place_of-place.result c.args.file (c.args.offset + length c.args.bytes.now) it c.requires.can
 
 pub returns-clause-done : goal.returns-clause-done
 returns-clause-done g c =
-    let old = c.args.draft.now in
+    let old = c.args.transaction.now in
     let new = c.write.new.self in
     let place = c.place_of-place.result in
     let bytes = c.args.bytes.now in
@@ -41,7 +41,7 @@ returns-clause-done g c =
 
 pub returns-clause-full : goal.returns-clause-full
 returns-clause-full g c = λ full.
-    let old = c.args.draft.now in
+    let old = c.args.transaction.now in
     let place = c.place_of-place.result in
     let bytes = c.args.bytes.now in
     let end = c.args.offset + length bytes in

@@ -1,22 +1,22 @@
 use Rattle.std.proofs.Common.{◌+◌, [], refl, arith}
 use Rattle.directory.specs.Records.{record_from}
-use Rattle.tree_transaction.specs.Drafts.{cards_of}
+use Rattle.tree_transaction.specs.Transactions.{cards_of}
 use Rattle.tree_transaction.specs.Naming.{with_name, blocks_named}
 use Rattle.layout.specs.Marks.{mark_by}
 use Rattle.model.specs.Edit.{PutName, name_put}
 use Rattle.tree_edits.proofs.DoingLaws.{over_number, turned, turned_forms, turned_made, node_named, all_ok}
 use Rattle.tree_edits.proofs.NamedLaws.{room_there, can_name, names_with, named_charge}
 use Rattle.tree_edits.proofs.PlaceLaws.{IsThere, there_at, directory_there, directory_key}
-use Rattle.tree_edits.specs.Outlines.{outline_of}
+use Rattle.tree_edits.specs.Outlines.{tree_without_data}
 use Rattle.tree_edits.proofs.RoomLaws.{no_room}
 use Rattle.tree_edits.proofs.doing.put_name.Goals as goal
 
 pub place_of-place-requires : goal.place_of-place-requires
-place_of-place-requires c = directory_key (outline_of (cards_of c.args.draft.now)) c.args.directory c.requires.can.there
+place_of-place-requires c = directory_key (tree_without_data (cards_of c.args.transaction.now)) c.args.directory c.requires.can.there
 
 pub put_name-requires-clause-names : goal.put_name-requires-clause-names
 put_name-requires-clause-names c =
-    let old = c.args.draft.now in
+    let old = c.args.transaction.now in
     let it : IsThere (cards_of old) c.place_of-place.result c.args.directory = there_at (cards_of old) c.place_of-place.result c.args.directory c.place_of-place.ensures in
     let is = directory_there (cards_of old) c.requires.known.cards.apart c.place_of-place.result c.args.directory it c.requires.can.there in
     can_name old.nodes (mark_by (148 + old.nodes) old.places) (cards_of old) c.requires.known.cards c.place_of-place.result c.args.directory it is c.args.stamp c.args.name.now c.args.number c.requires.can
@@ -24,7 +24,7 @@ put_name-requires-clause-names c =
 
 pub returns-clause-done : goal.returns-clause-done
 returns-clause-done c =
-    let old = c.args.draft.now in
+    let old = c.args.transaction.now in
     let new = c.put_name.new.self in
     let place = c.place_of-place.result in
     let entry = record_from c.args.stamp c.args.name.now c.args.number in
@@ -43,7 +43,7 @@ returns-clause-done c =
 
 pub returns-clause-full : goal.returns-clause-full
 returns-clause-full c = λ full.
-    let old = c.args.draft.now in
+    let old = c.args.transaction.now in
     let place = c.place_of-place.result in
     let it : IsThere (cards_of old) place c.args.directory = there_at (cards_of old) place c.args.directory c.place_of-place.ensures in
     let is = directory_there (cards_of old) c.requires.known.cards.apart place c.args.directory it c.requires.can.there in

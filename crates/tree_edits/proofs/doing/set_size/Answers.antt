@@ -1,7 +1,7 @@
 use Rattle.std.proofs.Common.{◌+◌, [], refl, arith}
-use Rattle.tree_transaction.specs.Drafts.{cards_of}
+use Rattle.tree_transaction.specs.Transactions.{cards_of}
 use Rattle.tree_transaction.specs.Grown.{sized}
-use Rattle.layout.specs.Cards.{Card}
+use Rattle.layout.specs.CachedNodes.{CachedNode}
 use Rattle.layout.specs.Marks.{mark_by}
 use Rattle.model.specs.Edit.{SetSize, with_content, resized}
 use Rattle.model.specs.Tree.{Node, File, bytes_of}
@@ -15,28 +15,28 @@ place_of-place-requires g c = c.requires.can.there
 
 pub cut-requires-clause-file : goal.cut-requires-clause-file
 cut-requires-clause-file g c =
-    let old = c.args.draft.now in
+    let old = c.args.transaction.now in
     let it : IsThere (cards_of old) c.place_of-place.result c.args.file = there_at (cards_of old) c.place_of-place.result c.args.file c.place_of-place.ensures in
     can_cut (cards_of old) old.nodes (mark_by (148 + old.nodes) old.places) c.requires.known.0.cards c.place_of-place.result c.args.file c.args.size it c.requires.can
     (let same = c.size_at.ensures it.card it.there in omega (arith, same))
 
 pub grow-requires-clause-file : goal.grow-requires-clause-file
 grow-requires-clause-file g c =
-    let old = c.args.draft.now in
+    let old = c.args.transaction.now in
     let it : IsThere (cards_of old) c.place_of-place.result c.args.file = there_at (cards_of old) c.place_of-place.result c.args.file c.place_of-place.ensures in
     can_grow (cards_of old) old.nodes (mark_by (148 + old.nodes) old.places) c.requires.known.0.cards c.place_of-place.result c.args.file c.args.size it c.requires.can
     (let same = c.size_at.ensures it.card it.there in omega (arith, same))
 
 pub returns-then-size-size_at-clause-done : goal.returns-then-size-size_at-clause-done
 returns-then-size-size_at-clause-done g c =
-    let old = c.args.draft.now in
+    let old = c.args.transaction.now in
     let new = c.cut.new.self in
     let place = c.place_of-place.result in
     let size = c.args.size in
     let known = c.requires.known.0 in
     let it : IsThere (cards_of old) place c.args.file = there_at (cards_of old) place c.args.file c.place_of-place.ensures in
     let is = is_file (cards_of old) old.nodes (mark_by (148 + old.nodes) old.places) known.cards place c.args.file size it c.requires.can in
-    let turn : Card → Card = λ card. sized card size in
+    let turn : CachedNode → CachedNode = λ card. sized card size in
     all_four c.cut.result c.cut.ensures.known c.cut.ensures.cards c.cut.ensures.count (under _ c.cut.result c.cut.ensures.tree)
     (λ stays turns count cuts. record {
       known = stays;
@@ -49,14 +49,14 @@ returns-then-size-size_at-clause-done g c =
 
 pub returns-clause-done : goal.returns-clause-done
 returns-clause-done g c =
-    let old = c.args.draft.now in
+    let old = c.args.transaction.now in
     let new = c.grow.new.self in
     let place = c.place_of-place.result in
     let size = c.args.size in
     let known = c.requires.known.0 in
     let it : IsThere (cards_of old) place c.args.file = there_at (cards_of old) place c.args.file c.place_of-place.ensures in
     let is = is_file (cards_of old) old.nodes (mark_by (148 + old.nodes) old.places) known.cards place c.args.file size it c.requires.can in
-    let turn : Card → Card = λ card. sized card size in
+    let turn : CachedNode → CachedNode = λ card. sized card size in
     record {
       known = c.in_ok-grow.ensures.known;
       outline = turned old new known place c.args.file it turn (c.in_ok-grow.ensures.cards it.card it.there) refl (λ (node : Node). with_content node (File (resized (bytes_of node.content) size))) (node_sized size it.card is);

@@ -1,5 +1,5 @@
 use Rattle.std.proofs.Common.{◌+◌, [], refl, arith}
-use Rattle.tree_transaction.specs.Drafts.{cards_of}
+use Rattle.tree_transaction.specs.Transactions.{cards_of}
 use Rattle.tree_transaction.specs.Nodes.{shown_of, showing as showing_card}
 use Rattle.layout.specs.Marks.{mark_by}
 use Rattle.tree_transaction.proofs.KnownLaws.{card_at}
@@ -10,7 +10,7 @@ use Rattle.tree_edits.proofs.doing.show.Goals as goal
 
 pub show-requires-clause-node : goal.show-requires-clause-node
 show-requires-clause-node c =
-    let old = c.args.draft.now in
+    let old = c.args.transaction.now in
     let it = there_at (cards_of old) c.place_of-place.result c.args.number c.place_of-place.ensures in
     record {
       card = it.card;
@@ -21,7 +21,7 @@ show-requires-clause-node c =
 
 pub returns-clause-done : goal.returns-clause-done
 returns-clause-done c =
-    let old = c.args.draft.now in
+    let old = c.args.transaction.now in
     let new = c.show.new.self in
     let place = c.place_of-place.result in
     let shown = shown_of c.args.shown in

@@ -2,26 +2,26 @@ use Rattle.std.proofs.Common.{◌∙◌, List, Option, ap, sym}
 use Rattle.node_table.specs.Overlays.{Overlaid, changed}
 use Rattle.tree_edits.proofs.OutcomeLaws.{IsBegun, comes_to}
 use Rattle.tree_edits.proofs.outcome.outcome_of.Goals as goal
-use Rattle.layout.specs.Cards.{Card}
+use Rattle.layout.specs.CachedNodes.{CachedNode}
 
 pub returns-clause-done : goal.returns-clause-done
 returns-clause-done g c =
     let S = g.S.Sectors in
     let kept = S.kept c.args.base.now in
     let table = c.args.table.now in
-    let draft = c.in_ok-draft.draft in
-    let mid = c.edit_all.new.draft in
+    let transaction = c.in_ok-transaction.transaction in
+    let mid = c.edit_all.new.transaction in
     let last = c.finish.new.self in
-    let outcome = c.into_outcome.result in
-    let begun : IsBegun draft table c.args.places.now = record {
-      no_updates = c.in_ok-draft.ensures.updates;
-      nodes_are = c.in_ok-draft.ensures.nodes;
-      places_are = c.in_ok-draft.ensures.places;
-      cards_are = c.in_ok-draft.ensures.cards;
+    let outcome = c.into_prepared.result in
+    let begun : IsBegun transaction table c.args.places.now = record {
+      no_updates = c.in_ok-transaction.ensures.updates;
+      nodes_are = c.in_ok-transaction.ensures.nodes;
+      places_are = c.in_ok-transaction.ensures.places;
+      cards_are = c.in_ok-transaction.ensures.cards;
     } in
-    let table_is = ap (λ (over : Overlaid). over.table) c.finish.ensures.cards ∙ c.edit_all.ensures.kept.1 ∙ c.in_ok-draft.ensures.table in
-    comes_to (S.size kept) table c.args.places.now c.requires.whole draft begun S.keeps_word (S.image kept) c.args.edits.items mid last outcome
+    let table_is = ap (λ (over : Overlaid). over.table) c.finish.ensures.cards ∙ c.edit_all.ensures.kept.1 ∙ c.in_ok-transaction.ensures.table in
+    comes_to (S.size kept) table c.args.places.now c.requires.whole transaction begun S.keeps_word (S.image kept) c.args.edits.items mid last outcome
     c.in_ok-edit_all.ensures.done c.in_ok-finish.ensures.laid (ap (λ (over : Overlaid). over.cards) c.finish.ensures.cards)
-    (ap (λ (cards : List (Option Card)). changed cards outcome.changes) (sym table_is) ∙ c.into_outcome.ensures.changes)
-    c.into_outcome.ensures.updates (c.into_outcome.ensures.places ∙ c.finish.ensures.places)
+    (ap (λ (cards : List (Option CachedNode)). changed cards outcome.changes) (sym table_is) ∙ c.into_prepared.ensures.changes)
+    c.into_prepared.ensures.updates (c.into_prepared.ensures.places ∙ c.finish.ensures.places)
     c.in_ok-finish.ensures.targets c.in_ok-finish.ensures.count c.in_ok-edit_all.ensures.parts

@@ -2,7 +2,7 @@ use Rattle.std.proofs.Common.{◌≡◌, ◌+◌, ◌≤◌, ℕ, Bool, true, fa
 use Rattle.std.proofs.lemmas.Bool.{ltb-true, ltb-false}
 use Rattle.tree_edits.specs.declared.room.Size.{Size}
 use Rattle.tree_edits.specs.Making.{IsMaking, size_of_new}
-use Rattle.tree_edits.specs.Outlines.{outline_of}
+use Rattle.tree_edits.specs.Outlines.{tree_without_data}
 use Rattle.tree_edits.specs.Sizes.{charge_of_size, names_in, size_at}
 use Rattle.tree_edits.proofs.FitLaws.{too_charged, too_many, names_decide}
 use Rattle.tree_edits.proofs.FrontLaws.{rising_outline, few_outline}
@@ -42,7 +42,7 @@ by_names limits tree after directory count is low high false more = more ∙ sym
 pub returns-then-taken-limits : goal.returns-then-taken-limits
 returns-then-taken-limits c edits is =
     let known = c.requires.cards in
-    let tree = outline_of c.args.table.now in
+    let tree = tree_without_data c.args.table.now in
     let rising = rising_outline known.0 known.1 c.args.table.now known.2 in
     sym (too_charged c.args.limits.now (edited edits tree) (omega (
       arith,
@@ -54,7 +54,7 @@ returns-then-taken-limits c edits is =
 pub returns-then-taken-limits-2 : goal.returns-then-taken-limits-2
 returns-then-taken-limits-2 c edits is =
     let known = c.requires.cards in
-    let tree = outline_of c.args.table.now in
+    let tree = tree_without_data c.args.table.now in
     let rising = rising_outline known.0 known.1 c.args.table.now known.2 in
     sym (too_many c.args.limits.now (edited edits tree) (omega (
       arith,
@@ -66,7 +66,7 @@ returns-then-taken-limits-2 c edits is =
 pub returns : goal.returns
 returns c edits is =
     let known = c.requires.cards in
-    let tree = outline_of c.args.table.now in
+    let tree = tree_without_data c.args.table.now in
     let rising = rising_outline known.0 known.1 c.args.table.now known.2 in
     let limits = c.args.limits.now in
     let count : c.names_in.result ≡ length (names_at tree c.args.parent) =

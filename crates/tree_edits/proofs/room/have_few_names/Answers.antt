@@ -1,6 +1,6 @@
 use Rattle.std.proofs.Common.{sym, ap, arith}
 use Rattle.tree_edits.specs.Edits.{edits_of}
-use Rattle.tree_edits.specs.Outlines.{outline_of}
+use Rattle.tree_edits.specs.Outlines.{tree_without_data}
 use Rattle.tree_edits.specs.Sizes.{names_in}
 use Rattle.tree_edits.proofs.ChangeLaws.{few_over, few_each}
 use Rattle.tree_edits.proofs.FrontLaws.{rising_outline, few_outline, rising_behind, few_numbers}
@@ -11,7 +11,7 @@ use Rattle.model.specs.Keyed.{at}
 
 pub returns-then-names_in-most : goal.returns-then-names_in-most
 returns-then-names_in-most c =
-    let tree = edited (edits_of c.args.edits.now) (outline_of c.args.table.now) in
+    let tree = edited (edits_of c.args.edits.now) (tree_without_data c.args.table.now) in
     sym (few_over c.args.most c.number_of.result tree
     (omega (arith, c.if-names_in-most.true, c.names_in.ensures, ap names_in c.size_after.ensures.size, names_there (at c.number_of.result tree))))
 
@@ -21,8 +21,8 @@ returns c =
     let cards = c.args.table.now in
     let edits = c.args.edits.now in
     let rising = rising_outline known.0 known.1 cards known.2 in
-    let last = rising_behind (outline_of cards) edits c.requires.can rising in
-    sym (few_each c.args.most 0 (edited (edits_of edits) (outline_of cards)) last.above
-    (few_numbers (outline_of cards) edits c.args.most c.requires.can rising
+    let last = rising_behind (tree_without_data cards) edits c.requires.can rising in
+    sym (few_each c.args.most 0 (edited (edits_of edits) (tree_without_data cards)) last.above
+    (few_numbers (tree_without_data cards) edits c.args.most c.requires.can rising
     (λ number. omega (arith, c.requires.most, few_outline known.0 known.1 cards known.2 number))
     (λ place edit within. c.loop-edit.invariant place edit (omega (arith, within, c.loop-edit-test.false)))))

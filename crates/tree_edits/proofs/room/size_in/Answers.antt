@@ -5,12 +5,12 @@ use Rattle.tree_edits.specs.declared.room.Size.{Size}
 use Rattle.tree_edits.proofs.FrontLaws.{size_there_is, size_nowhere}
 use Rattle.tree_edits.proofs.PlaceLaws.{IsThere}
 use Rattle.tree_edits.proofs.room.size_in.Goals as goal
-use Rattle.layout.specs.Cards.{Card}
+use Rattle.layout.specs.CachedNodes.{CachedNode}
 
-abbrev size_on : Card → Option Size
+abbrev size_on : CachedNode → Option Size
 size_on card = Some (record { kind = card.fields.kind; count = card.fields.size })
 
-number_is : (cards : List (Option Card)) (place number : ℕ) (card : Card) → get_or cards place None ≡ Some card → number_at cards place ≡ Some number → card.fields.number ≡ number
+number_is : (cards : List (Option CachedNode)) (place number : ℕ) (card : CachedNode) → get_or cards place None ≡ Some card → number_at cards place ≡ Some number → card.fields.number ≡ number
 number_is cards place number card there is = same (sym (ap number_of there) ∙ is)
   where
     same : {x y : ℕ} → Some x ≡ Some y → x ≡ y
@@ -26,7 +26,7 @@ returns-clause-size c =
     let known = c.requires in
     let cards = c.args.table.now in
     let place = c.in-Some.place in
-    let card : Card = c.unwrap.result.now in
+    let card : CachedNode = c.unwrap.result.now in
     let there : get_or cards place None ≡ Some card = subst (λ found. IfSome found (λ it. get_or cards place None ≡ Some it.now)) c.unwrap.ensures c.card.ensures.some in
     let it : IsThere cards place c.args.number = record { card = card; there = there; number_is = number_is cards place c.args.number card there c.in-Some.ensures.some } in
     ap (λ (count : ℕ). let size : Size = record { kind = c.behind-card.inside.inode.kind; count = count } in Some size) c.from.ensures

@@ -1,6 +1,6 @@
 use Rattle.std.proofs.Common.{◌+◌, ◌^◌, length, take, sym, ◌∙◌, arith}
 use Rattle.std.proofs.lemmas.List.{length-take}
-use Rattle.tree_edits.specs.Outlines.{outline_of}
+use Rattle.tree_edits.specs.Outlines.{tree_without_data}
 use Rattle.tree_edits.proofs.FrontLaws.{below_more, doable_front, rising_outline, charge_next, nodes_next}
 use Rattle.tree_edits.proofs.RoomLaws.{charge_all, count_all}
 use Rattle.tree_edits.proofs.room.taken_after.Goals as goal
@@ -16,7 +16,7 @@ loop-i-init c =
     }
 
 pub size_after-before-requires-clause-can : goal.size_after-before-requires-clause-can
-size_after-before-requires-clause-can c = doable_front (outline_of c.args.table.now) c.args.edits.now c.loop-i.i c.requires.can
+size_after-before-requires-clause-can c = doable_front (tree_without_data c.args.table.now) c.args.edits.now c.loop-i.i c.requires.can
 
 pub charge_of-requires : goal.charge_of-requires
 charge_of-requires c =
@@ -28,7 +28,7 @@ pub overflow_sub-charge : goal.overflow_sub-charge
 overflow_sub-charge c =
     let known = c.requires.cards in
     let cards = c.args.table.now in
-    let sum = charge_next (outline_of cards) c.args.edits.now c.requires.can (rising_outline known.0 known.1 cards known.2) c.loop-i.i c.index-edits-i.result c.loop-i-test.true c.index-edits-i.is
+    let sum = charge_next (tree_without_data cards) c.args.edits.now c.requires.can (rising_outline known.0 known.1 cards known.2) c.loop-i.i c.index-edits-i.result c.loop-i-test.true c.index-edits-i.is
     c.number_of.result c.size_after-before.result c.resized-after.result c.number_of.ensures c.size_after-before.ensures.size c.resized-after.ensures.size in
     omega (arith, sum, c.loop-i.invariant.charge, c.charge_of.ensures.charge, c.charge_of-in-loop-i.ensures.charge)
 
@@ -38,9 +38,9 @@ loop-i-preserved c =
     let cards = c.args.table.now in
     let so_far = c.loop-i.invariant in
     let rising = rising_outline known.0 known.1 cards known.2 in
-    let sum = charge_next (outline_of cards) c.args.edits.now c.requires.can rising c.loop-i.i c.index-edits-i.result c.loop-i-test.true c.index-edits-i.is
+    let sum = charge_next (tree_without_data cards) c.args.edits.now c.requires.can rising c.loop-i.i c.index-edits-i.result c.loop-i-test.true c.index-edits-i.is
     c.number_of.result c.size_after-before.result c.resized-after.result c.number_of.ensures c.size_after-before.ensures.size c.resized-after.ensures.size in
-    let more = nodes_next (outline_of cards) c.args.edits.now c.requires.can rising c.loop-i.i c.index-edits-i.result c.loop-i-test.true c.index-edits-i.is
+    let more = nodes_next (tree_without_data cards) c.args.edits.now c.requires.can rising c.loop-i.i c.index-edits-i.result c.loop-i-test.true c.index-edits-i.is
     c.number_of.result c.size_after-before.result c.resized-after.result c.number_of.ensures c.size_after-before.ensures.size c.resized-after.ensures.size in
     record {
       charge = omega (arith, sum, so_far.charge, c.charge_of.ensures.charge, c.charge_of-in-loop-i.ensures.charge);

@@ -1,5 +1,5 @@
 use Rattle.std.proofs.Common.{ap, arith}
-use Rattle.tree_edits.specs.Outlines.{outline_of}
+use Rattle.tree_edits.specs.Outlines.{tree_without_data}
 use Rattle.tree_edits.specs.Sizes.{charge_of_size}
 use Rattle.tree_edits.proofs.FrontLaws.{rising_outline}
 use Rattle.tree_edits.proofs.MakingLaws.{charge_within}
@@ -13,7 +13,7 @@ overflow_sub-result c =
     let rising = rising_outline known.0 known.1 cards known.2 in
     omega (
       arith,
-      charge_within (outline_of cards) c.requires.parent.0 rising.above,
+      charge_within (tree_without_data cards) c.requires.parent.0 rising.above,
       ap charge_of_size c.requires.parent.1,
       charge_all known.0 known.1 cards known.2,
       c.charge.ensures,
@@ -28,7 +28,7 @@ returns-clause-charge c =
     let rising = rising_outline known.0 known.1 cards known.2 in
     omega (
       arith,
-      charge_within (outline_of cards) c.requires.parent.0 rising.above,
+      charge_within (tree_without_data cards) c.requires.parent.0 rising.above,
       ap charge_of_size c.requires.parent.1,
       charge_all known.0 known.1 cards known.2,
       c.charge.ensures,

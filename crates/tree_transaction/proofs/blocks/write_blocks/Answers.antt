@@ -7,8 +7,8 @@ use Rattle.disk.specs.Moments.{applied}
 use Rattle.tree_transaction.specs.Blocks.{WritesBytes}
 use Rattle.tree_transaction.proofs.BlockLaws.{bytes_none, bytes_on, gets_none, gets_on, fills_on, changes_on, region_on, parts_counted}
 use Rattle.tree_transaction.proofs.CountLaws.{set_less}
-use Rattle.tree_transaction.specs.declared.fault.DraftFault.{DraftFault}
-use Rattle.tree_transaction.specs.declared.fault.DraftFault.TheVariants as fault
+use Rattle.tree_transaction.specs.declared.fault.TransactionFault.{TransactionFault}
+use Rattle.tree_transaction.specs.declared.fault.TransactionFault.TheVariants as fault
 use Rattle.tree_transaction.proofs.FaultLaws.{told}
 use Rattle.tree_transaction.proofs.blocks.write_blocks.Goals as goal
 
@@ -40,7 +40,7 @@ pub returns-in_err-filled-clause-full : goal.returns-in_err-filled-clause-full
 returns-in_err-filled-clause-full g c full =
     let inv = c.loop-done.invariant in
     let gets = inv.gets in
-    let finds = c.in_err-filled.ensures.full (ap (λ (f : DraftFault). Err f) (told c.from_residual.result c.in_err-filled.field-0.0 fault.Full c.from_residual.ensures.1 full)) in
+    let finds = c.in_err-filled.ensures.full (ap (λ (f : TransactionFault). Err f) (told c.from_residual.result c.in_err-filled.field-0.0 fault.Full c.from_residual.ensures.1 full)) in
     omega (arith, gets.free, inv.long, finds.full, set_less c.loop-done.blocks ((c.args.offset + c.loop-done.done) / 4096) (omega (arith, inv.long, c.requires.within, c.loop-done-test.true)) finds.hole)
 
 pub loop-done-preserved : goal.loop-done-preserved

@@ -17,7 +17,8 @@ returns-in-Err g c =
     (λ is. c.in-Err.ensures.never_worn (ap (λ x. Err x) is))
     (λ is. c.in-Err.ensures.cause (ap (λ x. Err x) is))
     (λ other. c.in-Err.ensures.none (λ is. other (cc)))
-    c.look.ensures.history c.look.ensures.later c.look.ensures.same_size
+    c.read_superblock.ensures.history c.read_superblock.ensures.later
+    c.read_superblock.ensures.same_size
 
 pub returns-in-Err-view : goal.returns-in-Err-view
 returns-in-Err-view g c =
@@ -27,8 +28,8 @@ returns-in-Err-view g c =
     check_refused D.keeps_word D.size D.failed D.history _ _ c.into.result
     (λ k. subst (FailsCheck size old) (sym c.into.ensures)
     (gate_fails size old c.in-Err-view.refused.fault (c.in-Ok.ensures.seen k).0
-    (λ is. subst (λ (n : ℕ). HasNoForm n old) c.look.ensures.same_size
-    (subst (λ (h : History). HasNoForm (D.size c.look.new.device) h) c.look.ensures.history (c.in-Err-view.ensures.damaged k is)))))
+    (λ is. subst (λ (n : ℕ). HasNoForm n old) c.read_superblock.ensures.same_size
+    (subst (λ (h : History). HasNoForm (D.size c.read_superblock.new.device) h) c.read_superblock.ensures.history (c.in-Err-view.ensures.damaged k is)))))
     (λ is. search rules)
     (λ is. search rules)
     (λ other. search rules)
@@ -42,9 +43,9 @@ read_nodes-requires-clause-base g c = λ k.
     let log : Log = view_of c.in-Ok-view.view in
     let enough = large c.in-Ok.found.sectors c.in-Ok.found.nodes c.in-Ok.ensures.volume.sized in
     view_holds size old log c.in-Ok.found (omega (arith, enough, c.in-Ok.ensures.volume.size))
-    (subst (λ (n : ℕ). HasViewed n old log) c.look.ensures.same_size
-    (subst (λ (h : History). HasViewed (D.size c.look.new.device) h log) c.look.ensures.history (c.in-Ok-view.ensures.viewed k)))
-    (c.in-Ok-view.ensures.new.size ∙ c.look.ensures.same_size) (c.in-Ok.ensures.seen k).1
+    (subst (λ (n : ℕ). HasViewed n old log) c.read_superblock.ensures.same_size
+    (subst (λ (h : History). HasViewed (D.size c.read_superblock.new.device) h log) c.read_superblock.ensures.history (c.in-Ok-view.ensures.viewed k)))
+    (c.in-Ok-view.ensures.new.size ∙ c.read_superblock.ensures.same_size) (c.in-Ok.ensures.seen k).1
 
 pub returns-in-Err-read_nodes : goal.returns-in-Err-read_nodes
 unfolding view_of view_failures name_of
@@ -55,8 +56,8 @@ returns-in-Err-read_nodes g c =
     let found = c.in-Ok.found in
     let log : Log = view_of c.in-Ok-view.view in
     let parts = sized found.sectors found.nodes c.in-Ok.ensures.volume.sized in
-    let viewed : D.keeps_word → HasViewed size old log = λ k. subst (λ (n : ℕ). HasViewed n old log) c.look.ensures.same_size
-    (subst (λ (h : History). HasViewed (D.size c.look.new.device) h log) c.look.ensures.history (c.in-Ok-view.ensures.viewed k)) in
+    let viewed : D.keeps_word → HasViewed size old log = λ k. subst (λ (n : ℕ). HasViewed n old log) c.read_superblock.ensures.same_size
+    (subst (λ (h : History). HasViewed (D.size c.read_superblock.new.device) h log) c.read_superblock.ensures.history (c.in-Ok-view.ensures.viewed k)) in
     check_refused D.keeps_word D.size D.failed D.history _ _ c.in-Err-read_nodes.fault
     (λ k. nodes_fail size old found log.base c.in-Ok.ensures.volume.size (omega (arith, parts.few)) c.in-Ok.ensures.volume.counted
     (c.in-Ok.ensures.seen k).0 (c.in-Ok.ensures.seen k).1 (viewed k).base c.in-Err-read_nodes.fault
@@ -75,8 +76,8 @@ returns g c =
     let found = c.in-Ok.found in
     let log : Log = view_of c.in-Ok-view.view in
     let parts = sized found.sectors found.nodes c.in-Ok.ensures.volume.sized in
-    let viewed : D.keeps_word → HasViewed size old log = λ k. subst (λ (n : ℕ). HasViewed n old log) c.look.ensures.same_size
-    (subst (λ (h : History). HasViewed (D.size c.look.new.device) h log) c.look.ensures.history (c.in-Ok-view.ensures.viewed k)) in
+    let viewed : D.keeps_word → HasViewed size old log = λ k. subst (λ (n : ℕ). HasViewed n old log) c.read_superblock.ensures.same_size
+    (subst (λ (h : History). HasViewed (D.size c.read_superblock.new.device) h log) c.read_superblock.ensures.history (c.in-Ok-view.ensures.viewed k)) in
     record {
       ok = λ k.
           has_checked size old found log.base c.in-Ok.ensures.volume.size (omega (arith, parts.few)) c.in-Ok.ensures.volume.counted

@@ -2,7 +2,7 @@ use Rattle.std.proofs.Common.{◌≡◌, ◌<◌, ◌+◌, ◌*◌, ◌∙◌, �
 use Rattle.std.specs.Prelude.{Err}
 use Rattle.node_table.specs.Tables.{AreNumbered, HaveOwnPlaces}
 use Rattle.disk.specs.Moments.{Image}
-use Rattle.layout.specs.Cards.{Card, cards_in}
+use Rattle.layout.specs.CachedNodes.{CachedNode, cards_in}
 use Rattle.layout.specs.Marks.{mark_by}
 use Rattle.layout.specs.Rewriting.{all_second}
 use Rattle.layout.proofs.SeatLaws.{version_spare}
@@ -52,7 +52,7 @@ returns-then-not-branch-clause-damaged g c = λ k is kept stands.
     let found = c.args.found in
     let image : Image = g.S.Sectors.image (g.S.Sectors.kept c.args.sectors.now) in
     let contents = c.in_ok-contents.contents in
-    let cards : List (Option Card) = contents.cards.items in
+    let cards : List (Option CachedNode) = contents.cards.items in
     let table : c.in_ok-table.table ≡ all_second cards = c.in_ok-table.ensures.table ∙ c.in_ok-all_second.ensures in
     none_stands found.version contents.mark (seats_view contents.seats) found.sectors found.nodes found.run image cards
     (c.in_ok-contents.ensures.found.laid k)
@@ -70,7 +70,7 @@ returns-clause-loaded g c =
     let found = c.args.found in
     let image : Image = g.S.Sectors.image (g.S.Sectors.kept c.args.sectors.now) in
     let contents = c.in_ok-contents.contents in
-    let cards : List (Option Card) = contents.cards.items in
+    let cards : List (Option CachedNode) = contents.cards.items in
     let table : c.in_ok-table.table ≡ all_second cards = c.in_ok-table.ensures.table ∙ c.in_ok-all_second.ensures in
     let well_formed : AreWellFormed (limits_of found.sectors found.nodes) (stamp (found.run + 1) 0) (all_second cards) =
     asked c.of_volume-limits.result (limits_of found.sectors found.nodes) (c.from.result * 4294967296 + 4294967295 + 1) (stamp (found.run + 1) 0) c.in_ok-table.table (all_second cards)

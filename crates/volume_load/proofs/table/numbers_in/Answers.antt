@@ -1,24 +1,24 @@
 use Rattle.std.proofs.Common.{◌≡◌, ◌+◌, ◌∷◌, [], ◌++◌, ◌∙◌, ℕ, List, Option, Some, None, get_or, take, sym, ap, Vec, Global}
 use Rattle.std.proofs.lemmas.List.{append-nil, get_or_default}
-use Rattle.layout.specs.Cards.{Card}
-use Rattle.volume_load.specs.Cards.{numbers_of}
+use Rattle.layout.specs.CachedNodes.{CachedNode}
+use Rattle.volume_load.specs.CachedNodes.{numbers_of}
 use Rattle.volume_load.proofs.TableLaws.{numbers-take}
 use Rattle.volume_load.proofs.table.numbers_in.Goals as goal
 use Rattle.volume_load.proofs.table.numbers_in.Goals.{in-Some+in_ok-push, in_default}
 
 pub loop-card-preserved : goal.loop-card-preserved
 loop-card-preserved c =
-    let cards : List (Option Card) = c.args.cards.now in
+    let cards : List (Option CachedNode) = c.args.cards.now in
     let i = c.loop-card.card-index in
     let more = numbers-take cards i c.loop-card-test.true in
     let there : c.card-item.result ≡ get_or cards i None = c.card-item.is ∙ get_or_default cards i c.card-item.result None c.loop-card-test.true in
-    let grown : (card : Option Card) → c.card-item.result ≡ card → numbers_of (take i cards) ++ numbers_of (card ∷ []) ≡ numbers_of (take (i + 1) cards) =
-    (λ card is. ap (λ (one : Option Card). numbers_of (take i cards) ++ numbers_of (one ∷ [])) (sym is ∙ there) ∙ sym more) in
+    let grown : (card : Option CachedNode) → c.card-item.result ≡ card → numbers_of (take i cards) ++ numbers_of (card ∷ []) ≡ numbers_of (take (i + 1) cards) =
+    (λ card is. ap (λ (one : Option CachedNode). numbers_of (take i cards) ++ numbers_of (one ∷ [])) (sym is ∙ there) ∙ sym more) in
     elim c.match-card.branch [
       | in-Some+in_ok-push w ↦
           ap (λ (v : Vec ℕ Global). v.items) w.numbers-is ∙ w.in_ok-push.ensures.items
           ∙ ap (λ (l : List ℕ). l ++ w.card.inside.inode.number ∷ []) c.loop-card.invariant
-          ∙ ap (λ (number : ℕ). numbers_of (take i cards) ++ number ∷ []) (ap (λ (card : Card). card.fields.number) w.card.view_is)
+          ∙ ap (λ (number : ℕ). numbers_of (take i cards) ++ number ∷ []) (ap (λ (card : CachedNode). card.fields.number) w.card.view_is)
           ∙ grown (Some w.in-Some.card) w.in-Some.is
       | in_default w ↦
           ap (λ (v : Vec ℕ Global). v.items) w.numbers-is ∙ c.loop-card.invariant ∙ sym (append-nil (numbers_of (take i cards))) ∙ grown None w.in_default.is

@@ -1,5 +1,5 @@
 use Rattle.std.proofs.Common.{◌≡◌, take}
-use Rattle.volume_load.specs.Cards.{numbers_of}
+use Rattle.volume_load.specs.CachedNodes.{numbers_of}
 use Rattle.volume_load.proofs.table.numbers_in.Given as goal
 
 abbrev pub invariant-loop-card : goal.invariant-loop-card

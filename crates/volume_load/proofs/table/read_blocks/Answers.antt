@@ -5,10 +5,10 @@ use Rattle.extents.specs.Runs.{AreRunsOf}
 use Rattle.inode.specs.Fields.{fields_of}
 use Rattle.layout.specs.Marks.{times}
 use Rattle.volume_load.specs.declared.fault.ScanFault.{ScanFault}
-use Rattle.volume_load.specs.Cards.{uses, FindsBlocks}
+use Rattle.volume_load.specs.CachedNodes.{uses, FindsBlocks}
 use Rattle.volume_load.specs.Marking.{AreMarked, CanMark}
 use Rattle.volume_load.specs.Runs.{AreWithin}
-use Rattle.volume_load.proofs.CardLaws.{sectors_within, blocks_within, one_runs, can_blocks, same_find, same_blocks}
+use Rattle.volume_load.proofs.CachedNodeLaws.{sectors_within, blocks_within, one_runs, can_blocks, same_find, same_blocks}
 use Rattle.volume_load.proofs.SectorLaws.{same_fault}
 use Rattle.volume_load.proofs.table.read_blocks.Goals as goal
 

@@ -2,7 +2,7 @@ use Rattle.std.proofs.Common.{ap, sym}
 use Rattle.std.specs.Prelude.{Err}
 use Rattle.inode.specs.Fields.{fields_of}
 use Rattle.volume_load.specs.declared.fault.ScanFault.{ScanFault}
-use Rattle.volume_load.proofs.CardLaws.{content_there}
+use Rattle.volume_load.proofs.CachedNodeLaws.{content_there}
 use Rattle.volume_load.proofs.SectorLaws.{same_fault}
 use Rattle.volume_load.proofs.table.read_card.Goals as goal
 

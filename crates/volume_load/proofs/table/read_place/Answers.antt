@@ -2,12 +2,12 @@ use Rattle.std.proofs.Common.{Option, option_map, sym, ap, subst}
 use Rattle.std.specs.Prelude.{Err}
 use Rattle.inode.specs.declared.node.Inode.{Inode}
 use Rattle.inode.specs.Fields.{fields_of}
-use Rattle.layout.specs.Cards.{node_sector}
+use Rattle.layout.specs.CachedNodes.{node_sector}
 use Rattle.volume_load.specs.Places.{FindsFields}
-use Rattle.volume_load.specs.Cards.{FindsRest}
+use Rattle.volume_load.specs.CachedNodes.{FindsRest}
 use Rattle.volume_load.specs.declared.fault.ScanFault.{ScanFault}
-use Rattle.volume_load.proofs.CardLaws.{fields_there, found_there, none_there, marked_card}
-use Rattle.volume_load.proofs.CardLaws.{marked_free}
+use Rattle.volume_load.proofs.CachedNodeLaws.{fields_there, found_there, none_there, marked_card}
+use Rattle.volume_load.proofs.CachedNodeLaws.{marked_free}
 use Rattle.volume_load.proofs.SectorLaws.{same_fault}
 use Rattle.volume_load.proofs.table.read_place.Goals as goal
 

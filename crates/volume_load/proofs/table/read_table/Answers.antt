@@ -2,11 +2,11 @@ use Rattle.std.proofs.Common.{◌≡◌, ◌<◌, ◌+◌, ◌∷◌, [], ◌++�
 use Rattle.std.specs.Prelude.{Err}
 use Rattle.std.proofs.lemmas.List.{length_push}
 use Rattle.inode.specs.declared.node.Form.{Form}
-use Rattle.layout.specs.Cards.{Card}
+use Rattle.layout.specs.CachedNodes.{CachedNode}
 use Rattle.layout.specs.Marks.{named, named_by, mark_by}
 use Rattle.layout.specs.Stands.{version_by}
 use Rattle.model.specs.Seats.{no_seats}
-use Rattle.volume_load.specs.Cards.{FindsPlace}
+use Rattle.volume_load.specs.CachedNodes.{FindsPlace}
 use Rattle.volume_load.specs.Marking.{AreMarked, max_marks}
 use Rattle.volume_load.specs.declared.fault.ScanFault.{ScanFault}
 use Rattle.volume_load.proofs.MarkingLaws.{marked_more}
@@ -21,7 +21,7 @@ returns-in_err-card-clause-damaged g c = λ word is cards can.
     let image = g.S.Sectors.image (g.S.Sectors.kept c.args.sectors.now) in
     let place = c.loop-place.place in
     let first = 148 + c.args.nodes in
-    let front : List (Option Card) = c.loop-place.cards.items in
+    let front : List (Option CachedNode) = c.loop-place.cards.items in
     let here : get_or cards (length front) None ≡ get_or cards place None = ap (λ (k : ℕ). get_or cards k None) inv.long in
     let count : max_marks first (length c.loop-place.places) ≡ max_marks first (length c.args.places.now) = ap (max_marks first) inv.marked.len in
     c.in_err-card.ensures.damaged word (ap (λ (e : ScanFault). Err e) (same_fault c.from_residual-in_err-card.result c.in_err-card.field-0.0 c.from_residual-in_err-card.ensures.1 is)) (get_or cards place None)
@@ -41,16 +41,16 @@ loop-place-preserved g c =
     let image = g.S.Sectors.image (g.S.Sectors.kept c.args.sectors.now) in
     let place = c.loop-place.place in
     let first = 148 + c.args.nodes in
-    let front : List (Option Card) = c.loop-place.cards.items in
+    let front : List (Option CachedNode) = c.loop-place.cards.items in
     let card = c.in_ok-card.card in
     let found = subst (λ (f : Form). FindsPlace g.S.Sectors.keeps_word f image place card) c.form_at-form.ensures
     (subst (λ kept. FindsPlace g.S.Sectors.keeps_word c.form_at-form.result (g.S.Sectors.image kept) place card) inv.kept c.in_ok-card.ensures.found) in
     let pushed : c.push.new.self.items ≡ front ++ card ∷ [] = c.in_ok-push.ensures.items in
     record {
-      marked = subst (λ (l : List (Option Card)). AreMarked first c.args.places.now c.read_place.new.places (λ n. named n l)) (sym pushed)
+      marked = subst (λ (l : List (Option CachedNode)). AreMarked first c.args.places.now c.read_place.new.places (λ n. named n l)) (sym pushed)
           (marked_more first c.args.places.now c.loop-place.places c.read_place.new.places (λ n. named n front) (λ n. named_by n card) (λ n. named n (front ++ card ∷ [])) (λ n. sym (named-push n front card)) inv.marked c.in_ok-card.ensures.marked);
-      long = ap (λ (l : List (Option Card)). length l) pushed ∙ length_push front card ∙ ap (λ (n : ℕ). n + 1) inv.long;
-      each = subst (λ (l : List (Option Card)). (p : ℕ) → p < place + 1 → FindsPlace g.S.Sectors.keeps_word (form p) image p (get_or l p None)) (sym pushed) (each_more g.S.Sectors.keeps_word form image front card place inv.long inv.each found);
+      long = ap (λ (l : List (Option CachedNode)). length l) pushed ∙ length_push front card ∙ ap (λ (n : ℕ). n + 1) inv.long;
+      each = subst (λ (l : List (Option CachedNode)). (p : ℕ) → p < place + 1 → FindsPlace g.S.Sectors.keeps_word (form p) image p (get_or l p None)) (sym pushed) (each_more g.S.Sectors.keeps_word form image front card place inv.long inv.each found);
       kept = c.read_place.ensures.kept ∙ inv.kept;
       health = c.in_ok-card.ensures.health.stays (λ e. cc) ∙ inv.health;
     }

@@ -8,7 +8,7 @@ use Rattle.model.specs.ReadDir.{asks_lists}
 use Rattle.model.specs.Step.{answered, does}
 use Rattle.fs.specs.Views.{fs_of}
 use Rattle.fs.proofs.AttributeLaws.{attributes_are}
-use Rattle.fs.proofs.CardViews.{granted_by}
+use Rattle.fs.proofs.CachedNodeViews.{granted_by}
 use Rattle.fs.proofs.ReadingLaws.{attributes_gone, attributes_denied, attributes_unlisted, attributes_granted}
 use Rattle.fs.proofs.fs.Fs.asked_attributes.Goals as goal
 use Rattle.fs.proofs.fs.Fs.asked_attributes.Goals.{else-is_asked-via-then-is_asked+else-not-grants, else-is_asked-via-else-is_asked}

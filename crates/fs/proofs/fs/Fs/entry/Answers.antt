@@ -1,7 +1,7 @@
 use Rattle.std.proofs.Common.{◌∙◌, sym, ap, true≢false}
 use Rattle.std.specs.Prelude.{Some, None}
 use Rattle.std.proofs.lemmas.Result.{err_from_is_err_and}
-use Rattle.layout.specs.Cards.{Card}
+use Rattle.layout.specs.CachedNodes.{CachedNode}
 use Rattle.directory.specs.Records.{record_from}
 use Rattle.model.specs.declared.limits.Limits.{Limits}
 use Rattle.model.specs.Acl.{execute}
@@ -10,7 +10,7 @@ use Rattle.model.specs.Refusal.{first_refusal}
 use Rattle.model.specs.Tree.{is_directory}
 use Rattle.fs.proofs.LookupTests as stages
 use Rattle.fs.specs.Views.{fs_of}
-use Rattle.fs.proofs.CardViews.{granted_by, names_are, no_directory, entry_is}
+use Rattle.fs.proofs.CachedNodeViews.{granted_by, names_are, no_directory, entry_is}
 use Rattle.fs.proofs.fs.Fs.entry.Goals as goal
 
 pub returns-in_default : goal.returns-in_default
@@ -59,7 +59,7 @@ returns-in_default-get g c state now is =
     (ap is_directory (names_are held.tree c.args.directory card node directory))
     (ap (λ (l : Limits). first_refusal (name_refusals l c.args.name.now)) (sym c.limits.ensures.limits) ∙ c.in_ok-check_name.ensures.allowed)
     (sym (granted_by held.tree c.args.directory card node c.args.cred.now execute) ∙ (sym c.grants.ensures ∙ c.if-not-grants.false))
-    (entry_is held.tree c.args.directory card node c.in-Some.ensures.fit directory c.args.name.now c.card.inside.names (ap (λ (it : Card). it.names) c.card.view_is) None c.in_default-get.ensures.by_stamp)
+    (entry_is held.tree c.args.directory card node c.in-Some.ensures.fit directory c.args.name.now c.card.inside.names (ap (λ (it : CachedNode). it.names) c.card.view_is) None c.in_default-get.ensures.by_stamp)
 
 pub returns : goal.returns
 unfolding fs_of
@@ -74,4 +74,4 @@ returns g c state now is =
     (ap (λ (l : Limits). first_refusal (name_refusals l c.args.name.now)) (sym c.limits.ensures.limits) ∙ c.in_ok-check_name.ensures.allowed)
     (sym (granted_by held.tree c.args.directory card node c.args.cred.now execute) ∙ (sym c.grants.ensures ∙ c.if-not-grants.false))
     found
-    (entry_is held.tree c.args.directory card node c.in-Some.ensures.fit directory c.args.name.now c.card.inside.names (ap (λ (it : Card). it.names) c.card.view_is) (Some found) c.in-Some-get.ensures.by_stamp)
+    (entry_is held.tree c.args.directory card node c.in-Some.ensures.fit directory c.args.name.now c.card.inside.names (ap (λ (it : CachedNode). it.names) c.card.view_is) (Some found) c.in-Some-get.ensures.by_stamp)

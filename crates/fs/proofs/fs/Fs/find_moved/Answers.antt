@@ -2,14 +2,14 @@ use Rattle.std.proofs.Common.{◌≡◌, ◌∙◌, true, false, sym, ap, is_som
 use Rattle.std.specs.Prelude.{Some, None}
 use Rattle.std.proofs.lemmas.Result.{err_from_is_err_and}
 use Rattle.directory.specs.Records.{record_from}
-use Rattle.layout.specs.Cards.{Card}
+use Rattle.layout.specs.CachedNodes.{CachedNode}
 use Rattle.model.specs.declared.limits.Limits.{Limits}
 use Rattle.model.specs.Name.{name_refusals}
 use Rattle.model.specs.Refusal.{first_refusal}
 use Rattle.model.specs.Tree.{names_at, entry_of}
 use Rattle.fs.specs.Views.{fs_of}
 use Rattle.fs.specs.Renaming.{arguments_of}
-use Rattle.fs.proofs.CardViews.{entry_at}
+use Rattle.fs.proofs.CachedNodeViews.{entry_at}
 use Rattle.fs.proofs.RenameSteps as steps
 use Rattle.fs.proofs.fs.Fs.find_moved.Goals as goal
 
@@ -47,7 +47,7 @@ returns-in_default-clause-tests g c =
     let asked = c.args.asked in
     let from = c.in_ok-from.ensures.from in
     let none : entry_of asked.old_name.now (names_at held.tree asked.from) ≡ None = entry_at held.tree asked.from c.in_ok-from.from.now from.node from.fit from.directory asked.old_name.now
-    c.from.inside.names (ap (λ (it : Card). it.names) c.from.view_is) None c.in_default.ensures.by_stamp in
+    c.from.inside.names (ap (λ (it : CachedNode). it.names) c.from.view_is) None c.in_default.ensures.by_stamp in
     steps.by_entry held.limits held.tree asked.from asked.to (arguments_of asked) c.in_ok-from.ensures.tests
     (ap (λ (l : Limits). first_refusal (name_refusals l asked.old_name.now)) (sym c.limits-limits.ensures.limits) ∙ c.in_ok-check_name.ensures.allowed)
     (ap (λ (l : Limits). first_refusal (name_refusals l asked.new_name.now)) (sym c.limits-limits.ensures.limits) ∙ c.in_ok-check_name-2.ensures.allowed)
@@ -61,7 +61,7 @@ returns-clause-tests g c =
     let from = c.in_ok-from.ensures.from in
     let one = record_from c.in-Some.stamp asked.old_name.now c.in-Some.number in
     let found : entry_of asked.old_name.now (names_at held.tree asked.from) ≡ Some one = entry_at held.tree asked.from c.in_ok-from.from.now from.node from.fit from.directory asked.old_name.now
-    c.from.inside.names (ap (λ (it : Card). it.names) c.from.view_is) (Some one) c.in-Some.ensures.by_stamp in
+    c.from.inside.names (ap (λ (it : CachedNode). it.names) c.from.view_is) (Some one) c.in-Some.ensures.by_stamp in
     steps.by_entry held.limits held.tree asked.from asked.to (arguments_of asked) c.in_ok-from.ensures.tests
     (ap (λ (l : Limits). first_refusal (name_refusals l asked.old_name.now)) (sym c.limits-limits.ensures.limits) ∙ c.in_ok-check_name.ensures.allowed)
     (ap (λ (l : Limits). first_refusal (name_refusals l asked.new_name.now)) (sym c.limits-limits.ensures.limits) ∙ c.in_ok-check_name-2.ensures.allowed)
@@ -79,5 +79,5 @@ returns-clause-moved g c =
       from_fits = from.fit;
       to_fits = to.fit;
       entry = entry_at (fs_of c.args.self.now).volume.tree asked.from c.in_ok-from.from.now from.node from.fit from.directory asked.old_name.now
-          c.from.inside.names (ap (λ (it : Card). it.names) c.from.view_is) (Some one) c.in-Some.ensures.by_stamp;
+          c.from.inside.names (ap (λ (it : CachedNode). it.names) c.from.view_is) (Some one) c.in-Some.ensures.by_stamp;
     }

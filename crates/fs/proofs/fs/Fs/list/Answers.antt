@@ -5,7 +5,7 @@ use Rattle.std.proofs.lemmas.List.{length-map}
 use Rattle.directory.specs.Listing.{after, by_stamp}
 use Rattle.directory.specs.Records.{IsRecord}
 use Rattle.directory.specs.Rest.{rest_of}
-use Rattle.layout.specs.Cards.{Card}
+use Rattle.layout.specs.CachedNodes.{CachedNode}
 use Rattle.model.specs.declared.limits.Limits.{Limits}
 use Rattle.model.specs.Keyed.{Keyed}
 use Rattle.model.specs.ReadDir.{listed_entry, names_after, page_bytes, page_room}
@@ -36,7 +36,7 @@ returns-then-bytes-lt-EMPTY_PAGE-clause-step g c state now dir_count on =
 pub fill-requires : goal.fill-requires
 fill-requires g c =
     let behind : rest_of c.list_after-names.result ≡ after c.args.listing.cookie (by_stamp c.in_ok-card.card.now.names) =
-    c.list_after-names.ensures ∙ ap (λ (it : Card). after c.args.listing.cookie (by_stamp it.names)) c.card.view_is in
+    c.list_after-names.ensures ∙ ap (λ (it : CachedNode). after c.args.listing.cookie (by_stamp it.names)) c.card.view_is in
     rw behind (each_listed IsRecord c.args.listing.cookie c.in_ok-card.card.now.names c.in_ok-card.ensures.each)
 
 pub returns-then-not-page-clause-step : goal.returns-then-not-page-clause-step
@@ -49,7 +49,7 @@ returns-then-not-page-clause-step g c state now dir_count on =
     let bytes : c.min-bytes.result ≡ page_bytes held.limits arguments = omega (arith, c.min-bytes.ensures, ap (λ (l : Limits). l.transfer_bytes) c.limits.ensures.limits) in
     let enough : 16 ≤ page_bytes held.limits arguments = omega (arith, bytes, c.if-bytes-lt-EMPTY_PAGE.false) in
     let behind : rest_of c.list_after-names.result ≡ names_after listing.cookie (names_at held.tree listing.directory) =
-    c.list_after-names.ensures ∙ ap (λ (it : Card). after listing.cookie (by_stamp it.names)) c.card.view_is ∙ ap (names_after listing.cookie) c.in_ok-card.ensures.names in
+    c.list_after-names.ensures ∙ ap (λ (it : CachedNode). after listing.cookie (by_stamp it.names)) c.card.view_is ∙ ap (names_after listing.cookie) c.in_ok-card.ensures.names in
     let page = c.in_ok-page.page in
     let shown : page_view page ≡ page_of (page_room held.limits arguments) (all held.limits held.tree c.args.cred.now listing.directory state now on.is_state arguments) =
     c.in_ok-page.ensures.page ∙ ap₂ (λ (n : ℕ) (names : Keyed DirEntry). page_of (n - 16) (map listed names)) bytes behind in
@@ -68,7 +68,7 @@ returns-clause-step g c state now dir_count on =
     let bytes : c.min-bytes.result ≡ page_bytes held.limits arguments = omega (arith, c.min-bytes.ensures, ap (λ (l : Limits). l.transfer_bytes) c.limits.ensures.limits) in
     let enough : 16 ≤ page_bytes held.limits arguments = omega (arith, bytes, c.if-bytes-lt-EMPTY_PAGE.false) in
     let behind : rest_of c.list_after-names.result ≡ names_after listing.cookie (names_at held.tree listing.directory) =
-    c.list_after-names.ensures ∙ ap (λ (it : Card). after listing.cookie (by_stamp it.names)) c.card.view_is ∙ ap (names_after listing.cookie) c.in_ok-card.ensures.names in
+    c.list_after-names.ensures ∙ ap (λ (it : CachedNode). after listing.cookie (by_stamp it.names)) c.card.view_is ∙ ap (names_after listing.cookie) c.in_ok-card.ensures.names in
     let page = c.in_ok-page.page in
     let shown : page_view page ≡ page_of (page_room held.limits arguments) (all held.limits held.tree c.args.cred.now listing.directory state now on.is_state arguments) =
     c.in_ok-page.ensures.page ∙ ap₂ (λ (n : ℕ) (names : Keyed DirEntry). page_of (n - 16) (map listed names)) bytes behind in

@@ -3,11 +3,11 @@ use Rattle.model.specs.declared.limits.Limits.{Limits}
 use Rattle.fs.specs.Views.{fs_of}
 use Rattle.fs.specs.Planned.{IsList, list_by}
 use Rattle.fs.proofs.EntryLaws.{small_list, given_list_fits}
-use Rattle.volume.specs.Views.{held_of}
+use Rattle.volume.specs.Views.{volume_state}
 use Rattle.fs.proofs.fs.Fs.new_node.Goals as goal
 
 pub returns-clause-entries : goal.returns-clause-entries
-unfolding fs_of held_of
+unfolding fs_of volume_state
 returns-clause-entries g c =
     let held = (fs_of c.args.self.now).volume in
     let is : c.in_ok-acl.acl ≡ list_by c.args.kind c.args.parent.now.fields.acl c.args.settings = search rules in

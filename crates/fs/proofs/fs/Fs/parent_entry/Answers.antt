@@ -5,7 +5,7 @@ use Rattle.model.specs.Answer.{Answer}
 use Rattle.model.specs.Step.{answered, moved_to}
 use Rattle.model.specs.Tree.{is_directory, root}
 use Rattle.fs.specs.Views.{fs_of}
-use Rattle.fs.proofs.CardViews.{granted_by, names_are, no_directory}
+use Rattle.fs.proofs.CachedNodeViews.{granted_by, names_are, no_directory}
 use Rattle.fs.proofs.ReadingLaws.{parent_gone, parent_of_file, parent_denied, parent_of_root, parent_found}
 use Rattle.fs.proofs.fs.Fs.parent_entry.Goals as goal
 

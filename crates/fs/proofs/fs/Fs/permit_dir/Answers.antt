@@ -1,7 +1,7 @@
 use Rattle.std.proofs.Common.{◌≡◌, ◌∙◌, true, false, sym, ap, is_some, refl}
 use Rattle.std.specs.Prelude.{Option, Some, None, option_map}
 use Rattle.std.proofs.lemmas.Result.{err_from_is_err_and}
-use Rattle.layout.specs.Cards.{Card}
+use Rattle.layout.specs.CachedNodes.{CachedNode}
 use Rattle.directory.specs.Records.{record_from}
 use Rattle.model.specs.declared.limits.Limits.{Limits}
 use Rattle.model.specs.declared.node.NodeKind.TheVariants as kind
@@ -14,7 +14,7 @@ use Rattle.set_attributes.specs.Given.{given_of}
 use Rattle.fs.specs.OnTree.{new_directory_refusals}
 use Rattle.fs.proofs.Creating as creating
 use Rattle.fs.specs.Views.{fs_of}
-use Rattle.fs.proofs.CardViews.{granted_by, names_are, entry_is}
+use Rattle.fs.proofs.CachedNodeViews.{granted_by, names_are, entry_is}
 use Rattle.fs.proofs.RefusedLaws.{carried}
 use Rattle.fs.proofs.fs.Fs.permit_dir.Goals as goal
 
@@ -76,7 +76,7 @@ returns-then-is_some-clause-tests g c =
     let name = c.args.asked.name.now in
     let given = given_of c.args.asked.attributes in
     let taken : is_some (entry_of name (names_of node.node.content)) ≡ true =
-    ap is_some (entry_is held.tree c.args.asked.parent card node c.in-Some.ensures.fit directory name c.parent.inside.names (ap (λ (it : Card). it.names) c.parent.view_is) _ c.get.ensures.by_stamp)
+    ap is_some (entry_is held.tree c.args.asked.parent card node c.in-Some.ensures.fit directory name c.parent.inside.names (ap (λ (it : CachedNode). it.names) c.parent.view_is) _ c.get.ensures.by_stamp)
     ∙ (mapped (λ found. record_from found.0 name found.1) c.get.result ∙ (sym c.is_some.ensures ∙ c.if-is_some.true)) in
     creating.stands_already held.limits held.tree c.args.cred.now c.args.asked.parent name given node.node node.there
     (ap is_directory (names_are held.tree c.args.asked.parent card node directory))
@@ -94,7 +94,7 @@ returns-clause-tests g c =
     let name = c.args.asked.name.now in
     let given = given_of c.args.asked.attributes in
     let free : is_some (entry_of name (names_of node.node.content)) ≡ false =
-    ap is_some (entry_is held.tree c.args.asked.parent card node c.in-Some.ensures.fit directory name c.parent.inside.names (ap (λ (it : Card). it.names) c.parent.view_is) _ c.get.ensures.by_stamp)
+    ap is_some (entry_is held.tree c.args.asked.parent card node c.in-Some.ensures.fit directory name c.parent.inside.names (ap (λ (it : CachedNode). it.names) c.parent.view_is) _ c.get.ensures.by_stamp)
     ∙ (mapped (λ found. record_from found.0 name found.1) c.get.result ∙ (sym c.is_some.ensures ∙ c.if-is_some.false)) in
     creating.may_be_made held.limits held.tree c.args.cred.now c.args.asked.parent name given node.node node.there
     (ap is_directory (names_are held.tree c.args.asked.parent card node directory))

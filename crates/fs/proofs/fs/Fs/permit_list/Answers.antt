@@ -1,7 +1,7 @@
 use Rattle.std.proofs.Common.{◌≡◌, ◌∙◌, ◌==◌, ◌&&◌, true, false, not, sym, ap, refl, rules, ℕ, Bool, bytes_eq, replicate, is_some}
 use Rattle.std.specs.Prelude.{Option, Some}
 use Rattle.directory.specs.Listing.{after, by_stamp}
-use Rattle.layout.specs.Cards.{Card}
+use Rattle.layout.specs.CachedNodes.{CachedNode}
 use Rattle.model.specs.declared.acl.Cred.{Cred}
 use Rattle.model.specs.declared.status.Status.TheVariants as status
 use Rattle.model.specs.Acl.{read_data}
@@ -13,7 +13,7 @@ use Rattle.model.specs.Refusal.{first_refusal}
 use Rattle.model.specs.Tree.{Tree, Node, is_directory, is_directory_at, is_directory_node, names_at, names_of, names_of_node}
 use Rattle.fs.specs.Listing.{list_arguments, list_refusals, may_read_lists}
 use Rattle.fs.specs.Views.{fs_of}
-use Rattle.fs.proofs.CardViews.{granted_by, names_are}
+use Rattle.fs.proofs.CachedNodeViews.{granted_by, names_are}
 use Rattle.fs.proofs.fs.Fs.permit_list.Goals as goal
 
 -- where lists are asked and that of an entry may not be read, the last of the tests refuses
@@ -41,7 +41,7 @@ returns-then-not-may_read_lists-clause-tests g c dir_count =
     let node = c.in-Some.ensures.some in
     let content = names_are tree number c.in-Some.card.now node (c.is_directory.ensures.0 c.if-not-is_directory.false) in
     let names : by_stamp c.card.inside.names ≡ names_at tree number =
-    ap (λ (card : Card). by_stamp card.names) c.card.view_is ∙ sym (ap names_of_node node.there ∙ ap names_of content) in
+    ap (λ (card : CachedNode). by_stamp card.names) c.card.view_is ∙ sym (ap names_of_node node.there ∙ ap names_of content) in
     unreadable tree cred number (list_arguments c.args.listing.now dir_count) (ap is_some node.there) (ap is_directory_node node.there ∙ ap is_directory content)
     (ap (λ (found : Option Node). granted_on found cred read_data) node.there ∙ sym (granted_by tree number c.in-Some.card.now node cred read_data) ∙ (sym c.grants.ensures ∙ c.if-not-grants.false))
     (sym c.has_other_verifier.ensures ∙ c.if-has_other_verifier.false) (sym c.must_read_lists.ensures ∙ c.if-must_read_lists.true)

@@ -6,7 +6,7 @@ use Rattle.model.specs.Open.{new_refusals}
 use Rattle.model.specs.Tree.{Node}
 use Rattle.fs.specs.Views.{fs_of}
 use Rattle.fs.specs.Opening.{file_tests, type_of}
-use Rattle.fs.proofs.CardViews.{granted_by}
+use Rattle.fs.proofs.CachedNodeViews.{granted_by}
 use Rattle.fs.proofs.OpenTests as tests
 use Rattle.fs.proofs.RefusedLaws.{carried}
 use Rattle.fs.proofs.fs.Fs.permit_new.Goals as goal

@@ -6,7 +6,7 @@ use Rattle.model.specs.Name.{name_refusals}
 use Rattle.model.specs.Refusal.{first_refusal}
 use Rattle.model.specs.Tree.{is_directory}
 use Rattle.fs.specs.Views.{fs_of}
-use Rattle.fs.proofs.CardViews.{granted_by, names_are}
+use Rattle.fs.proofs.CachedNodeViews.{granted_by, names_are}
 use Rattle.fs.proofs.OpenTests as tests
 use Rattle.fs.proofs.fs.Fs.permit_place.Goals as goal
 

@@ -2,7 +2,7 @@ use Rattle.std.proofs.Common.{◌≡◌, ◌∙◌, sym, ap, is_some}
 use Rattle.std.specs.Prelude.{Option, Some, None}
 use Rattle.std.proofs.lemmas.Result.{err_from_is_err_and}
 use Rattle.directory.specs.Records.{Record, record_from}
-use Rattle.layout.specs.Cards.{Card}
+use Rattle.layout.specs.CachedNodes.{CachedNode}
 use Rattle.model.specs.declared.limits.Limits.{Limits}
 use Rattle.model.specs.Directory.{number_of_entry}
 use Rattle.model.specs.Name.{name_refusals}
@@ -10,7 +10,7 @@ use Rattle.model.specs.Refusal.{first_refusal}
 use Rattle.model.specs.Rename.{has_names}
 use Rattle.model.specs.Tree.{is_directory, names_at, entry_of}
 use Rattle.fs.specs.Views.{fs_of}
-use Rattle.fs.proofs.CardViews.{names_are, entry_at, may_remove_told}
+use Rattle.fs.proofs.CachedNodeViews.{names_are, entry_at, may_remove_told}
 use Rattle.fs.proofs.RemoveTests as tests
 use Rattle.fs.proofs.fs.Fs.permit_removal.Goals as goal
 
@@ -33,7 +33,7 @@ returns-in_default-get-clause-tests g c =
     let card = c.in-Some.card.now in
     let directory = c.is_directory.ensures.0 c.if-not-is_directory.false in
     let none : entry_of c.args.name.now (names_at held.tree c.args.directory) ≡ None = entry_at held.tree c.args.directory card node c.in-Some.ensures.fit directory c.args.name.now
-    c.card.inside.names (ap (λ (it : Card). it.names) c.card.view_is) None c.in_default-get.ensures.by_stamp in
+    c.card.inside.names (ap (λ (it : CachedNode). it.names) c.card.view_is) None c.in_default-get.ensures.by_stamp in
     tests.no_entry held.limits held.tree c.args.cred.now c.args.directory c.args.name.now node.node node.there
     (ap is_directory (names_are held.tree c.args.directory card node directory))
     (ap (λ (l : Limits). first_refusal (name_refusals l c.args.name.now)) (sym c.limits.ensures.limits) ∙ c.in_ok-check_name.ensures.allowed)
@@ -48,7 +48,7 @@ returns-then-not-may_remove-clause-tests g c =
     let directory = c.is_directory.ensures.0 c.if-not-is_directory.false in
     let one = record_from c.in-Some-get.stamp c.args.name.now c.in-Some-get.number in
     let found : entry_of c.args.name.now (names_at held.tree c.args.directory) ≡ Some one = entry_at held.tree c.args.directory card node c.in-Some.ensures.fit directory c.args.name.now
-    c.card.inside.names (ap (λ (it : Card). it.names) c.card.view_is) (Some one) c.in-Some-get.ensures.by_stamp in
+    c.card.inside.names (ap (λ (it : CachedNode). it.names) c.card.view_is) (Some one) c.in-Some-get.ensures.by_stamp in
     tests.denied held.limits held.tree c.args.cred.now c.args.directory c.args.name.now node.node node.there
     (ap is_directory (names_are held.tree c.args.directory card node directory))
     (ap (λ (l : Limits). first_refusal (name_refusals l c.args.name.now)) (sym c.limits.ensures.limits) ∙ c.in_ok-check_name.ensures.allowed)
@@ -65,7 +65,7 @@ returns-then-has_names-clause-tests g c =
     let directory = c.is_directory.ensures.0 c.if-not-is_directory.false in
     let one = record_from c.in-Some-get.stamp c.args.name.now c.in-Some-get.number in
     let found : entry_of c.args.name.now (names_at held.tree c.args.directory) ≡ Some one = entry_at held.tree c.args.directory card node c.in-Some.ensures.fit directory c.args.name.now
-    c.card.inside.names (ap (λ (it : Card). it.names) c.card.view_is) (Some one) c.in-Some-get.ensures.by_stamp in
+    c.card.inside.names (ap (λ (it : CachedNode). it.names) c.card.view_is) (Some one) c.in-Some-get.ensures.by_stamp in
     tests.not_empty held.limits held.tree c.args.cred.now c.args.directory c.args.name.now node.node node.there
     (ap is_directory (names_are held.tree c.args.directory card node directory))
     (ap (λ (l : Limits). first_refusal (name_refusals l c.args.name.now)) (sym c.limits.ensures.limits) ∙ c.in_ok-check_name.ensures.allowed)
@@ -83,7 +83,7 @@ returns-clause-tests g c =
     let directory = c.is_directory.ensures.0 c.if-not-is_directory.false in
     let one = record_from c.in-Some-get.stamp c.args.name.now c.in-Some-get.number in
     let found : entry_of c.args.name.now (names_at held.tree c.args.directory) ≡ Some one = entry_at held.tree c.args.directory card node c.in-Some.ensures.fit directory c.args.name.now
-    c.card.inside.names (ap (λ (it : Card). it.names) c.card.view_is) (Some one) c.in-Some-get.ensures.by_stamp in
+    c.card.inside.names (ap (λ (it : CachedNode). it.names) c.card.view_is) (Some one) c.in-Some-get.ensures.by_stamp in
     tests.may_go held.limits held.tree c.args.cred.now c.args.directory c.args.name.now node.node node.there
     (ap is_directory (names_are held.tree c.args.directory card node directory))
     (ap (λ (l : Limits). first_refusal (name_refusals l c.args.name.now)) (sym c.limits.ensures.limits) ∙ c.in_ok-check_name.ensures.allowed)

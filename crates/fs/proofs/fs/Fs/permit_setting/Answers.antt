@@ -1,7 +1,7 @@
 use Rattle.std.proofs.Common.{◌≡◌, ◌∙◌, ℕ, Bool, true, false, List, Some, None, not, sym, ap, ap₂, refl, is_some}
 use Rattle.std.specs.Prelude.{Option}
 use Rattle.std.proofs.lemmas.Result.{err_from_is_err_and}
-use Rattle.layout.specs.Cards.{Card}
+use Rattle.layout.specs.CachedNodes.{CachedNode}
 use Rattle.model.specs.declared.limits.Limits.{Limits}
 use Rattle.model.specs.declared.node.NodeKind.{NodeKind}
 use Rattle.model.specs.Acl.{granted}
@@ -14,7 +14,7 @@ use Rattle.model.specs.Tree.{Node, is_directory_at}
 use Rattle.set_attributes.specs.Given.{given_of}
 use Rattle.fs.specs.Views.{fs_of}
 use Rattle.fs.specs.Setting.{may_set, setting_tests, sized_refusals}
-use Rattle.fs.proofs.CardViews.{is_directory_told}
+use Rattle.fs.proofs.CachedNodeViews.{is_directory_told}
 use Rattle.fs.proofs.RefusedLaws.{carried}
 use Rattle.fs.proofs.SettingTests.{kind_is, may_told, tests_are}
 use Rattle.fs.proofs.fs.Fs.permit_setting.Goals as goal
@@ -28,7 +28,7 @@ returns-in_err-settings-clause-tests g c =
     let node = c.in-Some.ensures.some in
     let tests = λ (l : Limits) (of : NodeKind). attribute_refusals l of settable_at_setattr given in
     let p = err_from_is_err_and c.from_residual.result c.from_residual.ensures.1 in
-    let kind_same : c.card.inside.inode.kind ≡ kind_at held.tree asked.number = ap (λ (it : Card). it.fields.kind) c.card.view_is ∙ kind_is held.tree asked.number c.in-Some.card.now node in
+    let kind_same : c.card.inside.inode.kind ≡ kind_at held.tree asked.number = ap (λ (it : CachedNode). it.fields.kind) c.card.view_is ∙ kind_is held.tree asked.number c.in-Some.card.now node in
     rw (p.1, p.2) (carried (tests c.limits.result.now c.card.inside.inode.kind) (setting_tests held.limits held.tree c.args.cred.now asked.number asked.verdict given)
     (λ reason refused. tests_are held.limits held.tree c.args.cred.now asked.number asked.verdict given false (Some reason) _ _ (ap (λ (o : Option Node). not (is_some o)) node.there)
     (ap₂ (λ (l : Limits) (of : NodeKind). first_refusal (tests l of)) (sym c.limits.ensures.limits) (sym kind_same) ∙ refused) refl refl)
@@ -42,7 +42,7 @@ returns-in_err-check_sized-clause-tests g c =
     let given = given_of asked.attributes in
     let node = c.in-Some.ensures.some in
     let p = err_from_is_err_and c.from_residual-in_err-check_sized.result c.from_residual-in_err-check_sized.ensures.1 in
-    let kind_same : c.card.inside.inode.kind ≡ kind_at held.tree asked.number = ap (λ (it : Card). it.fields.kind) c.card.view_is ∙ kind_is held.tree asked.number c.in-Some.card.now node in
+    let kind_same : c.card.inside.inode.kind ≡ kind_at held.tree asked.number = ap (λ (it : CachedNode). it.fields.kind) c.card.view_is ∙ kind_is held.tree asked.number c.in-Some.card.now node in
     let sized : c.is_some.result ≡ sets_size given = c.is_some.ensures ∙ ap (λ (o : Option ℕ). is_some o) c.in_ok-settings.ensures.settings.size in
     let directory : c.is_directory.result ≡ is_directory_at held.tree asked.number =
     is_directory_told held.tree asked.number c.in-Some.card.now node c.is_directory.result c.is_directory.ensures.0 c.is_directory.ensures.1 in
@@ -58,7 +58,7 @@ returns-then-not-may_set-clause-tests g c =
     let given = given_of asked.attributes in
     let node = c.in-Some.ensures.some in
     let card = c.in-Some.card.now in
-    let kind_same : c.card.inside.inode.kind ≡ kind_at held.tree asked.number = ap (λ (it : Card). it.fields.kind) c.card.view_is ∙ kind_is held.tree asked.number card node in
+    let kind_same : c.card.inside.inode.kind ≡ kind_at held.tree asked.number = ap (λ (it : CachedNode). it.fields.kind) c.card.view_is ∙ kind_is held.tree asked.number card node in
     let sized : c.is_some.result ≡ sets_size given = c.is_some.ensures ∙ ap (λ (o : Option ℕ). is_some o) c.in_ok-settings.ensures.settings.size in
     let directory : c.is_directory.result ≡ is_directory_at held.tree asked.number =
     is_directory_told held.tree asked.number card node c.is_directory.result c.is_directory.ensures.0 c.is_directory.ensures.1 in
@@ -79,7 +79,7 @@ returns-clause-tests g c =
     let given = given_of asked.attributes in
     let node = c.in-Some.ensures.some in
     let card = c.in-Some.card.now in
-    let kind_same : c.card.inside.inode.kind ≡ kind_at held.tree asked.number = ap (λ (it : Card). it.fields.kind) c.card.view_is ∙ kind_is held.tree asked.number card node in
+    let kind_same : c.card.inside.inode.kind ≡ kind_at held.tree asked.number = ap (λ (it : CachedNode). it.fields.kind) c.card.view_is ∙ kind_is held.tree asked.number card node in
     let sized : c.is_some.result ≡ sets_size given = c.is_some.ensures ∙ ap (λ (o : Option ℕ). is_some o) c.in_ok-settings.ensures.settings.size in
     let directory : c.is_directory.result ≡ is_directory_at held.tree asked.number =
     is_directory_told held.tree asked.number card node c.is_directory.result c.is_directory.ensures.0 c.is_directory.ensures.1 in

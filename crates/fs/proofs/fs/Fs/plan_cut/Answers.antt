@@ -15,18 +15,18 @@ use Rattle.fs.proofs.LastPlans.{file_of, file_to, refused_as, resized_room}
 use Rattle.fs.proofs.NodePlans.{no_room, has_room}
 use Rattle.fs.proofs.SizePlans as plans
 use Rattle.volume.specs.Edits.{edited_by}
-use Rattle.volume.specs.Views.{held_of}
+use Rattle.volume.specs.Views.{volume_state}
 use Rattle.fs.proofs.fs.Fs.plan_cut.Goals as goal
 
 pub refuse_last_size-requires : goal.refuse_last_size-requires
-unfolding fs_of held_of
+unfolding fs_of volume_state
 refuse_last_size-requires g c =
     let fs = fs_of c.args.self.now in
     let node = c.requires.node in
     (file_to fs (c.args.self.now.ready c.requires.up) c.args.self.now.volume.limited c.args.number node.node node.there 0 (file_of fs.volume.tree c.args.number c.args.card.now node c.requires.file) (omega arith), tt)
 
 pub returns-in_default-clause-tests : goal.returns-in_default-clause-tests
-unfolding fs_of held_of
+unfolding fs_of volume_state
 returns-in_default-clause-tests g c =
     let fs = fs_of c.args.self.now in
     subst (λ (reason : NotDone). IsRefusedBy (room_tests fs (tree_cut fs c.args.number c.args.now)) reason) (sym c.refuse_last_size.ensures)
@@ -35,7 +35,7 @@ returns-in_default-clause-tests g c =
     c.in_default.ensures)
 
 pub fits-requires : goal.fits-requires
-unfolding fs_of held_of
+unfolding fs_of volume_state
 fits-requires g c =
     let fs = fs_of c.args.self.now in
     subst (AreDoable fs.volume.tree) (sym c.deref.ensures.value)
@@ -44,7 +44,7 @@ fits-requires g c =
     c.in-Some.ensures.0 c.in_ok-shown.ensures c.in_ok-edits.ensures)
 
 pub returns-then-not-fits-clause-tests : goal.returns-then-not-fits-clause-tests
-unfolding fs_of held_of
+unfolding fs_of volume_state
 returns-then-not-fits-clause-tests g c =
     let fs = fs_of c.args.self.now in
     let told : c.fits.result ≡ fits fs.volume.limits (edited_by fs.volume c.in_ok-edits.edits.items) = rw (← c.deref.ensures.value) c.fits.ensures in
@@ -54,7 +54,7 @@ returns-then-not-fits-clause-tests g c =
     no_room fs (tree_cut fs c.args.number c.args.now) (ap (fits fs.volume.limits) (sym after) ∙ (sym told ∙ c.if-not-fits.true))
 
 pub returns-clause-tests : goal.returns-clause-tests
-unfolding fs_of held_of
+unfolding fs_of volume_state
 returns-clause-tests g c =
     let fs = fs_of c.args.self.now in
     let told : c.fits.result ≡ fits fs.volume.limits (edited_by fs.volume c.in_ok-edits.edits.items) = rw (← c.deref.ensures.value) c.fits.ensures in
@@ -65,7 +65,7 @@ returns-clause-tests g c =
     (lt-ltb (fs.changes + 1) (2 ^ 32) c.in-Some.ensures.1)
 
 pub returns-clause-planned : goal.returns-clause-planned
-unfolding fs_of held_of
+unfolding fs_of volume_state
 returns-clause-planned g c =
     let fs = fs_of c.args.self.now in
     let told : c.fits.result ≡ fits fs.volume.limits (edited_by fs.volume c.in_ok-edits.edits.items) = rw (← c.deref.ensures.value) c.fits.ensures in
@@ -75,7 +75,7 @@ returns-clause-planned g c =
     (sym told ∙ c.if-not-fits.false) c.in-Some.ensures.1
 
 pub returns-clause-after : goal.returns-clause-after
-unfolding fs_of held_of
+unfolding fs_of volume_state
 returns-clause-after g c =
     let fs = fs_of c.args.self.now in
     plans.after fs (c.args.self.now.ready c.requires.up) c.args.self.now.counted c.args.self.now.volume.limited c.args.now c.args.number c.args.card.now

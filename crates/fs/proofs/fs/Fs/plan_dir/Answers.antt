@@ -1,6 +1,6 @@
 use Rattle.std.proofs.Common.{◌+◌, ◌∙◌, refl, ap, sym}
 use Rattle.std.proofs.lemmas.Result.{err_from_is_err_and}
-use Rattle.layout.specs.Cards.{Card}
+use Rattle.layout.specs.CachedNodes.{CachedNode}
 use Rattle.model.specs.declared.not_done.NotDone.{NotDone}
 use Rattle.model.specs.declared.not_done.NotDone.TheVariants as refusal
 use Rattle.set_attributes.specs.Given.{given_of, IsRefusedBy}
@@ -16,7 +16,7 @@ use Rattle.fs.specs.Refusals.{fault_of}
 use Rattle.fs.proofs.CreatedLaws as laws
 use Rattle.fs.specs.Making.{first_node}
 use Rattle.fs.specs.Planned.{child_shown, list_by}
-use Rattle.volume.specs.Views.{held_of}
+use Rattle.volume.specs.Views.{volume_state}
 use Rattle.fs.proofs.fs.Fs.plan_dir.Goals as goal
 
 pub returns-in_err-parent-clause-refused : goal.returns-in_err-parent-clause-refused
@@ -35,7 +35,7 @@ returns-in_err-parent-clause-refused g c state on =
     by_reason refusal.Memory early = tt
 
 pub new_node-requires-clause-listed : goal.new_node-requires-clause-listed
-unfolding fs_of held_of
+unfolding fs_of volume_state
 new_node-requires-clause-listed g c =
     let fs = fs_of c.args.self.now in
     laws.listed fs (c.args.self.now.ready c.requires.up) c.args.asked.parent c.in_ok-parent.parent.now
@@ -43,7 +43,7 @@ new_node-requires-clause-listed g c =
     c.in_ok-parent.parent.now c.in_ok-parent.ensures.parent c.in_ok-parent.ensures.fit c.in_ok-parent.ensures.tests)
 
 pub plan_node-requires-clause-made : goal.plan_node-requires-clause-made
-unfolding fs_of held_of
+unfolding fs_of volume_state
 plan_node-requires-clause-made g c =
     let fs = fs_of c.args.self.now in
     laws.may fs (c.args.self.now.ready c.requires.up) c.args.self.now.volume.limited c.args.cred.now c.args.now c.args.asked.parent c.args.asked.name.now (given_of c.args.asked.attributes)
@@ -51,7 +51,7 @@ plan_node-requires-clause-made g c =
     c.in_ok-stamp.stamp c.in_ok-parent.settings (shown_of c.in_ok-shown.shown) c.in_ok-parent.ensures.settings c.in_ok-parent.ensures.within c.in_ok-stamp.ensures.stamp c.in_ok-shown.ensures.shown
 
 pub returns-in_err-stamp-clause-refused : goal.returns-in_err-stamp-clause-refused
-unfolding fs_of held_of
+unfolding fs_of volume_state
 returns-in_err-stamp-clause-refused g c state on =
     let fs = fs_of c.args.self.now in
     let own = next_stamp fs.volume.run fs.changes in
@@ -66,7 +66,7 @@ returns-in_err-stamp-clause-refused g c state on =
     own settings child c.in_ok-parent.ensures.settings c.in_ok-parent.ensures.within refl refl state on c.in_err-stamp.field-0.0 told)
 
 pub plan_node-requires-clause-room : goal.plan_node-requires-clause-room
-unfolding fs_of held_of
+unfolding fs_of volume_state
 plan_node-requires-clause-room g c =
     let fs = fs_of c.args.self.now in
     c.in_ok-stamp.ensures.tests (first_node kind.Directory 0 (shown_of c.in_ok-shown.shown)) c.args.now
@@ -75,7 +75,7 @@ plan_node-requires-clause-room g c =
     c.in_ok-stamp.stamp c.in_ok-parent.settings (shown_of c.in_ok-shown.shown) c.in_ok-parent.ensures.settings c.in_ok-parent.ensures.within c.in_ok-stamp.ensures.stamp c.in_ok-shown.ensures.shown) refl
 
 pub returns-clause-step : goal.returns-clause-step
-unfolding fs_of held_of
+unfolding fs_of volume_state
 returns-clause-step g c state on =
     let fs = fs_of c.args.self.now in
     let room = c.in_ok-stamp.ensures.tests (first_node kind.Directory 0 (shown_of c.in_ok-shown.shown)) c.args.now
@@ -85,5 +85,5 @@ returns-clause-step g c state on =
     laws.goes_on fs (c.args.self.now.ready c.requires.up) c.args.self.now.volume.limited c.args.cred.now c.args.now c.args.asked.parent c.args.asked.name.now (given_of c.args.asked.attributes)
     c.in_ok-parent.parent.now c.in_ok-parent.ensures.parent c.in_ok-parent.ensures.fit c.in_ok-parent.ensures.tests
     c.in_ok-stamp.stamp c.in_ok-parent.settings (shown_of c.in_ok-shown.shown) c.in_ok-parent.ensures.settings c.in_ok-parent.ensures.within c.in_ok-stamp.ensures.stamp c.in_ok-shown.ensures.shown state on
-    room c.parent.inside.inode.change (ap (λ (it : Card). it.fields.change) c.parent.view_is)
+    room c.parent.inside.inode.change (ap (λ (it : CachedNode). it.fields.change) c.parent.view_is)
     ∙ ap (λ (t : Tree). created t (fs.changes + 1) state (given_of c.args.asked.attributes) (record { number = c.in_ok-stamp.stamp; before = c.parent.inside.inode.change })) (sym c.in_ok-edits.ensures.after)

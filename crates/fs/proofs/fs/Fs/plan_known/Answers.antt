@@ -1,6 +1,6 @@
 use Rattle.std.proofs.Common.{◌+◌, ◌∙◌, ap, sym}
 use Rattle.std.proofs.lemmas.Result.{err_from_is_err_and}
-use Rattle.layout.specs.Cards.{Card}
+use Rattle.layout.specs.CachedNodes.{CachedNode}
 use Rattle.model.specs.Operation.{Argument}
 use Rattle.model.specs.Tree.{Tree}
 use Rattle.model.specs.declared.not_done.NotDone.{NotDone}
@@ -36,7 +36,7 @@ pub returns-then-not-is_cut-clause-step : goal.returns-then-not-is_cut-clause-st
 returns-then-not-is_cut-clause-step g c state arguments placed =
     let fs = fs_of c.args.self.now in
     let directory = c.requires.directory.node in
-    let before = change_shown fs.volume.tree c.args.asked.directory c.args.directory.now directory ∙ sym (ap (λ (it : Card). it.fields.change) c.directory.view_is) in
+    let before = change_shown fs.volume.tree c.args.asked.directory c.args.directory.now directory ∙ sym (ap (λ (it : CachedNode). it.fields.change) c.directory.view_is) in
     let uncut = sym c.in_ok-card.ensures.cut ∙ c.if-not-is_cut.true in
     record {
       quiet = laws.quiet fs c.args.cred.now c.args.now c.args.asked c.args.is_full state arguments placed.on placed.opening placed.passed
@@ -55,7 +55,7 @@ returns-in_err-edits-clause-refused g c state arguments placed =
     by_reason (refusal.Status reason) bad =
         let fs = fs_of c.args.self.now in
         let directory = c.requires.directory.node in
-        let before = change_shown fs.volume.tree c.args.asked.directory c.args.directory.now directory ∙ sym (ap (λ (it : Card). it.fields.change) c.directory.view_is) in
+        let before = change_shown fs.volume.tree c.args.asked.directory c.args.directory.now directory ∙ sym (ap (λ (it : CachedNode). it.fields.change) c.directory.view_is) in
         laws.no_cut fs c.args.cred.now c.args.now c.args.asked c.args.is_full state arguments placed.on placed.opening placed.passed
         (c.in_ok-card.ensures.tests state placed.on.is_state) c.if-is_full.false c.args.number c.requires.leads c.directory.inside.inode.change before
         (sym c.in_ok-card.ensures.cut ∙ c.if-not-is_cut.false) reason bad
@@ -65,7 +65,7 @@ pub returns-clause-step : goal.returns-clause-step
 returns-clause-step g c state arguments placed =
     let fs = fs_of c.args.self.now in
     let directory = c.requires.directory.node in
-    let before = change_shown fs.volume.tree c.args.asked.directory c.args.directory.now directory ∙ sym (ap (λ (it : Card). it.fields.change) c.directory.view_is) in
+    let before = change_shown fs.volume.tree c.args.asked.directory c.args.directory.now directory ∙ sym (ap (λ (it : CachedNode). it.fields.change) c.directory.view_is) in
     laws.is_cut fs c.args.cred.now c.args.now c.args.asked c.args.is_full state arguments placed.on placed.opening placed.passed
     (c.in_ok-card.ensures.tests state placed.on.is_state) c.if-is_full.false c.args.number c.requires.leads c.directory.inside.inode.change before
     (sym c.in_ok-card.ensures.cut ∙ c.if-not-is_cut.false) c.in_ok-edits.ensures.tests

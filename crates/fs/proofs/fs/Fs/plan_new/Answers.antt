@@ -2,7 +2,7 @@ use Rattle.std.proofs.Common.{◌≡◌, ◌+◌, ◌∙◌, refl, ap, sym, rule
 use Rattle.std.proofs.lemmas.Result.{err_from_is_err_and}
 use Rattle.std.specs.Prelude.{unwrap_or}
 use Rattle.tree_transaction.specs.Nodes.{shown_of}
-use Rattle.layout.specs.Cards.{Card}
+use Rattle.layout.specs.CachedNodes.{CachedNode}
 use Rattle.model.specs.declared.node.NodeKind.TheVariants as kind
 use Rattle.model.specs.Open.{given_by}
 use Rattle.model.specs.Operation.{Argument}
@@ -22,7 +22,7 @@ use Rattle.fs.proofs.CreatedLaws as created
 use Rattle.fs.proofs.FirstFiles as files
 use Rattle.fs.proofs.NamedOpens as laws
 use Rattle.fs.proofs.RemovalPlans.{change_shown}
-use Rattle.volume.specs.Views.{held_of}
+use Rattle.volume.specs.Views.{volume_state}
 use Rattle.fs.proofs.fs.Fs.plan_new.Goals as goal
 
 pub returns-in_err-settings-clause-refused : goal.returns-in_err-settings-clause-refused
@@ -42,12 +42,12 @@ returns-then-is_full-clause-refused g c state arguments placed =
     (c.in_ok-settings.ensures.tests state placed.on.is_state) c.if-is_full.true
 
 pub new_node-requires-clause-listed : goal.new_node-requires-clause-listed
-unfolding fs_of held_of
+unfolding fs_of volume_state
 new_node-requires-clause-listed g c =
     created.listed (fs_of c.args.self.now) (c.args.self.now.ready c.requires.up) c.args.asked.directory c.args.directory.now c.requires.directory
 
 pub plan_node-requires-clause-size : goal.plan_node-requires-clause-size
-unfolding fs_of held_of
+unfolding fs_of volume_state
 plan_node-requires-clause-size g c =
     let fs = fs_of c.args.self.now in
     let size : c.unwrap_or.result ≡ unwrap_or c.in_ok-settings.settings.size 0 = search rules in
@@ -55,7 +55,7 @@ plan_node-requires-clause-size g c =
     c.args.directory.now c.requires.directory c.requires.allowed c.requires.lacks c.in_ok-settings.settings c.in_ok-settings.ensures.settings c.in_ok-settings.ensures.within c.unwrap_or.result size
 
 pub plan_node-requires-clause-made : goal.plan_node-requires-clause-made
-unfolding fs_of held_of
+unfolding fs_of volume_state
 plan_node-requires-clause-made g c =
     let fs = fs_of c.args.self.now in
     let size : c.unwrap_or.result ≡ unwrap_or c.in_ok-settings.settings.size 0 = search rules in
@@ -64,7 +64,7 @@ plan_node-requires-clause-made g c =
     c.in_ok-stamp.stamp (shown_of c.in_ok-shown.shown) c.in_ok-stamp.ensures.stamp c.in_ok-shown.ensures.shown
 
 pub returns-in_err-stamp-clause-refused : goal.returns-in_err-stamp-clause-refused
-unfolding fs_of held_of
+unfolding fs_of volume_state
 returns-in_err-stamp-clause-refused g c state arguments placed =
     let fs = fs_of c.args.self.now in
     let own = next_stamp fs.volume.run fs.changes in
@@ -84,7 +84,7 @@ returns-in_err-stamp-clause-refused g c state arguments placed =
     (first_node kind.File c.unwrap_or.result child) made own c.args.directory.now.fields.change refl before c.in_err-stamp.field-0.0 told)
 
 pub plan_node-requires-clause-room : goal.plan_node-requires-clause-room
-unfolding fs_of held_of
+unfolding fs_of volume_state
 plan_node-requires-clause-room g c =
     let fs = fs_of c.args.self.now in
     let size : c.unwrap_or.result ≡ unwrap_or c.in_ok-settings.settings.size 0 = search rules in
@@ -93,7 +93,7 @@ plan_node-requires-clause-room g c =
     c.in_ok-stamp.stamp (shown_of c.in_ok-shown.shown) c.in_ok-stamp.ensures.stamp c.in_ok-shown.ensures.shown) refl
 
 pub returns-clause-step : goal.returns-clause-step
-unfolding fs_of held_of
+unfolding fs_of volume_state
 returns-clause-step g c state arguments placed =
     let fs = fs_of c.args.self.now in
     let size : c.unwrap_or.result ≡ unwrap_or c.in_ok-settings.settings.size 0 = search rules in
@@ -103,7 +103,7 @@ returns-clause-step g c state arguments placed =
     let room = c.in_ok-stamp.ensures.tests (first_node kind.File c.unwrap_or.result (shown_of c.in_ok-shown.shown)) c.args.now (files.may fs (c.args.self.now.ready c.requires.up) c.args.self.now.volume.limited c.args.cred.now c.args.now c.args.asked.directory c.args.asked.name.now (given_by (type_of c.args.asked.how))
     c.args.directory.now c.requires.directory c.requires.allowed c.requires.lacks c.in_ok-settings.settings c.in_ok-settings.ensures.settings c.in_ok-settings.ensures.within c.unwrap_or.result size
     c.in_ok-stamp.stamp (shown_of c.in_ok-shown.shown) c.in_ok-stamp.ensures.stamp c.in_ok-shown.ensures.shown) refl in
-    let before = change_shown fs.volume.tree c.args.asked.directory c.args.directory.now c.requires.directory.node ∙ sym (ap (λ (it : Card). it.fields.change) c.directory.view_is) in
+    let before = change_shown fs.volume.tree c.args.asked.directory c.args.directory.now c.requires.directory.node ∙ sym (ap (λ (it : CachedNode). it.fields.change) c.directory.view_is) in
     laws.is_made fs c.args.cred.now c.args.now c.args.asked c.args.is_full state arguments placed.on placed.opening placed.passed
     (c.in_ok-settings.ensures.tests state placed.on.is_state) c.if-is_full.false c.requires.lacks
     (first_node kind.File c.unwrap_or.result (shown_of c.in_ok-shown.shown)) made c.in_ok-stamp.stamp c.directory.inside.inode.change c.in_ok-stamp.ensures.stamp before room

@@ -1,11 +1,11 @@
 use Rattle.model.specs.declared.status.Status.TheVariants as status
 use Rattle.fs.specs.Views.{fs_of}
 use Rattle.fs.proofs.NodePlans as plans
-use Rattle.volume.specs.Views.{held_of}
+use Rattle.volume.specs.Views.{volume_state}
 use Rattle.fs.proofs.fs.Fs.plan_node.Goals as goal
 
 pub returns-clause-planned : goal.returns-clause-planned
-unfolding fs_of held_of
+unfolding fs_of volume_state
 returns-clause-planned g c =
     let fs = fs_of c.args.self.now in
     let new = c.args.new in
@@ -14,7 +14,7 @@ returns-clause-planned g c =
     c.requires.stamp c.in_ok-directory_shown.ensures c.in_ok-edits.ensures c.requires.room
 
 pub returns-clause-after : goal.returns-clause-after
-unfolding fs_of held_of
+unfolding fs_of volume_state
 returns-clause-after g c =
     let fs = fs_of c.args.self.now in
     let new = c.args.new in

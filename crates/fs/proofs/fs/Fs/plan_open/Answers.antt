@@ -2,11 +2,11 @@ use Rattle.std.proofs.Common.{◌≡◌, ap, is_some}
 use Rattle.std.specs.Prelude.{Some, None}
 use Rattle.std.proofs.lemmas.Result.{err_from_is_err_and}
 use Rattle.directory.specs.Records.{record_from}
-use Rattle.layout.specs.Cards.{Card}
+use Rattle.layout.specs.CachedNodes.{CachedNode}
 use Rattle.model.specs.Directory.{number_of_entry}
 use Rattle.model.specs.Tree.{entry_of, names_at}
 use Rattle.fs.specs.Views.{fs_of}
-use Rattle.fs.proofs.CardViews.{entry_at}
+use Rattle.fs.proofs.CachedNodeViews.{entry_at}
 use Rattle.fs.proofs.NamedOpens as laws
 use Rattle.fs.proofs.fs.Fs.plan_open.Goals as goal
 
@@ -22,7 +22,7 @@ plan_new-requires-clause-lacks g c =
     let asked = c.args.asked in
     let directory = c.in_ok-directory.ensures.directory in
     let none : entry_of asked.name.now (names_at tree asked.directory) ≡ None = entry_at tree asked.directory c.in_ok-directory.directory.now directory.node directory.fit directory.directory asked.name.now
-    c.directory.inside.names (ap (λ (it : Card). it.names) c.directory.view_is) None c.in_default.ensures.by_stamp in
+    c.directory.inside.names (ap (λ (it : CachedNode). it.names) c.directory.view_is) None c.in_default.ensures.by_stamp in
     ap is_some none
 
 pub plan_known-requires-clause-leads : goal.plan_known-requires-clause-leads
@@ -32,5 +32,5 @@ plan_known-requires-clause-leads g c =
     let directory = c.in_ok-directory.ensures.directory in
     let one = record_from c.in-Some.entry.0 asked.name.now c.in-Some.entry.1 in
     let found : entry_of asked.name.now (names_at tree asked.directory) ≡ Some one = entry_at tree asked.directory c.in_ok-directory.directory.now directory.node directory.fit directory.directory asked.name.now
-    c.directory.inside.names (ap (λ (it : Card). it.names) c.directory.view_is) (Some one) c.in-Some.ensures.by_stamp in
+    c.directory.inside.names (ap (λ (it : CachedNode). it.names) c.directory.view_is) (Some one) c.in-Some.ensures.by_stamp in
     record { is_there = ap is_some found; number_is = ap number_of_entry found }

@@ -2,11 +2,11 @@ use Rattle.std.proofs.Common.{rules, ◌+◌, ◌^◌, ap}
 use Rattle.std.proofs.lemmas.Bool.{lt-ltb}
 use Rattle.std.proofs.lemmas.Result.{err_from_is_err_and}
 use Rattle.directory.specs.Records.{record_from}
-use Rattle.layout.specs.Cards.{Card}
+use Rattle.layout.specs.CachedNodes.{CachedNode}
 use Rattle.fs.specs.Views.{fs_of}
 use Rattle.fs.proofs.RemovalPlans as plans
 use Rattle.fs.proofs.RemovedLaws as laws
-use Rattle.volume.specs.Views.{held_of}
+use Rattle.volume.specs.Views.{volume_state}
 use Rattle.fs.proofs.fs.Fs.plan_removal.Goals as goal
 
 pub returns-in_err-removal-clause-refused : goal.returns-in_err-removal-clause-refused
@@ -16,7 +16,7 @@ returns-in_err-removal-clause-refused g c state on =
     rw (p.1, p.2) (laws.early_refusal fs c.args.cred.now c.args.now c.args.directory c.args.name.now state on c.in_err-removal.field-0.0 c.in_err-removal.ensures.tests)
 
 pub returns-in_default-clause-refused : goal.returns-in_default-clause-refused
-unfolding fs_of held_of
+unfolding fs_of volume_state
 returns-in_default-clause-refused g c state on =
     let fs = fs_of c.args.self.now in
     let removal = c.in_ok-removal.removal in
@@ -25,7 +25,7 @@ returns-in_default-clause-refused g c state on =
     state on c.in_default.ensures
 
 pub returns-clause-planned : goal.returns-clause-planned
-unfolding fs_of held_of
+unfolding fs_of volume_state
 returns-clause-planned g c =
     let fs = fs_of c.args.self.now in
     let removal = c.in_ok-removal.removal in
@@ -36,7 +36,7 @@ returns-clause-planned g c =
     c.in-Some.ensures.1
 
 pub returns-clause-step : goal.returns-clause-step
-unfolding fs_of held_of
+unfolding fs_of volume_state
 returns-clause-step g c state on =
     let fs = fs_of c.args.self.now in
     let removal = c.in_ok-removal.removal in
@@ -45,7 +45,7 @@ returns-clause-step g c state on =
     c.in_ok-removal.ensures.entry c.in_ok-removal.ensures.tests
     c.in-Some.stamp c.in_ok-shown.shown c.in_ok-edits.edits.items c.in-Some.ensures.0 c.in_ok-shown.ensures c.in_ok-edits.ensures
     state on (lt-ltb (fs.changes + 1) (2 ^ 32) c.in-Some.ensures.1)
-    c.holder.inside.inode.change (ap (λ (it : Card). it.fields.change) c.holder.view_is)
+    c.holder.inside.inode.change (ap (λ (it : CachedNode). it.fields.change) c.holder.view_is)
 
 pub returns-clause-gone : goal.returns-clause-gone
 unfolding fs_of

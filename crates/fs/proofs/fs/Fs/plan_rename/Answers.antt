@@ -1,6 +1,6 @@
 use Rattle.std.proofs.Common.{◌∙◌, ap, sym}
 use Rattle.std.proofs.lemmas.Result.{err_from_is_err_and}
-use Rattle.layout.specs.Cards.{Card}
+use Rattle.layout.specs.CachedNodes.{CachedNode}
 use Rattle.fs.specs.Views.{fs_of}
 use Rattle.fs.specs.Renaming.{arguments_of}
 use Rattle.fs.proofs.RemovalPlans.{change_shown}
@@ -20,5 +20,5 @@ returns-then-is_itself-clause-step g c state on =
     let moved = c.in_ok-moving.ensures.moved in
     laws.stays fs c.args.cred.now asked.from asked.to c.args.now (arguments_of asked) state on c.in_ok-moving.ensures.tests (sym c.is_itself.ensures ∙ c.if-is_itself.true)
     c.from.inside.inode.change c.to.inside.inode.change
-    (change_shown fs.volume.tree asked.from c.in_ok-moving.moving.from.now moved.from ∙ sym (ap (λ (it : Card). it.fields.change) c.from.view_is))
-    (change_shown fs.volume.tree asked.to c.in_ok-moving.moving.to.now moved.to ∙ sym (ap (λ (it : Card). it.fields.change) c.to.view_is))
+    (change_shown fs.volume.tree asked.from c.in_ok-moving.moving.from.now moved.from ∙ sym (ap (λ (it : CachedNode). it.fields.change) c.from.view_is))
+    (change_shown fs.volume.tree asked.to c.in_ok-moving.moving.to.now moved.to ∙ sym (ap (λ (it : CachedNode). it.fields.change) c.to.view_is))

@@ -11,7 +11,7 @@ use Rattle.fs.specs.Views.{fs_of}
 use Rattle.fs.proofs.SettingLaws as laws
 use Rattle.fs.proofs.SettingPlans as plans
 use Rattle.volume.specs.Edits.{edited_by}
-use Rattle.volume.specs.Views.{held_of}
+use Rattle.volume.specs.Views.{volume_state}
 use Rattle.fs.proofs.fs.Fs.plan_setting.Goals as goal
 
 pub returns-in_err-card-clause-refused : goal.returns-in_err-card-clause-refused
@@ -25,13 +25,13 @@ returns-then-settings-clause-step g c state arguments on is =
     (sym c.in_ok-card.ensures.settings.empty ∙ c.if-settings.true)
 
 pub refuse_last_size-requires : goal.refuse_last_size-requires
-unfolding fs_of held_of
+unfolding fs_of volume_state
 refuse_last_size-requires g c =
     plans.last_doable (fs_of c.args.self.now) (c.args.self.now.ready c.requires.up) c.args.self.now.volume.limited c.args.cred.now c.args.now c.args.asked c.in_ok-card.card.now
     c.in_ok-card.ensures.node c.in_ok-card.ensures.tests c.in_ok-card.settings c.in_ok-card.ensures.settings c.in_ok-card.ensures.within
 
 pub returns-in_default-clause-refused : goal.returns-in_default-clause-refused
-unfolding fs_of held_of
+unfolding fs_of volume_state
 returns-in_default-clause-refused g c state arguments on is =
     let fs = fs_of c.args.self.now in
     subst (λ (reason : NotDone). IsNotDone fs state c.args.now (Argument.SetAttr arguments) (fault_of reason)) (sym c.refuse_last_size.ensures)
@@ -39,12 +39,12 @@ returns-in_default-clause-refused g c state arguments on is =
     c.in_ok-card.ensures.node c.in_ok-card.ensures.tests c.in_ok-card.settings c.in_ok-card.ensures.settings c.in_ok-card.ensures.within c.if-settings.false c.in_default.ensures state arguments on is)
 
 pub shown_set-requires-clause-listed : goal.shown_set-requires-clause-listed
-unfolding fs_of held_of
+unfolding fs_of volume_state
 shown_set-requires-clause-listed g c =
     plans.listed (fs_of c.args.self.now) (c.args.self.now.ready c.requires.up) c.args.asked.number c.in_ok-card.card.now c.in_ok-card.ensures.node
 
 pub fits-requires : goal.fits-requires
-unfolding fs_of held_of
+unfolding fs_of volume_state
 fits-requires g c =
     let fs = fs_of c.args.self.now in
     subst (AreDoable fs.volume.tree) (sym c.deref.ensures.value)
@@ -53,7 +53,7 @@ fits-requires g c =
     c.in-Some.stamp c.in_ok-shown.shown c.in_ok-edits.edits.items c.in-Some.ensures.0 c.in_ok-shown.ensures.shown c.in_ok-shown.ensures.entries c.in_ok-edits.ensures)
 
 pub returns-then-not-fits-clause-refused : goal.returns-then-not-fits-clause-refused
-unfolding fs_of held_of
+unfolding fs_of volume_state
 returns-then-not-fits-clause-refused g c state arguments on is =
     let fs = fs_of c.args.self.now in
     let told : c.fits.result ≡ fits fs.volume.limits (edited_by fs.volume c.in_ok-edits.edits.items) = rw (← c.deref.ensures.value) c.fits.ensures in
@@ -63,7 +63,7 @@ returns-then-not-fits-clause-refused g c state arguments on is =
     state arguments on is (sym told ∙ c.if-not-fits.true)
 
 pub returns-clause-planned : goal.returns-clause-planned
-unfolding fs_of held_of
+unfolding fs_of volume_state
 returns-clause-planned g c =
     let fs = fs_of c.args.self.now in
     let told : c.fits.result ≡ fits fs.volume.limits (edited_by fs.volume c.in_ok-edits.edits.items) = rw (← c.deref.ensures.value) c.fits.ensures in
@@ -73,7 +73,7 @@ returns-clause-planned g c =
     (sym told ∙ c.if-not-fits.false) c.in-Some.ensures.1
 
 pub returns-clause-step : goal.returns-clause-step
-unfolding fs_of held_of
+unfolding fs_of volume_state
 returns-clause-step g c state arguments on is =
     let fs = fs_of c.args.self.now in
     let told : c.fits.result ≡ fits fs.volume.limits (edited_by fs.volume c.in_ok-edits.edits.items) = rw (← c.deref.ensures.value) c.fits.ensures in

@@ -11,7 +11,7 @@ use Rattle.fs.specs.Views.{fs_of}
 use Rattle.fs.specs.Writing.{bytes_taken}
 use Rattle.fs.proofs.WrittenLaws.{early, too_big, doable, last_doable, last_refused, planned, plan_full, plan_goes_on}
 use Rattle.volume.specs.Edits.{edited_by}
-use Rattle.volume.specs.Views.{held_of}
+use Rattle.volume.specs.Views.{volume_state}
 use Rattle.fs.proofs.fs.Fs.plan_write.Goals as goal
 
 pub returns-in_err-card-clause-refused : goal.returns-in_err-card-clause-refused
@@ -27,7 +27,7 @@ returns-in_default-clause-refused g c state arguments on is =
     c.in_ok-card.ensures.tests c.requires.some (rw (← c.taken-part.ensures.taken) c.in_default.ensures.none)
 
 pub refuse_last-requires : goal.refuse_last-requires
-unfolding fs_of held_of
+unfolding fs_of volume_state
 refuse_last-requires g c =
     let fs = fs_of c.args.self.now in
     let low : c.args.asked.offset + length (bytes_taken fs c.args.asked) ≤ fs.volume.limits.file_bytes = rw (← c.taken-part.ensures.taken) c.in-Some.ensures.some.1 in
@@ -35,7 +35,7 @@ refuse_last-requires g c =
     c.in_ok-card.ensures.node c.in_ok-card.ensures.file low c.in-Some.offset c.taken-part.result c.in-Some.ensures.some.0 c.taken-part.ensures.taken
 
 pub returns-in_default-stamp_left-clause-refused : goal.returns-in_default-stamp_left-clause-refused
-unfolding fs_of held_of
+unfolding fs_of volume_state
 returns-in_default-stamp_left-clause-refused g c state arguments on is =
     let fs = fs_of c.args.self.now in
     let low : c.args.asked.offset + length (bytes_taken fs c.args.asked) ≤ fs.volume.limits.file_bytes = rw (← c.taken-part.ensures.taken) c.in-Some.ensures.some.1 in
@@ -45,7 +45,7 @@ returns-in_default-stamp_left-clause-refused g c state arguments on is =
     c.in_ok-card.ensures.tests c.requires.some c.taken-part.ensures.bytes c.in_default-stamp_left.ensures state arguments on is)
 
 pub fits-requires : goal.fits-requires
-unfolding fs_of held_of
+unfolding fs_of volume_state
 fits-requires g c =
     let fs = fs_of c.args.self.now in
     let low : c.args.asked.offset + length (bytes_taken fs c.args.asked) ≤ fs.volume.limits.file_bytes = rw (← c.taken-part.ensures.taken) c.in-Some.ensures.some.1 in
@@ -56,7 +56,7 @@ fits-requires g c =
     c.in-Some-stamp_left.ensures.0 c.in-Some.ensures.some.0 c.taken-part.ensures.taken c.in_ok-shown.ensures c.in_ok-edits.ensures)
 
 pub returns-then-not-fits-clause-refused : goal.returns-then-not-fits-clause-refused
-unfolding fs_of held_of
+unfolding fs_of volume_state
 returns-then-not-fits-clause-refused g c state arguments on is =
     let fs = fs_of c.args.self.now in
     let low : c.args.asked.offset + length (bytes_taken fs c.args.asked) ≤ fs.volume.limits.file_bytes = rw (← c.taken-part.ensures.taken) c.in-Some.ensures.some.1 in
@@ -68,7 +68,7 @@ returns-then-not-fits-clause-refused g c state arguments on is =
     c.taken-part.ensures.bytes state arguments on is (sym told ∙ c.if-not-fits.true)
 
 pub returns-clause-planned : goal.returns-clause-planned
-unfolding fs_of held_of
+unfolding fs_of volume_state
 returns-clause-planned g c =
     let fs = fs_of c.args.self.now in
     let low : c.args.asked.offset + length (bytes_taken fs c.args.asked) ≤ fs.volume.limits.file_bytes = rw (← c.taken-part.ensures.taken) c.in-Some.ensures.some.1 in
@@ -80,7 +80,7 @@ returns-clause-planned g c =
     (sym told ∙ c.if-not-fits.false) c.in-Some-stamp_left.ensures.1
 
 pub returns-clause-step : goal.returns-clause-step
-unfolding fs_of held_of
+unfolding fs_of volume_state
 returns-clause-step g c state arguments on is =
     let fs = fs_of c.args.self.now in
     let low : c.args.asked.offset + length (bytes_taken fs c.args.asked) ≤ fs.volume.limits.file_bytes = rw (← c.taken-part.ensures.taken) c.in-Some.ensures.some.1 in

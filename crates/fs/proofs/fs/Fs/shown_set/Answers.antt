@@ -4,11 +4,11 @@ use Rattle.model.specs.SetAttr.{list_set}
 use Rattle.fs.specs.Views.{fs_of}
 use Rattle.fs.specs.Planned.{IsList}
 use Rattle.fs.proofs.EntryLaws.{small_list, set_list}
-use Rattle.volume.specs.Views.{held_of}
+use Rattle.volume.specs.Views.{volume_state}
 use Rattle.fs.proofs.fs.Fs.shown_set.Goals as goal
 
 pub returns-clause-entries : goal.returns-clause-entries
-unfolding fs_of held_of
+unfolding fs_of volume_state
 returns-clause-entries g c =
     let held = (fs_of c.args.self.now).volume in
     let fields = c.args.card.now.fields in

@@ -1,6 +1,6 @@
 use Rattle.std.proofs.Common.{◌≡◌, ◌<◌, ℕ, Option, None, length, get_or, set, ap, subst, ◌∙◌, arith}
 use Rattle.model.specs.Keyed.{Keyed}
-use Rattle.layout.specs.Cards.{Card}
+use Rattle.layout.specs.CachedNodes.{CachedNode}
 use Rattle.node_table.specs.Overlays.{Overlaid, changed, change_at}
 use Rattle.node_table.proofs.OverlayLaws.{unchanged, changed-length, changed-exchange, own-exchange, within-exchange, changed-push, own-push, within-push}
 use Rattle.node_table.proofs.overlay.Overlay.put.Goals as goal
@@ -14,9 +14,9 @@ invariant_of-self c =
 
 pub returns-in-Some-clause-cards : goal.returns-in-Some-clause-cards
 returns-in-Some-clause-cards c =
-    let changes : Keyed (Option Card) = c.self.inside.changes.items in
-    let within : c.in-Some.i < length changes = subst (λ (l : Keyed (Option Card)). c.in-Some.i < length l) c.deref.ensures.value c.in-Some.ensures.within in
-    let key : (change_at changes c.in-Some.i).0 ≡ c.args.place = subst (λ (l : Keyed (Option Card)). (change_at l c.in-Some.i).0 ≡ c.args.place) c.deref.ensures.value c.in-Some.ensures.some in
+    let changes : Keyed (Option CachedNode) = c.self.inside.changes.items in
+    let within : c.in-Some.i < length changes = subst (λ (l : Keyed (Option CachedNode)). c.in-Some.i < length l) c.deref.ensures.value c.in-Some.ensures.within in
+    let key : (change_at changes c.in-Some.i).0 ≡ c.args.place = subst (λ (l : Keyed (Option CachedNode)). (change_at l c.in-Some.i).0 ≡ c.args.place) c.deref.ensures.value c.in-Some.ensures.some in
     ap (changed c.self.inside.table.now) c.put_into.ensures ∙ changed-exchange c.self.inside.table.now changes c.in-Some.i c.args.card c.self.invariant.0 within
     ∙ ap (λ (k : ℕ). set (changed c.self.inside.table.now changes) k c.args.card) key ∙ ap (λ (overlay : Overlaid). set overlay.cards c.args.place c.args.card) c.self.view_is
 

@@ -1,7 +1,7 @@
 use Rattle.std.proofs.Common.{◌≡◌, ◌<◌, ℕ, Option, Some, None, length, get_or, set, sym, ap, subst, ◌∙◌}
 use Rattle.std.proofs.lemmas.List.{set-get_or}
 use Rattle.model.specs.Keyed.{Keyed}
-use Rattle.layout.specs.Cards.{Card}
+use Rattle.layout.specs.CachedNodes.{CachedNode}
 use Rattle.node_table.specs.Tables.{number_of}
 use Rattle.node_table.specs.Overlays.{Overlaid, changed, change_at}
 use Rattle.node_table.proofs.OverlayLaws.{unchanged, changed-here, changed-exchange, own-exchange, within-exchange, changed-push, own-push, within-push}
@@ -17,17 +17,17 @@ invariant_of-self c =
 
 pub returns-in-Some-clause-card : goal.returns-in-Some-clause-card
 returns-in-Some-clause-card c =
-    let changes : Keyed (Option Card) = c.self.inside.changes.items in
-    let within : c.in-Some.i < length changes = subst (λ (l : Keyed (Option Card)). c.in-Some.i < length l) c.deref.ensures.value c.in-Some.ensures.within in
-    let key : (change_at changes c.in-Some.i).0 ≡ c.args.place = subst (λ (l : Keyed (Option Card)). (change_at l c.in-Some.i).0 ≡ c.args.place) c.deref.ensures.value c.in-Some.ensures.some in
+    let changes : Keyed (Option CachedNode) = c.self.inside.changes.items in
+    let within : c.in-Some.i < length changes = subst (λ (l : Keyed (Option CachedNode)). c.in-Some.i < length l) c.deref.ensures.value c.in-Some.ensures.within in
+    let key : (change_at changes c.in-Some.i).0 ≡ c.args.place = subst (λ (l : Keyed (Option CachedNode)). (change_at l c.in-Some.i).0 ≡ c.args.place) c.deref.ensures.value c.in-Some.ensures.some in
     c.take_from.ensures.card ∙ sym (changed-here c.self.inside.table.now changes c.in-Some.i c.self.invariant.0 c.self.invariant.1 within)
     ∙ ap (λ (k : ℕ). get_or (changed c.self.inside.table.now changes) k None) key ∙ ap (λ (overlay : Overlaid). get_or overlay.cards c.args.place None) c.self.view_is
 
 pub returns-in-Some-clause-cards : goal.returns-in-Some-clause-cards
 returns-in-Some-clause-cards c =
-    let changes : Keyed (Option Card) = c.self.inside.changes.items in
-    let within : c.in-Some.i < length changes = subst (λ (l : Keyed (Option Card)). c.in-Some.i < length l) c.deref.ensures.value c.in-Some.ensures.within in
-    let key : (change_at changes c.in-Some.i).0 ≡ c.args.place = subst (λ (l : Keyed (Option Card)). (change_at l c.in-Some.i).0 ≡ c.args.place) c.deref.ensures.value c.in-Some.ensures.some in
+    let changes : Keyed (Option CachedNode) = c.self.inside.changes.items in
+    let within : c.in-Some.i < length changes = subst (λ (l : Keyed (Option CachedNode)). c.in-Some.i < length l) c.deref.ensures.value c.in-Some.ensures.within in
+    let key : (change_at changes c.in-Some.i).0 ≡ c.args.place = subst (λ (l : Keyed (Option CachedNode)). (change_at l c.in-Some.i).0 ≡ c.args.place) c.deref.ensures.value c.in-Some.ensures.some in
     ap (changed c.self.inside.table.now) c.take_from.ensures.changes ∙ changed-exchange c.self.inside.table.now changes c.in-Some.i None c.self.invariant.0 within
     ∙ ap (λ (k : ℕ). set (changed c.self.inside.table.now changes) k None) key ∙ ap (λ (overlay : Overlaid). set overlay.cards c.args.place None) c.self.view_is
 
@@ -54,7 +54,7 @@ invariant_of-self-2 c =
 pub returns-clause-card : goal.returns-clause-card
 returns-clause-card c =
     let there = unchanged c.self.inside.table.now c.self.inside.changes.items c.deref.result.now c.args.self.now c.args.place c.deref.ensures.value c.self.view_is c.in_default.ensures.none in
-    sym (there.same ∙ c.in-Some-card.ensures.some ∙ ap (λ (card : Card). Some card) (sym c.in_ok-card.ensures))
+    sym (there.same ∙ c.in-Some-card.ensures.some ∙ ap (λ (card : CachedNode). Some card) (sym c.in_ok-card.ensures))
 
 pub returns-clause-cards : goal.returns-clause-cards
 returns-clause-cards c =

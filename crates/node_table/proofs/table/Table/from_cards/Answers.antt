@@ -1,7 +1,7 @@
 use Rattle.std.proofs.Common.{◌≡◌, ◌+◌, ℕ, List, Option, length, sym, ap, subst, ◌∙◌, refl, true≢false, arith}
 use Rattle.std.specs.List.Sorted.{IsPermutation}
 use Rattle.model.specs.Keyed.{Keyed}
-use Rattle.layout.specs.Cards.{Card}
+use Rattle.layout.specs.CachedNodes.{CachedNode}
 use Rattle.layout.specs.Marks.{times}
 use Rattle.node_table.specs.Index.{entries_from, AreDifferent}
 use Rattle.node_table.specs.Tables.{AreFew, charge_of_all, count_of_all, vacant, IsKept}
@@ -9,7 +9,7 @@ use Rattle.node_table.proofs.FillingLaws.{filled, own-different}
 use Rattle.node_table.proofs.TableLaws.{own-places}
 use Rattle.node_table.proofs.table.Table.from_cards.Goals as goal
 
-moved : (cards read : List (Option Card)) (index sorted : Keyed ℕ) → index ≡ entries_from 0 read → read ≡ cards → IsPermutation index sorted → IsPermutation (entries_from 0 cards) sorted
+moved : (cards read : List (Option CachedNode)) (index sorted : Keyed ℕ) → index ≡ entries_from 0 read → read ≡ cards → IsPermutation index sorted → IsPermutation (entries_from 0 cards) sorted
 moved cards read index sorted is same permutation = subst (λ (l : Keyed ℕ). IsPermutation l sorted) (is ∙ ap (entries_from 0) same) permutation
 
 pub returns-then-not-are_different-clause-same : goal.returns-then-not-are_different-clause-same
@@ -21,12 +21,12 @@ returns-then-not-are_different-clause-same c same own =
 
 kept : (c : goal.After-charge_of_cards-charge) → IsKept c.args.cards.items c.sort.new.index.items c.in_ok-free.free.items c.charge_of_cards-charge.result
 kept c =
-    let cards : List (Option Card) = c.args.cards.items in
+    let cards : List (Option CachedNode) = c.args.cards.items in
     let order = moved cards c.deref.result.now c.in_ok-index.index.items c.sort.new.index.items c.in_ok-index.ensures.entries c.deref.ensures.value c.sort.ensures.permutation in
     let differ = subst AreDifferent c.deref-2.ensures.value (c.are_different.ensures.0 c.if-not-are_different.false) in
     let times_is : (n : ℕ) → times n c.in_ok-free.free.items ≡ vacant n cards = λ n. c.in_ok-free.ensures.times n ∙ ap (vacant n) c.deref-3.ensures.value in
     let count : length c.in_ok-free.free.items + count_of_all cards ≡ length cards =
-    subst (λ (l : List (Option Card)). length c.in_ok-free.free.items + count_of_all l ≡ length l) c.deref-3.ensures.value c.in_ok-free.ensures.count in
+    subst (λ (l : List (Option CachedNode)). length c.in_ok-free.free.items + count_of_all l ≡ length l) c.deref-3.ensures.value c.in_ok-free.ensures.count in
     let charge = c.charge_of_cards-charge.ensures.charge ∙ ap charge_of_all c.deref-4.ensures.value in
     let few = subst AreFew c.deref-4.ensures.value c.charge_of_cards-charge.ensures.few in
     filled cards c.sort.new.index.items order c.in_ok-free.free.items c.charge_of_cards-charge.result c.requires.few c.requires.numbered few c.sort.ensures.sorted differ times_is count charge

@@ -1,6 +1,6 @@
 use Rattle.std.proofs.Common.{◌≡◌, ◌≤◌, ◌+◌, List, Option, Some, length, ap, sym, subst, ◌∙◌, arith}
 use Rattle.std.proofs.lemmas.List.{length-set}
-use Rattle.layout.specs.Cards.{Card}
+use Rattle.layout.specs.CachedNodes.{CachedNode}
 use Rattle.node_table.specs.Tables.{AreBelow, IsFree, charge_of}
 use Rattle.node_table.proofs.TableLaws.{charges-most, vacant-free, made}
 use Rattle.node_table.proofs.table.Table.make.Goals as goal
@@ -8,25 +8,25 @@ use Rattle.node_table.proofs.table.Table.make.Goals as goal
 pub take_free-requires : goal.take_free-requires
 take_free-requires c =
     let kept = c.self.invariant.0 in
-    let is_free : IsFree c.self.inside.cards.items c.args.place = subst (λ (l : List (Option Card)). IsFree l c.args.place) (sym c.self.view_is) c.requires.free in
+    let is_free : IsFree c.self.inside.cards.items c.args.place = subst (λ (l : List (Option CachedNode)). IsFree l c.args.place) (sym c.self.view_is) c.requires.free in
     omega (arith, kept.places c.args.place, vacant-free c.self.inside.cards.items c.args.place is_free)
 
 pub overflow_add-self : goal.overflow_add-self
 overflow_add-self c =
     let kept = c.self.invariant.0 in
-    let few = ap (λ (card : Card). length card.blocks) c.card.view_is in
+    let few = ap (λ (card : CachedNode). length card.blocks) c.card.view_is in
     omega (arith, kept.charge_is, kept.few, charges-most c.self.inside.cards.items kept.each, c.blocks_charge.ensures.charge, few, c.blocks_charge.ensures.few)
 
 pub invariant_of-self : goal.invariant_of-self
 invariant_of-self c =
     let kept = c.self.invariant.0 in
-    let cards : List (Option Card) = c.self.inside.cards.items in
-    let is_free : IsFree cards c.args.place = subst (λ (l : List (Option Card)). IsFree l c.args.place) (sym c.self.view_is) c.requires.free in
-    let below : AreBelow cards c.args.card.fields.number = subst (λ (l : List (Option Card)). AreBelow l c.args.card.fields.number) (sym c.self.view_is) c.requires.above in
-    let number : c.card.inside.inode.number ≡ c.args.card.fields.number = ap (λ (card : Card). card.fields.number) c.card.view_is in
+    let cards : List (Option CachedNode) = c.self.inside.cards.items in
+    let is_free : IsFree cards c.args.place = subst (λ (l : List (Option CachedNode)). IsFree l c.args.place) (sym c.self.view_is) c.requires.free in
+    let below : AreBelow cards c.args.card.fields.number = subst (λ (l : List (Option CachedNode)). AreBelow l c.args.card.fields.number) (sym c.self.view_is) c.requires.above in
+    let number : c.card.inside.inode.number ≡ c.args.card.fields.number = ap (λ (card : CachedNode). card.fields.number) c.card.view_is in
     let is : c.blocks_charge.result ≡ charge_of c.args.card = c.blocks_charge.ensures.charge ∙ ap charge_of c.card.view_is in
     let sum : c.self.inside.charge + c.blocks_charge.result ≡ c.self.inside.charge + charge_of c.args.card = omega (arith, is) in
-    let few : length c.args.card.blocks ≤ 4096 = subst (λ (card : Card). length card.blocks ≤ 4096) c.card.view_is c.blocks_charge.ensures.few in
+    let few : length c.args.card.blocks ≤ 4096 = subst (λ (card : CachedNode). length card.blocks ≤ 4096) c.card.view_is c.blocks_charge.ensures.few in
     let long = length-set cards c.args.place (Some c.args.card) in
     let room = c.self.invariant.1 in
     rw (c.put_card.ensures, c.push_reserved.ensures.items, number) (

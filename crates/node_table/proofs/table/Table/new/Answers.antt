@@ -1,5 +1,5 @@
 use Rattle.std.proofs.Common.{◌≡◌, ◌+◌, ℕ, List, [], ◌∷◌, ◌++◌, Option, None, length, replicate, ap, sym, subst, ◌∙◌, arith}
-use Rattle.layout.specs.Cards.{Card}
+use Rattle.layout.specs.CachedNodes.{CachedNode}
 use Rattle.node_table.proofs.TableLaws.{AreFirst, first-more, nones-more, kept_none}
 use Rattle.node_table.proofs.table.Table.new.Goals as goal
 
@@ -10,7 +10,7 @@ loop-place-preserved c =
       within = omega (arith, c.loop-place-test.true);
       free = subst (AreFirst (c.loop-place.place + 1)) (sym c.push_reserved.ensures.items) (first-more c.loop-place.place c.loop-place.free.items inv.free);
       free_len = omega (arith, c.push_reserved.ensures.len, inv.free_len);
-      cards = c.push_reserved-in-loop-place.ensures.items ∙ ap (λ (l : List (Option Card)). l ++ None ∷ []) inv.cards ∙ nones-more c.loop-place.place;
+      cards = c.push_reserved-in-loop-place.ensures.items ∙ ap (λ (l : List (Option CachedNode)). l ++ None ∷ []) inv.cards ∙ nones-more c.loop-place.place;
       cards_len = omega (arith, c.push_reserved-in-loop-place.ensures.len, inv.cards_len);
       free_room = omega (arith, c.push_reserved.ensures.capacity, inv.free_room);
       cards_room = omega (arith, c.push_reserved-in-loop-place.ensures.capacity, inv.cards_room);

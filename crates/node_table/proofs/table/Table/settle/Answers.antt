@@ -1,7 +1,7 @@
 use Rattle.std.proofs.Common.{◌≡◌, ◌<◌, ℕ, List, [], ◌∷◌, ◌++◌, Option, Some, None, length, ap, sym, subst, ◌∙◌, refl, arith}
 use Rattle.std.proofs.lemmas.List.{length-append, nil_from_length}
 use Rattle.model.specs.Keyed.{Keyed}
-use Rattle.layout.specs.Cards.{Card}
+use Rattle.layout.specs.CachedNodes.{CachedNode}
 use Rattle.node_table.specs.Overlays.{changed}
 use Rattle.node_table.proofs.OverlayLaws.{IsSettling, settle-fresh, settle-step}
 use Rattle.node_table.proofs.table.Table.settle.Goals as goal
@@ -14,11 +14,11 @@ loop-place-init c = record {
 }
 
 -- the loop's state, where the last change of the list is this one
-taken : (cards target : List (Option Card)) (old left : Keyed (Option Card)) (place : ℕ) (card same : Option Card) → IsSettling cards target old → old ≡ left ++ (place, card) ∷ [] → card ≡ same
+taken : (cards target : List (Option CachedNode)) (old left : Keyed (Option CachedNode)) (place : ℕ) (card same : Option CachedNode) → IsSettling cards target old → old ≡ left ++ (place, card) ∷ [] → card ≡ same
     → IsSettling cards target (left ++ (place, same) ∷ [])
-taken cards target old left place card same settling is e = subst (IsSettling cards target) (is ∙ ap (λ (k : Option Card). left ++ (place, k) ∷ []) e) settling
+taken cards target old left place card same settling is e = subst (IsSettling cards target) (is ∙ ap (λ (k : Option CachedNode). left ++ (place, k) ∷ []) e) settling
 
-shorter : (old left : Keyed (Option Card)) (change : ℕ × Option Card) → old ≡ left ++ change ∷ [] → length left < length old
+shorter : (old left : Keyed (Option CachedNode)) (change : ℕ × Option CachedNode) → old ≡ left ++ change ∷ [] → length left < length old
 shorter old left change is = omega (arith, ap length is, length-append left (change ∷ []))
 
 pub put-requires : goal.put-requires

@@ -1,6 +1,6 @@
 use Rattle.std.proofs.Common.{◌+◌, ℕ, Some, Vec, Global, sym, ap, subst, ◌∙◌, arith}
 use Rattle.node_table.specs.Tables.{number_of}
-use Rattle.layout.specs.Cards.{Card}
+use Rattle.layout.specs.CachedNodes.{CachedNode}
 use Rattle.layout.specs.SumLaws.{numbers_of}
 use Rattle.tree_check.specs.Trees.{led_by}
 use Rattle.parents.specs.Notes.{IsNoted}
@@ -13,8 +13,8 @@ loop-place-preserved c = elim c.match-card.branch [
   | in-Some w ↦
       let table = c.args.table.now in
       let inside = w.card-in-Some.inside in
-      let names_are = ap (λ (card : Card). card.names) w.card-in-Some.view_is in
-      let number_is = ap (λ (card : Card). number_of (Some card)) w.card-in-Some.view_is in
+      let names_are = ap (λ (card : CachedNode). card.names) w.card-in-Some.view_is in
+      let number_is = ap (λ (card : CachedNode). number_of (Some card)) w.card-in-Some.view_is in
       directory-noted table c.requires.tree c.requires.apart c.loop-place.place c.loop-place.numbers.items c.loop-place.invariant c.match-card.numbers.items
       (numbers_of inside.names) inside.inode.number
       (ap number_of w.in-Some.ensures.some ∙ sym number_is) (ap led_by w.in-Some.ensures.some ∙ ap numbers_of (sym names_are))

@@ -5,7 +5,7 @@ use Rattle.opens.specs.Views.{opens_of}
 use Rattle.session.specs.Views.{table_of}
 use Rattle.server.specs.Connections.{connections_of}
 use Rattle.server.specs.Views.{world_of, volume_of, failures_of}
-use Rattle.volume.specs.Held.{kept_of}
+use Rattle.volume.specs.VolumeState.{kept_of}
 use Rattle.server.proofs.Checkpoints.{agrees_still, checkpointed, checkpoint_fails, keeps_world, only_device}
 use Rattle.server.proofs.Worlds.{AllOfRun}
 use Rattle.server.proofs.server.Server.checkpoint.Goals as goal

@@ -1,5 +1,5 @@
 use Rattle.std.proofs.Common.{◌≡◌, ◌≤◌, List, false}
-use Rattle.volume.specs.Held.{IsRecent}
+use Rattle.volume.specs.VolumeState.{IsRecent}
 use Rattle.model.specs.Keyed.{at}
 use Rattle.model.specs.Tree.{Tree}
 use Rattle.server.specs.Refused.{view, HasRunOn}

@@ -1,6 +1,6 @@
 use Rattle.std.proofs.Common.{◌≡◌, ◌+◌, ◌∙◌, ℕ, refl, sym, ap, subst, arith}
 use Rattle.std.specs.Prelude.{IsTrue, Err}
-use Rattle.tree_edits.specs.Outlines.{outline_of}
+use Rattle.tree_edits.specs.Outlines.{tree_without_data}
 use Rattle.journal.specs.Journal.{log_of}
 use Rattle.journal.specs.Log.{Log, contents}
 use Rattle.layout.specs.Stands.{Kept}
@@ -13,7 +13,7 @@ use Rattle.disk.specs.Moments.{Image}
 use Rattle.volume.specs.Known.{IsKnown, IsServing}
 use Rattle.volume.specs.Loads.{AreLoaded, HoldsVolume}
 use Rattle.volume.specs.Mounts.{StandsOn}
-use Rattle.volume.specs.Views.{held_of}
+use Rattle.volume.specs.Views.{volume_state}
 use Rattle.volume.proofs.BeginLaws.{begun_current, begun_holds, begun_serving, begun_stood, not_loaded, not_started, kept_read, raised_from, same_seats}
 use Rattle.volume.proofs.FormedLaws.{formed_later, loaded_formed, tree_formed}
 use Rattle.volume.proofs.volume.Volume.begin.Goals as goal
@@ -46,7 +46,7 @@ invariant_of-result g c =
       bounded = c.requires.volume.counted;
       sized = subst (λ (n : ℕ). IsTrue (is_size n c.of_volume.result.nodes)) size (subst (λ (n : ℕ). IsTrue (is_size found.sectors n)) (sym nodes) c.requires.volume.sized);
       limited = c.of_volume.ensures ∙ (ap (λ (n : ℕ). limits_of n found.nodes) size ∙ ap (limits_of new.size) (sym nodes));
-      formed = formed_later c.of_volume.result (stamp (found.run + 1) 0) (stamp (found.run + 1 + 1) 0) (outline_of cards) (omega arith)
+      formed = formed_later c.of_volume.result (stamp (found.run + 1) 0) (stamp (found.run + 1 + 1) 0) (tree_without_data cards) (omega arith)
           (loaded_formed word found old loaded.mark cards (seats_view loaded.seats) loaded.places c.in-Ok.ensures.loaded c.of_volume.result c.of_volume.ensures);
       known = subst (λ (n : ℕ). IsKnown n c.of_volume.result.nodes cards loaded.places) size
           (subst (λ (n : ℕ). IsKnown found.sectors n cards loaded.places) (sym nodes) c.in-Ok.ensures.loaded.known);
@@ -56,7 +56,7 @@ invariant_of-result g c =
     }
 
 pub returns-in-Ok-start-clause-begun : goal.returns-in-Ok-start-clause-begun
-unfolding held_of
+unfolding volume_state
 returns-in-Ok-start-clause-begun g c = λ k.
     let word = g.D.Device.keeps_word in
     let found = c.args.found in
@@ -83,7 +83,7 @@ returns-in-Ok-start-clause-begun g c = λ k.
     }
 
 pub returns-in-Ok-start-clause-new : goal.returns-in-Ok-start-clause-new
-unfolding held_of
+unfolding volume_state
 returns-in-Ok-start-clause-new g c =
     let word = g.D.Device.keeps_word in
     let found = c.args.found in
@@ -100,7 +100,7 @@ returns-in-Ok-start-clause-new g c =
     }
 
 pub returns-in-Ok-start-clause-seats : goal.returns-in-Ok-start-clause-seats
-unfolding held_of
+unfolding volume_state
 returns-in-Ok-start-clause-seats g c =
     let word = g.D.Device.keeps_word in
     let found = c.args.found in

@@ -1,12 +1,12 @@
 use Rattle.std.proofs.Common.{◌++◌, ◌∙◌, ℕ, List, take, drop, sym, ap}
 use Rattle.journal.specs.Journal.{log_of}
 use Rattle.journal.specs.Log.{Log, contents}
-use Rattle.volume.specs.Views.{held_of}
+use Rattle.volume.specs.Views.{volume_state}
 use Rattle.volume.proofs.ReadLaws.{blocks_within, file_bytes, place_there, some_at}
 use Rattle.volume.proofs.volume.Volume.bytes.Goals as goal
 
 pub unwrap-place-requires : goal.unwrap-place-requires
-unfolding held_of
+unfolding volume_state
 unwrap-place-requires g c =
     let volume = c.args.self.now in
     place_there (contents (log_of volume.store.journal)) volume.table c.args.number c.find.result c.find.ensures.none c.requires.file
@@ -22,7 +22,7 @@ read_bytes-requires g c =
     }
 
 pub returns-clause-bytes : goal.returns-clause-bytes
-unfolding held_of
+unfolding volume_state
 returns-clause-bytes g c w =
     let volume = c.args.self.now in
     let old : Log = log_of volume.store.journal in

@@ -7,7 +7,7 @@ use Rattle.journal.specs.Calls.{IsSafe, HasApplied}
 use Rattle.journal.specs.Journal.{log_of, failures_of}
 use Rattle.journal.specs.Layout.{AreTargets, targets}
 use Rattle.journal.specs.Log.{Log, Answers, contents}
-use Rattle.layout.specs.Cards.{Card}
+use Rattle.layout.specs.CachedNodes.{CachedNode}
 use Rattle.layout.specs.Health.{Health}
 use Rattle.layout.specs.Superblock.{is_size}
 use Rattle.model.specs.Charge.{fits}
@@ -19,37 +19,37 @@ use Rattle.volume.specs.Parents.{PutsParent}
 use Rattle.volume.specs.Formed.{IsFormed, Shows}
 use Rattle.volume.specs.Known.{IsKnown, IsServing}
 use Rattle.volume.specs.Refusals.{fault_of}
-use Rattle.volume.specs.Views.{held_by, held_of, volume_failures}
+use Rattle.volume.specs.Views.{volume_state_by, volume_state, volume_failures}
 use Rattle.volume.proofs.ApplyLaws.{applied_serves, applied_tree, apply_done, apply_refused}
 use Rattle.volume.proofs.ChangeLaws.{behind_serving, formed_after, journal_targets, known_after, log_same, may_settle, outline_after, parents_behind}
 use Rattle.volume.proofs.EditLaws.{front_room, outline_doable, outline_few}
 use Rattle.volume.proofs.ServeLaws.{told_err}
 use Rattle.model.specs.Stamp.{stamp}
-use Rattle.tree_edits.specs.Outlines.{outline_of}
+use Rattle.tree_edits.specs.Outlines.{tree_without_data}
 use Rattle.volume.proofs.volume.Volume.change.Goals as goal
 
 pub outcome_of-requires-clause-can : goal.outcome_of-requires-clause-can
-unfolding held_of
+unfolding volume_state
 outcome_of-requires-clause-can g c =
     let volume = c.args.self.now in
     let log : Log = log_of volume.store.journal in
-    outline_doable (held_by volume.limits volume.run volume.table log) c.args.edits.items c.requires (contents log) volume.table refl
+    outline_doable (volume_state_by volume.limits volume.run volume.table log) c.args.edits.items c.requires (contents log) volume.table refl
 
 pub outcome_of-requires-clause-few : goal.outcome_of-requires-clause-few
-unfolding held_of
+unfolding volume_state
 outcome_of-requires-clause-few g c =
     let volume = c.args.self.now in
     let log : Log = log_of volume.store.journal in
-    let held = held_by volume.limits volume.run volume.table log in
+    let held = volume_state_by volume.limits volume.run volume.table log in
     outline_few held c.args.edits.items c.requires (contents log) volume.table refl log.size volume.limits.nodes _ volume.limited volume.known.whole
     (ap (λ (l : List Edit). fits volume.limits (edited_by held l)) (sym c.deref.ensures.value) ∙ sym c.fits.ensures ∙ c.if-not-fits.false)
 
 pub outcome_of-requires-clause-room : goal.outcome_of-requires-clause-room
-unfolding held_of
+unfolding volume_state
 outcome_of-requires-clause-room g c = λ count within.
     let volume = c.args.self.now in
     let log : Log = log_of volume.store.journal in
-    let held = held_by volume.limits volume.run volume.table log in
+    let held = volume_state_by volume.limits volume.run volume.table log in
     let room = front_room held c.args.edits.items c.requires (contents log) volume.table refl log.size volume.limits.nodes _ volume.limited volume.known.whole
     (ap (λ (l : List Edit). fits volume.limits (edited_by held l)) (sym c.deref.ensures.value) ∙ sym c.fits.ensures ∙ c.if-not-fits.false) count in
     let nodes = room.1 in
@@ -64,14 +64,14 @@ apply-requires g c =
     (journal_targets old.size c.in_ok-outcome.outcome.updates.items c.in_ok-outcome.ensures.done.targets)
 
 pub settle-requires : goal.settle-requires
-unfolding held_of
+unfolding volume_state
 settle-requires g c =
     let volume = c.args.self.now in
     let log : Log = log_of volume.store.journal in
     may_settle g.D.Device.keeps_word volume.limits volume.run log volume.table volume.places c.args.edits.items c.in_ok-outcome.outcome c.requires volume.known c.in_ok-outcome.ensures.done
 
 pub returns-in_err-apply-clause-volume : goal.returns-in_err-apply-clause-volume
-unfolding held_of volume_failures
+unfolding volume_state volume_failures
 returns-in_err-apply-clause-volume g c =
     let word = g.D.Device.keeps_word in
     let volume = c.args.self.now in
@@ -85,7 +85,7 @@ returns-in_err-apply-clause-volume g c =
     let told = told_err c.from_residual-in_err-apply.result (fault_of fault) c.from_residual-in_err-apply.ensures.1 in
     let up : old.is_down ≡ false = sym c.is_down.ensures ∙ c.if-is_down.false in
     let few : length c.in_ok-outcome.outcome.updates.items ≤ 48 = omega (arith, c.requires.few, c.in_ok-outcome.ensures.done.count) in
-    rw told (apply_refused word volume.limits volume.run volume.table old new (edited_by (held_by volume.limits volume.run volume.table old) c.args.edits.items) _ _ fault
+    rw told (apply_refused word volume.limits volume.run volume.table old new (edited_by (volume_state_by volume.limits volume.run volume.table old) c.args.edits.items) _ _ fault
     (subst (λ (log : Log). IsSafe word log new) same c.in_err-apply.ensures.safe)
     up
     (λ many. (let bound = (c.in_err-apply.ensures.too_many (ap (λ (log : Log). log.is_down) same ∙ up)).0 (ap (λ x. Err x) many) in omega (arith, bound, few)))
@@ -94,7 +94,7 @@ returns-in_err-apply-clause-volume g c =
     c.in_err-apply.ensures.refuses)
 
 pub returns-in_err-apply-clause-stays : goal.returns-in_err-apply-clause-stays
-unfolding held_of
+unfolding volume_state
 returns-in_err-apply-clause-stays g c =
     let volume = c.args.self.now in
     let old : Log = log_of volume.store.journal in
@@ -103,7 +103,7 @@ returns-in_err-apply-clause-stays g c =
     rw told (each_outline (contents new) volume.table ∙ sym (each_outline (contents old) volume.table))
 
 pub invariant_of-self-2 : goal.invariant_of-self-2
-unfolding held_of
+unfolding volume_state
 invariant_of-self-2 g c =
     let word = g.D.Device.keeps_word in
     let volume = c.args.self.now in
@@ -111,7 +111,7 @@ invariant_of-self-2 g c =
     let mid : Log = log_of c.outcome_of.new.base.journal in
     let new : Log = log_of c.apply.new.self in
     let nodes = volume.limits.nodes in
-    let held = held_by volume.limits volume.run volume.table old in
+    let held = volume_state_by volume.limits volume.run volume.table old in
     let edits = c.args.edits.items in
     let outcome = c.in_ok-outcome.outcome in
     let comes = c.in_ok-outcome.ensures.done in
@@ -128,17 +128,17 @@ invariant_of-self-2 g c =
       bounded = volume.bounded;
       sized = subst (λ (n : ℕ). IsTrue (is_size n nodes)) size volume.sized;
       limited = volume.limited ∙ ap (λ (n : ℕ). limits_of n nodes) size;
-      formed = subst (λ (cards : List (Option Card)). IsFormed volume.limits (stamp (volume.run + 1) 0) (outline_of cards)) settled
+      formed = subst (λ (cards : List (Option CachedNode)). IsFormed volume.limits (stamp (volume.run + 1) 0) (tree_without_data cards)) settled
           (formed_after word volume.limits volume.run old volume.table volume.places edits outcome c.requires volume.known comes fit);
-      known = subst (λ (cards : List (Option Card)). IsKnown new.size nodes cards outcome.places) settled
+      known = subst (λ (cards : List (Option CachedNode)). IsKnown new.size nodes cards outcome.places) settled
           (subst (λ (n : ℕ). IsKnown n nodes (cards_after volume.table outcome) outcome.places) size
           (known_after word volume.limits volume.run old volume.table volume.places edits outcome c.requires volume.known comes));
-      named = subst (λ (cards : List (Option Card)). AreParents cards c.put_parent.new.parents) settled
+      named = subst (λ (cards : List (Option CachedNode)). AreParents cards c.put_parent.new.parents) settled
           (parents_behind word volume.limits volume.run old volume.table volume.places edits outcome c.requires volume.known comes volume.limited fit volume.parents c.put_parent.new.parents volume.named
-          (subst (λ (cards : List (Option Card)). PutsParent cards volume.parents c.put_parent.new.parents (put_by edits)) (sym settled)
+          (subst (λ (cards : List (Option CachedNode)). PutsParent cards volume.parents c.put_parent.new.parents (put_by edits)) (sym settled)
           (subst (λ (put : Option (ℕ × ℕ)). PutsParent c.settle.new.self volume.parents c.put_parent.new.parents put)
           (c.put_by-put.ensures ∙ ap put_by c.deref-2.ensures.value) c.put_parent.ensures)));
-      serves = λ k is_up. subst (λ (cards : List (Option Card)). ∥ IsServing new nodes volume.run cards ∥₁) settled
+      serves = λ k is_up. subst (λ (cards : List (Option CachedNode)). ∥ IsServing new nodes volume.run cards ∥₁) settled
           (applied_serves word volume.limits volume.run volume.table (cards_after volume.table outcome) old new outcome.updates.items (edited_by held edits) 0 0
           safe (omega arith) is_up has (λ kept. volume.serves kept up)
           (λ kept. behind_serving word kept nodes volume.run old volume.table volume.places edits outcome volume.known.are_cards.count comes
@@ -146,7 +146,7 @@ invariant_of-self-2 g c =
     }
 
 pub returns-clause-volume : goal.returns-clause-volume
-unfolding held_of volume_failures
+unfolding volume_state volume_failures
 returns-clause-volume g c =
     let word = g.D.Device.keeps_word in
     let volume = c.args.self.now in
@@ -154,7 +154,7 @@ returns-clause-volume g c =
     let mid : Log = log_of c.outcome_of.new.base.journal in
     let new : Log = log_of c.apply.new.self in
     let nodes = volume.limits.nodes in
-    let held = held_by volume.limits volume.run volume.table old in
+    let held = volume_state_by volume.limits volume.run volume.table old in
     let edits = c.args.edits.items in
     let outcome = c.in_ok-outcome.outcome in
     let health = c.in_ok-outcome.ensures.health.stays (λ faulted. cc) in
@@ -165,7 +165,7 @@ returns-clause-volume g c =
     let up : old.is_down ≡ false = sym c.is_down.ensures ∙ c.if-is_down.false in
     let fit : IsTrue (fits volume.limits (edited_by held edits)) =
     ap (λ (l : List Edit). fits volume.limits (edited_by held l)) (sym c.deref.ensures.value) ∙ sym c.fits.ensures ∙ c.if-not-fits.false in
-    subst (λ (cards : List (Option Card)). Changes word (IsEdited held edits) held (held_by volume.limits volume.run cards new) (failures_of volume.store.journal) (failures_of c.apply.new.self) Done)
+    subst (λ (cards : List (Option CachedNode)). Changes word (IsEdited held edits) held (volume_state_by volume.limits volume.run cards new) (failures_of volume.store.journal) (failures_of c.apply.new.self) Done)
     (sym c.settle.ensures)
     (apply_done word volume.limits volume.run volume.table (cards_after volume.table outcome) old new outcome.updates.items (edited_by held edits)
     (failures_of volume.store.journal) (failures_of c.apply.new.self) safe (let later = c.in_ok-apply.ensures.answers.later in omega (arith, later, failed))
@@ -175,7 +175,7 @@ returns-clause-volume g c =
     (c.in_ok-apply.ensures.answers.none (λ fault. cc) ∙ failed))
 
 pub returns-clause-shows : goal.returns-clause-shows
-unfolding held_of
+unfolding volume_state
 returns-clause-shows g c =
     let word = g.D.Device.keeps_word in
     let volume = c.args.self.now in
@@ -183,7 +183,7 @@ returns-clause-shows g c =
     let mid : Log = log_of c.outcome_of.new.base.journal in
     let new : Log = log_of c.apply.new.self in
     let nodes = volume.limits.nodes in
-    let held = held_by volume.limits volume.run volume.table old in
+    let held = volume_state_by volume.limits volume.run volume.table old in
     let edits = c.args.edits.items in
     let outcome = c.in_ok-outcome.outcome in
     let health = c.in_ok-outcome.ensures.health.stays (λ faulted. cc) in
@@ -193,7 +193,7 @@ returns-clause-shows g c =
     let up : old.is_down ≡ false = sym c.is_down.ensures ∙ c.if-is_down.false in
     let fit : IsTrue (fits volume.limits (edited_by held edits)) =
     ap (λ (l : List Edit). fits volume.limits (edited_by held l)) (sym c.deref.ensures.value) ∙ sym c.fits.ensures ∙ c.if-not-fits.false in
-    subst (λ (cards : List (Option Card)). Shows word (edited_by held edits) (held_by volume.limits volume.run cards new).tree)
+    subst (λ (cards : List (Option CachedNode)). Shows word (edited_by held edits) (volume_state_by volume.limits volume.run cards new).tree)
     (sym c.settle.ensures)
     (record {
       outline = outline_after word volume.limits volume.run old volume.table volume.places edits outcome c.requires volume.known c.in_ok-outcome.ensures.done (contents new);

@@ -7,7 +7,7 @@ use Rattle.model.specs.Limits.{limits_of}
 use Rattle.volume.specs.Changes.{Stays}
 use Rattle.volume.specs.Known.{IsKnown}
 use Rattle.volume.specs.Refusals.{fault_of}
-use Rattle.volume.specs.Views.{held_by, held_of, volume_failures}
+use Rattle.volume.specs.Views.{volume_state_by, volume_state, volume_failures}
 use Rattle.volume.proofs.FormedLaws.{shows_same}
 use Rattle.volume.proofs.ServeLaws.{flush_serves, flush_refused, found_up, up_answered, told_err}
 use Rattle.volume.proofs.CheckpointLaws.{checkpoint_done, checkpoint_keeps, checkpoint_recent}
@@ -34,18 +34,18 @@ invariant_of-self g c =
     }
 
 pub returns-in_err-checkpoint-clause-volume : goal.returns-in_err-checkpoint-clause-volume
-unfolding held_of volume_failures
+unfolding volume_state volume_failures
 returns-in_err-checkpoint-clause-volume g c =
     let volume = c.args.self.now in
     let old : Log = log_of volume.store.journal in
     let new : Log = log_of c.checkpoint.new.self in
     let fault = c.in_err-checkpoint.field-0.0 in
     let told = told_err c.from_residual.result (fault_of fault) c.from_residual.ensures.1 in
-    rw told (flush_refused g.D.Device.keeps_word (Stays (held_by volume.limits volume.run volume.table old)) volume.limits volume.run volume.table old new _ _ fault c.in_err-checkpoint.ensures.safe
+    rw told (flush_refused g.D.Device.keeps_word (Stays (volume_state_by volume.limits volume.run volume.table old)) volume.limits volume.run volume.table old new _ _ fault c.in_err-checkpoint.ensures.safe
     c.in_err-checkpoint.ensures.answers c.in_err-checkpoint.ensures.refuses)
 
 pub returns-clause-volume : goal.returns-clause-volume
-unfolding held_of volume_failures
+unfolding volume_state volume_failures
 returns-clause-volume g c =
     let volume = c.args.self.now in
     let old : Log = log_of volume.store.journal in
@@ -56,7 +56,7 @@ returns-clause-volume g c =
     _ _ did.answers.later (did.answers.none (λ fault. cc))
 
 pub returns-clause-shows : goal.returns-clause-shows
-unfolding held_of
+unfolding volume_state
 returns-clause-shows g c =
     let volume = c.args.self.now in
     let old : Log = log_of volume.store.journal in
@@ -67,7 +67,7 @@ returns-clause-shows g c =
     (checkpoint_keeps g.D.Device.keeps_word volume.limits volume.run volume.table _ old new did.safe did.list up.1 did.ok (λ word. volume.serves word up.0))
 
 pub returns-clause-recent : goal.returns-clause-recent
-unfolding held_of
+unfolding volume_state
 returns-clause-recent g c =
     let volume = c.args.self.now in
     let old : Log = log_of volume.store.journal in

@@ -3,20 +3,20 @@ use Rattle.tree_edits.specs.Edits.{edits_of}
 use Rattle.tree_edits.proofs.DoableLaws.{doable_alike}
 use Rattle.journal.specs.Journal.{log_of}
 use Rattle.journal.specs.Log.{Log, contents}
-use Rattle.layout.specs.Cards.{tree_of}
-use Rattle.volume.specs.Views.{held_of}
+use Rattle.layout.specs.CachedNodes.{tree_of}
+use Rattle.volume.specs.Views.{volume_state}
 use Rattle.volume.proofs.EditLaws.{fits_outline, outline_alike}
 use Rattle.volume.proofs.volume.Volume.fits.Goals as goal
 
 pub fits-requires-clause-can : goal.fits-requires-clause-can
-unfolding held_of
+unfolding volume_state
 fits-requires-clause-can g c =
     let volume = c.args.self.now in
     let log : Log = log_of volume.store.journal in
     doable_alike (tree_of (contents log) volume.table) (tree_of (λ n. []) volume.table) c.args.edits.now (outline_alike (contents log) volume.table) c.requires
 
 pub returns : goal.returns
-unfolding held_of
+unfolding volume_state
 returns g c =
     let volume = c.args.self.now in
     let log : Log = log_of volume.store.journal in

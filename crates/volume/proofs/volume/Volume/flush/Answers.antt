@@ -2,13 +2,13 @@ use Rattle.std.proofs.Common.{◌∙◌, ℕ, sym, ap, subst, arith}
 use Rattle.std.specs.Prelude.{IsTrue}
 use Rattle.journal.specs.Journal.{log_of}
 use Rattle.journal.specs.Log.{Log, contents}
-use Rattle.layout.specs.Cards.{tree_of}
+use Rattle.layout.specs.CachedNodes.{tree_of}
 use Rattle.layout.specs.Superblock.{is_size}
 use Rattle.model.specs.Limits.{limits_of}
 use Rattle.volume.specs.Changes.{IsTree}
 use Rattle.volume.specs.Known.{IsKnown}
 use Rattle.volume.specs.Refusals.{fault_of}
-use Rattle.volume.specs.Views.{held_by, held_of, volume_failures}
+use Rattle.volume.specs.Views.{volume_state_by, volume_state, volume_failures}
 use Rattle.volume.proofs.FormedLaws.{shows_same}
 use Rattle.volume.proofs.ServeLaws.{flush_done, flush_keeps, flush_serves, flush_refused, found_up, up_answered, told_err}
 use Rattle.volume.proofs.volume.Volume.flush.Goals as goal
@@ -34,18 +34,18 @@ invariant_of-self g c =
     }
 
 pub returns-in_err-flush-clause-volume : goal.returns-in_err-flush-clause-volume
-unfolding held_of volume_failures
+unfolding volume_state volume_failures
 returns-in_err-flush-clause-volume g c =
     let volume = c.args.self.now in
     let old : Log = log_of volume.store.journal in
     let new : Log = log_of c.flush.new.self in
     let fault = c.in_err-flush.field-0.0 in
     let told = told_err c.from_residual.result (fault_of fault) c.from_residual.ensures.1 in
-    rw told (flush_refused g.D.Device.keeps_word (IsTree (held_by volume.limits volume.run volume.table old) (tree_of (contents old) volume.table)) volume.limits volume.run volume.table old new _ _ fault c.in_err-flush.ensures.safe
+    rw told (flush_refused g.D.Device.keeps_word (IsTree (volume_state_by volume.limits volume.run volume.table old) (tree_of (contents old) volume.table)) volume.limits volume.run volume.table old new _ _ fault c.in_err-flush.ensures.safe
     c.in_err-flush.ensures.answers c.in_err-flush.ensures.refuses)
 
 pub returns-clause-volume : goal.returns-clause-volume
-unfolding held_of volume_failures
+unfolding volume_state volume_failures
 returns-clause-volume g c =
     let volume = c.args.self.now in
     let old : Log = log_of volume.store.journal in
@@ -56,7 +56,7 @@ returns-clause-volume g c =
     (λ word. volume.serves word up.0)
 
 pub returns-clause-shows : goal.returns-clause-shows
-unfolding held_of
+unfolding volume_state
 returns-clause-shows g c =
     let volume = c.args.self.now in
     let old : Log = log_of volume.store.journal in

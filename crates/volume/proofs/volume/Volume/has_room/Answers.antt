@@ -2,20 +2,20 @@ use Rattle.std.proofs.Common.{◌∙◌, []}
 use Rattle.tree_edits.proofs.DoableLaws.{directory_alike, making_alike}
 use Rattle.journal.specs.Journal.{log_of}
 use Rattle.journal.specs.Log.{Log, contents}
-use Rattle.layout.specs.Cards.{tree_of}
-use Rattle.volume.specs.Views.{held_of}
+use Rattle.layout.specs.CachedNodes.{tree_of}
+use Rattle.volume.specs.Views.{volume_state}
 use Rattle.volume.proofs.EditLaws.{fits_outline, outline_alike}
 use Rattle.volume.proofs.volume.Volume.has_room.Goals as goal
 
 pub has_room-requires-clause-there : goal.has_room-requires-clause-there
-unfolding held_of
+unfolding volume_state
 has_room-requires-clause-there g c =
     let volume = c.args.self.now in
     let log : Log = log_of volume.store.journal in
     directory_alike (tree_of (contents log) volume.table) (tree_of (λ n. []) volume.table) (outline_alike (contents log) volume.table) c.args.directory ∙ c.requires
 
 pub returns : goal.returns
-unfolding held_of
+unfolding volume_state
 returns g c edits is =
     let volume = c.args.self.now in
     let log : Log = log_of volume.store.journal in

@@ -2,8 +2,8 @@ use Rattle.std.proofs.Common.{ℕ, ◌<◌, ◌∙◌, Err, ap, sym, subst, arit
 use Rattle.disk.specs.Moments.{History, seen}
 use Rattle.journal.specs.Journal.{log_of, failures_of}
 use Rattle.journal.specs.MountAnswers as journal
-use Rattle.volume.specs.Held.{IsNew}
-use Rattle.volume.specs.Views.{held_of}
+use Rattle.volume.specs.VolumeState.{IsNew}
+use Rattle.volume.specs.Views.{volume_state}
 use Rattle.volume.specs.MountAnswers.{IsMountRefused}
 use Rattle.volume.specs.Refusals.{gate_fault}
 use Rattle.journal.proofs.First.{first_kept}
@@ -15,15 +15,15 @@ use Rattle.volume.proofs.volume.Volume.mount_seated.Goals as goal
 pub returns-in-Err-clause-gives_back : goal.returns-in-Err-clause-gives_back
 returns-in-Err-clause-gives_back g c = record {
   back = record {
-    same_size = c.find.ensures.same_size;
-    later = c.find.ensures.later;
+    same_size = c.read_mountable_superblock.ensures.same_size;
+    later = c.read_mountable_superblock.ensures.later;
     cause = λ is. c.in-Err.ensures.cause (ap (λ x. Err x) is);
     none = λ other. c.in-Err.ensures.none (λ is. other (cc));
   };
   refused = λ k.
       let D = g.D.Device in
-      refused_untouched (D.size c.args.device) (D.history c.args.device) (D.history c.find.new.device) c.in-Err.fault c.find.ensures.history
-      (first_reason (D.size c.args.device) (D.history c.args.device) (D.history c.find.new.device) c.find.ensures.history c.in-Err.fault
+      refused_untouched (D.size c.args.device) (D.history c.args.device) (D.history c.read_mountable_superblock.new.device) c.in-Err.fault c.read_mountable_superblock.ensures.history
+      (first_reason (D.size c.args.device) (D.history c.args.device) (D.history c.read_mountable_superblock.new.device) c.read_mountable_superblock.ensures.history c.in-Err.fault
       (λ is. rw is at c.in-Err.ensures.told k) (λ is. rw is at c.in-Err.ensures.told k) (λ is. rw is at c.in-Err.ensures.told k));
 }
 
@@ -32,9 +32,9 @@ begin-requires-clause-base g c = λ k.
     let D = g.D.Device in
     let enough = large c.in-Ok.found.sectors c.in-Ok.found.nodes c.in-Ok.ensures.volume.sized in
     record {
-      first = first_kept (D.size c.find.new.device) (seen (D.history c.find.new.device).now) (log_of c.in-Ok-mount_cached.journal).base
-          (omega (arith, enough, c.in-Ok.ensures.volume.size, c.find.ensures.same_size)) ((c.in-Ok-mount_cached.ensures.mounted k).base)
-          ∙ (ap (λ (h : History). seen h.now 0) c.find.ensures.history ∙ (c.in-Ok.ensures.told k).1);
+      first = first_kept (D.size c.read_mountable_superblock.new.device) (seen (D.history c.read_mountable_superblock.new.device).now) (log_of c.in-Ok-mount_cached.journal).base
+          (omega (arith, enough, c.in-Ok.ensures.volume.size, c.read_mountable_superblock.ensures.same_size)) ((c.in-Ok-mount_cached.ensures.mounted k).base)
+          ∙ (ap (λ (h : History). seen h.now 0) c.read_mountable_superblock.ensures.history ∙ (c.in-Ok.ensures.told k).1);
       sectors = λ n within. (c.in-Ok-mount_cached.ensures.mounted k).sectors n (subst (λ (s : ℕ). n < s) c.in-Ok-mount_cached.ensures.new.size within);
     }
 
@@ -48,18 +48,18 @@ returns-in-Err-mount_cached-clause-gives_back g c =
     let fault = c.in-Err-mount_cached.refused.fault in
     let back = c.in-Err-mount_cached.ensures.back in
     record {
-      back = back_since D.size D.failed sectors (D.failed c.args.device) (D.size c.find.new.device) (D.failed c.find.new.device) _ c.find.ensures.same_size (c.in-Ok.ensures.none (λ is. absurd (cc)))
+      back = back_since D.size D.failed sectors (D.failed c.args.device) (D.size c.read_mountable_superblock.new.device) (D.failed c.read_mountable_superblock.new.device) _ c.read_mountable_superblock.ensures.same_size (c.in-Ok.ensures.none (λ is. absurd (cc)))
           (record {
             same_size = back.refused_size;
             later = back.later;
-            cause = λ is. gate_counted (D.failed c.find.new.device) (D.failed device) fault back.reasons back.counted (sym c.into.ensures ∙ is);
+            cause = λ is. gate_counted (D.failed c.read_mountable_superblock.new.device) (D.failed device) fault back.reasons back.counted (sym c.into.ensures ∙ is);
             none = λ other. back.none (λ is. other (c.into.ensures ∙ ap gate_fault is));
           });
       refused = λ k.
-          let told : journal.IsMountRefused sectors old new fault = subst (λ (n : ℕ). journal.IsMountRefused n old new fault) c.find.ensures.same_size
-          (subst (λ (h : History). journal.IsMountRefused (D.size c.find.new.device) h new fault) c.find.ensures.history (c.in-Err-mount_cached.ensures.refused k)) in
+          let told : journal.IsMountRefused sectors old new fault = subst (λ (n : ℕ). journal.IsMountRefused n old new fault) c.read_mountable_superblock.ensures.same_size
+          (subst (λ (h : History). journal.IsMountRefused (D.size c.read_mountable_superblock.new.device) h new fault) c.read_mountable_superblock.ensures.history (c.in-Err-mount_cached.ensures.refused k)) in
           subst (IsMountRefused sectors old new) (sym c.into.ensures)
-          (gate_refused sectors old new (c.in-Ok.ensures.told k).0 told.refused fault told.damaged (λ is. ap D.history (back.memory is) ∙ c.find.ensures.history));
+          (gate_refused sectors old new (c.in-Ok.ensures.told k).0 told.refused fault told.damaged (λ is. ap D.history (back.memory is) ∙ c.read_mountable_superblock.ensures.history));
     }
 
 pub returns-in-Ok-mount_cached-clause-serves : goal.returns-in-Ok-mount_cached-clause-serves
@@ -71,14 +71,14 @@ returns-in-Ok-mount_cached-clause-serves g c =
     let log = log_of c.in-Ok-mount_cached.journal in
     let parts = sized found.sectors found.nodes c.in-Ok.ensures.volume.sized in
     let word = D.keeps_word in
-    let mounted : word → journal.HasMounted sectors old log = λ k. subst (λ (n : ℕ). journal.HasMounted n old log) c.find.ensures.same_size
-    (subst (λ (h : History). journal.HasMounted (D.size c.find.new.device) h log) c.find.ensures.history (c.in-Ok-mount_cached.ensures.mounted k)) in
+    let mounted : word → journal.HasMounted sectors old log = λ k. subst (λ (n : ℕ). journal.HasMounted n old log) c.read_mountable_superblock.ensures.same_size
+    (subst (λ (h : History). journal.HasMounted (D.size c.read_mountable_superblock.new.device) h log) c.read_mountable_superblock.ensures.history (c.in-Ok-mount_cached.ensures.mounted k)) in
     if_ok_all c.begin.result word _ _ _ _
     (λ mounted_it new counted begun. record {
-      new = subst (λ (n : ℕ). IsNew n (held_of mounted_it.volume)) (c.in-Ok-mount_cached.ensures.new.size ∙ c.find.ensures.same_size) new;
+      new = subst (λ (n : ℕ). IsNew n (volume_state mounted_it.volume)) (c.in-Ok-mount_cached.ensures.new.size ∙ c.read_mountable_superblock.ensures.same_size) new;
       counted = counted ∙ (c.in-Ok-mount_cached.ensures.new.failures ∙ c.in-Ok.ensures.none (λ is. absurd (cc)));
       mounted = λ k. begun_found sectors old log.history found log.base c.in-Ok.ensures.volume.size (omega (arith, parts.few)) (omega (arith, c.in-Ok.ensures.volume.counted))
-          (c.in-Ok.ensures.told k).0 (c.in-Ok.ensures.told k).1 (mounted k).base (mounted k).moments (held_of mounted_it.volume) (mounted k).since_sync (begun k);
+          (c.in-Ok.ensures.told k).0 (c.in-Ok.ensures.told k).1 (mounted k).base (mounted k).moments (volume_state mounted_it.volume) (mounted k).since_sync (begun k);
     })
     c.begin.ensures.new c.begin.ensures.counted c.begin.ensures.begun
 
@@ -91,12 +91,12 @@ returns-in-Ok-mount_cached-clause-gives_back g c =
     let log = log_of c.in-Ok-mount_cached.journal in
     let parts = sized found.sectors found.nodes c.in-Ok.ensures.volume.sized in
     let word = D.keeps_word in
-    let mounted : word → journal.HasMounted sectors old log = λ k. subst (λ (n : ℕ). journal.HasMounted n old log) c.find.ensures.same_size
-    (subst (λ (h : History). journal.HasMounted (D.size c.find.new.device) h log) c.find.ensures.history (c.in-Ok-mount_cached.ensures.mounted k)) in
+    let mounted : word → journal.HasMounted sectors old log = λ k. subst (λ (n : ℕ). journal.HasMounted n old log) c.read_mountable_superblock.ensures.same_size
+    (subst (λ (h : History). journal.HasMounted (D.size c.read_mountable_superblock.new.device) h log) c.read_mountable_superblock.ensures.history (c.in-Ok-mount_cached.ensures.mounted k)) in
     if_err_all c.begin.result word _ _ _
     (λ unmounted back begun. record {
       back = back_since D.size D.failed sectors (D.failed c.args.device) log.size (failures_of c.in-Ok-mount_cached.journal) unmounted
-          (c.in-Ok-mount_cached.ensures.new.size ∙ c.find.ensures.same_size) (c.in-Ok-mount_cached.ensures.new.failures ∙ c.in-Ok.ensures.none (λ is. absurd (cc))) back;
+          (c.in-Ok-mount_cached.ensures.new.size ∙ c.read_mountable_superblock.ensures.same_size) (c.in-Ok-mount_cached.ensures.new.failures ∙ c.in-Ok.ensures.none (λ is. absurd (cc))) back;
       refused = λ k. begin_refused sectors old log.history found log.base c.in-Ok.ensures.volume.size (omega (arith, parts.few)) (omega (arith, c.in-Ok.ensures.volume.counted))
           (c.in-Ok.ensures.told k).0 (c.in-Ok.ensures.told k).1 (mounted k).base (mounted k).moments (D.history unmounted.device) unmounted.fault (begun k);
     })

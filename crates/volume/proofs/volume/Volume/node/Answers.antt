@@ -3,24 +3,24 @@ use Rattle.journal.specs.Journal.{log_of}
 use Rattle.journal.specs.Log.{contents}
 use Rattle.tree_transaction.proofs.KnownLaws.{card_at}
 use Rattle.inode.specs.Fields.{most_entries}
-use Rattle.layout.specs.Cards.{Card}
+use Rattle.layout.specs.CachedNodes.{CachedNode}
 use Rattle.layout.specs.Known.{IsCard}
 use Rattle.layout.specs.Marks.{mark_by}
 use Rattle.layout.specs.Stands.{current}
 use Rattle.model.specs.Seats.{no_seats}
-use Rattle.volume.specs.Views.{held_of}
+use Rattle.volume.specs.Views.{volume_state}
 use Rattle.volume.proofs.NodeLaws.{node_there, none_there}
 use Rattle.volume.proofs.ServeLaws.{if_some_so}
 use Rattle.volume.proofs.volume.Volume.node.Goals as goal
 
 pub returns-in_err-place-clause-none : goal.returns-in_err-place-clause-none
-unfolding held_of
+unfolding volume_state
 returns-in_err-place-clause-none g c =
     let volume = c.args.self.now in
     rw c.from_residual.ensures (none_there (contents (log_of volume.store.journal)) volume.table c.args.number c.in_err-place.ensures.none)
 
 pub returns-clause-some : goal.returns-clause-some
-unfolding held_of
+unfolding volume_state
 returns-clause-some g c =
     let volume = c.args.self.now in
     if_some_so c.card.result _ _
@@ -36,7 +36,7 @@ returns-clause-fit g c =
     c.card.ensures.some
 
 -- a node has no more entries than its form has room for
-few_of : (place : ℕ) (card : Card) → IsCard card → card.form ≡ (current no_seats).form place → length card.fields.acl ≤ 72
+few_of : (place : ℕ) (card : CachedNode) → IsCard card → card.form ≡ (current no_seats).form place → length card.fields.acl ≤ 72
 few_of place card fit form = (let most : most_entries card.form ≡ 72 = ap most_entries form in omega (arith, fit.fits.acl, most))
 
 pub returns-clause-few : goal.returns-clause-few

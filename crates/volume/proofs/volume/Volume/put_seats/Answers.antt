@@ -12,7 +12,7 @@ use Rattle.model.specs.SeatEdits.{edited_all, edits_view}
 use Rattle.volume.specs.Changes.{IsSeats}
 use Rattle.volume.specs.Known.{IsKnown}
 use Rattle.volume.specs.Refusals.{fault_of}
-use Rattle.volume.specs.Views.{held_by, held_of, volume_failures}
+use Rattle.volume.specs.Views.{volume_state_by, volume_state, volume_failures}
 use Rattle.volume.proofs.FormedLaws.{shows_same}
 use Rattle.volume.proofs.SeatingLaws.{either_fault, seated_done, seated_refused, seated_serves, seated_tree, seats_behind}
 use Rattle.volume.proofs.ServeLaws.{flush_refused, found_up, told_err, up_answered}
@@ -27,7 +27,7 @@ apply-requires g c =
     c.in_ok-updates.ensures.targets_are old.size (omega (arith, enough))
 
 pub returns-in_err-apply-clause-volume : goal.returns-in_err-apply-clause-volume
-unfolding held_of volume_failures
+unfolding volume_state volume_failures
 returns-in_err-apply-clause-volume g c =
     let word = g.D.Device.keeps_word in
     let volume = c.args.self.now in
@@ -36,13 +36,13 @@ returns-in_err-apply-clause-volume g c =
     let fault = c.in_err-apply.field-0.0 in
     let told = told_err c.from_residual-in_err-apply.result (fault_of fault) c.from_residual-in_err-apply.ensures.1 in
     let up : old.is_down ≡ false = sym c.is_down.ensures ∙ c.if-is_down.false in
-    let held = held_by volume.limits volume.run volume.table old in
+    let held = volume_state_by volume.limits volume.run volume.table old in
     let few : length c.in_ok-updates.updates.items ≤ 48 = (let most = c.in_ok-updates.ensures.few in omega (arith, most)) in
     rw told (flush_refused word (IsSeats held (edited_all (edits_view c.args.edits.now) held.seats)) volume.limits volume.run volume.table old new _ _ fault c.in_err-apply.ensures.safe c.in_err-apply.ensures.answers
     (either_fault fault (λ many. (let bound = (c.in_err-apply.ensures.too_many up).0 (ap (λ x. Err x) many) in omega (arith, bound, few))) c.in_err-apply.ensures.refuses))
 
 pub invariant_of-self-2 : goal.invariant_of-self-2
-unfolding held_of
+unfolding volume_state
 invariant_of-self-2 g c =
     let word = g.D.Device.keeps_word in
     let volume = c.args.self.now in
@@ -71,7 +71,7 @@ invariant_of-self-2 g c =
     }
 
 pub returns-in_err-flush-clause-volume : goal.returns-in_err-flush-clause-volume
-unfolding held_of volume_failures
+unfolding volume_state volume_failures
 returns-in_err-flush-clause-volume g c =
     let word = g.D.Device.keeps_word in
     let volume = c.args.self.now in
@@ -93,7 +93,7 @@ returns-in_err-flush-clause-volume g c =
     c.in_err-flush.ensures.safe c.in_err-flush.ensures.answers.later fault c.in_err-flush.ensures.answers c.in_err-flush.ensures.refuses)
 
 pub returns-clause-volume : goal.returns-clause-volume
-unfolding held_of volume_failures
+unfolding volume_state volume_failures
 returns-clause-volume g c =
     let word = g.D.Device.keeps_word in
     let volume = c.args.self.now in
@@ -114,7 +114,7 @@ returns-clause-volume g c =
     did.safe did.answers.later (did.answers.none (λ faulted. cc)) found.1 did.ok
 
 pub returns-clause-shows : goal.returns-clause-shows
-unfolding held_of
+unfolding volume_state
 returns-clause-shows g c =
     let word = g.D.Device.keeps_word in
     let volume = c.args.self.now in

@@ -1,8 +1,0 @@
-use Rattle.layout.proofs.Knowing.{laid_are_cards, one_card_change}
-use Rattle.layout.proofs.cards.known.Goals as goal
-
-pub returns-clause-laid : goal.returns-clause-laid
-returns-clause-laid c = laid_are_cards
-
-pub returns-clause-change : goal.returns-clause-change
-returns-clause-change c = one_card_change

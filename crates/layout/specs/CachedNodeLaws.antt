@@ -1,0 +1,96 @@
+-- The laws of cached nodes.
+use Rattle.std.specs.Prelude.{◌≡◌, ◌≢◌, ◌<◌, ℕ, List, Option, Some, None, length, slice_index_or}
+use Rattle.disk.specs.Moments.{Image}
+use Rattle.model.specs.Keyed.{at}
+use Rattle.model.specs.Tree.{Tree}
+use Rattle.layout.specs.CachedNodes.{CachedNode, tree_of, card_in, cards_in, node_sector, node_of}
+use Rattle.layout.specs.Laid.{AreLaid, HoldsPlace, HoldsCard}
+use Rattle.layout.specs.Marks.{named_by}
+use Rattle.layout.specs.Stands.{Version, IsLaid, Stands, Kept, StandsAs}
+
+-- A cached node that is held is what is read. So a place that holds a cached node holds the one
+-- that is read, and cached nodes that are laid are those that are read: who looks for a tree looks
+-- at these alone.
+
+abbrev pub CardReadsBack : Type 0
+CardReadsBack =
+    (image : Image) (place : ℕ) (card : Option CachedNode) → HoldsPlace image place card
+    → card_in image place ≡ card
+
+abbrev pub CardsReadBack : Type 0
+CardsReadBack = (image : Image) (nodes : ℕ) (cards : List (Option CachedNode))
+    → length cards ≡ nodes
+    → ((place : ℕ) → place < nodes → HoldsPlace image place (slice_index_or cards place None))
+    → cards_in nodes image ≡ cards
+
+abbrev pub OnlyCard : Type 0
+OnlyCard = (image : Image) (place : ℕ) (card : Option CachedNode) → HoldsPlace image place card
+    → HoldsPlace image place (card_in image place)
+
+abbrev pub OnlyCards : Type 0
+OnlyCards = (version : Version) (size nodes : ℕ) (image : Image) (cards : List (Option CachedNode))
+    → IsLaid version size nodes image cards → IsLaid version size nodes image (cards_in nodes image)
+
+-- One image stands for one tree, of one size and one restart count, whatever the version
+pub record SameVolume (size other_size nodes other_nodes run other_run : ℕ)
+    (tree other : Tree) : Type 0 where
+  pub tree_is : tree ≡ other
+  pub size_is : size ≡ other_size
+  pub nodes_are : nodes ≡ other_nodes
+  pub run_is : run ≡ other_run
+
+abbrev pub OneTree : Type 0
+OneTree =
+    (a b : Version) (size other_size nodes other_nodes run other_run : ℕ) (image : Image)
+    (tree other : Tree)
+    → Stands a size nodes image run tree → Stands b other_size other_nodes image other_run other
+    → SameVolume size other_size nodes other_nodes run other_run tree other
+
+-- and for the same seats beside it
+pub record SameKept (size other_size nodes other_nodes run other_run : ℕ)
+    (kept other : Kept) : Type 0 where
+  pub kept_is : kept ≡ other
+  pub same : SameVolume size other_size nodes other_nodes run other_run kept.tree other.tree
+
+abbrev pub OneKept : Type 0
+OneKept =
+    (size other_size nodes other_nodes run other_run : ℕ) (image : Image) (kept other : Kept)
+    → StandsAs size nodes image run kept → StandsAs other_size other_nodes image other_run other
+    → SameKept size other_size nodes other_nodes run other_run kept other
+
+-- that an image stands for a tree has one proof at most
+abbrev pub OneProof : Type 0
+OneProof = (version : Version) (size nodes : ℕ) (image : Image) (run : ℕ) (tree : Tree)
+    (a b : Stands version size nodes image run tree) → a ≡ b
+
+-- Where what a cached node names is kept, the cached node is held still, and is the same node
+
+abbrev pub AreKept : Image → Image → Option CachedNode → Type 0
+AreKept old new card = (n : ℕ) → 0 < named_by n card → new n ≡ old n
+
+pub record KeepsCard (old new : Image) (place : ℕ) (card : CachedNode) : Type 0 where
+  pub held : HoldsCard old place card → HoldsCard new place card
+  pub node : node_of new card ≡ node_of old card
+
+abbrev pub Frame : Type 0
+Frame =
+    (old new : Image) (place : ℕ) (card : CachedNode)
+    → new (node_sector place) ≡ old (node_sector place)
+    → AreKept old new (Some card) → KeepsCard old new place card
+
+-- The tree's node of a number is that of the cached node of this number, and there is none where no
+-- cached node has it
+pub record Answers (image : Image) (cards : List (Option CachedNode)) (number : ℕ) : Type 0 where
+  pub found : (place : ℕ) (card : CachedNode) → slice_index_or cards place None ≡ Some card
+      → card.fields.number ≡ number
+      → at number (tree_of image cards) ≡ Some (node_of image card)
+  pub none :
+      ((place : ℕ) (card : CachedNode) → slice_index_or cards place None ≡ Some card
+      → card.fields.number ≢ number)
+      → at number (tree_of image cards) ≡ None
+
+abbrev pub EachAnswer : Type 0
+EachAnswer =
+    (nodes : ℕ) (image : Image) (mark : ℕ → ℕ) (cards : List (Option CachedNode))
+    → AreLaid nodes image mark cards
+    → (number : ℕ) → Answers image cards number

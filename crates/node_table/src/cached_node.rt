@@ -1,0 +1,45 @@
+//! What memory keeps of a node.
+
+ghost use Rattle.std.specs.Prelude.{◌≡◌, IfOk};
+
+use directory::Names;
+use extents::{BlockList, Runs};
+use inode::{Form, Inode};
+use std::alloc::{AllocError, Global};
+use std::marker::Model;
+
+/// A node in memory, apart from a file's bytes. Contracts see the layout's cached node of it.
+#[derive(Drop)]
+pub struct CachedNode {
+    pub form: Form,
+    pub inode: Inode,
+    /// The runs of its blocks, as its run sectors have them.
+    pub runs: Runs,
+    pub blocks: BlockList,
+    /// None, where the node is a file.
+    pub names: Names,
+}
+
+impl Model for CachedNode {
+    ghost use Rattle.layout.specs.CachedNodes as layout;
+    ghost use Rattle.node_table.specs.Seen.{seen};
+
+    ghost Value = { layout.CachedNode };
+
+    ghost view = { λ card. seen card.form card.inode card.runs card.blocks card.names };
+}
+
+impl CachedNode {
+    /// The same cached node once more, which shares the memory of its runs and blocks.
+    pub fn try_clone(&self, alloc: Global) -> Result<CachedNode, AllocError>
+        ensures { IfOk result (λ card. card ≡ self.now) }
+    {
+        Ok(CachedNode {
+            form: self.form,
+            inode: self.inode.try_clone(alloc)?,
+            runs: self.runs.try_clone()?,
+            blocks: self.blocks.try_clone()?,
+            names: self.names.try_clone()?,
+        })
+    }
+}

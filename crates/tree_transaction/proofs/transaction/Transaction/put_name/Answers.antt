@@ -1,0 +1,176 @@
+use Rattle.std.proofs.Common.{◌≡◌, ◌<◌, ◌+◌, ◌/◌, ◌∙◌, ℕ, Bool, List, Option, None, length, set, max, ap, sym, subst, arith}
+use Rattle.std.specs.Prelude.{Err}
+use Rattle.disk.specs.Moments.{Image, applied}
+use Rattle.freemap.specs.Kept.{free_places}
+use Rattle.directory.specs.Listing.{by_stamp, without_entry}
+use Rattle.directory.specs.Records.{Record, AreStamped, with_record, record_from, place_of}
+use Rattle.directory.specs.Spelling.{directory_sector}
+use Rattle.model.specs.Edit.{PutName}
+use Rattle.model.specs.Keyed.{at, with}
+use Rattle.model.specs.Tree.{entry_of}
+use Rattle.layout.specs.CachedNodes.{CachedNode}
+use Rattle.layout.specs.Laid.{names_of_block}
+use Rattle.node_table.specs.Seen.{seen}
+use Rattle.tree_transaction.specs.Blocks.{HaveRegion, GetSectors, WritesOne, set_blocks}
+use Rattle.tree_transaction.specs.declared.fault.SpaceFault.{SpaceFault}
+use Rattle.tree_transaction.specs.declared.fault.SpaceFault.TheVariants as space
+use Rattle.tree_transaction.specs.Transactions.{IsBack}
+use Rattle.tree_transaction.specs.Laying.{CanBeLaid, sectors_for}
+use Rattle.tree_transaction.specs.Naming.{with_name, blocks_named}
+use Rattle.tree_transaction.proofs.BackLaws.{StandsAgain, laid_again}
+use Rattle.tree_transaction.proofs.FaultLaws.{told}
+use Rattle.tree_transaction.proofs.KnownLaws.{edits, turns, overcharged}
+use Rattle.tree_transaction.proofs.NameLaws.{named_card, unnamed, unused, stamped_was, named_region, block_within, named_first, can_be_named, named_few, named_last, put_stays, put_now, put_made}
+use Rattle.tree_transaction.proofs.transaction.Transaction.put_name.Goals as goal
+
+pub write_names-requires-clause-region : goal.write_names-requires-clause-region
+write_names-requires-clause-region c = subst (λ (one : CachedNode). HaveRegion (148 + c.args.self.now.nodes) c.args.self.now.places one.blocks) (sym c.card.view_is)
+    (named_region c.args.self.now c.args.place c.in_ok-card.card c.args.name.now c.args.stamp c.args.number c.requires.known c.in_ok-card.ensures.card c.requires.names)
+
+at_block : (place : ℕ) (name : List ℕ) (seen_names : List Record) (was : CachedNode) → place ≡ place_of name seen_names → seen_names ≡ was.names → place / 15 ≡ place_of name was.names / 15
+at_block place name seen_names was at same = ap (λ (p : ℕ). p / 15) (at ∙ ap (place_of name) same)
+
+names_of : (card was : CachedNode) → card ≡ was → card.names ≡ was.names
+names_of card was same = ap (λ (one : CachedNode). one.names) same
+
+pub write_names-requires-clause-within : goal.write_names-requires-clause-within
+write_names-requires-clause-within c =
+    let h = block_within c.args.self.now c.args.place c.in_ok-card.card c.args.name.now c.args.stamp c.args.number c.requires.known c.in_ok-card.ensures.card c.requires.names in
+    let long = ap (λ (one : CachedNode). length one.blocks) c.card.view_is in
+    let at = at_block c.in-Ok.at c.args.name.now c.card.inside.names c.in_ok-card.card c.in-Ok.ensures.place (names_of _ _ c.card.view_is) in
+    (omega (arith, h.0, at, long), omega (arith, h.1, at))
+
+pub returns-in_err-write_names-clause-full : goal.returns-in_err-write_names-clause-full
+returns-in_err-write_names-clause-full c full =
+    let at = at_block c.in-Ok.at c.args.name.now c.card.inside.names c.in_ok-card.card c.in-Ok.ensures.place (names_of _ _ c.card.view_is) in
+    let more = c.in_err-write_names.ensures.full (ap (λ (f : SpaceFault). Err f) (told c.from_residual-in_err-write_names.result c.in_err-write_names.field-0.0 space.Full c.from_residual-in_err-write_names.ensures.1 full)) in
+    overcharged c.args.self.now c.args.place c.in_ok-card.card blocks_named c.in_ok-card.ensures.card
+    (named_first c.args.self.now c.args.place c.in_ok-card.card c.args.name.now c.args.stamp c.args.number c.requires.known c.in_ok-card.ensures.card c.requires.names
+    (subst (λ (b : ℕ). free_places c.args.self.now.places + set_blocks c.in_ok-card.card.blocks < max (length c.in_ok-card.card.blocks) (b + 1)) at
+    (subst (λ (one : CachedNode). free_places c.args.self.now.places + set_blocks one.blocks < max (length one.blocks) (c.in-Ok.at / 15 + 1)) c.card.view_is more)))
+
+-- the cached node in memory is the one that was taken out
+
+module _ (was card : CachedNode) (is : card ≡ was) (blocks : List (Option ℕ))
+    (names : List Record) where
+  card_is : (size : ℕ) → size ≡ length names → record card { fields = record card.fields { size = size }; blocks = blocks; names = names } ≡ named_card was blocks names
+  card_is size same =
+      ap (λ (one : CachedNode). record one { fields = record one.fields { size = size }; blocks = blocks; names = names }) is
+      ∙ ap (λ (n : ℕ). record was { fields = record was.fields { size = n }; blocks = blocks; names = names }) same
+
+  are : (entry : Record) → names ≡ with_record card.names entry → names ≡ with_record was.names entry
+  are entry same = same ∙ ap (λ (one : CachedNode). with_record one.names entry) is
+
+  gets : (first : ℕ) (places mid_places : List Bool) → GetSectors first places mid_places card.blocks blocks → GetSectors first places mid_places was.blocks blocks
+  gets first places mid_places = subst (λ (one : CachedNode). GetSectors first places mid_places one.blocks blocks) is
+
+  writes : (old mid : Image) (block now : ℕ) → block ≡ now → WritesOne old mid card.blocks blocks block (directory_sector (names_of_block block names)) → WritesOne old mid was.blocks blocks now (directory_sector (names_of_block now names))
+  writes old mid block now same one =
+      subst (λ (b : ℕ). WritesOne old mid was.blocks blocks b (directory_sector (names_of_block b names))) same
+      (subst (λ (c : CachedNode). WritesOne old mid c.blocks blocks block (directory_sector (names_of_block block names))) is one)
+
+pub store_node_and_runs-requires-clause-can : goal.store_node_and_runs-requires-clause-can
+store_node_and_runs-requires-clause-can c =
+    let old = c.args.self.now in
+    let was : CachedNode = c.in_ok-card.card in
+    let names : List Record = c.put.new.self in
+    let blocks : List (Option ℕ) = c.write_names.new.blocks in
+    let entry : Record = record_from c.args.stamp c.args.name.now c.args.number in
+    let at = at_block c.in-Ok.at c.args.name.now c.card.inside.names was c.in-Ok.ensures.place (names_of _ _ c.card.view_is) in
+    subst (λ (one : CachedNode). CanBeLaid old.nodes c.args.place c.write_names.new.places one) (sym (card_is was _ c.card.view_is blocks names c.count.result c.count.ensures.count))
+    (can_be_named old c.args.place was c.args.name.now c.args.stamp c.args.number c.requires.known c.in_ok-card.ensures.card c.requires.names names (are was _ c.card.view_is blocks names entry c.in-Ok.ensures.ok) blocks c.write_names.new.places
+    c.write_names.new.updates (gets was _ c.card.view_is blocks names (148 + old.nodes) old.places c.write_names.new.places c.in_ok-write_names.ensures.gets)
+    (λ image. writes was _ c.card.view_is blocks names (applied old.updates image) (applied c.write_names.new.updates image) (c.in-Ok.at / 15) (place_of c.args.name.now was.names / 15) at (c.in_ok-write_names.ensures.names image)))
+
+pub returns-in_err-store_node_and_runs-clause-full : goal.returns-in_err-store_node_and_runs-clause-full
+returns-in_err-store_node_and_runs-clause-full c full =
+    let old = c.args.self.now in
+    let was : CachedNode = c.in_ok-card.card in
+    let names : List Record = c.put.new.self in
+    let blocks : List (Option ℕ) = c.write_names.new.blocks in
+    let entry : Record = record_from c.args.stamp c.args.name.now c.args.number in
+    let at = at_block c.in-Ok.at c.args.name.now c.card.inside.names was c.in-Ok.ensures.place (names_of _ _ c.card.view_is) in
+    let more = c.in_err-store_node_and_runs.ensures.full (ap (λ (f : SpaceFault). Err f) (told c.from_residual-in_err-store_node_and_runs.result c.in_err-store_node_and_runs.field-0.0 space.Full c.from_residual-in_err-store_node_and_runs.ensures.1 full)) in
+    overcharged old c.args.place was blocks_named c.in_ok-card.ensures.card
+    (named_last old c.args.place was c.args.name.now c.args.stamp c.args.number c.requires.known c.in_ok-card.ensures.card c.requires.names names (are was _ c.card.view_is blocks names entry c.in-Ok.ensures.ok) blocks c.write_names.new.places
+    c.write_names.new.updates (gets was _ c.card.view_is blocks names (148 + old.nodes) old.places c.write_names.new.places c.in_ok-write_names.ensures.gets)
+    (λ image. writes was _ c.card.view_is blocks names (applied old.updates image) (applied c.write_names.new.updates image) (c.in-Ok.at / 15) (place_of c.args.name.now was.names / 15) at (c.in_ok-write_names.ensures.names image))
+    (subst (λ (one : CachedNode). free_places c.write_names.new.places + length one.fields.run_sectors < sectors_for (set_blocks one.blocks)) (card_is was _ c.card.view_is blocks names c.count.result c.count.ensures.count) more))
+
+pub returns-in_err-store_node_and_runs-clause-count : goal.returns-in_err-store_node_and_runs-clause-count
+returns-in_err-store_node_and_runs-clause-count c =
+    let old = c.args.self.now in
+    let was : CachedNode = c.in_ok-card.card in
+    let names : List Record = c.put.new.self in
+    let blocks : List (Option ℕ) = c.write_names.new.blocks in
+    let entry : Record = record_from c.args.stamp c.args.name.now c.args.number in
+    let at = at_block c.in-Ok.at c.args.name.now c.card.inside.names was c.in-Ok.ensures.place (names_of _ _ c.card.view_is) in
+    let few = named_few old c.args.place was c.args.name.now c.args.stamp c.args.number c.requires.known c.in_ok-card.ensures.card c.requires.names names (are was _ c.card.view_is blocks names entry c.in-Ok.ensures.ok) blocks c.write_names.new.places
+    c.write_names.new.updates (gets was _ c.card.view_is blocks names (148 + old.nodes) old.places c.write_names.new.places c.in_ok-write_names.ensures.gets)
+    (λ image. writes was _ c.card.view_is blocks names (applied old.updates image) (applied c.write_names.new.updates image) (c.in-Ok.at / 15) (place_of c.args.name.now was.names / 15) at (c.in_ok-write_names.ensures.names image)) in
+    omega (arith, few, c.write_names.ensures.count, c.store_node_and_runs.ensures.count)
+
+module _ (c : goal.In_ok-store_node_and_runs) where
+  abbrev was : CachedNode
+  was = c.in_ok-card.card
+
+  abbrev card : CachedNode
+  card = seen c.card.inside.form c.card.inside.inode c.card.inside.runs c.card.inside.blocks c.card.inside.names
+
+  abbrev names : List Record
+  names = c.put.new.self
+
+  abbrev blocks : List (Option ℕ)
+  blocks = c.write_names.new.blocks
+
+  abbrev entry : Record
+  entry = record_from c.args.stamp c.args.name.now c.args.number
+
+  are_now : names ≡ with_record was.names entry
+  are_now = are was card c.card.view_is blocks names entry c.in-Ok.ensures.ok
+
+  gets_now : GetSectors (148 + c.args.self.now.nodes) c.args.self.now.places c.write_names.new.places was.blocks blocks
+  gets_now = gets was card c.card.view_is blocks names (148 + c.args.self.now.nodes) c.args.self.now.places c.write_names.new.places c.in_ok-write_names.ensures.gets
+
+  writes_now : (image : Image) → WritesOne (applied c.args.self.now.updates image) (applied c.write_names.new.updates image) was.blocks blocks (place_of c.args.name.now was.names / 15) (directory_sector (names_of_block (place_of c.args.name.now was.names / 15) names))
+  writes_now image =
+      let at = at_block c.in-Ok.at c.args.name.now c.card.inside.names was c.in-Ok.ensures.place (names_of _ _ c.card.view_is) in
+      writes was card c.card.view_is blocks names (applied c.args.self.now.updates image) (applied c.write_names.new.updates image) (c.in-Ok.at / 15) (place_of c.args.name.now was.names / 15) at (c.in_ok-write_names.ensures.names image)
+
+  map_is : by_stamp names ≡ with (by_stamp was.names) c.args.stamp entry.1
+  map_is =
+      let inside : card.names ≡ was.names = ap (λ (one : CachedNode). one.names) c.card.view_is in
+      let stamped = stamped_was c.args.self.now c.args.place was c.args.name.now c.args.stamp c.args.number c.requires.known c.in_ok-card.ensures.card c.requires.names in
+      let free = unused c.args.self.now c.args.place was c.args.name.now c.args.stamp c.args.number c.requires.known c.in_ok-card.ensures.card c.requires.names in
+      let none = unnamed c.args.self.now c.args.place was c.args.name.now c.args.stamp c.args.number c.requires.known c.in_ok-card.ensures.card c.requires.names in
+      (c.in-Ok.ensures.by_stamp (subst AreStamped (sym inside) stamped) c.requires.names.above (subst (λ (l : List Record). at c.args.stamp l ≡ None) (sym inside) free)).entries
+      ∙ ap (λ (l : List Record). with (without_entry (by_stamp l) (entry_of c.args.name.now l)) c.args.stamp entry.1) inside
+      ∙ ap (λ (found : Option Record). with (without_entry (by_stamp was.names) found) c.args.stamp entry.1) none
+
+  back : StandsAgain c.args.self.now c.store_node_and_runs.new.self c.args.place (named_card was blocks names) c.write_names.new.places c.write_names.new.updates
+  back = laid_again c.args.self.now c.store_node_and_runs.new.self c.args.place (named_card was blocks names) c.write_names.new.places c.write_names.new.updates (
+      subst (λ (one : CachedNode). IsBack c.args.self.now.nodes c.args.place c.write_names.new.places c.write_names.new.updates (set c.args.self.now.cards.cards c.args.place None) c.store_node_and_runs.new.self one)
+      (card_is was card c.card.view_is blocks names c.count.result c.count.ensures.count)
+      (subst (λ (l : List (Option CachedNode)). IsBack c.args.self.now.nodes c.args.place c.write_names.new.places c.write_names.new.updates l c.store_node_and_runs.new.self
+      (record card { fields = record card.fields { size = c.count.result }; blocks = blocks; names = names })) c.in_ok-card.ensures.cards c.in_ok-store_node_and_runs.ensures.back))
+
+pub returns-clause-known : goal.returns-clause-known
+returns-clause-known c =
+    put_stays c.args.self.now c.args.place (was c) c.args.name.now c.args.stamp c.args.number c.requires.known c.in_ok-card.ensures.card c.requires.names (names c) (are_now c) (blocks c) c.write_names.new.places
+    c.write_names.new.updates (gets_now c) (writes_now c) c.store_node_and_runs.new.self c.count.ensures.names (back c)
+
+pub returns-clause-cards : goal.returns-clause-cards
+returns-clause-cards c = turns c.args.self.now c.store_node_and_runs.new.self c.args.place (was c) c.in_ok-card.ensures.card (with_name (entry c))
+    (put_now c.args.self.now c.args.place (was c) c.args.name.now c.args.stamp c.args.number c.requires.known c.in_ok-card.ensures.card c.requires.names (names c) (are_now c) (blocks c) c.write_names.new.places
+    c.write_names.new.updates (gets_now c) (writes_now c) c.store_node_and_runs.new.self c.count.ensures.names (back c))
+
+pub returns-clause-put : goal.returns-clause-put
+returns-clause-put c = edits c.args.self.now c.store_node_and_runs.new.self c.args.place (was c) c.in_ok-card.ensures.card (λ to. PutName to c.args.stamp (record { name = c.args.name.now; number = c.args.number }))
+    (λ base size. put_made c.args.self.now c.args.place (was c) c.args.name.now c.args.stamp c.args.number c.requires.known c.in_ok-card.ensures.card c.requires.names (names c) (are_now c) (blocks c) c.write_names.new.places
+    c.write_names.new.updates (gets_now c) (writes_now c) c.store_node_and_runs.new.self c.count.ensures.names (back c) base size (map_is c))
+
+pub returns-clause-count : goal.returns-clause-count
+returns-clause-count c =
+    let few = named_few c.args.self.now c.args.place (was c) c.args.name.now c.args.stamp c.args.number c.requires.known c.in_ok-card.ensures.card c.requires.names (names c) (are_now c) (blocks c) c.write_names.new.places
+    c.write_names.new.updates (gets_now c) (writes_now c) in
+    omega (arith, few, c.write_names.ensures.count, c.store_node_and_runs.ensures.count)

@@ -1,0 +1,106 @@
+-- What a transaction is, and what calls make of it.
+use Rattle.std.specs.Prelude.{◌≡◌, ◌≤◌, ◌<◌, ◌+◌, ◌^◌}
+use Rattle.std.specs.Prelude.{ℕ, Bool, List, Option, Some, None, length, set, slice_index_or}
+use Rattle.disk.specs.declared.update.Update.{Update}
+use Rattle.disk.specs.Moments.{Image, applied}
+use Rattle.model.specs.Charge.{charge_of_blocks}
+use Rattle.model.specs.Edit.{Edit, done}
+use Rattle.model.specs.Tree.{Tree}
+use Rattle.layout.specs.CachedNodes.{CachedNode}
+use Rattle.layout.specs.CachedNodes as layout
+use Rattle.layout.specs.Known.{AreCards}
+use Rattle.layout.specs.Laid.{AreLaid}
+use Rattle.layout.specs.Marks.{mark_by}
+use Rattle.node_table.specs.Tables.{charge_of, charge_of_all}
+use Rattle.tree_transaction.specs.declared.transaction.Transaction.{Transaction}
+use Rattle.tree_transaction.specs.Laying.{fields_with, LaysCard}
+use Rattle.tree_transaction.specs.Updates.{AreBetween}
+
+abbrev pub cards_of : Transaction → List (Option CachedNode)
+cards_of transaction = transaction.cards.cards
+
+-- the end of its data region, which is the volume's size
+abbrev pub end_of : Transaction → ℕ
+end_of transaction = 148 + transaction.nodes + length transaction.places
+
+-- what the sectors hold, and the tree that they show, over what is below the transaction
+
+abbrev pub image_of : Image → Transaction → Image
+image_of base transaction = applied transaction.updates base
+
+abbrev pub tree_of : Image → Transaction → Tree
+tree_of base transaction = layout.tree_of (image_of base transaction) (cards_of transaction)
+
+-- What is known of a transaction whatever its sectors hold: its cached nodes by its places, and
+-- that its updates are of the node table and the data region
+pub record IsKnown (transaction : Transaction) : Type 0 where
+  pub cards : AreCards transaction.nodes (mark_by (148 + transaction.nodes) transaction.places)
+      (cards_of transaction)
+  pub small : end_of transaction < 2 ^ 32
+  pub targets : AreBetween 148 (end_of transaction) transaction.updates
+
+-- and it stays so, over as many places of both kinds
+pub record StaysKnown (old new : Transaction) : Type 0 where
+  pub known : IsKnown new
+  pub nodes : new.nodes ≡ old.nodes
+  pub places : length new.places ≡ length old.places
+
+-- Its cached nodes are laid by its updates and its places, over a volume of so many sectors
+pub record IsTransaction (base : Image) (size : ℕ) (transaction : Transaction) : Type 0 where
+  pub laid : AreLaid transaction.nodes (image_of base transaction)
+      (mark_by (148 + transaction.nodes) transaction.places) (cards_of transaction)
+  pub within : end_of transaction ≤ size
+  pub small : size < 2 ^ 32
+
+-- over this base a transaction stays one, and its tree is the one before with this edit; and the
+-- same over whatever base
+
+abbrev pub MakesOver : (base : Image) (size : ℕ) → (old new : Transaction) → Edit → Type 0
+MakesOver base size old new edit = IsTransaction base size old
+    → IsTransaction base size new × (tree_of base new ≡ done edit (tree_of base old))
+
+abbrev pub Makes : (old new : Transaction) → Edit → Type 0
+Makes old new edit = (base : Image) (size : ℕ) → MakesOver base size old new edit
+
+-- an edit of the node at a place, by its number
+
+abbrev pub EditsOver : (base : Image) (size : ℕ) → (old new : Transaction) → (place : ℕ)
+    → (ℕ → Edit)
+    → Type 0
+EditsOver base size old new place edit = (card : CachedNode)
+    → slice_index_or (cards_of old) place None ≡ Some card
+    → MakesOver base size old new (edit card.fields.number)
+
+abbrev pub Edits : (old new : Transaction) → (place : ℕ) → (ℕ → Edit) → Type 0
+Edits old new place edit = (card : CachedNode)
+    → slice_index_or (cards_of old) place None ≡ Some card
+    → Makes old new (edit card.fields.number)
+
+-- The cached node at a place alone is another one: this one, but for where its content stands
+pub record HasNow (old new : Transaction) (place : ℕ) (card : CachedNode) : Type 0 where
+  pub is : CachedNode
+  pub cards : cards_of new ≡ set (cards_of old) place (Some is)
+  pub form : is.form ≡ card.form
+  pub fields : is.fields ≡ fields_with card.fields is.fields.runs is.fields.run_sectors
+  pub names : is.names ≡ card.names
+
+abbrev pub Turns : (old new : Transaction) → (place : ℕ) → (CachedNode → CachedNode) → Type 0
+Turns old new place change = (card : CachedNode)
+    → slice_index_or (cards_of old) place None ≡ Some card
+    → HasNow old new place (change card)
+
+-- a cached node that was taken out stands at its place again, laid anew
+pub record IsBack (nodes place : ℕ) (places : List Bool) (updates : List Update)
+    (cards : List (Option CachedNode)) (new : Transaction) (card : CachedNode) : Type 0 where
+  pub is : CachedNode
+  pub put : cards_of new ≡ set cards place (Some is)
+  pub same : new.nodes ≡ nodes
+  pub laid : LaysCard nodes place places new.places updates new.updates card is
+
+-- where the node at a place had so many blocks, all would be charged for more sectors than the data
+-- region has
+abbrev pub IsOvercharged : Transaction → (place : ℕ) → (blocks : CachedNode → ℕ) → Type 0
+IsOvercharged transaction place blocks = (card : CachedNode)
+    → slice_index_or (cards_of transaction) place None ≡ Some card
+    → length transaction.places + charge_of card
+    < charge_of_all (cards_of transaction) + charge_of_blocks (blocks card)

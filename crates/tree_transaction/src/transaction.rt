@@ -1,0 +1,485 @@
+//! One transaction in the making.
+
+ghost use Rattle.std.specs.Prelude.{◌≡◌, ◌≤◌, ◌<◌, ◌+◌, ◌*◌, ◌/◌, ◌%◌, ◌^◌, set, [], Some, None, length, slice_index_or, IfOk, OnOk, IsErrOf};
+ghost use Rattle.node_table.specs.Overlays.{changed};
+ghost use Rattle.node_table.specs.Tables.{HasNot, IsFree};
+ghost use Rattle.directory.specs.Records.{record_from};
+ghost use Rattle.disk.specs.Moments.{Image, applied};
+ghost use Rattle.freemap.specs.Kept.{free_places};
+ghost use Rattle.inode.specs.Fields.{IsInode};
+ghost use Rattle.inode.specs.Spelling.{inode_sector};
+ghost use Rattle.model.specs.Edit.{PutNode, DropNode, Show, PutName, PutBytes, SetSize};
+ghost use Rattle.layout.specs.CachedNodes as layout;
+ghost use Rattle.layout.specs.Health.{Reads};
+ghost use Rattle.tree_transaction.specs.Blocks.{IsPut, set_blocks};
+ghost use Rattle.tree_transaction.specs.Transactions.{cards_of, end_of, IsKnown, StaysKnown, Makes, Edits, EditsOver, Turns, IsBack, IsOvercharged};
+ghost use Rattle.tree_transaction.specs.Grown.{grown, reaching, sized, blocks_to, CanWrite};
+ghost use Rattle.tree_transaction.specs.Grown.{CanGrow, CanCut};
+ghost use Rattle.tree_transaction.specs.Laying.{CanBeLaid, HasEnough, sectors_for};
+ghost use Rattle.tree_transaction.specs.Naming.{CanName, HasName, DropsNamed, with_name, without_name, blocks_named};
+ghost use Rattle.tree_transaction.specs.Nodes.{IsNewCard, new_node, shown_of, showing, HasNode};
+ghost use Rattle.tree_transaction.specs.Nodes.{CanShow};
+ghost use Rattle.tree_transaction.specs.Updates.{AreTargets};
+ghost use Rattle.tree_transaction.specs.Whole.{Finishes};
+
+use crate::blocks::{clear_tail, rewrite_names, write_blocks, write_names};
+use crate::fault::{SpaceFault, TransactionFault};
+use crate::laying::{rerun, rerun_fewer};
+use crate::marks::put_marks;
+use crate::nodes::{Shown, put_node};
+use crate::numbers::{give_blocks, give_numbers};
+use crate::updates::Updates;
+use directory::RECORDS;
+use disk::{SECTOR, Update};
+use extents::BlockList;
+use freemap::Bitmap;
+use layout::places::NODES;
+use layout::sectors::Sectors;
+use node_table::{CachedNode, Changes, Overlay, Table};
+use std::alloc::{AllocError, Global};
+
+/// Cached nodes, places and updates as edits make them.
+#[derive(Drop)]
+pub struct Transaction<'a> {
+    pub alloc: Global,
+    pub nodes: u32,
+    pub updates: Updates,
+    pub places: Bitmap,
+    pub cards: Overlay<'a>,
+}
+
+/// What a transaction comes to: what is to be written, and what memory is to keep of the volume
+/// then.
+#[derive(Drop)]
+pub struct PreparedTransaction {
+    pub updates: Vec<Update>,
+    pub places: Bitmap,
+    pub changes: Changes,
+}
+
+/// Takes the cached node of a place out of the table.
+fn take_card(cards: &mut Overlay<'_>, place: u32) -> Result<CachedNode, AllocError>
+    requires { HasNode cards.old.cards place }
+    ensures card { IfOk result (λ card. slice_index_or cards.old.cards place None ≡ Some card) }
+    ensures cards { OnOk result (cards.new.cards ≡ set cards.old.cards place None) }
+    ensures table { cards.new.table ≡ cards.old.table }
+{
+    let card = cards.take(place)?;
+    Ok(card.unwrap())
+}
+
+/// Puts a cached node into a place of the table.
+fn put_card(cards: &mut Overlay<'_>, place: u32, card: CachedNode) -> Result<(), AllocError>
+    requires { place < length cards.old.cards }
+    ensures cards { OnOk result (cards.new.cards ≡ set cards.old.cards place (Some card)) }
+    ensures table { cards.new.table ≡ cards.old.table }
+{
+    cards.put(place, Some(card))
+}
+
+/// Lets a file reach to an end at least, by holes.
+fn grow_to(card: &mut CachedNode, end: u64) -> Result<(), AllocError>
+    requires end { end ≤ SECTOR * BlockList.MAX_BLOCKS }
+    requires few { card.old.fields.size ≤ SECTOR * BlockList.MAX_BLOCKS }
+    ensures { OnOk result (card.new ≡ grown card.old end) }
+{
+    let size = card.inode.size.max(end);
+    card.blocks.grow(((size + 4095) / 4096) as u32)?;
+    card.inode.size = size;
+    Ok(())
+}
+
+impl<'a> Transaction<'a> {
+    /// A transaction that has changed nothing yet, over a table of a volume and the places of its
+    /// data region, which are copied.
+    pub fn new(
+        alloc: Global,
+        table: &'a Table,
+        places: &Bitmap,
+    ) -> Result<Transaction<'a>, AllocError>
+        // Nothing is written yet
+        ensures updates { IfOk result (λ transaction. transaction.updates ≡ []) }
+        // The volume as it is
+        ensures nodes { IfOk result (λ transaction. transaction.nodes ≡ length table.now) }
+        ensures places { IfOk result (λ transaction. transaction.places ≡ places.now) }
+        ensures cards { IfOk result (λ transaction. cards_of transaction ≡ table.now) }
+        ensures table { IfOk result (λ transaction. transaction.cards.table ≡ table.now) }
+    {
+        Ok(Transaction {
+            alloc,
+            nodes: table.places(),
+            updates: Updates::new(alloc),
+            places: places.try_clone()?,
+            cards: Overlay::new(alloc, table)?,
+        })
+    }
+
+    /// What the transaction comes to. The table is borrowed no longer.
+    pub fn into_prepared(self) -> PreparedTransaction
+        ensures updates { result.updates.items ≡ self.entry.updates }
+        ensures places { result.places ≡ self.entry.places }
+        ensures changes { changed self.entry.cards.table result.changes ≡ cards_of self.entry }
+    {
+        PreparedTransaction {
+            updates: self.updates.into_vec(),
+            places: self.places,
+            changes: self.cards.into_changes(),
+        }
+    }
+
+    /// Makes a node without bytes or names at a free place.
+    ///
+    /// # Errors
+    ///
+    /// Memory alone.
+    pub fn make(&mut self, place: u32, card: CachedNode) -> Result<(), AllocError>
+        requires known { IsKnown self.old }
+        requires free { IsFree (cards_of self.old) place }
+        requires node { IsNewCard card }
+        requires fresh { HasNot (cards_of self.old) card.fields.number }
+        ensures known { OnOk result (StaysKnown self.old self.new) }
+        ensures cards { OnOk result
+            (cards_of self.new ≡ set (cards_of self.old) place (Some card)) }
+        ensures made { OnOk result (Makes self.old self.new
+            (PutNode card.fields.number (new_node card))) }
+        // In any case
+        ensures count { length self.new.updates ≤ length self.old.updates + 1 }
+        ensures table { self.new.cards.table ≡ self.old.cards.table }
+    {
+        put_node(&mut self.updates, place, &card)?;
+        put_card(&mut self.cards, place, card)?;
+        Ok(())
+    }
+
+    /// Lets a node show something else beside its content.
+    ///
+    /// # Errors
+    ///
+    /// Memory alone.
+    pub fn show(&mut self, place: u32, shown: Shown) -> Result<(), AllocError>
+        requires known { IsKnown self.old }
+        requires node { CanShow (cards_of self.old) place (shown_of shown) }
+        ensures known { OnOk result (StaysKnown self.old self.new) }
+        ensures cards { OnOk result (Turns self.old self.new place (showing (shown_of shown))) }
+        ensures shown { OnOk result (Edits self.old self.new place
+            (λ number. Show number (shown_of shown))) }
+        // In any case
+        ensures count { length self.new.updates ≤ length self.old.updates + 1 }
+        ensures table { self.new.cards.table ≡ self.old.cards.table }
+    {
+        let mut card = take_card(&mut self.cards, place)?;
+        card.inode.owner = shown.owner;
+        card.inode.group = shown.group;
+        card.inode.acl = shown.acl;
+        card.inode.change = shown.change;
+        card.inode.time_modify = shown.time_modify;
+        put_node(&mut self.updates, place, &card)?;
+        put_card(&mut self.cards, place, card)?;
+        Ok(())
+    }
+
+    /// Removes a node: its place gets zeros, and its sectors are given back.
+    ///
+    /// # Errors
+    ///
+    /// Memory alone.
+    pub fn free(&mut self, place: u32) -> Result<(), AllocError>
+        requires known { IsKnown self.old }
+        requires node { HasNode (cards_of self.old) place }
+        ensures known { OnOk result (StaysKnown self.old self.new) }
+        ensures cards { OnOk result (cards_of self.new ≡ set (cards_of self.old) place None) }
+        ensures freed { OnOk result (Edits self.old self.new place DropNode) }
+        // In any case
+        ensures count { length self.new.updates ≤ length self.old.updates + 1 }
+        ensures table { self.new.cards.table ≡ self.old.cards.table }
+    {
+        let mut card = take_card(&mut self.cards, place)?;
+        let first = NODES + self.nodes;
+        give_blocks(&mut self.places, first, &card.blocks, 0);
+        give_numbers(&mut self.places, first, &mut card.inode.run_sectors, 0);
+        self.updates.put(NODES + place, &[0; SECTOR])?;
+        Ok(())
+    }
+
+    /// Puts a new name after the others of a directory.
+    ///
+    /// # Errors
+    ///
+    /// [`SpaceFault::Memory`], and [`SpaceFault::Full`] where no sector is free.
+    pub fn put_name(
+        &mut self,
+        place: u32,
+        name: &[u8],
+        stamp: u64,
+        number: u64,
+    ) -> Result<(), SpaceFault>
+        requires known { IsKnown self.old }
+        requires names { CanName (cards_of self.old) place name.now stamp }
+        ensures known { OnOk result (StaysKnown self.old self.new) }
+        ensures cards { OnOk result (Turns self.old self.new place
+            (with_name (record_from stamp name.now number))) }
+        ensures put { OnOk result (Edits self.old self.new place
+            (λ to. PutName to stamp (record { name = name.now; number = number }))) }
+        // What it takes
+        ensures count { length self.new.updates ≤ length self.old.updates + 4 }
+        ensures full { IsErrOf result SpaceFault.Full → IsOvercharged self.old place blocks_named }
+        // In any case
+        ensures table { self.new.cards.table ≡ self.old.cards.table }
+    {
+        let mut card = take_card(&mut self.cards, place)?;
+        // There is room for the name, so memory alone can be missing.
+        let Ok(at) = card.names.put(name, stamp, number) else {
+            return Err(SpaceFault::Memory);
+        };
+        card.inode.size = card.names.count() as u64;
+        write_names(
+            &mut self.updates,
+            &mut self.places,
+            NODES + self.nodes,
+            &mut card.blocks,
+            &card.names,
+            (at / RECORDS) as u32,
+        )?;
+        self.store_node_and_runs(place, card)?;
+        Ok(())
+    }
+
+    /// Drops a name of a directory; the last record moves into its place.
+    ///
+    /// # Errors
+    ///
+    /// Memory alone.
+    pub fn drop_name(&mut self, place: u32, name: &[u8]) -> Result<(), AllocError>
+        requires known { IsKnown self.old }
+        requires names { HasName (cards_of self.old) place name.now }
+        ensures known { OnOk result (StaysKnown self.old self.new) }
+        ensures cards { OnOk result (Turns self.old self.new place (without_name name.now)) }
+        ensures dropped { OnOk result (DropsNamed self.old self.new place name.now) }
+        // In any case
+        ensures count { length self.new.updates ≤ length self.old.updates + 4 }
+        ensures table { self.new.cards.table ≡ self.old.cards.table }
+    {
+        let mut card = take_card(&mut self.cards, place)?;
+        let (at, _entry) = card.names.remove(name)?.unwrap();
+        let left = card.names.count();
+        card.inode.size = left as u64;
+        let count = ((left + RECORDS - 1) / RECORDS) as u32;
+        give_blocks(&mut self.places, NODES + self.nodes, &card.blocks, count);
+        card.blocks.cut(count);
+        let block = (at / RECORDS) as u32;
+        let last = (left / RECORDS) as u32;
+        rewrite_names(&mut self.updates, &card.blocks, &card.names, block)?;
+        rewrite_names(&mut self.updates, &card.blocks, &card.names, last)?;
+        self.store_node_and_fewer_runs(place, card)?;
+        Ok(())
+    }
+
+    /// Lets a file reach to this size, by holes.
+    ///
+    /// # Errors
+    ///
+    /// Memory alone.
+    pub fn grow(&mut self, place: u32, size: u64) -> Result<(), AllocError>
+        requires known { IsKnown self.old }
+        requires file { CanGrow (cards_of self.old) place size }
+        ensures known { OnOk result (StaysKnown self.old self.new) }
+        ensures cards { OnOk result (Turns self.old self.new place (λ card. sized card size)) }
+        ensures grown { OnOk result (Edits self.old self.new place
+            (λ number. SetSize number size)) }
+        // In any case
+        ensures count { length self.new.updates ≤ length self.old.updates + 1 }
+        ensures table { self.new.cards.table ≡ self.old.cards.table }
+    {
+        let mut card = take_card(&mut self.cards, place)?;
+        grow_to(&mut card, size)?;
+        put_node(&mut self.updates, place, &card)?;
+        put_card(&mut self.cards, place, card)?;
+        Ok(())
+    }
+
+    /// Cuts a file to this size.
+    ///
+    /// # Errors
+    ///
+    /// [`TransactionFault::Device`] where the device failed, [`TransactionFault::Memory`].
+    pub fn cut<S: Sectors>(
+        &mut self,
+        base: &mut S,
+        place: u32,
+        size: u64,
+    ) -> Result<(), TransactionFault>
+        requires known { IsKnown self.old × (end_of self.old ≤ S.size (S.kept base.old)) }
+        requires file { CanCut (cards_of self.old) place size }
+        ensures known { OnOk result (StaysKnown self.old self.new) }
+        ensures cards { OnOk result (Turns self.old self.new place (λ card. sized card size)) }
+        ensures tree { S.keeps_word → OnOk result (EditsOver (S.image (S.kept base.old))
+            (S.size (S.kept base.old)) self.old self.new place (λ number. SetSize number size)) }
+        // What it takes
+        ensures count { OnOk result (length self.new.updates ≤ length self.old.updates + 11) }
+        ensures full { IsErrOf result TransactionFault.Full → ⊥ }
+        // It only reads the base
+        ensures kept { (S.kept base.new ≡ S.kept base.old)
+            × (self.new.cards.table ≡ self.old.cards.table) }
+        ensures health { Reads (S.health base.old) (S.health base.new)
+            (IsErrOf result TransactionFault.Device) }
+    {
+        let mut card = take_card(&mut self.cards, place)?;
+        clear_tail(&mut self.updates, base, &card.blocks, size)?;
+        let count = ((size + 4095) / 4096) as u32;
+        give_blocks(&mut self.places, NODES + self.nodes, &card.blocks, count);
+        card.blocks.cut(count);
+        card.inode.size = size;
+        self.store_node_and_fewer_runs(place, card)?;
+        Ok(())
+    }
+
+    /// Writes bytes into a file from a place on. Holes on the way get sectors, and the file grows
+    /// where the bytes pass its end. Of 8,192 bytes that makes 13 updates at most.
+    ///
+    /// # Errors
+    ///
+    /// [`TransactionFault::Device`] where the device failed, [`TransactionFault::Memory`], and
+    /// [`TransactionFault::Full`] where no sector is free.
+    pub fn write<S: Sectors>(
+        &mut self,
+        base: &mut S,
+        place: u32,
+        offset: usize,
+        bytes: &[u8],
+    ) -> Result<(), TransactionFault>
+        requires known { IsKnown self.old × (end_of self.old ≤ S.size (S.kept base.old)) }
+        requires file { CanWrite (cards_of self.old) place (offset + length bytes.now) }
+        ensures known { OnOk result (StaysKnown self.old self.new) }
+        ensures cards { OnOk result (Turns self.old self.new place
+            (reaching (offset + length bytes.now))) }
+        ensures tree { S.keeps_word → OnOk result (EditsOver (S.image (S.kept base.old))
+            (S.size (S.kept base.old)) self.old self.new place
+            (λ number. PutBytes number offset bytes.now)) }
+        // What it takes
+        ensures count { OnOk result (length self.new.updates
+            ≤ length self.old.updates + (offset % SECTOR + length bytes.now + 4095) / SECTOR + 10) }
+        ensures full { IsErrOf result TransactionFault.Full
+            → IsOvercharged self.old place (blocks_to (offset + length bytes.now)) }
+        // It only reads the base
+        ensures kept { (S.kept base.new ≡ S.kept base.old)
+            × (self.new.cards.table ≡ self.old.cards.table) }
+        ensures health { Reads (S.health base.old) (S.health base.new)
+            (IsErrOf result TransactionFault.Device) }
+    {
+        let mut card = take_card(&mut self.cards, place)?;
+        grow_to(&mut card, (offset + bytes.len()) as u64)?;
+        let filled = write_blocks(
+            &mut self.updates,
+            &mut self.places,
+            base,
+            NODES + self.nodes,
+            &mut card.blocks,
+            offset,
+            bytes,
+        )?;
+        if filled {
+            self.store_node_and_runs(place, card)?;
+        } else {
+            // The runs of its blocks are as they were.
+            self.store_node(place, card)?;
+        }
+        Ok(())
+    }
+
+    /// Writes the marks of the places where they are not as before: the last step. What is to be
+    /// written is whole then.
+    ///
+    /// # Errors
+    ///
+    /// Memory alone.
+    pub fn finish(&mut self, before: &Bitmap) -> Result<(), AllocError>
+        requires { IsKnown self.old }
+        ensures laid { OnOk result (Finishes before.now self.old self.new) }
+        ensures targets { OnOk result (AreTargets (end_of self.old) self.new.updates) }
+        // What stays
+        ensures cards { self.new.cards ≡ self.old.cards }
+        ensures places { self.new.places ≡ self.old.places }
+        ensures nodes { self.new.nodes ≡ self.old.nodes }
+        // What it takes
+        ensures count { OnOk result (length self.new.updates ≤ length self.old.updates + 2) }
+    {
+        put_marks(&mut self.updates, &self.places, before, 0)?;
+        put_marks(&mut self.updates, &self.places, before, 1)?;
+        Ok(())
+    }
+
+    /// Puts a cached node that was taken out back, and writes its node alone.
+    fn store_node(&mut self, place: u32, card: CachedNode) -> Result<(), AllocError>
+        requires fits { IsInode card.form card.fields }
+        requires within { place < length (cards_of self.old) }
+        requires small { NODES + place < 2 ^ 32 }
+        ensures node { OnOk result ((image : Image) → IsPut (applied self.old.updates image)
+            (applied self.new.updates image) (NODES + place) (inode_sector card.form card.fields)) }
+        ensures cards { OnOk result
+            (cards_of self.new ≡ set (cards_of self.old) place (Some card)) }
+        // In any case
+        ensures nodes { self.new.nodes ≡ self.old.nodes }
+        ensures places { self.new.places ≡ self.old.places }
+        ensures table { self.new.cards.table ≡ self.old.cards.table }
+        ensures count { length self.new.updates ≤ length self.old.updates + 1 }
+    {
+        put_node(&mut self.updates, place, &card)?;
+        put_card(&mut self.cards, place, card)?;
+        Ok(())
+    }
+
+    /// Lays a cached node that was taken out, and puts it back.
+    fn store_node_and_runs(&mut self, place: u32, mut card: CachedNode) -> Result<(), SpaceFault>
+        requires can { CanBeLaid self.old.nodes place self.old.places card }
+        requires within { place < length (cards_of self.old) }
+        ensures back { OnOk result (IsBack self.old.nodes place self.old.places self.old.updates
+            (cards_of self.old) self.new card) }
+        // In any case
+        ensures table { self.new.cards.table ≡ self.old.cards.table }
+        // What it takes
+        ensures count { length self.new.updates
+            ≤ length self.old.updates + 1 + sectors_for (set_blocks card.blocks) }
+        ensures full { IsErrOf result SpaceFault.Full
+            → free_places self.old.places + length card.fields.run_sectors
+            < sectors_for (set_blocks card.blocks) }
+    {
+        rerun(
+            self.alloc,
+            &mut self.updates,
+            &mut self.places,
+            self.nodes,
+            place,
+            &mut card,
+        )?;
+        put_card(&mut self.cards, place, card)?;
+        Ok(())
+    }
+
+    /// The same of a cached node whose run sectors are enough.
+    fn store_node_and_fewer_runs(
+        &mut self,
+        place: u32,
+        mut card: CachedNode,
+    ) -> Result<(), AllocError>
+        requires can { CanBeLaid self.old.nodes place self.old.places card }
+        requires within { place < length (cards_of self.old) }
+        requires enough { HasEnough card }
+        ensures back { OnOk result (IsBack self.old.nodes place self.old.places self.old.updates
+            (cards_of self.old) self.new card) }
+        // In any case
+        ensures table { self.new.cards.table ≡ self.old.cards.table }
+        ensures count { length self.new.updates
+            ≤ length self.old.updates + 1 + sectors_for (set_blocks card.blocks) }
+    {
+        rerun_fewer(
+            self.alloc,
+            &mut self.updates,
+            &mut self.places,
+            self.nodes,
+            place,
+            &mut card,
+        )?;
+        put_card(&mut self.cards, place, card)?;
+        Ok(())
+    }
+}

@@ -1,0 +1,97 @@
+-- What contracts see of a volume. Where things stand on the device stays below.
+use Rattle.std.specs.Prelude.{ℕ, Bool, false, List, [], ◌∷◌, ◌≡◌, ◌⊎◌}
+use Rattle.std.specs.List.{IsAmong}
+use Rattle.disk.specs.declared.update.Update.{Update}
+use Rattle.disk.specs.Moments.{History, Image, Left, AddsOnly, applied}
+use Rattle.journal.specs.Settled.{Settles}
+use Rattle.layout.specs.Stands.{Kept, StandsNow}
+use Rattle.model.specs.declared.limits.Limits.{Limits}
+use Rattle.model.specs.Limits.{limits_of}
+use Rattle.model.specs.Seats.{Seats}
+use Rattle.model.specs.Stamp.{stamp}
+use Rattle.model.specs.Tree.{Tree}
+use Rattle.volume.specs.Formed.{IsFormed}
+use Rattle.volume.specs.Stands.{Stands, StandsFor}
+
+-- an image, and what it is after each transaction
+abbrev pub fronts_from : Image → List (List Update) → List Image
+fronts_from base [] = base ∷ []
+fronts_from base (updates ∷ list) = base ∷ fronts_from (applied updates base) list
+
+pub record VolumeState : Type 0 where
+  pub limits : Limits
+  pub run : ℕ
+  pub tree : Tree
+  pub seats : Seats
+  pub is_down : Bool
+  pub sectors : ℕ
+  pub history : History
+  -- what the sectors give with the flushed changes, and after each change that is not flushed yet
+  pub fronts : List Image
+
+-- the same seats beside another tree
+abbrev pub with_tree : VolumeState → Tree → Kept
+with_tree held tree = record { tree = tree; seats = held.seats }
+
+-- what it keeps
+abbrev pub kept_of : VolumeState → Kept
+kept_of held = with_tree held held.tree
+
+-- a volume that was just mounted
+pub record IsNew (sectors : ℕ) (held : VolumeState) : Type 0 where
+  pub is_up : held.is_down ≡ false
+  pub on_device : held.sectors ≡ sectors
+  pub limits : held.limits ≡ limits_of sectors held.limits.nodes
+  pub formed : IsFormed held.limits (stamp held.run 0) held.tree
+
+-- the same volume, in the same run
+pub record IsSameVolume (old new : VolumeState) : Type 0 where
+  pub sectors : new.sectors ≡ old.sectors
+  pub limits : new.limits ≡ old.limits
+  pub run : new.run ≡ old.run
+
+-- the map stands for one of these, in this run of the volume
+abbrev pub StandsForOne : VolumeState → (Kept → Type 0) → Image → Type 0
+StandsForOne held may image = (kept : Kept) × may kept
+    × StandsFor held.sectors held.limits.nodes held.run kept image
+
+-- one of these trees, with the volume's seats: what of these was changed is flushed
+abbrev pub IsLeft : VolumeState → List Tree → Kept → Type 0
+IsLeft held recent kept = IsAmong recent kept.tree × (kept.seats ≡ held.seats)
+
+-- each map that a stop leaves now stands for one of these trees
+abbrev pub LeavesOne : VolumeState → List Tree → Type 0
+LeavesOne held recent =
+    (image : Image) → Left held.history.now image → StandsForOne held (IsLeft held recent) image
+
+-- The trees that a stop may leave, now and within a flush: those of its fronts. The one in memory
+-- is among them.
+pub record IsRecent (held : VolumeState) (recent : List Tree) : Type 0 where
+  pub leaves : LeavesOne held recent
+  pub covers : (front : Image) → IsAmong held.fronts front
+      → (tree : Tree) × IsAmong recent tree
+      × ∥ Stands held.sectors held.limits.nodes front held.run (with_tree held tree) ∥₁
+  pub newest : IsAmong recent held.tree
+
+-- whichever trees a stop might leave before, it may leave now, and no others
+abbrev pub KeepsRecent : (old new : VolumeState) → Type 0
+KeepsRecent old new = (recent : List Tree) → IsRecent old recent → IsRecent new recent
+
+-- each map that a crash leaves is a volume of the current version, with what is kept
+abbrev pub LeavesCurrent : VolumeState → Type 0
+LeavesCurrent held = (image : Image) → Left held.history.now image
+    → ∥ ((base : Image) × Settles held.sectors image base
+    × StandsNow held.sectors held.limits.nodes base held.run (kept_of held)) ∥₁
+
+-- a stop leaves the tree in memory
+abbrev pub Holds : VolumeState → Type 0
+Holds held = IsRecent held (held.tree ∷ [])
+
+abbrev pub MayAdd : VolumeState → List Tree → (after : Kept) → Kept → Type 0
+MayAdd held recent after kept = IsLeft held recent kept ⊎ (kept ≡ after)
+
+-- at every moment since, a map left is one left before, or stands for one of the trees before or
+-- for what is kept after the change
+abbrev pub AddsTrees : VolumeState → (after : Kept) → History → Type 0
+AddsTrees held after new = (recent : List Tree) → IsRecent held recent
+    → AddsOnly (StandsForOne held (MayAdd held recent after)) held.history new
