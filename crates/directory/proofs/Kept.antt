@@ -118,14 +118,3 @@ IsDirectory-remove (x ∷ xs) p kept h =
     let last = get_or ys (length ys - 1) nameless in
     IsDirectory-moved ys p h last (get_or_default ys (length ys - 1) nameless last (omega arith)) kept
 IsDirectory-remove [] p kept h = absurd (omega arith)
-
--- the records of entries from which one was taken
-pub records_removed : (entries : List Entry) (p : ℕ) (d : Entry) → p < length entries → map record_of (swap_remove entries p d) ≡ without_place (map record_of entries) p
-records_removed entries p d h =
-    let n : length (map record_of entries) ≡ length entries = length-map entries record_of in
-    let last : record_of (get_or entries (length entries - 1) d) ≡ get_or (map record_of entries) (length entries - 1) (record_from 0 [] 0) =
-    sym (get_or-map record_of entries (length entries - 1) d (record_from 0 [] 0) (omega arith)) in
-    sym (take-map record_of (length entries - 1) (set entries p (get_or entries (length entries - 1) d)))
-    ∙ ap (take (length entries - 1)) (map-set record_of entries p (get_or entries (length entries - 1) d))
-    ∙ ap (λ (r : Record). take (length entries - 1) (set (map record_of entries) p r)) last
-    ∙ ap (λ (k : ℕ). take (k - 1) (set (map record_of entries) p (get_or (map record_of entries) (k - 1) (record_from 0 [] 0)))) (sym n)

@@ -128,9 +128,6 @@ each_drop (suc n) (x ∷ xs) all = each_drop n xs all.1
 pub part_is : (entries : List Entry) (n m : ℕ) → map record_of (take n (drop m entries)) ≡ take n (drop m (map record_of entries))
 part_is entries n m = sym (take-map record_of n (drop m entries)) ∙ ap (take n) (sym (drop-map record_of m entries))
 
-pub each_part : (entries : List Entry) (n m : ℕ) → AllByRecursion IsRecord (map record_of entries) → AllByRecursion IsRecord (map record_of (take n (drop m entries)))
-each_part entries n m all = rw (part_is entries n m) (each_take n (drop m (map record_of entries)) (each_drop m (map record_of entries) all))
-
 -- the records from `first` on, 15 at most, however the part is cut to what is there
 pub same_part : (names : List Record) (first from to : ℕ) → from ≡ min first (length names) → to ≡ min (length names) (from + 15) → take (to - from) (drop from names) ≡ take 15 (drop first names)
 same_part names first from to a b =

@@ -224,7 +224,7 @@ impl Names {
 
     // Puts an entry of a new name after the last.
     fn add(&mut self, entry: Entry) -> Result<(), AllocError>
-        requires room { length self.old < 1024 }
+        requires room { length self.old < Names.MAX_NAMES }
         requires fresh { (i : ℕ) (default : Record) → i < length self.old
             → name_of (slice_index_or self.old i default) ≢ name_of (record_of entry) }
         requires fits { IsRecord (record_of entry) }

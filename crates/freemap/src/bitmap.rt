@@ -93,16 +93,6 @@ impl Bitmap {
         })
     }
 
-    /// Becomes the same set as another one. Takes no memory.
-    pub fn copy_from(&mut self, other: &Bitmap)
-        ensures { self.new ≡ other.now }
-    {
-        self.bits.copy_from_slice(&other.bits);
-        self.count = other.count;
-        self.lowest = other.lowest;
-        self.free = other.free;
-    }
-
     /// Writes bitmap sector `part`, 0 or 1, which shows the places from `32768 * part` on.
     pub fn to_sector(&self, part: u32, sector: &mut [u8; SECTOR_BYTES])
         requires { part < 2 }

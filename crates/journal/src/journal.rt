@@ -40,8 +40,8 @@ pub struct Journal<D: Device> {
     ghost large: { MIN_SECTORS ≤ D.size device },
     ghost few: { length pending.items ≤ PAYLOAD_SECTORS },
     ghost room: { PAYLOAD_SECTORS ≤ vec_capacity pending },
-    ghost named_room: { PAYLOAD_SECTORS ≤ vec_capacity pending_sectors },
-    ghost named_are: { pending_sectors.items ≡ targets pending.items },
+    ghost sectors_room: { PAYLOAD_SECTORS ≤ vec_capacity pending_sectors },
+    ghost sectors_are: { pending_sectors.items ≡ targets pending.items },
     ghost fit: { AreTargets (D.size device) (targets pending.items) },
     ghost shown_room: { PAYLOAD_SECTORS ≤ vec_capacity shown },
     ghost shown_fits: { FitsGate (D.size device) shown.items },
@@ -341,7 +341,7 @@ impl<D: Device> Journal<D> {
         Ok(())
     }
 
-    /// Takes the list into the base, if there is one.
+    /// Commits what is pending, if anything is.
     fn flush_pending(&mut self) -> Result<(), DiskFault>
         requires { (log_of self.old).is_down ≡ false }
         ensures part { IsPart D.keeps_word (log_of self.old) (log_of self.new)
@@ -373,7 +373,7 @@ impl<D: Device> Journal<D> {
         Ok(())
     }
 
-    /// Takes the list into the base if the updates would not fit the payload beside it.
+    /// Commits what is pending if the updates would not fit the payload beside it.
     fn flush_if_full(&mut self, updates: &[Update]) -> Result<(), DiskFault>
         // A transaction that may be taken
         requires up { (log_of self.old).is_down ≡ false }

@@ -27,7 +27,7 @@ pub(crate) fn newer(
     found
 }
 
-/// The last place of a sector among those that are named.
+/// The last place of a sector among the pending ones.
 pub(crate) fn find(pending_sectors: &[u32], n: u32) -> Option<usize>
     ensures found { IfSome result (λ place. IsLastPlace pending_sectors.now n place) }
     ensures none { IfNone result (has pending_sectors.now n ≡ false) }
@@ -41,7 +41,7 @@ pub(crate) fn find(pending_sectors: &[u32], n: u32) -> Option<usize>
     None
 }
 
-/// Whether the sectors that are named and those of the updates are few enough for one payload.
+/// Whether the pending sectors and those of the updates are few enough for one payload.
 pub(crate) fn fits(pending_sectors: &[u32], updates: &[Update]) -> bool
     requires few { length pending_sectors.now ≤ PAYLOAD_SECTORS }
     requires short { length updates.now ≤ MAX_UPDATES }
@@ -61,17 +61,17 @@ pub(crate) fn fits(pending_sectors: &[u32], updates: &[Update]) -> bool
 /// Puts an update in the place of the one of its sector, or else after the others.
 pub(crate) fn put(pending: &mut Vec<Update>, pending_sectors: &mut Vec<u32>, update: Update)
     // There is room for it
-    requires named_are { pending_sectors.old.items ≡ targets pending.old.items }
+    requires sectors_are { pending_sectors.old.items ≡ targets pending.old.items }
     requires few { length (gathered pending_sectors.old.items (update.target ∷ []))
         ≤ PAYLOAD_SECTORS }
     requires room { PAYLOAD_SECTORS ≤ vec_capacity pending.old }
-    requires named_room { PAYLOAD_SECTORS ≤ vec_capacity pending_sectors.old }
+    requires sectors_room { PAYLOAD_SECTORS ≤ vec_capacity pending_sectors.old }
     // What the list has then
     ensures applied { (image : Image) (n : ℕ) → applied pending.new.items image n
         ≡ with (applied pending.old.items image) update n }
     ensures targets { targets pending.new.items
         ≡ gathered (targets pending.old.items) (update.target ∷ []) }
-    ensures named_are { pending_sectors.new.items ≡ targets pending.new.items }
+    ensures sectors_are { pending_sectors.new.items ≡ targets pending.new.items }
     // It takes no memory
     ensures capacity { vec_capacity pending.new ≡ vec_capacity pending.old }
     ensures named_capacity { vec_capacity pending_sectors.new ≡ vec_capacity pending_sectors.old }
@@ -92,17 +92,17 @@ pub(crate) fn merge_into(
     updates: Vec<Update>,
 )
     // There is room for it
-    requires named_are { pending_sectors.old.items ≡ targets pending.old.items }
+    requires sectors_are { pending_sectors.old.items ≡ targets pending.old.items }
     requires few { length (gathered pending_sectors.old.items (targets updates.items))
         ≤ PAYLOAD_SECTORS }
     requires room { PAYLOAD_SECTORS ≤ vec_capacity pending.old }
-    requires named_room { PAYLOAD_SECTORS ≤ vec_capacity pending_sectors.old }
+    requires sectors_room { PAYLOAD_SECTORS ≤ vec_capacity pending_sectors.old }
     // What the list has then
     ensures applied { (image : Image) (n : ℕ) → applied pending.new.items image n
         ≡ applied updates.items (applied pending.old.items image) n }
     ensures targets { targets pending.new.items
         ≡ gathered (targets pending.old.items) (targets updates.items) }
-    ensures named_are { pending_sectors.new.items ≡ targets pending.new.items }
+    ensures sectors_are { pending_sectors.new.items ≡ targets pending.new.items }
     // It takes no memory
     ensures capacity { vec_capacity pending.new ≡ vec_capacity pending.old }
     ensures named_capacity { vec_capacity pending_sectors.new ≡ vec_capacity pending_sectors.old }

@@ -100,6 +100,7 @@ impl Updates {
               content = inode_sector form (fields_of inode.now);
             })) }
         ensures count { length self.new ≤ length self.old + 1 }
+        ensures err { OnErr result (self.new ≡ self.old) }
     {
         let place = place_for(&mut self.list, target)?;
         fill_inode(&mut self.list, place, inode, form);
@@ -115,6 +116,7 @@ impl Updates {
               content = run_sector runs.now;
             })) }
         ensures count { length self.new ≤ length self.old + 1 }
+        ensures err { OnErr result (self.new ≡ self.old) }
     {
         let place = place_for(&mut self.list, target)?;
         fill_runs(&mut self.list, place, runs);

@@ -15,11 +15,11 @@ put-requires-clause-few c =
     omega (
       arith,
       c.requires.few,
-      ap (λ (xs : List ℕ). length (gathered xs (targets c.args.updates.items))) c.requires.named_are,
+      ap (λ (xs : List ℕ). length (gathered xs (targets c.args.updates.items))) c.requires.sectors_are,
       ap (λ (xs : List ℕ). length xs) c.loop-update.invariant.sectors,
       ap (λ (us : List Update). length (gathered (targets pending) (targets us))) next,
       gathered_grows (gathered (targets pending) (t ∷ [])) (targets rest),
-      ap (λ (xs : List ℕ). length (gathered xs (t ∷ []))) c.loop-update.invariant.named_are,
+      ap (λ (xs : List ℕ). length (gathered xs (t ∷ []))) c.loop-update.invariant.sectors_are,
     )
 
 pub loop-update-preserved : goal.loop-update-preserved
@@ -35,7 +35,7 @@ loop-update-preserved c =
       sectors = ap (λ (xs : List ℕ). gathered xs (targets rest)) c.put.ensures.targets
           ∙ ap (λ (us : List Update). gathered (targets pending) (targets us)) (sym next)
           ∙ c.loop-update.invariant.sectors;
-      named_are = c.put.ensures.named_are;
+      sectors_are = c.put.ensures.sectors_are;
       capacity = c.put.ensures.capacity ∙ c.loop-update.invariant.capacity;
       named_capacity = c.put.ensures.named_capacity ∙ c.loop-update.invariant.named_capacity;
     }

@@ -11,11 +11,11 @@ use Rattle.journal.proofs.list.put.Goals.{In-Some, In-None}
 
 found : (c : In-Some) → IsLastUpdate c.args.pending.now.items c.args.update.target c.in-Some.place
 found c = last_update c.args.pending.now.items c.deref.result.now c.args.pending_sectors.now.items c.args.update.target c.in-Some.place
-    c.deref.ensures.value c.requires.named_are c.in-Some.ensures.found
+    c.deref.ensures.value c.requires.sectors_are c.in-Some.ensures.found
 
 missing : (c : In-None) → has (targets c.args.pending.now.items) c.args.update.target ≡ false
 missing c = not_named c.args.pending.now.items c.deref.result.now c.args.pending_sectors.now.items c.args.update.target
-    c.deref.ensures.value c.requires.named_are c.in-None.ensures.none
+    c.deref.ensures.value c.requires.sectors_are c.in-None.ensures.none
 
 pub index_mut-requires : goal.index_mut-requires
 index_mut-requires c = omega (arith, (found (goal.at.index_mut-requires c).In-Some).there, c.args.pending.now.ok)
@@ -28,9 +28,9 @@ push_reserved-requires-in-None c =
     omega (
       arith,
       c.requires.few,
-      ap (λ (xs : List ℕ). length xs) (gathered_new pending_sectors t (ap (λ (xs : List ℕ). has xs t) c.requires.named_are ∙ none)),
+      ap (λ (xs : List ℕ). length xs) (gathered_new pending_sectors t (ap (λ (xs : List ℕ). has xs t) c.requires.sectors_are ∙ none)),
       length-append pending_sectors (t ∷ []),
-      ap (λ (xs : List ℕ). length xs) c.requires.named_are,
+      ap (λ (xs : List ℕ). length xs) c.requires.sectors_are,
       length-targets c.args.pending.now.items,
       c.args.pending.now.ok,
       c.requires.room,
@@ -47,10 +47,10 @@ returns-in-Some-clause-targets c =
     targets_set c.args.pending.now.items c.in-Some.place c.args.update last.there last.is
     ∙ sym (gathered_old (targets c.args.pending.now.items) c.args.update.target (has-update c.args.pending.now.items c.args.update.target c.in-Some.place last))
 
-pub returns-in-Some-clause-named_are : goal.returns-in-Some-clause-named_are
-returns-in-Some-clause-named_are c =
-    let last = found (goal.at.returns-in-Some-clause-named_are c).In-Some in
-    c.requires.named_are ∙ sym (targets_set c.args.pending.now.items c.in-Some.place c.args.update last.there last.is)
+pub returns-in-Some-clause-sectors_are : goal.returns-in-Some-clause-sectors_are
+returns-in-Some-clause-sectors_are c =
+    let last = found (goal.at.returns-in-Some-clause-sectors_are c).In-Some in
+    c.requires.sectors_are ∙ sym (targets_set c.args.pending.now.items c.in-Some.place c.args.update last.there last.is)
 
 pub returns-in-None-clause-applied : goal.returns-in-None-clause-applied
 returns-in-None-clause-applied c = λ image n.
@@ -63,9 +63,9 @@ returns-in-None-clause-targets c =
     ∙ targets-push c.args.pending.now.items c.args.update
     ∙ sym (gathered_new (targets c.args.pending.now.items) c.args.update.target (missing (goal.at.returns-in-None-clause-targets c).In-None))
 
-pub returns-in-None-clause-named_are : goal.returns-in-None-clause-named_are
-returns-in-None-clause-named_are c =
+pub returns-in-None-clause-sectors_are : goal.returns-in-None-clause-sectors_are
+returns-in-None-clause-sectors_are c =
     c.push_reserved.ensures.items
-    ∙ ap (λ (xs : List ℕ). xs ++ c.args.update.target ∷ []) c.requires.named_are
+    ∙ ap (λ (xs : List ℕ). xs ++ c.args.update.target ∷ []) c.requires.sectors_are
     ∙ sym (targets-push c.args.pending.now.items c.args.update)
     ∙ sym (ap (λ (xs : List Update). targets xs) c.push_reserved-in-None.ensures.items)

@@ -84,7 +84,7 @@ few g c = omega (
   arith,
   length-targets c.merge_into.new.pending.items,
   ap (λ (ts : List ℕ). length ts) c.merge_into.ensures.targets,
-  ap (λ (ts : List ℕ). length (gathered ts (targets c.args.updates.items))) c.flush_if_full.new.self.named_are,
+  ap (λ (ts : List ℕ). length (gathered ts (targets c.args.updates.items))) c.flush_if_full.new.self.sectors_are,
   ap (λ (us : List Update). length (gathered c.flush_if_full.new.self.pending_sectors.items (targets us))) c.deref.ensures.value,
   c.in_ok-flush_if_full.ensures.room,
 )

@@ -16,14 +16,14 @@ same : (g : Over) (c : After-fits g) → length (gathered c.deref.result.now (ta
 same g c =
     let was = c.args.self.now in
     let size = g.D.Device.size was.device in
-    ap (λ (ts : List ℕ). length ts) (together was.pending.items c.args.updates.now c.deref.result.now (c.deref.ensures.value ∙ was.named_are)
+    ap (λ (ts : List ℕ). length ts) (together was.pending.items c.args.updates.now c.deref.result.now (c.deref.ensures.value ∙ was.sectors_are)
     (Apart-Fit size (targets was.pending.items) (Fit-of size (targets was.pending.items) was.fit)))
 
 pub fits-requires-clause-few : goal.fits-requires-clause-few
 fits-requires-clause-few g c = omega (
   arith,
   ap (λ (xs : List ℕ). length xs) c.deref.ensures.value,
-  ap (λ (xs : List ℕ). length xs) c.args.self.now.named_are,
+  ap (λ (xs : List ℕ). length xs) c.args.self.now.sectors_are,
   length-targets c.args.self.now.pending.items,
   c.args.self.now.few,
 )
@@ -66,7 +66,7 @@ returns-clause-room g c =
     omega (
       arith,
       gathered_short now.pending_sectors.items (targets c.args.updates.now),
-      ap (λ (xs : List ℕ). length xs) now.named_are,
+      ap (λ (xs : List ℕ). length xs) now.sectors_are,
       ap (λ us. length (targets us)) c.in_ok-flush_pending.ensures.emptied,
       length-targets c.args.updates.now,
       c.requires.short,

@@ -62,7 +62,7 @@ returns-clause-gate g c =
     let at = (goal.at.returns-clause-gate g c).After-is_err in
     let was = c.args.self.now in
     let named : c.deref.result.now ≡ sectors_of (listed was.pending.items) =
-    c.deref.ensures.value ∙ was.named_are ∙ sym (listed_sectors_are was.pending.items) in
+    c.deref.ensures.value ∙ was.sectors_are ∙ sym (listed_sectors_are was.pending.items) in
     record {
       shown = on_ok c.commit.result (sym c.is_err.ensures.value ∙ c.if-is_err.false) c.commit.ensures.shown
           ∙ ap (λ (ts : List ℕ). way_for was.shown.items ts ++ ts) named;
