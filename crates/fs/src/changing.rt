@@ -214,7 +214,7 @@ impl<D: Device> Fs<D> {
         }
     }
 
-    /// Makes a change, and counts it. A stop may lose it until the next flush.
+    /// Makes a change, and counts it. A crash may lose it until the next flush.
     pub(crate) fn change_unstable(&mut self, edits: Vec<Edit<'_>>) -> Result<(), FsFault>
         // A change that may be made
         requires up { (fs_of self.old).volume.is_down ≡ false }

@@ -1,4 +1,4 @@
-//! A file system on a volume: the operations of a COMPOUND on its tree, which survives a stop at
+//! A file system on a volume: the operations of a COMPOUND on its tree, which survives a crash at
 //! any moment.
 #![tactic(auto)]
 

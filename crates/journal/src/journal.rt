@@ -85,7 +85,7 @@ impl<D: Device> Journal<D> {
     ghost use Rattle.journal.specs.Views.{view_of, view_failures, name_of};
 
     /// Formats a device: zeros, with this sector 0 and these updates. Until sector 0 is written,
-    /// last of all, a stop leaves what was there before or a sector 0 of zeros.
+    /// last of all, a crash leaves what was there before or a sector 0 of zeros.
     ///
     /// # Errors
     ///
@@ -278,7 +278,7 @@ impl<D: Device> Journal<D> {
         Ok(())
     }
 
-    /// Writes sector 0 by itself, and syncs. A stop leaves the old one or the new one.
+    /// Writes sector 0 by itself, and syncs. A crash leaves the old one or the new one.
     ///
     /// # Errors
     ///
@@ -405,9 +405,8 @@ impl<D: Device> Journal<D> {
         Ok(())
     }
 
-    /// Puts a transaction at the list's end: all of its updates, or after a stop none. Where the
-    /// list and it together have more than 96 different sectors, the list is flushed first.
-    /// Takes no memory.
+    /// Puts a transaction behind the pending ones: all of its updates, or after a crash none. Where
+    /// it and they have more than 96 different sectors, they are flushed first. Takes no memory.
     ///
     /// # Errors
     ///
@@ -443,7 +442,7 @@ impl<D: Device> Journal<D> {
         Ok(())
     }
 
-    /// Takes the whole list into the base: no stop loses it. Where it is empty, nothing is written.
+    /// Commits all that is pending: no crash loses it. Where nothing is, nothing is written.
     ///
     /// # Errors
     ///

@@ -3,7 +3,7 @@
 ghost use Rattle.journal.specs.Laws.{EveryStop, EveryMount};
 
 /// However a call on a journal answered that was up before it, also where the device failed in it:
-/// what a stop leaves then, and what a mount of the device finds then, is the base from before the
+/// what a crash leaves then, and what a mount of the device finds then, is the base from before the
 /// call with a front of the list from before it.
 pub fn every_end()
     ensures stop { EveryStop }

@@ -1,4 +1,4 @@
-//! The headline: what users of the server can rely on when it is stopped.
+//! The headline: what users of the server can rely on when it crashes.
 
 ghost use Rattle.model.specs.RuledOut.{NoSkip, NoEarlyReply, NoTakingBack, NoSecondRun, NoForgetting, NoGap, OneATurn, EndsByHolding, HangsUpLast, HangUpIsEvents, EachEventHappens};
 ghost use Rattle.model.specs.Runs.{EveryRun, EveryStamp};
@@ -6,8 +6,8 @@ ghost use Rattle.model.specs.SeatRuns.{EveryReplyIsHeld, EverySeatStays, EveryRu
 ghost use Rattle.model.specs.ServedOnce.{EveryServedSlot};
 ghost use Rattle.model.specs.StateIdRuns.{EveryOtherRunRefuses, EveryStateIdGoesOn, JoinsAreCounted};
 
-/// Whatever bytes arrive on whatever connections, and wherever the server is stopped: the tree that
-/// a stop may leave is the one that a prefix of the executed operations gives. None of them is
+/// Whatever bytes arrive on whatever connections, and wherever the server crashes: the tree that
+/// a crash may leave is the one that a prefix of the executed operations gives. None of them is
 /// skipped and none is there in part; the prefix holds every change and COMMIT whose reply was
 /// handed out (an unstable write apart), and every change in it was permitted.
 pub fn every_run()
@@ -44,7 +44,7 @@ pub fn every_served_slot()
     ensures { EveryServedSlot }
 {}
 
-/// In every run the stamps of its changes rise, of those that a stop takes away and of the one
+/// In every run the stamps of its changes rise, of those that a crash takes away and of the one
 /// under way too.
 pub fn every_stamp()
     ensures { EveryStamp }
@@ -61,7 +61,7 @@ pub fn every_stateid_goes_on()
     ensures other_run { EveryOtherRunRefuses }
 {}
 
-/// Exactly once over restarts, on sessions that have a seat, over any list of runs and stops: a
+/// Exactly once over restarts, on sessions that have a seat, over any list of runs and crashes: a
 /// reply that was stored is held until the next of its slot is or its seat is freed; a session of
 /// an earlier run is answered by what its seat holds, and runs nothing; so a slot runs a number
 /// again only after the 2^32 - 1 others.

@@ -6,8 +6,8 @@ ghost use Rattle.model.specs.SoundRuns.{EveryTreeIsSound};
 ghost use Rattle.model.specs.StampRuns.{EveryStampIsGiven};
 ghost use Rattle.model.specs.World.{ServerLimits};
 
-/// Whatever bytes arrive on whatever connections, and wherever the server is stopped: the tree that
-/// a stop may leave is well formed, and no later run gives one of its stamps again.
+/// Whatever bytes arrive on whatever connections, and wherever the server crashes: the tree that
+/// a crash may leave is well formed, and no later run gives one of its stamps again.
 pub fn every_tree()
     ensures { (limits : ServerLimits) → EveryTreeIsSound limits }
 {}
@@ -25,7 +25,7 @@ pub fn every_answer_is_permitted()
 {}
 
 /// In every run, each change gives the next stamp of that run to all that it makes or alters, and
-/// to nothing else: also one that a stop takes away, and the one under way.
+/// to nothing else: also one that a crash takes away, and the one under way.
 pub fn every_stamp_is_given()
     ensures { EveryStampIsGiven }
 {}

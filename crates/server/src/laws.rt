@@ -4,19 +4,19 @@ ghost use Rattle.server.specs.Headline.{EveryRun, EveryStop, EveryTrace, EveryLi
 ghost use Rattle.server.specs.LifeLaws.{EveryHeld, EveryStays, EveryFollows, EveryDead, EveryOnce, EveryRetried, EverySits, EveryStored, EveryAsked};
 ghost use Rattle.server.specs.RunLaws.{HangUpIsCalls, NeverEmpty, OnlyIdle};
 
-/// Whatever bytes arrive on whatever connections, and wherever the server is stopped: however often
-/// the volume is mounted since, in the same power cycle or after further stops, and those mounts
-/// are refused, stopped or ended, the next mount that serves has the tree that a prefix of the
+/// Whatever bytes arrive on whatever connections, and wherever the server crashes: however often
+/// the volume is mounted since, in the same power cycle or after further crashes, and those mounts
+/// are refused, crash or end, the next mount that serves has the tree that a prefix of the
 /// executed operations gives, under a greater restart count. None of them is skipped and none is
 /// there in part; the prefix holds every change and COMMIT whose reply was handed out (an unstable
 /// write apart), and every change in it was permitted.
 ///
 /// `Server::mount` says that a run begins; `Server::{connect, feed, turn, hangup, take_output}`
 /// that each call is one of the run, or leaves all as it was; and a mount, served or refused, what
-/// it adds to what a stop may leave.
+/// it adds to what a crash may leave.
 pub fn every_run()
     ensures headline { EveryRun }
-    // what a stop leaves is such a tree, and no other
+    // what a crash leaves is such a tree, and no other
     ensures stop { EveryStop }
     // before the first run the empty root stands, and the first mount that serves has it
     ensures first { EveryFirst }
@@ -31,22 +31,22 @@ pub fn every_run()
     // Idle exactly where there is nothing to do
     ensures idle { OnlyIdle }
     ensures hang_up { HangUpIsCalls }
-    // and no run claims that a stop leaves nothing
+    // and no run claims that a crash leaves nothing
     ensures empty { NeverEmpty }
 {}
 
 /// Exactly once over restarts, on sessions that have a seat, over any list of runs that follow one
-/// another: a reply that a slot was given is held by what a stop leaves until the slot's next is,
+/// another: a reply that a slot was given is held by what a crash leaves until the slot's next is,
 /// or the seat was freed, and that was asked. A session of an earlier run is answered by what its
 /// seat holds and runs nothing, so a slot runs a number again only after the 2^32 - 1 others.
 pub fn every_life()
-    // what was held in a run is held at the stop of each later one
+    // what was held in a run is held at the crash of each later one
     ensures held { EveryHeld }
     // and is given again in each, to who asks for it again
     ensures retried { EveryRetried }
     // a seat that a run began with is left as it was, or was freed
     ensures stays { EveryStays }
-    // a later run may begin with the seats that a stop leaves
+    // a later run may begin with the seats that a crash leaves
     ensures follows { EveryFollows }
     ensures dead { EveryDead }
     ensures once { EveryOnce }

@@ -1,5 +1,5 @@
 //! The server: connections, and one operation of one COMPOUND a turn, on a volume that survives a
-//! stop at any moment.
+//! crash at any moment.
 #![tactic(auto)]
 
 mod connection;

@@ -26,7 +26,7 @@ impl<D: Device> Server<D> {
     }
 
     /// Serves the volume on this device, without a client or a connection yet: `Fs::mount_seated`.
-    /// Every map that a stop leaves from then on has the new restart count. Only where
+    /// Every map that a crash leaves from then on has the new restart count. Only where
     /// `persistent` is true can a session that is made get a seat; what the seats that stand hold is
     /// answered in any case.
     ///

@@ -60,7 +60,7 @@ impl<D: Device> Volume<D> {
         has_room(&self.table, &self.limits, directory, kind, size)
     }
 
-    /// Changes the tree by edits, one after the other, as one transaction: a stop leaves all of
+    /// Changes the tree by edits, one after the other, as one transaction: a crash leaves all of
     /// them or none. It may be lost until the next flush.
     ///
     /// # Errors
@@ -108,8 +108,8 @@ impl<D: Device> Volume<D> {
         Ok(())
     }
 
-    /// Changes the tree by edits as [`Volume::change`] does, and keeps it: after `Ok` no stop loses
-    /// it, nor any change before it.
+    /// Changes the tree by edits as [`Volume::change`] does, and keeps it: after `Ok` no crash
+    /// loses it, nor any change before it.
     ///
     /// # Errors
     ///

@@ -12,7 +12,7 @@ use volume_load::ScanFault;
 /// Why a device was not formatted.
 #[derive(Clone, Copy, Debug, PartialEq, Eq, Error)]
 pub enum FormatFault {
-    /// The device failed; a stop within the format may leave the same.
+    /// The device failed; a crash within the format may leave the same.
     #[error("Device")]
     Device,
     /// No memory. Nothing was written.

@@ -58,8 +58,8 @@ fn fresh_update(alloc: Global) -> Result<Update, AllocError>
 }
 
 /// Makes the device a new volume of this many nodes, with an empty root. First its sector 0 is
-/// zeros, then all other sectors are as in the new volume, then sector 0 is: a stop leaves what was
-/// there, no volume, or the new one.
+/// zeros, then all other sectors are as in the new volume, then sector 0 is: a crash leaves what
+/// was there, no volume, or the new one.
 ///
 /// # Errors
 ///

@@ -19,15 +19,15 @@ pub fn superblock_tells()
         → word 20 (superblock version sectors nodes run) ≡ run }
 {}
 
-/// A map that a stop left stands for one tree with its seats, of a volume with one number of nodes
+/// A map that a crash left stands for one tree with its seats, of a volume with one number of nodes
 /// and one restart count.
 #[tactic(auto, using(crate::proofs::OneTree::one_stands))]
 pub fn one_stands()
     ensures { OneStands }
 {}
 
-/// However often a volume is mounted, with power on or after a stop, and wherever those mounts end
-/// or are stopped: a tree that a stop might have left still stands, and the next mount that serves
+/// However often a volume is mounted, with power on or after a crash, and wherever those mounts end
+/// or crash: a tree that a crash might have left still stands, and the next mount that serves
 /// has it, under a greater restart count.
 pub fn every_remount()
     ensures next { EveryRemount }

@@ -1,5 +1,5 @@
-//! A volume on a device: nodes, files and directories in sectors, which a stop at any moment leaves
-//! whole.
+//! A volume on a device: nodes, files and directories in sectors, which a crash at any moment
+//! leaves whole.
 #![tactic(auto)]
 
 mod ancestry;

@@ -256,7 +256,7 @@ impl<D: Device> Volume<D> {
         self.table.card(place)
     }
 
-    /// Keeps all changes so far: after `Ok` no stop loses one.
+    /// Keeps all changes so far: after `Ok` no crash loses one.
     ///
     /// # Errors
     ///
@@ -277,7 +277,7 @@ impl<D: Device> Volume<D> {
     }
 
     /// Copies home what the journal's open gate names, and closes it: the next change that is kept
-    /// waits for two syncs, and not for four. The tree stays, and so does what a stop may leave.
+    /// waits for two syncs, and not for four. The tree stays, and so does what a crash may leave.
     ///
     /// # Errors
     ///
