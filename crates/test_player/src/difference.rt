@@ -1,5 +1,6 @@
 //! How a server or the program does otherwise than a row or a case has it.
 
+use crate::fault::Fault;
 use callers::Refused;
 use disk::DiskFault;
 use server::{FormatFault, MountFault, ServerFault, Turn};
@@ -62,6 +63,21 @@ pub enum Difference {
     /// A file has fewer bytes than are to be changed.
     #[error("a short file")]
     Short,
+    /// The device did not crash where it was to.
+    #[error("no crash")]
+    NoCrash,
+    /// A call of the device failed, and no call of the server told so.
+    #[error("a failure that is not told")]
+    Untold,
+    /// A mount finds a state that a crash may not leave: what it answers to the looks.
+    #[error("a state that may not be left{0}")]
+    State(Answers),
+    /// A mount after a mount that crashed finds another state.
+    #[error("another state than the mount before it")]
+    OtherState,
+    /// A record has a gap that is not filled.
+    #[error("{0}")]
+    Record(#[from] Fault),
     /// There is no device to play the row on.
     #[error("no device: {0}")]
     Device(#[from] DiskFault),
@@ -109,6 +125,14 @@ pub fn expect(wanted: Answer, got: Answer) -> Result<(), Difference> {
     }
 }
 
+/// What a step on this line brings.
+pub fn placed<T: Drop>(line: u32, outcome: Result<T, Difference>) -> Result<T, Differs> {
+    match outcome {
+        Ok(value) => Ok(value),
+        Err(difference) => Err(Differs { line, difference }),
+    }
+}
+
 /// The reply is the one that is wanted.
 pub fn expect_reply(alloc: Global, wanted: &[u8], got: Vec<u8>) -> Result<(), Difference> {
     if got.as_slice() == wanted {
@@ -144,12 +168,30 @@ pub struct Words(pub Vec<u8>);
 
 impl fmt::Display for Words {
     fn fmt<W: fmt::Write>(&self, f: &mut fmt::Formatter<W>) -> fmt::Result {
-        for word in self.0.chunks(4) {
-            let number = number_of(word);
-            write!(f, " {number:x}")?;
+        write_words(f, &self.0)
+    }
+}
+
+/// Replies, each on a line of its own.
+#[derive(Debug, Drop)]
+pub struct Answers(pub Vec<Vec<u8>>);
+
+impl fmt::Display for Answers {
+    fn fmt<W: fmt::Write>(&self, f: &mut fmt::Formatter<W>) -> fmt::Result {
+        for answer in self.0.iter() {
+            f.write_str("\n ")?;
+            write_words(f, answer)?;
         }
         Ok(())
     }
+}
+
+fn write_words<W: fmt::Write>(f: &mut fmt::Formatter<W>, bytes: &[u8]) -> fmt::Result {
+    for word in bytes.chunks(4) {
+        let number = number_of(word);
+        write!(f, " {number:x}")?;
+    }
+    Ok(())
 }
 
 fn number_of(word: &[u8]) -> u32 {

@@ -4,6 +4,7 @@
 
 mod cases;
 mod difference;
+mod drivers;
 mod fault;
 mod number;
 mod rows;

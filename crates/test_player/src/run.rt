@@ -2,7 +2,7 @@
 
 use crate::cases::{self, Case};
 use crate::difference::Differs;
-use crate::rows::{self, Patience, Place, Row, Sheet};
+use crate::rows::{self, Patience, Place, Row, Sheet, Tally};
 use anyhow::{Result, anyhow, ensure};
 use std::fs;
 use std::rt::Files;
@@ -93,6 +93,9 @@ fn play_row(rt: &HostRuntime, file: &str, row: &Row<'_>) -> Result<bool> {
             as_written &= tell(rt, file, row.name, told, outcome.map(|_| ()))?;
         }
     }
+    if row.aftermath.trials.are_any() {
+        as_written &= tell_crashes(rt, file, row, rows::crash(rt.alloc(), row))?;
+    }
     Ok(as_written)
 }
 
@@ -131,6 +134,26 @@ fn tell<R: Print>(
             println!(rt; "{file}: {name}{place}: {differs}")?;
             Ok(false)
         }
+    }
+}
+
+/// Tells what was tried of a row, and how many of its states were found.
+fn tell_crashes<R: Print>(
+    rt: &R,
+    file: &str,
+    row: &Row<'_>,
+    outcome: std::result::Result<Tally, Differs>,
+) -> Result<bool> {
+    match outcome {
+        Ok(tally) => {
+            println!(rt;
+                "{file}: {}, {tally} of {}: ok",
+                row.name,
+                row.aftermath.states.len()
+            )?;
+            Ok(true)
+        }
+        Err(differs) => tell(rt, file, row.name, ", crashed", Err(differs)),
     }
 }
 

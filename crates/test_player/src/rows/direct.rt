@@ -5,6 +5,7 @@ use super::player::{Arrival, CONNECTIONS, Stage, new_volume};
 use super::served::Served;
 use super::step::Step;
 use crate::difference::{Answer, Difference, expect, expect_reply};
+use disk::{Device, MemDevice};
 use server::{ServerFault, Turn};
 use std::alloc::Global;
 use std::cmp::Ordering;
@@ -15,7 +16,7 @@ const MAX_TURNS: u32 = 32;
 /// A server of a volume in memory, with the connections that a row begins with.
 #[derive(Drop)]
 pub struct Direct {
-    served: Served,
+    served: Served<MemDevice>,
     arrival: Arrival,
 }
 
@@ -52,14 +53,19 @@ impl Stage for Direct {
 }
 
 /// Makes the connections.
-fn connect(mut served: Served) -> Result<Served, Difference> {
+pub fn connect<D: Device>(mut served: Served<D>) -> Result<Served<D>, Difference> {
     for connection in 0..CONNECTIONS {
         expect(Answer::Connected(connection), served.connected())?;
     }
     Ok(served)
 }
 
-fn act(alloc: Global, served: &mut Served, step: &Step) -> Result<(), Difference> {
+/// Takes a step of the server itself.
+pub fn act<D: Device>(
+    alloc: Global,
+    served: &mut Served<D>,
+    step: &Step,
+) -> Result<(), Difference> {
     match step {
         Step::Feeds { connection, record } => feed(served, *connection, record),
         Step::Drips { connection, record } => drip(served, *connection, record),
@@ -70,7 +76,7 @@ fn act(alloc: Global, served: &mut Served, step: &Step) -> Result<(), Difference
             turns,
             reply,
         } => end(alloc, served, *connection, *turns, reply),
-        Step::Asks(call) => {
+        Step::Asks(call) | Step::Leaves(call) => {
             feed(served, call.connection, &call.record)?;
             end(alloc, served, call.connection, call.turns, &call.reply)
         }
@@ -82,17 +88,25 @@ fn act(alloc: Global, served: &mut Served, step: &Step) -> Result<(), Difference
         Step::HangsUp { connection } => expect(Answer::HungUp, served.hung_up(*connection)),
         Step::Lacks { connection } => lack(served, *connection),
         // These are taken above, or are no steps of the server itself.
-        Step::Meets(_) | Step::Restarts { .. } | Step::Waits { .. } => Ok(()),
+        Step::Meets(_) | Step::Restarts { .. } | Step::Waits { .. } | Step::Marks(_) => Ok(()),
     }
 }
 
 /// Hands in a record, which is taken whole.
-fn feed(served: &mut Served, connection: usize, record: &[u8]) -> Result<(), Difference> {
+pub fn feed<D: Device>(
+    served: &mut Served<D>,
+    connection: usize,
+    record: &[u8],
+) -> Result<(), Difference> {
     expect(Answer::Took(record.len()), served.fed(connection, record))
 }
 
 /// Hands in a record byte by byte, each after a turn that is idle.
-fn drip(served: &mut Served, connection: usize, record: &[u8]) -> Result<(), Difference> {
+fn drip<D: Device>(
+    served: &mut Served<D>,
+    connection: usize,
+    record: &[u8],
+) -> Result<(), Difference> {
     for byte in record {
         turn(served, connection, Turn::Idle)?;
         feed(served, connection, &[*byte])?;
@@ -101,7 +115,11 @@ fn drip(served: &mut Served, connection: usize, record: &[u8]) -> Result<(), Dif
 }
 
 /// Hands in a record, which is answered or closes the connection.
-fn send(served: &mut Served, connection: usize, record: &[u8]) -> Result<(), Difference> {
+fn send<D: Device>(
+    served: &mut Served<D>,
+    connection: usize,
+    record: &[u8],
+) -> Result<(), Difference> {
     match served.fed(connection, record) {
         Answer::Refused(ServerFault::Closed) => Ok(()),
         got => {
@@ -111,8 +129,17 @@ fn send(served: &mut Served, connection: usize, record: &[u8]) -> Result<(), Dif
     }
 }
 
+/// Runs the request up to its reply, and takes that.
+fn answer<D: Device>(served: &mut Served<D>, connection: usize) -> Result<(), Difference> {
+    run_to_reply(served, connection)?;
+    expect(Answer::Reply, served.replied(connection))
+}
+
 /// Runs the request up to its reply.
-fn answer(served: &mut Served, connection: usize) -> Result<(), Difference> {
+pub fn run_to_reply<D: Device>(
+    served: &mut Served<D>,
+    connection: usize,
+) -> Result<(), Difference> {
     let mut got = served.turned(connection);
     for _ in 1..MAX_TURNS {
         if got != Answer::Turned(Turn::Ran) {
@@ -120,27 +147,39 @@ fn answer(served: &mut Served, connection: usize) -> Result<(), Difference> {
         }
         got = served.turned(connection);
     }
-    expect(Answer::Turned(Turn::Answered), got)?;
-    expect(Answer::Reply, served.replied(connection))
+    expect(Answer::Turned(Turn::Answered), got)
 }
 
 /// Gives a turn, which does what is wanted.
-fn turn(served: &mut Served, connection: usize, wanted: Turn) -> Result<(), Difference> {
+fn turn<D: Device>(
+    served: &mut Served<D>,
+    connection: usize,
+    wanted: Turn,
+) -> Result<(), Difference> {
     expect(Answer::Turned(wanted), served.turned(connection))
 }
 
-/// Runs so many operations, of which the last one gives this reply.
-fn end(
-    alloc: Global,
-    served: &mut Served,
+/// Runs so many operations, of which the last one gives a reply.
+pub fn run_all<D: Device>(
+    served: &mut Served<D>,
     connection: usize,
     turns: u32,
-    reply: &[u8],
 ) -> Result<(), Difference> {
     for _ in 1..turns {
         turn(served, connection, Turn::Ran)?;
     }
-    turn(served, connection, Turn::Answered)?;
+    turn(served, connection, Turn::Answered)
+}
+
+/// Runs so many operations, of which the last one gives this reply.
+fn end<D: Device>(
+    alloc: Global,
+    served: &mut Served<D>,
+    connection: usize,
+    turns: u32,
+    reply: &[u8],
+) -> Result<(), Difference> {
+    run_all(served, connection, turns)?;
     match served.reply(connection) {
         Ok(Some(got)) => expect_reply(alloc, reply, got)?,
         Ok(None) => expect(Answer::Reply, Answer::NoReply)?,
@@ -150,7 +189,11 @@ fn end(
 }
 
 /// Hands in records one after the other, and then has the turns of their connections alternate.
-fn meet(alloc: Global, served: &mut Served, calls: &[&Call]) -> Result<(), Difference> {
+pub fn meet<D: Device>(
+    alloc: Global,
+    served: &mut Served<D>,
+    calls: &[&Call],
+) -> Result<(), Difference> {
     let mut most = 0;
     for call in calls {
         feed(served, call.connection, &call.record)?;
@@ -163,9 +206,9 @@ fn meet(alloc: Global, served: &mut Served, calls: &[&Call]) -> Result<(), Diffe
 }
 
 /// The turn of this number of each connection.
-fn go_round(
+fn go_round<D: Device>(
     alloc: Global,
-    served: &mut Served,
+    served: &mut Served<D>,
     calls: &[&Call],
     number: u32,
 ) -> Result<(), Difference> {
@@ -180,7 +223,11 @@ fn go_round(
 }
 
 /// Hands in bytes that close the connection, which stays so.
-fn close(served: &mut Served, connection: usize, record: &[u8]) -> Result<(), Difference> {
+fn close<D: Device>(
+    served: &mut Served<D>,
+    connection: usize,
+    record: &[u8],
+) -> Result<(), Difference> {
     let closed = Answer::Refused(ServerFault::Closed);
     expect(closed, served.fed(connection, record))?;
     expect(closed, served.fed(connection, &[]))?;
@@ -190,7 +237,7 @@ fn close(served: &mut Served, connection: usize, record: &[u8]) -> Result<(), Di
 }
 
 /// Each call of a connection that is not there is refused.
-fn lack(served: &mut Served, connection: usize) -> Result<(), Difference> {
+fn lack<D: Device>(served: &mut Served<D>, connection: usize) -> Result<(), Difference> {
     let none = Answer::Refused(ServerFault::NoConnection);
     expect(none, served.fed(connection, &[]))?;
     expect(none, served.turned(connection))?;

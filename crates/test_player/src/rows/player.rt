@@ -4,11 +4,11 @@ use super::direct::Direct;
 use super::row::Row;
 use super::sockets::Sockets;
 use super::step::Step;
-use crate::difference::{Difference, Differs};
+use crate::difference::{Difference, Differs, placed};
+use crate::drivers;
 use disk::MemDevice;
 use server::FormatFault;
 use std::alloc::Global;
-use test_drivers as drivers;
 
 /// The volume in memory.
 const SECTORS: u32 = 256;
@@ -104,13 +104,6 @@ fn play_on<S: Stage>(rt: &HostRuntime, row: &Row<'_>, arrival: Arrival) -> Resul
         stage = placed(line, stage.take(rt, &step.step))?;
     }
     placed(line, stage.end())
-}
-
-fn placed<T: Drop>(line: u32, outcome: Result<T, Difference>) -> Result<T, Differs> {
-    match outcome {
-        Ok(value) => Ok(value),
-        Err(difference) => Err(Differs { line, difference }),
-    }
 }
 
 /// A new volume.

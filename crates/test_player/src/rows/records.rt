@@ -84,6 +84,16 @@ impl<'a> Records<'a> {
         Ok(())
     }
 
+    /// The record of this name, whose gaps are filled later.
+    pub fn pattern(&self, alloc: Global, name: &str) -> Result<Pattern, Fault> {
+        match self.find(name) {
+            Some(record) => Ok(Pattern {
+                parts: Vec::from_slice(alloc, &record.parts)?,
+            }),
+            None => Err(Fault::Unknown),
+        }
+    }
+
     /// The bytes of the record of this name, with its gaps filled.
     pub fn spell(
         &self,
@@ -95,6 +105,24 @@ impl<'a> Records<'a> {
             Some(record) => spell_parts(alloc, &record.parts, filling),
             None => Err(Fault::Unknown),
         }
+    }
+}
+
+/// A record whose gaps are filled when it is asked or compared.
+#[derive(Drop)]
+pub struct Pattern {
+    parts: Vec<Part>,
+}
+
+impl Pattern {
+    /// Its bytes, with this number in its gaps.
+    pub fn spell(&self, alloc: Global, number: u32) -> Result<Vec<u8>, Fault> {
+        let filling = Filling {
+            number,
+            status: 0,
+            words: &[],
+        };
+        spell_parts(alloc, &self.parts, Some(filling))
     }
 }
 

@@ -1,5 +1,6 @@
 //! Rows.
 
+use super::aftermath::Aftermath;
 use super::call::{Call, orders_of};
 use super::player::Place;
 use super::step::Step;
@@ -15,6 +16,8 @@ pub struct Row<'a> {
     pub tried: u32,
     /// In how many orders records that meet arrive.
     pub orders: usize,
+    /// What a crash may leave.
+    pub aftermath: Aftermath,
 }
 
 /// A step, and the line that it stands on.
@@ -32,6 +35,7 @@ impl<'a> Row<'a> {
             steps: Vec::new(alloc),
             tried: 0,
             orders: 1,
+            aftermath: Aftermath::new(alloc),
         }
     }
 

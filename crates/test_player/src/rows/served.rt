@@ -2,28 +2,28 @@
 
 use super::player::Patience;
 use crate::difference::{Answer, Difference};
-use disk::MemDevice;
+use crate::drivers;
+use disk::Device;
 use server::{MountFault, Server, ServerFault};
 use std::alloc::Global;
-use test_drivers as drivers;
 
-/// A server of a volume in memory.
+/// A server of the volume on a device.
 #[derive(Drop)]
-pub struct Served {
-    server: Server<MemDevice>,
+pub struct Served<D: Device> {
+    server: Server<D>,
     patience: Patience,
     /// How many calls came again.
     again: u32,
 }
 
-impl Served {
+impl<D: Device> Served<D> {
     /// Mounts a device, with persistent sessions or without.
     pub fn mount(
         alloc: Global,
-        device: MemDevice,
+        device: D,
         persistent: bool,
         patience: Patience,
-    ) -> Result<Served, Difference> {
+    ) -> Result<Served<D>, Difference> {
         let (server, again) = match Server::mount(alloc, device, persistent) {
             Ok(server) => (server, 0),
             Err(unmounted) => match (unmounted.fault, patience) {
@@ -41,7 +41,7 @@ impl Served {
     }
 
     /// Mounts its device anew, with persistent sessions or without.
-    pub fn mount_anew(self, alloc: Global, persistent: bool) -> Result<Served, Difference> {
+    pub fn mount_anew(self, alloc: Global, persistent: bool) -> Result<Served<D>, Difference> {
         let Served {
             server,
             patience,
@@ -51,6 +51,11 @@ impl Served {
         let mut served = Served::mount(alloc, device, persistent, patience)?;
         served.again = served.again.saturating_add(again);
         Ok(served)
+    }
+
+    /// The number of this mount of the volume.
+    pub fn run(&self) -> u32 {
+        drivers::restart_count(&self.server)
     }
 
     /// How many calls came again.
@@ -130,11 +135,11 @@ impl Served {
 }
 
 /// Mounts a device whose first mount was refused for want of memory.
-fn mount_again(
+fn mount_again<D: Device>(
     alloc: Global,
-    device: MemDevice,
+    device: D,
     persistent: bool,
-) -> Result<Server<MemDevice>, MountFault> {
+) -> Result<Server<D>, MountFault> {
     match Server::mount(alloc, device, persistent) {
         Ok(server) => Ok(server),
         Err(unmounted) => Err(unmounted.fault),

@@ -122,7 +122,7 @@ impl Sockets {
                 reply,
                 ..
             } => self.end_with(*connection, reply),
-            Step::Asks(call) => {
+            Step::Asks(call) | Step::Leaves(call) => {
                 self.write(call.connection, &call.record)?;
                 self.end_with(call.connection, &call.reply)
             }
@@ -132,7 +132,8 @@ impl Sockets {
             | Step::Restarts { .. }
             | Step::Runs { .. }
             | Step::IsFull
-            | Step::Lacks { .. } => Ok(()),
+            | Step::Lacks { .. }
+            | Step::Marks(_) => Ok(()),
         }
     }
 

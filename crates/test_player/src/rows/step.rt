@@ -1,5 +1,6 @@
 //! The steps of a row.
 
+use super::aftermath::{Mark, add_look, add_state};
 use super::call::Call;
 use super::cuts::add_cuts;
 use super::player::Place;
@@ -71,6 +72,10 @@ pub enum Step {
     Restarts {
         persistent: bool,
     },
+    /// As `Asks`; where the device crashes or fails, the reply is taken only then.
+    Leaves(Call),
+    /// Says what a crash may leave from here on.
+    Marks(Mark),
 }
 
 impl Step {
@@ -102,6 +107,15 @@ pub fn add_steps(
         "repeats" => add_repeats(alloc, records, line, words, row),
         "cuts" => add_cuts(alloc, records, line, words, row),
         "meets" => row.meet(alloc, line, call_of(alloc, records, words)?),
+        "looks" => add_look(alloc, records, words, &mut row.aftermath),
+        "stands" => {
+            add_state(alloc, records, words, &mut row.aftermath)?;
+            row.add(line, Step::Marks(Mark::Stands))
+        }
+        "crashes" | "fails" => {
+            row.aftermath.trials.read(*verb, words)?;
+            row.add(line, Step::Marks(Mark::Begins))
+        }
         _ => row.add(line, read_step(alloc, records, *verb, words)?),
     }
 }
@@ -117,6 +131,7 @@ fn read_step(
         "drips" => drips(alloc, records, words),
         "ends" => ends(alloc, records, words),
         "asks" => Ok(Step::Asks(call_of(alloc, records, words)?)),
+        "leaves" => Ok(Step::Leaves(call_of(alloc, records, words)?)),
         "closes" => closes(alloc, records, words),
         "waits" => waits(alloc, records, words),
         _ => read_plain(verb, words),
@@ -140,6 +155,10 @@ fn read_plain(verb: &str, words: &[&str]) -> Result<Step, Fault> {
             connection: connection_of(*word)?,
         }),
         ("restarts", []) => Ok(Step::Restarts { persistent: true }),
+        ("lasts", []) => Ok(Step::Marks(Mark::Lasts { but: 0 })),
+        ("lasts", [but, word]) if *but == "but" => Ok(Step::Marks(Mark::Lasts {
+            but: connection_of(*word)?,
+        })),
         ("restarts", [word]) if *word == "plain" => Ok(Step::Restarts { persistent: false }),
         _ => Err(Fault::Step),
     }

@@ -1,0 +1,220 @@
+//! What a crash may leave of a row, and how that is looked at.
+
+use super::records::{Pattern, Records};
+use crate::fault::Fault;
+use std::alloc::{AllocError, Global};
+use std::fmt;
+
+/// What the steps of a row say of crashes.
+#[derive(Drop)]
+pub struct Aftermath {
+    pub trials: Trials,
+    /// What is asked after each crash.
+    pub looks: Vec<Look>,
+    /// What may then be answered.
+    pub states: Vec<State>,
+}
+
+/// What is done to the device.
+#[derive(Clone, Copy)]
+pub struct Trials {
+    /// It crashes before and within each of its steps.
+    pub crashes: bool,
+    /// So do the mounts after that.
+    pub twice: bool,
+    /// Each of its calls fails.
+    pub fails: bool,
+}
+
+/// What a step says of the states that a crash may leave from there on.
+#[derive(Clone, Copy)]
+pub enum Mark {
+    /// The next state too.
+    Stands,
+    /// None that is older than the newest one but so many.
+    Lasts { but: usize },
+    /// The crashes begin here.
+    Begins,
+}
+
+/// A record that is asked over connection 0.
+#[derive(Drop)]
+pub struct Look {
+    pub record: Pattern,
+    /// Its reply, where each state has the same.
+    pub reply: Option<Pattern>,
+}
+
+/// The replies to the looks that have none of their own.
+#[derive(Drop)]
+pub struct State {
+    replies: Vec<Pattern>,
+}
+
+impl Trials {
+    /// Whether there is anything to do.
+    pub fn are_any(self) -> bool {
+        self.crashes || self.fails
+    }
+
+    /// Takes in what the words of a line ask for.
+    pub fn read(&mut self, verb: &str, words: &[&str]) -> Result<(), Fault> {
+        match (verb, words) {
+            ("crashes", []) => self.crashes = true,
+            ("crashes", [word]) if *word == "twice" => {
+                self.crashes = true;
+                self.twice = true;
+            }
+            ("fails", []) => self.fails = true,
+            _ => return Err(Fault::Step),
+        }
+        Ok(())
+    }
+}
+
+impl Aftermath {
+    /// Nothing crashes.
+    pub fn new(alloc: Global) -> Aftermath {
+        Aftermath {
+            trials: Trials {
+                crashes: false,
+                twice: false,
+                fails: false,
+            },
+            looks: Vec::new(alloc),
+            states: Vec::new(alloc),
+        }
+    }
+
+    /// How many replies a state has.
+    fn replies(&self) -> usize {
+        self.looks
+            .iter()
+            .filter(|look| look.reply.is_none())
+            .count()
+    }
+}
+
+impl State {
+    /// Whether these are its answers in this run.
+    pub fn is(&self, alloc: Global, answers: &[Vec<u8>], run: u32) -> Result<bool, Fault> {
+        for (reply, answer) in self.replies.iter().zip(answers) {
+            if reply.spell(alloc, run)?.as_slice() != answer.as_slice() {
+                return Ok(false);
+            }
+        }
+        Ok(true)
+    }
+}
+
+/// Adds what `RECORD` or `RECORD REPLY` says.
+pub fn add_look(
+    alloc: Global,
+    records: &Records<'_>,
+    words: &[&str],
+    aftermath: &mut Aftermath,
+) -> Result<(), Fault> {
+    let look = match words {
+        [record] => Look {
+            record: records.pattern(alloc, *record)?,
+            reply: None,
+        },
+        [record, reply] => Look {
+            record: records.pattern(alloc, *record)?,
+            reply: Some(records.pattern(alloc, *reply)?),
+        },
+        _ => return Err(Fault::Step),
+    };
+    Ok(aftermath.looks.push(look)?)
+}
+
+/// Adds the state whose replies the words of a line name.
+pub fn add_state(
+    alloc: Global,
+    records: &Records<'_>,
+    words: &[&str],
+    aftermath: &mut Aftermath,
+) -> Result<(), Fault> {
+    if words.len() != aftermath.replies() {
+        return Err(Fault::Step);
+    }
+    let mut replies = Vec::new(alloc);
+    for word in words {
+        replies.push(records.pattern(alloc, *word)?)?;
+    }
+    Ok(aftermath.states.push(State { replies })?)
+}
+
+/// The states that a crash may leave, by their numbers.
+#[derive(Clone, Copy)]
+pub struct Left {
+    pub first: usize,
+    /// Behind the last one.
+    pub end: usize,
+}
+
+impl Left {
+    /// Takes in what a step says.
+    pub fn mark(&mut self, mark: Mark) {
+        match mark {
+            Mark::Stands => self.end = self.end.saturating_add(1),
+            Mark::Lasts { but } => self.first = self.end.saturating_sub(but.saturating_add(1)),
+            Mark::Begins => {}
+        }
+    }
+}
+
+/// What was tried, and what was found.
+#[derive(Drop)]
+pub struct Tally {
+    /// How often the device crashed, and the device of a mount after that.
+    pub crashes: u32,
+    pub mounts: u32,
+    /// How many of its calls failed, one in each life.
+    pub failures: u32,
+    /// How often each state was found.
+    found: Vec<u32>,
+}
+
+impl Tally {
+    pub fn new(alloc: Global) -> Tally {
+        Tally {
+            crashes: 0,
+            mounts: 0,
+            failures: 0,
+            found: Vec::new(alloc),
+        }
+    }
+
+    /// The state of this number was found.
+    pub fn count(&mut self, number: usize) -> Result<(), AllocError> {
+        if self.found.len() <= number {
+            self.found.resize(number.saturating_add(1), 0)?;
+        }
+        if let Some(times) = self.found.get_mut(number) {
+            *times = times.saturating_add(1);
+        }
+        Ok(())
+    }
+
+    /// How many different ones were found.
+    fn states(&self) -> usize {
+        self.found.iter().filter(|times| **times > 0).count()
+    }
+}
+
+impl fmt::Display for Tally {
+    fn fmt<W: fmt::Write>(&self, f: &mut fmt::Formatter<W>) -> fmt::Result {
+        let Tally {
+            crashes,
+            mounts,
+            failures,
+            ..
+        } = self;
+        let states = self.states();
+        write!(
+            f,
+            "{crashes} crashes, {failures} failures, {mounts} crashes of mounts, states {states}"
+        )
+    }
+}
