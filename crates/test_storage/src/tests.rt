@@ -1,8 +1,6 @@
-//! What no contract says: that calls succeed, what stands in a file, and what a mount finds after a
-//! stop.
+//! What no contract says: that calls succeed, what stands in a file, and what a mount finds.
 
-mod devices;
 mod drivers;
-mod places;
+mod files;
 mod transactions;
 mod volumes;

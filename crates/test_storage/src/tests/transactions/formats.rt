@@ -1,14 +1,28 @@
-//! Stops before and within each write and each sync of a format.
+//! Crashes before and within each write and each sync of a format.
 
 use super::super::drivers::{byte_of, change, fill, filled, landed, stopping, sync, write};
 use super::SECTORS;
-use super::held::format;
-use super::work::{Contents, mounted};
-use disk::{CrashDevice, DiskFault, Landed, Stop, Unsynced, landings};
+use super::held::{Held, format};
+use disk::{CrashDevice, Device, DiskFault, Landed, Stop, Unsynced, landings};
 use journal::JournalFault;
 use std::alloc::{AllocError, Global};
 use std::process::Abort;
 use std::test::Fail;
+
+// What a device holds: for each sector the byte that fills it. The journal's own count as 0.
+type Contents = [u8; 256];
+
+// What a mount finds.
+fn mounted<D: Device>(alloc: Global, device: D) -> Result<Contents, JournalFault> {
+    let mut held = Held::mount(alloc, device)?;
+    let mut found = [0; 256];
+    for n in 0..SECTORS {
+        if n == 0 || n >= 98 {
+            found[n as usize] = held.byte_at(n)?;
+        }
+    }
+    Ok(found)
+}
 
 // what fills sector 0 before a format and after it
 const OLD: u8 = 5;
@@ -126,7 +140,7 @@ fn contents(alloc: Global, device: &CrashDevice) -> Result<Contents, Fail> {
 }
 
 #[test]
-fn stops_of_a_format(rt: HostRuntime) -> Result<(), Fail> {
+fn crashes_of_a_format(rt: HostRuntime) -> Result<(), Fail> {
     let alloc = rt.alloc();
     let old = old_device(alloc)?;
     let whole = format_until(alloc, &old, Stop::Never)?;
