@@ -1,6 +1,6 @@
 //! The listening socket, and the connection that waits for a place.
 
-use crate::patience::limit_patience;
+use crate::timeouts::set_timeouts;
 use callers::Refused;
 use mio::net::{TcpListener, TcpStream};
 use mio::{Interest, Poll, Token};
@@ -51,7 +51,7 @@ impl Door {
     }
 
     fn of(listener: TcpListener) -> Door {
-        limit_patience(&listener);
+        set_timeouts(&listener);
         Door {
             listener,
             can_accept: true,

@@ -1,26 +1,18 @@
 //! A mounted volume, its peers, and the loop over them.
 
 use crate::door::Door;
+use crate::sockets::Sockets;
 use crate::told::Told;
 use callers::{Refused, link};
 use disk::Device;
-use mio::event::Event;
-use mio::net::TcpStream;
-use mio::{Events, Interest, Poll, Token};
-use peer::{Inbox, Pace, Peer, Step};
+use peer::{Pace, Step};
 use server::{MAX_CONNECTIONS, Server};
-use slab::Slab;
 use std::alloc::Global;
 use std::io::Write;
 use std::net::Net;
 use std::num::NonZeroUsize;
 use std::time::{Clock, Duration, Instant};
 use system::moment;
-
-/// The most changes that the system tells of at once.
-const MAX_EVENTS: usize = 64;
-
-const DOOR: Token = Token(usize::MAX);
 
 /// The pause after want of memory, or of what the system gives.
 const PAUSE_MILLIS: u64 = 10;
@@ -67,7 +59,7 @@ where
     E: Write,
 {
     let mut hub = Hub::new(rt, device, door, settings)?;
-    writeln!(out, "serving {}", hub.door.address()?)?;
+    writeln!(out, "serving {}", hub.sockets.address()?)?;
     out.flush()?;
     for _ in 0..u64::MAX {
         hub.run(rt, err)?;
@@ -81,10 +73,7 @@ where
 #[derive(Drop)]
 pub struct Hub<D: Device> {
     server: Server<D>,
-    poll: Poll,
-    events: Events,
-    door: Door,
-    peers: Slab<Peer<TcpStream>>,
+    sockets: Sockets,
     told: Told,
     /// How soon to go on.
     pace: Pace,
@@ -100,20 +89,24 @@ impl<D: Device> Hub<D> {
     ///
     /// # Errors
     /// Those of a mount; Io where the system tells of no changes; Memory.
-    pub fn new<R>(rt: &R, device: D, mut door: Door, settings: Settings) -> Result<Hub<D>, Refused>
+    pub fn new<R>(rt: &R, device: D, door: Door, settings: Settings) -> Result<Hub<D>, Refused>
     where
         R: Net + AllocGlobal,
     {
-        let peers = Slab::with_capacity(rt.alloc(), MAX_CONNECTIONS)?;
-        let events = Events::with_capacity(rt.alloc(), MAX_EVENTS)?;
-        let poll = Poll::new(rt)?;
-        door.register(&poll, DOOR)?;
+        let sockets = Sockets::new(rt, door)?;
+        Hub::over(rt.alloc(), device, sockets, settings)
+    }
+
+    fn over(
+        alloc: Global,
+        device: D,
+        sockets: Sockets,
+        settings: Settings,
+    ) -> Result<Hub<D>, Refused> {
+        let server = mounted(alloc, device, settings.persistent)?;
         Ok(Hub {
-            server: mounted(rt.alloc(), device, settings.persistent)?,
-            poll,
-            events,
-            door,
-            peers,
+            server,
+            sockets,
             told: Told::new(),
             pace: Pace::Goes,
             is_rested: true,
@@ -140,26 +133,14 @@ impl<D: Device> Hub<D> {
     pub fn begin_anew(self, alloc: Global) -> Result<Hub<D>, Refused> {
         let Hub {
             server,
-            poll,
-            events,
-            door,
-            peers,
+            sockets,
             told,
             settings,
             ..
         } = self;
-        Ok(Hub {
-            server: mounted(alloc, server.into_device(), settings.persistent)?,
-            poll,
-            events,
-            door,
-            peers,
-            told,
-            pace: Pace::Goes,
-            is_rested: true,
-            alone_since: None,
-            settings,
-        })
+        let mut hub = Hub::over(alloc, server.into_device(), sockets, settings)?;
+        hub.told = told;
+        Ok(hub)
     }
 
     /// Serves until no peer has been there for as long as was given.
@@ -196,7 +177,7 @@ impl<D: Device> Hub<D> {
         R: Clock + AllocGlobal,
         E: Write,
     {
-        let was_told = self.hear(timeout)?;
+        let was_told = self.sockets.hear(timeout)?;
         if self.pace == Pace::Sleeps && !was_told {
             self.rest()?;
         }
@@ -211,9 +192,7 @@ impl<D: Device> Hub<D> {
             Pace::Goes => Some(Duration::ZERO),
             Pace::Pauses => Some(Duration::from_millis(PAUSE_MILLIS)),
             Pace::Sleeps if !self.is_rested => Some(Duration::from_millis(QUIET_MILLIS)),
-            Pace::Sleeps if self.door.is_kept_waiting() => Some(Duration::from_secs(
-                GLANCE_SECONDS,
-            )),
+            Pace::Sleeps if self.sockets.has_waiting() => Some(Duration::from_secs(GLANCE_SECONDS)),
             Pace::Sleeps => self.until_forgetting(now),
         }
     }
@@ -230,24 +209,6 @@ impl<D: Device> Hub<D> {
             self.is_rested = true;
         }
         Ok(())
-    }
-
-    /// Waits for the system, and tells the door and the peers what it told of them. Whether it told
-    /// anything.
-    fn hear(&mut self, timeout: Option<Duration>) -> Result<bool, Refused> {
-        self.poll.poll(&mut self.events, timeout)?;
-        for event in &self.events {
-            if event.token() == DOOR {
-                self.door.wake();
-            } else if let Some(peer) = self.peers.get_mut(event.token().0) {
-                let is_broken = is_broken(event);
-                peer.wake(
-                    event.is_readable() || is_broken,
-                    event.is_writable() || is_broken,
-                );
-            }
-        }
-        Ok(!self.events.is_empty())
     }
 
     /// Connections that wait are given places, and each peer has a step.
@@ -271,15 +232,15 @@ impl<D: Device> Hub<D> {
     where
         R: Clock + AllocGlobal,
     {
-        match self.door.has_waiting() {
+        match self.sockets.finds_waiting() {
             Ok(true) => {}
             Ok(false) => return Ok(Pace::Sleeps),
             Err(_) => return Ok(Pace::Pauses),
         }
-        if self.peers.len() < MAX_CONNECTIONS {
-            return self.admit(rt, now);
+        if self.sockets.are_full() {
+            return Ok(self.sockets.dismiss_the_quietest(now));
         }
-        Ok(self.dismiss_the_quietest(now))
+        self.admit(rt, now)
     }
 
     /// Has the connection that waits served. Where there is no memory for it, it waits on.
@@ -287,49 +248,20 @@ impl<D: Device> Hub<D> {
     where
         R: Clock + AllocGlobal,
     {
-        let Ok(inbox) = Inbox::new(rt.alloc()) else {
+        let Ok(inbox) = self.sockets.make_room(rt.alloc()) else {
             return Ok(Pace::Pauses);
         };
-        if self.peers.reserve(1).is_err() {
-            return Ok(Pace::Pauses);
-        }
         let conn = match link::connect(&mut self.server) {
             Ok(conn) => conn,
             Err(Refused::Memory) => return Ok(Pace::Pauses),
             Err(refused) => return Err(refused),
         };
-        let token = Token(self.peers.vacant_key());
-        match taken_in(&mut self.door, &self.poll, token) {
-            Some(stream) => {
-                self.alone_since = None;
-                let peer = Peer::new(conn, stream, inbox, now);
-                self.peers.insert_reserved(peer);
-            }
-            None => link::hangup(&mut self.server, conn, moment(rt)?)?,
+        if self.sockets.take_in(conn, inbox, now) {
+            self.alone_since = None;
+        } else {
+            link::hangup(&mut self.server, conn, moment(rt)?)?;
         }
         Ok(Pace::Goes)
-    }
-
-    /// Ends the peer that was quiet longest, of those that were quiet for long: its sessions live on,
-    /// and its client connects again.
-    fn dismiss_the_quietest(&mut self, now: Instant) -> Pace {
-        let mut quietest = None;
-        let mut longest = Duration::ZERO;
-        for (key, peer) in self.peers.iter() {
-            if let Some(quiet) = peer.quiet_for(now)
-                && quiet >= longest
-            {
-                quietest = Some(key);
-                longest = quiet;
-            }
-        }
-        let Some(key) = quietest else {
-            return Pace::Sleeps;
-        };
-        if let Some(peer) = self.peers.get_mut(key) {
-            peer.dismiss();
-        }
-        Pace::Goes
     }
 
     fn step<C, E>(
@@ -343,7 +275,7 @@ impl<D: Device> Hub<D> {
         C: Clock,
         E: Write,
     {
-        let Some(peer) = self.peers.get_mut(key) else {
+        let Some(peer) = self.sockets.peer(key) else {
             return Ok(Pace::Sleeps);
         };
         let step = peer.step(&mut self.server, clock, now)?;
@@ -361,30 +293,10 @@ impl<D: Device> Hub<D> {
 
     /// Its stream is closed with it, and another connection may have its place.
     fn remove(&mut self, key: usize, now: Instant) {
-        self.peers.try_remove(key);
-        if self.peers.is_empty() {
+        if self.sockets.remove(key) {
             self.alone_since = Some(now);
         }
     }
-}
-
-/// The connection that waits, of which the system tells changes by this token from now on; where it
-/// does not, the connection is closed.
-fn taken_in(door: &mut Door, poll: &Poll, token: Token) -> Option<TcpStream> {
-    let mut stream = door.take_waiting()?;
-    // Without this a reply may wait in the system for the peer's acknowledgement of the one before.
-    // It is sent all the same.
-    let _ = stream.set_nodelay(true);
-    let interests = Interest::READABLE | Interest::WRITABLE;
-    match poll.registry().register(&mut stream, token, interests) {
-        Ok(()) => Some(stream),
-        Err(_) => None,
-    }
-}
-
-/// Whether the stream has ended or failed, which the next read or write tells.
-fn is_broken(event: &Event) -> bool {
-    event.is_error() || event.is_read_closed() || event.is_write_closed()
 }
 
 fn mounted<D: Device>(alloc: Global, device: D, persistent: bool) -> Result<Server<D>, Refused> {

@@ -4,7 +4,8 @@
 
 mod door;
 mod hub;
-mod patience;
+mod sockets;
+mod timeouts;
 mod told;
 
 pub use door::Door;

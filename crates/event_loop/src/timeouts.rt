@@ -16,7 +16,7 @@ const UNTAKEN: i32 = 120_000;
 
 /// Has the system end a connection whose peer is gone or takes no reply. Connections have what the
 /// socket has that accepts them. Where the system refuses, they are served all the same.
-pub fn limit_patience<S: AsRawFd>(listener: &S) {
+pub fn set_timeouts<S: AsRawFd>(listener: &S) {
     let fd = listener.as_raw_fd();
     let _ = unsafe { c::setsockopt(fd, c::SOL_SOCKET, c::SO_KEEPALIVE, &value_of(1), 4) };
     let _ = unsafe { c::setsockopt(fd, c::IPPROTO_TCP, c::TCP_KEEPIDLE, &value_of(IDLE), 4) };
