@@ -1,62 +1,46 @@
-//! Two journals, one that keeps one sector in memory and one that keeps 64: whatever is asked, both
-//! answer the same, and leave the same sectors.
+//! A journal that keeps one sector in memory, and one that keeps 64: whatever is asked, both answer
+//! the same, and leave the same sectors.
 
-use super::drivers::{
-    Answer, Call, Effect, Make, Tree, ask, format, image_of, mount, mount_cached,
-};
-use super::rows::{MODE_755, NO_ENTRY, OWNER, ROOT};
-use fs::FsFault;
+use super::drivers::{Tree, ask, format, image_of, mount_cached, mounted};
+use super::rows::play;
+use super::sectors::Image;
 use std::alloc::Global;
 use std::num::NonZeroUsize;
 use std::process::Abort;
 use std::test::Fail;
 
-const SECTORS: u32 = 1_024;
+/// Files are made, written, written over at their ends, and removed; what waits for a flush is read,
+/// and read again after it.
+const WORK: &str = "
+7 mkdir 1 a = 1:1 1
+7 create 1:1 f = 1:2 2 1:1 1:2
+7 write 1:2 0 stable 1*40 = 40
+7 create 1:1 g = 1:4 2 1:2 1:4
+7 write 1:4 0 unstable 2*5000 = 5000
+7 create 1 h = 1:6 2 1:1 1:6
+7 write 1:6 20480 unstable 3*5000 = 5000
+7 read 1:2 0 100 = 1*40 1
+7 write 1:2 36 unstable 4*8 = 8
+7 read 1:2 0 100 = 1*36 4*8 1
+7 commit 1:2
+7 read 1:2 0 100 = 1*36 4*8 1
+7 write 1:4 4096 unstable 5*8 = 8
+7 read 1:4 4090 100 = 2*6 5*8 2*86 0
+7 read 1:6 20478 3 = 0*2 3*1 0
+7 rename 1:1 f 1 e = 1:4 1:10 1:6 1:10 0
+7 show 1:2 16 0 = x000000010000001000000008 44
+7 remove 1:1 g = 1:4 1:10 1:11
+7 lookup 1:1 g = !2
+7 read 1:2 0 100 = 1*36 4*8 1";
 
-const NODES: u32 = 300;
-
-/// How many files are made.
-const FILES: u8 = 200;
-
-/// Each file's name is a front of this.
-const NAMES: [u8; 255] = [b'n'; 255];
-
-/// Of a file: type, change, size and number; mode, owner, group and time of the last modification.
-const SHOWN: [u32; 2] = [0x10_001A, 0x20_0032];
-
-const SIZE: [u32; 2] = [0x10, 0];
-
-/// A bitmap of one word, of size alone, and the size 44.
-const SIZE_44: &[u8] = b"\0\0\0\x01\0\0\0\x10\0\0\0\x08\0\0\0\0\0\0\0\x2C";
-
-/// A file: how many were made before it, by which it has its name and its bytes, and its number.
-#[derive(Clone, Copy)]
-struct File {
-    place: u8,
-    number: u64,
+/// The sectors in the end.
+fn worked(rt: &impl Abort, alloc: Global, fs: Tree) -> Result<Image, Fail> {
+    let fs = play(rt, alloc, fs, WORK)?;
+    image_of(alloc, &mut fs.into_device())
 }
 
-impl File {
-    /// What it holds at first.
-    fn bytes(self) -> [u8; 40] {
-        [self.place; 40]
-    }
-
-    /// What stays of it.
-    fn front(self) -> [u8; 36] {
-        [self.place; 36]
-    }
-
-    /// What is written after that.
-    fn later_bytes(self) -> [u8; 8] {
-        [!self.place; 8]
-    }
-}
-
-fn name_of(place: u8) -> &'static [u8] {
-    let len = usize::from(place).saturating_add(1);
-    NAMES.get(..len).unwrap_or(b"last")
-}
+/// Files enough for more sectors than both journals keep.
+const FILES: u32 = 200;
 
 /// Two file systems on volumes of their own.
 #[derive(Drop)]
@@ -70,121 +54,90 @@ struct Pair {
 
 impl Pair {
     fn new(alloc: Global) -> Result<Pair, Fail> {
-        let device = format(alloc, SECTORS, NODES)?;
         Ok(Pair {
             alloc,
-            one: mount_cached(alloc, device, NonZeroUsize::MIN)?,
-            many: mount(alloc, format(alloc, SECTORS, NODES)?)?,
+            one: mount_cached(alloc, format(alloc, 1_024, 300)?, NonZeroUsize::MIN)?,
+            many: mounted(alloc, 1_024, 300)?,
         })
     }
 
-    /// What both answer, and the bytes that both give.
-    fn ask(&mut self, rt: &impl Abort, call: Call<'_>) -> (Result<Answer, FsFault>, Vec<u8>) {
-        let mut bytes = Vec::new(self.alloc);
-        let mut others = Vec::new(self.alloc);
-        let answer = ask(self.alloc, &mut self.one, OWNER, call, &mut bytes);
-        let other = ask(self.alloc, &mut self.many, OWNER, call, &mut others);
-        assert!(rt; answer == other, "{answer:?} and {other:?}");
-        assert!(rt;
-            bytes.as_slice() == others.as_slice(),
-            "{bytes:?} and {others:?}"
-        );
-        (answer, bytes)
-    }
-
-    /// Both answer this, with these bytes.
-    fn expect(
-        &mut self,
-        rt: &impl Abort,
-        call: Call<'_>,
-        wanted: Result<Answer, FsFault>,
-        bytes: &[u8],
-    ) {
-        let (answer, given) = self.ask(rt, call);
-        assert!(rt; answer == wanted, "{answer:?} for {wanted:?}");
-        assert!(rt; given.as_slice() == bytes, "{given:?} for {bytes:?}");
-    }
-
-    /// A new file with its bytes, of which every second one is written to be stable.
-    fn make(&mut self, rt: &impl Abort, place: u8) -> Result<File, Fail> {
-        let call = Call::Open(ROOT, name_of(place), (2, 0), Make::Guarded(MODE_755));
-        let (Ok(Answer::Opened(number, Effect::Made, _)), _) = self.ask(rt, call) else {
-            return Err("not made".into());
-        };
-        let file = File { place, number };
-        let call = Call::Write(number, 0, &file.bytes(), place % 2 == 0);
-        self.expect(rt, call, Ok(Answer::Taken(40)), b"");
-        Ok(file)
-    }
-
-    /// The bytes of a file are there, and others are written over its end. These are there while
-    /// they wait for a flush, and after it.
-    fn rewrite(&mut self, rt: &impl Abort, file: File) {
-        let number = file.number;
-        let read = Ok(Answer::Read(true));
-        self.expect(rt, Call::Read(number, 0, 100), read, &file.bytes());
-        let call = Call::Write(number, 36, &file.later_bytes(), false);
-        self.expect(rt, call, Ok(Answer::Taken(8)), b"");
-        self.expect(rt, Call::Read(number, 36, 100), read, &file.later_bytes());
-        self.expect(rt, Call::Commit(number), Ok(Answer::Done), b"");
-        self.expect(rt, Call::Read(number, 36, 100), read, &file.later_bytes());
-    }
-
-    /// Both its parts are there, and its attributes.
-    fn read(&mut self, rt: &impl Abort, file: File) {
-        let number = file.number;
-        let read = Ok(Answer::Read(false));
-        self.expect(rt, Call::Read(number, 0, 36), read, &file.front());
-        let read = Ok(Answer::Read(true));
-        self.expect(rt, Call::Read(number, 36, 100), read, &file.later_bytes());
-        let done = Ok(Answer::Done);
-        self.expect(rt, Call::Attributes(number, &SIZE), done, SIZE_44);
-        let (answer, _) = self.ask(rt, Call::Attributes(number, &SHOWN));
-        assert_eq!(rt; answer, done);
-    }
-
-    /// A file is gone, with its name.
-    fn remove(&mut self, rt: &impl Abort, file: File) {
-        let name = name_of(file.place);
-        let (answer, _) = self.ask(rt, Call::Remove(ROOT, name));
-        assert!(rt; matches!(answer, Ok(Answer::Removed(_, _))), "{answer:?}");
-        self.expect(rt, Call::LookUp(ROOT, name), NO_ENTRY, b"");
-    }
-
-    /// The sectors of both devices are the same.
-    fn expect_same_sectors(self, rt: &impl Abort) -> Result<(), Fail> {
-        let Pair { alloc, one, many } = self;
-        let sectors = image_of(alloc, &mut one.into_device())?;
-        let others = image_of(alloc, &mut many.into_device())?;
-        assert_eq!(rt; sectors.len(), SECTORS as usize);
-        for (number, (content, other)) in sectors.iter().zip(others.iter()).enumerate() {
-            assert!(rt; content == other, "sector {number}");
+    /// Both answer alike, and neither refuses.
+    fn ask(&mut self, line: &str) -> Result<(), Fail> {
+        let answer = ask(self.alloc, &mut self.one, line)?;
+        let other = ask(self.alloc, &mut self.many, line)?;
+        if answer.as_slice() != other.as_slice() {
+            return Err("another answer".into());
+        }
+        if answer.starts_with(&[0xFF; 8]) {
+            return Err("refused".into());
         }
         Ok(())
     }
-}
 
-fn make_files(rt: &impl Abort, pair: &mut Pair) -> Result<Vec<File>, Fail> {
-    let mut files = Vec::new(pair.alloc);
-    for place in 0..FILES {
-        files.push(pair.make(rt, place)?)?;
+    fn ask_all(&mut self, lines: &str) -> Result<(), Fail> {
+        for line in lines.lines() {
+            self.ask(line)?;
+        }
+        Ok(())
     }
-    Ok(files)
+
+    /// The sectors of both devices are the same.
+    fn expect_same_sectors(self) -> Result<(), Fail> {
+        let Pair { alloc, one, many } = self;
+        let sectors = image_of(alloc, &mut one.into_device())?;
+        let others = image_of(alloc, &mut many.into_device())?;
+        if sectors.as_slice() == others.as_slice() {
+            Ok(())
+        } else {
+            Err("another sector".into())
+        }
+    }
 }
 
-/// More files than both journals together keep sectors.
+/// The number of a file: each was made by one change, and written by the next.
+fn number_of(place: u32) -> u32 {
+    place.saturating_mul(2).saturating_add(1)
+}
+
+/// A file is made and written.
+fn makes(alloc: Global, place: u32) -> Result<String, Fail> {
+    let number = number_of(place);
+    Ok(format!(in alloc; "7 create 1 f{place}\n7 write 1:{number} 0 stable {place}*40")?)
+}
+
+/// It is read, and written over its end; that is read while it waits for a flush, and after it.
+fn uses(alloc: Global, place: u32) -> Result<String, Fail> {
+    let number = number_of(place);
+    Ok(format!(in alloc;
+        "7 read 1:{number} 0 100\n7 write 1:{number} 36 unstable 9*8\n7 read 1:{number} 0 100\n\
+         7 commit 1:{number}\n7 read 1:{number} 0 100\n7 show 1:{number} 16 0"
+    )?)
+}
+
+fn removes(alloc: Global, place: u32) -> Result<String, Fail> {
+    Ok(format!(in alloc; "7 remove 1 f{place}")?)
+}
+
+#[test]
+fn a_cache_changes_nothing_of_200_files(rt: HostRuntime) -> Result<(), Fail> {
+    let mut pair = Pair::new(rt.alloc())?;
+    for place in 0..FILES {
+        pair.ask_all(&makes(rt.alloc(), place)?)?;
+    }
+    for place in 0..FILES {
+        pair.ask_all(&uses(rt.alloc(), place)?)?;
+    }
+    for place in 0..FILES {
+        pair.ask_all(&removes(rt.alloc(), place)?)?;
+    }
+    pair.expect_same_sectors()
+}
+
 #[test]
 fn a_cache_changes_no_answer(rt: HostRuntime) -> Result<(), Fail> {
-    let mut pair = Pair::new(rt.alloc())?;
-    let files = make_files(&rt, &mut pair)?;
-    for file in &files {
-        pair.rewrite(&rt, *file);
-    }
-    for file in &files {
-        pair.read(&rt, *file);
-    }
-    for file in &files {
-        pair.remove(&rt, *file);
-    }
-    pair.expect_same_sectors(&rt)
+    let one = mount_cached(rt.alloc(), format(rt.alloc(), 256, 16)?, NonZeroUsize::MIN)?;
+    let sectors = worked(&rt, rt.alloc(), one)?;
+    let others = worked(&rt, rt.alloc(), mounted(rt.alloc(), 256, 16)?)?;
+    assert!(rt; sectors.as_slice() == others.as_slice(), "another sector");
+    Ok(())
 }

@@ -2,16 +2,14 @@
 //! all that it promises into the proof of its caller.
 
 mod asking;
-mod call;
 mod calls;
 mod changes;
 mod pages;
 mod volumes;
 
 pub(super) use asking::ask;
-pub(super) use call::{Answer, Call, Caller, Effect, Given, Make};
 pub(super) use changes::make_dir;
 pub(super) use volumes::{
-    Tree, check, device_of, format, image_of, mount, mount_cached, mount_on, mounted, refused,
+    Tree, check, device_of, format, image_of, judge, mount, mount_cached, mount_on, mounted,
     remount, try_mount,
 };

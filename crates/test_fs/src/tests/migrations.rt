@@ -1,306 +1,355 @@
-//! Mounts of version 1: wherever one stops, and whatever call of the device fails, the same tree
+//! Mounts of version 1: wherever one crashes, and whatever call of the device fails, the same tree
 //! stands, and in the end it has version 2.
 
 use super::drivers::{check, device_of, image_of, try_mount};
 use super::filling::filled;
-use super::independent::{Image, NODES, Standing, check_image, copy_image, read_image};
-use super::version_1::{FILLED, WIDE, take_back};
-use disk::{CallKind, CrashDevice, FaultDevice, MemDevice, SECTOR, Stop, landings};
+use super::sectors::{Image, MARK, NODES, byte_at, copy_image, put_all};
+use super::version_1::{FILLED, WIDE, old_image, take_back};
+use disk::{CallKind, CrashDevice, FaultDevice, Landed, MemDevice, SECTOR, Stop, landings};
 use fs::MountFault;
-use std::alloc::Global;
+use std::alloc::{AllocError, Global};
 use std::process::Abort;
 use std::test::Fail;
 
-/// More calls of a kind than a mount makes.
-const MAX_CALLS: u64 = 2_000;
+/// More calls of a kind than a mount makes, and more places than crashes leave.
+const MAX_CALLS: usize = 2_000;
 
-/// Where a volume is between version 1 and version 2.
-#[derive(Clone, Copy, Debug, PartialEq, Eq)]
-struct Place {
-    version: u64,
-    mark: Option<usize>,
-    /// How many sectors the gate names.
-    targets: u8,
-}
+const MAX_PLACES: usize = 100;
 
-fn place_of(image: &Image, standing: &Standing) -> Place {
-    Place {
-        version: standing.version,
-        mark: standing.mark,
-        targets: image.get(1).map_or(0, |gate| gate[7]),
-    }
-}
+/// The landings of nothing and of everything are among the first of more than six sectors.
+const FEW: usize = 4;
 
-/// Which landings of a stop are tried.
-#[derive(Clone, Copy, PartialEq, Eq)]
-enum Landings {
-    All,
-    /// Those of nothing and of everything.
-    Ends,
-}
+/// The first sector of what a tree stands on, the bitmap.
+const TREE: usize = 98;
 
-/// What a reading finds on sectors that are a volume.
-fn found_on(rt: &impl Abort, alloc: Global, image: &Image) -> Result<Standing, Fail> {
-    match read_image(alloc, image) {
-        Ok(standing) => Ok(standing),
-        Err(fault) => {
-            assert!(rt; false, "{fault:?}");
-            Err("no volume".into())
+/// Where a volume is between version 1 and version 2: its version, how many places are moved, as its
+/// mark tells, and how many sectors the gate names.
+type Place = [u8; 3];
+
+/// Gives each sector that the gate names what the log has for it.
+fn settle(image: &mut Image) {
+    for i in 0..usize::from(byte_at(image, 1, 7)) {
+        let at = i.saturating_mul(4).saturating_add(10);
+        let high = byte_at(image, 1, at);
+        let low = byte_at(image, 1, at.saturating_add(1));
+        let target = usize::from(u16::from_be_bytes([high, low]));
+        let content = image.get(i.saturating_add(2)).copied();
+        if let (Some(to), Some(content)) = (image.get_mut(target), content) {
+            *to = content;
         }
     }
 }
 
-/// A volume whose mounts are tried.
-#[derive(Drop)]
-struct Trial {
-    alloc: Global,
-    image: Image,
-    standing: Standing,
-    landings: Landings,
-    /// One volume that a stop left of each place that was found.
-    left: Vec<(Place, Image)>,
+/// The sector of a node of form one as it is in form two.
+fn move_node(bytes: &mut [u8; SECTOR]) {
+    if bytes.starts_with(b"NODE") {
+        bytes[3] = b'2';
+        bytes[85] = bytes[5];
+        bytes[5] = 0;
+    }
 }
 
-impl Trial {
-    fn new(
-        rt: &impl Abort,
-        alloc: Global,
-        image: Image,
-        landings: Landings,
-    ) -> Result<Trial, Fail> {
-        assert_eq!(rt; check_image(alloc, &image), Ok(()));
-        Ok(Trial {
-            alloc,
-            standing: found_on(rt, alloc, &image)?,
-            image,
-            landings,
-            left: Vec::new(alloc),
-        })
-    }
-
-    /// The volume in memory.
-    fn device(&self) -> Result<MemDevice, Fail> {
-        device_of(self.alloc, copy_image(self.alloc, &self.image)?)
-    }
-
-    /// A mount that is stopped there: the device then, and what was answered.
-    fn mount(&self, stop: Stop) -> Result<(CrashDevice, Result<u32, MountFault>), Fail> {
-        let mut device = CrashDevice::new(self.device()?, stop);
-        let answer = try_mount(self.alloc, &mut device);
-        Ok((device, answer))
-    }
-
-    /// The same tree stands, in the version and with the count that it had, or in version 2 with
-    /// the next count.
-    fn expect_left(&self, rt: &impl Abort, image: &Image) -> Result<Standing, Fail> {
-        let found = found_on(rt, self.alloc, image)?;
-        let place = place_of(image, &found);
-        assert!(rt; found.has_tree_of(&self.standing), "{place:?}");
-        let is_before = (found.version, found.count)
-            == (self.standing.version, self.standing.count);
-        let is_after = (found.version, found.count) == (2, self.standing.count.saturating_add(1));
-        assert!(rt; is_before || is_after, "{place:?}, count {}", found.count);
-        Ok(found)
-    }
-
-    /// The whole mount ends in version 2, without a mark and with the next count. How many writes
-    /// and syncs it takes.
-    fn finish(&self, rt: &impl Abort) -> Result<u64, Fail> {
-        let (device, answer) = self.mount(Stop::Never)?;
-        let count = self.standing.count.saturating_add(1);
-        match answer {
-            Ok(run) => assert_eq!(rt; u64::from(run), count),
-            Err(fault) => assert!(rt; false, "{fault}"),
+/// Leaves what a tree stands on, with each node in form two.
+fn keep_tree(image: &mut Image) {
+    for (number, bytes) in image.iter_mut().enumerate() {
+        if number < TREE || number == MARK {
+            *bytes = [0; SECTOR];
+        } else if NODES <= number {
+            move_node(bytes);
         }
-        let mut landed = device.landed(self.alloc, &[])?;
-        let found = self.expect_left(rt, &image_of(self.alloc, &mut landed)?)?;
-        assert_eq!(rt; (found.version, found.count), (2, count));
-        assert_eq!(rt; found.mark, None);
-        Ok(device.steps())
     }
+}
 
-    /// A volume that a stop left.
-    fn take(&mut self, rt: &impl Abort, mut left: MemDevice) -> Result<(), Fail> {
-        let image = image_of(self.alloc, &mut left)?;
-        let found = self.expect_left(rt, &image)?;
-        let place = place_of(&image, &found);
-        if !self.left.iter().any(|(known, _)| *known == place) {
-            expect_check(rt, self.alloc, &mut left)?;
-            self.left.push((place, image))?;
-        }
-        Ok(())
-    }
+/// Where the volume is, and its tree.
+fn read_image(alloc: Global, image: &Image) -> Result<(Place, Image), AllocError> {
+    let mut tree = copy_image(alloc, image)?;
+    settle(&mut tree);
+    let place = [
+        byte_at(&tree, 0, 11),
+        byte_at(&tree, MARK, 7),
+        byte_at(&tree, 1, 7),
+    ];
+    keep_tree(&mut tree);
+    Ok((place, tree))
+}
 
-    /// A mount that stops within this step, and what then lands.
-    fn stop(&mut self, rt: &impl Abort, step: u64) -> Result<(), Fail> {
-        let (stopped, answer) = self.mount(Stop::Within(step))?;
-        assert_eq!(rt; answer, Err(MountFault::Device));
-        let tried = landings(self.alloc, &stopped.unsynced(self.alloc)?)?;
-        let last = tried.len().saturating_sub(1);
-        for (i, landing) in tried.iter().enumerate() {
-            if self.landings == Landings::All || i == 0 || i == last {
-                self.take(rt, stopped.landed(self.alloc, landing)?)?;
-            }
-        }
-        Ok(())
-    }
+/// The version, and how often it was mounted.
+fn head_of(image: &Image) -> [u8; 2] {
+    [byte_at(image, 0, 11), byte_at(image, 0, 23)]
+}
 
-    /// Stops in each step. What a stop before a step leaves is among what one within it may leave.
-    fn stop_each(&mut self, rt: &impl Abort) -> Result<(), Fail> {
-        for step in 0..self.finish(rt)? {
-            self.stop(rt, step)?;
-        }
-        Ok(())
-    }
+/// The same after a whole mount.
+fn next_head(image: &Image) -> [u8; 2] {
+    [2, byte_at(image, 0, 23).saturating_add(1)]
+}
 
-    /// The mount of each volume that stops left ends it all.
-    fn finish_each(&self, rt: &impl Abort) -> Result<(), Fail> {
-        for (_, image) in self.left.iter() {
-            let image = copy_image(self.alloc, image)?;
-            Trial::new(rt, self.alloc, image, Landings::Ends)?.finish(rt)?;
-        }
-        Ok(())
-    }
+fn need(holds: bool, why: &'static str) -> Result<(), Fail> {
+    if holds { Ok(()) } else { Err(why.into()) }
+}
 
-    /// The mounts of what stops left are stopped in each step too.
-    fn stop_again(&self, rt: &impl Abort) -> Result<(), Fail> {
-        for (_, image) in self.left.iter() {
-            let image = copy_image(self.alloc, image)?;
-            let mut next = Trial::new(rt, self.alloc, image, Landings::Ends)?;
-            next.stop_each(rt)?;
-            next.finish_each(rt)?;
-        }
-        Ok(())
-    }
-
-    /// The versions and marks that stops left, in the order in which they were found.
-    fn ways(&self) -> Result<Vec<(u64, Option<usize>)>, Fail> {
-        let mut ways = Vec::new(self.alloc);
-        for (place, _) in self.left.iter() {
-            let way = (place.version, place.mark);
-            if ways.last() != Some(&way) {
-                ways.push(way)?;
-            }
-        }
-        Ok(ways)
-    }
-
-    /// One call of this kind fails, each in its turn, and the next mount ends it all. How many
-    /// calls there are.
-    fn fail_each(&self, rt: &impl Abort, kind: CallKind) -> Result<u64, Fail> {
-        for number in 0..MAX_CALLS {
-            let mut device = FaultDevice::new(self.device()?, kind, number);
-            let answer = try_mount(self.alloc, &mut device);
-            let mut left = device.into_inner();
-            let image = image_of(self.alloc, &mut left)?;
-            self.expect_left(rt, &image)?;
-            if answer.is_ok() {
-                return Ok(number);
-            }
-            assert!(rt; answer == Err(MountFault::Device), "{kind:?} {number}");
-            Trial::new(rt, self.alloc, image, Landings::Ends)?.finish(rt)?;
-        }
-        Err("too many calls".into())
-    }
+/// Memory that holds the volume.
+fn device(alloc: Global, image: &Image) -> Result<MemDevice, Fail> {
+    device_of(alloc, copy_image(alloc, image)?)
 }
 
 /// A check finds a tree and writes nothing.
-fn expect_check(rt: &impl Abort, alloc: Global, device: &mut MemDevice) -> Result<(), Fail> {
-    let before = device.calls().len();
-    assert_eq!(rt; check(alloc, device), Ok(()));
-    assert_eq!(rt; device.calls().len(), before);
-    Ok(())
+fn expect_check(alloc: Global, image: &Image) -> Result<(), Fail> {
+    let mut device = device(alloc, image)?;
+    let answer = check(alloc, &mut device);
+    need(answer.is_ok() && device.calls().is_empty(), "a check")
+}
+
+/// What a mount answered and left, and how many writes and syncs it made.
+#[derive(Drop)]
+struct Left {
+    answer: Result<u32, MountFault>,
+    image: Image,
+    steps: usize,
+}
+
+/// A mount of which the call of this kind and number fails.
+fn mount(alloc: Global, before: &Image, kind: CallKind, number: u64) -> Result<Left, Fail> {
+    let mut device = FaultDevice::new(device(alloc, before)?, kind, number);
+    let answer = try_mount(alloc, &mut device);
+    let mut inner = device.into_inner();
+    Ok(Left {
+        answer,
+        steps: inner.calls().len(),
+        image: image_of(alloc, &mut inner)?,
+    })
+}
+
+/// A mount that crashes within this step.
+fn crash(alloc: Global, before: &Image, step: u64) -> Result<CrashDevice, Fail> {
+    let mut device = CrashDevice::new(device(alloc, before)?, Stop::Within(step));
+    if try_mount(alloc, &mut device) == Err(MountFault::Device) {
+        Ok(device)
+    } else {
+        Err("no crash".into())
+    }
+}
+
+/// What stands on the sectors when this lands.
+fn land(alloc: Global, crashed: &CrashDevice, landing: &[Landed]) -> Result<Image, Fail> {
+    let mut device = crashed.landed(alloc, landing)?;
+    image_of(alloc, &mut device)
+}
+
+/// A tree, and one volume of each place at which it was found.
+#[derive(Drop)]
+struct Trial {
+    alloc: Global,
+    tree: Image,
+    found: Vec<(Place, Image)>,
+}
+
+impl Trial {
+    fn new(alloc: Global, image: Image) -> Result<Trial, Fail> {
+        let (_, tree) = read_image(alloc, &image)?;
+        let mut trial = Trial {
+            alloc,
+            tree,
+            found: Vec::new(alloc),
+        };
+        let before = copy_image(alloc, &image)?;
+        trial.take(&before, image)?;
+        Ok(trial)
+    }
+
+    /// The same tree is on what a mount left, in the version and with the count that it had, or in
+    /// version 2 with the next count.
+    fn expect(&self, before: &Image, left: &Image) -> Result<Place, Fail> {
+        let (place, tree) = read_image(self.alloc, left)?;
+        let head = head_of(left);
+        let is_between = head == head_of(before) || head == next_head(before);
+        if is_between && tree.as_slice() == self.tree.as_slice() {
+            Ok(place)
+        } else {
+            Err("another tree or count".into())
+        }
+    }
+
+    /// A whole mount ended in version 2, without a mark and with the next count.
+    fn expect_end(&self, before: &Image, left: &Left) -> Result<(), Fail> {
+        let [_, mark, _] = self.expect(before, &left.image)?;
+        let [version, count] = next_head(before);
+        let is_mounted = left.answer == Ok(u32::from(count));
+        need(
+            is_mounted && mark == 0 && head_of(&left.image) == [version, count],
+            "no end",
+        )
+    }
+
+    /// The whole mount. How many writes and syncs it takes.
+    fn finish(&self, before: &Image) -> Result<usize, Fail> {
+        let left = mount(self.alloc, before, CallKind::Read, u64::MAX)?;
+        self.expect_end(before, &left)?;
+        Ok(left.steps)
+    }
+
+    /// What a mount left. A check takes the first one of each place.
+    fn take(&mut self, before: &Image, left: Image) -> Result<(), Fail> {
+        let place = self.expect(before, &left)?;
+        if self.found.iter().any(|(known, _)| *known == place) {
+            return Ok(());
+        }
+        expect_check(self.alloc, &left)?;
+        Ok(self.found.push((place, left))?)
+    }
+
+    /// What lands of a mount that crashed.
+    fn take_each(
+        &mut self,
+        before: &Image,
+        crashed: &CrashDevice,
+        landings: &[Vec<Landed>],
+    ) -> Result<(), Fail> {
+        for landing in landings {
+            self.take(before, land(self.alloc, crashed, landing)?)?;
+        }
+        Ok(())
+    }
+
+    /// A mount that crashes within this step, and so many of the landings. What a crash before a
+    /// step leaves is among what one within it may leave.
+    fn crash(&mut self, before: &Image, step: u64, most: usize) -> Result<(), Fail> {
+        let crashed = crash(self.alloc, before, step)?;
+        let landings = landings(self.alloc, &crashed.unsynced(self.alloc)?)?;
+        let some = landings.get(..most).unwrap_or(&landings);
+        self.take_each(before, &crashed, some)
+    }
+
+    /// The mount of a volume crashes in each step, and ends.
+    fn crash_each(&mut self, before: &Image, most: usize) -> Result<(), Fail> {
+        for step in 0..self.finish(before)? as u64 {
+            self.crash(before, step, most)?;
+        }
+        Ok(())
+    }
+
+    /// So do the mounts of what crashes left, until nothing more is found.
+    fn crash_all(&mut self) -> Result<(), Fail> {
+        for next in 0..MAX_PLACES {
+            let Some((_, image)) = self.found.get(next) else {
+                return Ok(());
+            };
+            let before = copy_image(self.alloc, image)?;
+            self.crash_each(&before, if next == 0 { usize::MAX } else { FEW })?;
+        }
+        Err("too many places".into())
+    }
+
+    /// Whether it was found in this version with this mark.
+    fn has(&self, version: u8, mark: u8) -> bool {
+        self.found
+            .iter()
+            .any(|([one, other, _], _)| *one == version && *other == mark)
+    }
+
+    /// A mount of which one call fails, or none where there are not so many. After it the next
+    /// mount ends it all.
+    fn fail(&self, before: &Image, kind: CallKind, number: u64) -> Result<bool, Fail> {
+        let left = mount(self.alloc, before, kind, number)?;
+        if left.answer == Err(MountFault::Device) {
+            self.expect(before, &left.image)?;
+            self.finish(&left.image)?;
+            return Ok(true);
+        }
+        self.expect_end(before, &left)?;
+        Ok(false)
+    }
+
+    /// One call of this kind fails, each in its turn. How many there are.
+    fn fail_each(&self, before: &Image, kind: CallKind) -> Result<usize, Fail> {
+        for number in 0..MAX_CALLS {
+            if !self.fail(before, kind, number as u64)? {
+                return Ok(number);
+            }
+        }
+        Err("too many calls".into())
+    }
+
+    /// Each call.
+    fn fail_all(&self, before: &Image) -> Result<(), Fail> {
+        let writes = self.fail_each(before, CallKind::Write)?;
+        let syncs = self.fail_each(before, CallKind::Sync)?;
+        let reads = self.fail_each(before, CallKind::Read)?;
+        let steps = self.finish(before)?;
+        need(
+            writes.saturating_add(syncs) == steps && reads > 0,
+            "another number of calls",
+        )
+    }
 }
 
 /// The volume of `filling` with so many nodes, as a migration left it that has moved so many.
-fn moving(alloc: Global, nodes: u8, moved: u8) -> Result<Image, Fail> {
-    let mut image = filled(alloc, u32::from(nodes))?;
+fn moving(rt: &impl Abort, alloc: Global, nodes: u8, moved: u8) -> Result<Image, Fail> {
+    let mut image = filled(rt, alloc, u32::from(nodes))?;
     take_back(&mut image, nodes, moved);
     Ok(image)
-}
-
-/// Puts the root behind an open gate, and zeros at its place.
-fn hide_root(image: &mut Image) {
-    let root = image.get(NODES).copied().unwrap_or([0; SECTOR]);
-    for (number, bytes) in image.iter_mut().enumerate() {
-        if number == 1 {
-            bytes[3] = 1;
-            bytes[7] = 1;
-            bytes[11] = 148;
-        } else if number == 2 {
-            *bytes = root;
-        } else if number == NODES {
-            *bytes = [0; SECTOR];
-        }
-    }
 }
 
 /// The same tree is on a volume of version 1 whatever was moved, and each is migrated.
 #[test]
 fn a_migration_goes_on_from_each_mark(rt: HostRuntime) -> Result<(), Fail> {
-    let whole = found_on(&rt, rt.alloc(), &filled(rt.alloc(), 16)?)?;
+    let trial = Trial::new(rt.alloc(), filled(&rt, rt.alloc(), 16)?)?;
     for moved in 0..17 {
-        let trial = Trial::new(
-            &rt,
-            rt.alloc(),
-            moving(rt.alloc(), 16, moved)?,
-            Landings::Ends,
-        )?;
-        assert!(rt; trial.standing.has_tree_of(&whole), "{moved}");
-        expect_check(&rt, rt.alloc(), &mut trial.device()?)?;
-        trial.finish(&rt)?;
+        let image = moving(&rt, rt.alloc(), 16, moved)?;
+        expect_check(rt.alloc(), &image)?;
+        trial.finish(&image)?;
     }
     Ok(())
 }
 
-/// What stops of a migration of 64 places leave.
-const WAYS: [(u64, Option<usize>); 5] = [
-    (1, None),
-    (1, Some(47)),
-    (1, Some(64)),
-    (2, Some(64)),
-    (2, None),
-];
-
-/// The root stands behind an open gate at first.
-#[test]
-fn stops_of_a_migration(rt: HostRuntime) -> Result<(), Fail> {
-    let mut image = moving(rt.alloc(), 64, 0)?;
-    hide_root(&mut image);
-    let mut trial = Trial::new(&rt, rt.alloc(), image, Landings::All)?;
-    trial.stop_each(&rt)?;
-    assert_eq!(rt; trial.ways()?.as_slice(), WAYS.as_slice());
-    trial.stop_again(&rt)
+/// A migration of so many places was found with these marks of each version, and with no other.
+fn expect_marks(trial: &Trial, nodes: u8) -> Result<(), Fail> {
+    for mark in 0..=u8::MAX {
+        let is_end = mark == 0 || mark == nodes;
+        let is_first = trial.has(1, mark) == (is_end || mark == 47);
+        need(is_first && trial.has(2, mark) == is_end, "another mark")?;
+    }
+    Ok(())
 }
 
+/// The mount of a volume crashes in each step.
+fn try_crashes(alloc: Global, image: &Image, nodes: u8) -> Result<(), Fail> {
+    let mut trial = Trial::new(alloc, copy_image(alloc, image)?)?;
+    trial.crash_each(image, FEW)?;
+    expect_marks(&trial, nodes)
+}
+
+/// The root stands behind an open gate at first, and its place holds something else.
+fn hide_root(image: &mut Image) {
+    if image.len() > NODES {
+        image.swap(2, NODES);
+    }
+    put_all(image, "@1 000000010000000100000094");
+}
+
+/// Each landing of the first mount's crashes, and the mounts of what they leave.
 #[test]
-fn failing_calls_of_a_migration(rt: HostRuntime) -> Result<(), Fail> {
-    let image = moving(rt.alloc(), 64, 0)?;
-    let trial = Trial::new(&rt, rt.alloc(), image, Landings::Ends)?;
-    let steps = trial.finish(&rt)?;
-    let writes = trial.fail_each(&rt, CallKind::Write)?;
-    let syncs = trial.fail_each(&rt, CallKind::Sync)?;
-    assert_eq!(rt; writes.saturating_add(syncs), steps);
-    assert!(rt; trial.fail_each(&rt, CallKind::Read)? > 0, "no reads");
-    Ok(())
+fn crashes_of_a_migration(rt: HostRuntime) -> Result<(), Fail> {
+    let mut image = moving(&rt, rt.alloc(), 64, 0)?;
+    hide_root(&mut image);
+    let mut trial = Trial::new(rt.alloc(), image)?;
+    trial.crash_all()?;
+    expect_marks(&trial, 64)
 }
 
 /// All of the 64 nodes are used, so that a transaction has as many sectors as it may have.
 #[test]
-fn stops_of_the_migration_of_64_nodes(rt: HostRuntime) -> Result<(), Fail> {
-    let image = WIDE.image(rt.alloc())?;
-    let mut trial = Trial::new(&rt, rt.alloc(), image, Landings::Ends)?;
-    trial.stop_each(&rt)?;
-    assert_eq!(rt; trial.ways()?.as_slice(), WAYS.as_slice());
-    Ok(())
+fn crashes_of_the_migration_of_64_nodes(rt: HostRuntime) -> Result<(), Fail> {
+    try_crashes(rt.alloc(), &old_image(rt.alloc(), WIDE)?, 64)
 }
 
 /// Holes, files of several runs and long lists.
 #[test]
-fn stops_of_the_migration_of_a_filled_volume(rt: HostRuntime) -> Result<(), Fail> {
-    let image = FILLED.image(rt.alloc())?;
-    let mut trial = Trial::new(&rt, rt.alloc(), image, Landings::Ends)?;
-    trial.stop_each(&rt)?;
-    assert_eq!(rt; trial.ways()?.len(), WAYS.len());
-    Ok(())
+fn crashes_of_the_migration_of_a_filled_volume(rt: HostRuntime) -> Result<(), Fail> {
+    try_crashes(rt.alloc(), &old_image(rt.alloc(), FILLED)?, 60)
+}
+
+#[test]
+fn failing_calls_of_a_migration(rt: HostRuntime) -> Result<(), Fail> {
+    let image = moving(&rt, rt.alloc(), 64, 0)?;
+    Trial::new(rt.alloc(), copy_image(rt.alloc(), &image)?)?.fail_all(&image)
 }

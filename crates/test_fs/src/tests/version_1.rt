@@ -5,78 +5,26 @@ mod empty;
 mod filled;
 mod wide;
 
-use super::independent::{Image, MARK, NODES};
+use super::sectors::{Image, MARK, NODES, put_all};
 use disk::SECTOR;
-use std::alloc::Global;
-use std::test::Fail;
+use std::alloc::{AllocError, Global};
 
 /// A volume that a program of version 1 left: how many sectors it has, and what stands in those
-/// that are not zero. `@N` begins sector N, `0*N` is so many zeros, and any other word is bytes in
-/// hexadecimal digits. Payload sectors are left out, since the gate is closed.
-#[derive(Clone, Copy)]
-pub(super) struct Old {
-    sectors: usize,
-    text: &'static str,
-}
+/// that are not zero, as `put_all` has it. Payload sectors are left out, since the gate is closed.
+pub(super) type Old = (usize, &'static str);
 
-pub(super) const EMPTY: Old = Old {
-    sectors: 256,
-    text: empty::TEXT,
-};
+pub(super) const EMPTY: Old = (256, empty::TEXT);
 
-pub(super) const FILLED: Old = Old {
-    sectors: 320,
-    text: filled::TEXT,
-};
+pub(super) const FILLED: Old = (320, filled::TEXT);
 
-pub(super) const WIDE: Old = Old {
-    sectors: 256,
-    text: wide::TEXT,
-};
+pub(super) const WIDE: Old = (256, wide::TEXT);
 
-fn number_of(digits: &str) -> Result<usize, Fail> {
-    match usize::from_str_radix(digits, 10) {
-        Ok(number) => Ok(number),
-        Err(_) => Err("no number".into()),
-    }
-}
-
-/// Puts bytes into a sector. The place behind them.
-fn put_hex(image: &mut Image, sector: usize, place: usize, digits: &str) -> Result<usize, Fail> {
-    let mut at = place;
-    for i in 0..digits.len() / 2 {
-        let first = i.saturating_mul(2);
-        let pair = digits.get(first..first.saturating_add(2)).unwrap_or("");
-        let Ok(byte) = u8::from_str_radix(pair, 16) else {
-            return Err("no byte".into());
-        };
-        match image.get_mut(sector).and_then(|bytes| bytes.get_mut(at)) {
-            Some(to) => *to = byte,
-            None => return Err("no such byte".into()),
-        }
-        at = at.saturating_add(1);
-    }
-    Ok(at)
-}
-
-impl Old {
-    /// Its sectors.
-    pub(super) fn image(self, alloc: Global) -> Result<Image, Fail> {
-        let mut image = Vec::from_elem(alloc, [0; SECTOR], self.sectors)?;
-        let mut sector = 0usize;
-        let mut place = 0usize;
-        for word in self.text.split_whitespace() {
-            if let Some(digits) = word.strip_prefix('@') {
-                sector = number_of(digits)?;
-                place = 0;
-            } else if let Some(digits) = word.strip_prefix("0*") {
-                place = place.saturating_add(number_of(digits)?);
-            } else {
-                place = put_hex(&mut image, sector, place, word)?;
-            }
-        }
-        Ok(image)
-    }
+/// Its sectors.
+pub(super) fn old_image(alloc: Global, old: Old) -> Result<Image, AllocError> {
+    let (sectors, text) = old;
+    let mut image = Vec::from_elem(alloc, [0; SECTOR], sectors)?;
+    put_all(&mut image, text);
+    Ok(image)
 }
 
 /// The sector of a node of form two as it was in form one.

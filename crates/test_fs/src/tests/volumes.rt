@@ -1,223 +1,125 @@
-//! Directories: what a mount finds, how much there is room for, and stops.
+//! Directories: what a mount finds, how much there is room for, and crashes.
 
-use super::drivers::{
-    Answer, Call, Tree, ask, format, make_dir, mount, mount_on, mounted, refused,
-};
-use super::rows::{
-    EXISTS, FIRST, MAKES_A, MODE_755, NO_ENTRY, NO_SPACE, OWNER, ROOT, Row, SECOND, STALE, begin,
-    go_on, play, try_rows,
-};
-use disk::{CrashDevice, MemDevice, Stop, landings};
-use fs::{FsFault, MountFault};
-use model::status::Status;
+use super::drivers::{Tree, ask, format, make_dir, mount, mount_on, mounted};
+use super::rows::{Trial, play, try_rows};
+use disk::{CrashDevice, Landed, MemDevice, Stop, landings};
 use std::alloc::Global;
 use std::process::Abort;
 use std::test::Fail;
 
-const MADE: [Row; 3] = [
-    MAKES_A,
-    (OWNER, Call::MakeDir(ROOT, b"a", MODE_755), EXISTS, b""),
-    (
-        OWNER,
-        Call::MakeDir(FIRST, b"b", MODE_755),
-        Ok(Answer::Created(SECOND, FIRST)),
-        b"",
-    ),
-];
+const OWNER: u32 = 7;
 
-const THERE_LATER: [Row; 3] = [
-    (
-        OWNER,
-        Call::LookUp(ROOT, b"a"),
-        Ok(Answer::Number(FIRST)),
-        b"",
-    ),
-    (
-        OWNER,
-        Call::LookUp(FIRST, b"b"),
-        Ok(Answer::Number(SECOND)),
-        b"",
-    ),
-    (OWNER, Call::LookUp(ROOT, b"c"), NO_ENTRY, b""),
-];
+const MADE: &str = "
+7 mkdir 1 a = 1:1 1
+7 mkdir 1 a = !17
+7 mkdir 1:1 b = 1:2 1:1
+mount
+7 lookup 1 a = 1:1
+7 lookup 1:1 b = 1:2
+7 lookup 1 c = !2";
 
-#[test]
-fn directories_are_there_after_a_mount(rt: HostRuntime) -> Result<(), Fail> {
-    let mut fs = begin(&rt, rt.alloc(), &MADE)?;
-    let without_room = make_dir(&mut fs, OWNER, ROOT, b"c", MODE_755, false);
-    assert_eq!(rt; without_room, Err(FsFault::NoRoom));
-    let fs = go_on(&rt, rt.alloc(), fs, &THERE_LATER)?;
-    assert_eq!(rt; fs.restart_count(), 2);
-    Ok(())
-}
+const FULL_TABLE: &str = "
+7 mkdir 1 a = 1:1 1
+7 mkdir 1 b = 1:2 1:1
+7 mkdir 1 c = 1:3 1:2
+7 mkdir 1 d = !28";
 
-const HANDLES: [Row; 7] = [
-    (
-        OWNER,
-        Call::Handle(ROOT),
-        Ok(Answer::Done),
-        b"\0\0\0\0\0\0\0\x01",
-    ),
-    (
-        OWNER,
-        Call::PutHandle(b"\0\0\0\0\0\0\0\x01"),
-        Ok(Answer::Number(ROOT)),
-        b"",
-    ),
-    (OWNER, Call::PutHandle(b"\0\0\0\0\0\0\0\x02"), STALE, b""),
-    (
-        OWNER,
-        Call::PutHandle(b"short"),
-        Err(FsFault::Status(Status::BadHandle)),
-        b"",
-    ),
-    (OWNER, Call::Handle(2), STALE, b""),
-    (OWNER, Call::Check(ROOT), Ok(Answer::Done), b""),
-    (OWNER, Call::Check(2), STALE, b""),
+/// A data region of 16 sectors: a directory with a name takes one, and one that tells where that
+/// is.
+const FULL_REGION: &str = "
+7 mkdir 1 d = 1:1 1
+7 mkdir 1:1 d = 1:2 1:1
+7 mkdir 1:2 d = 1:3 1:2
+7 mkdir 1:3 d = 1:4 1:3
+7 mkdir 1:4 d = 1:5 1:4
+7 mkdir 1:5 d = 1:6 1:5
+7 mkdir 1:6 d = 1:7 1:6
+7 mkdir 1:7 d = 1:8 1:7
+7 mkdir 1:8 d = !28";
+
+const TRIALS: [Trial; 3] = [
+    (256, 16, MADE),
+    (256, 4, FULL_TABLE),
+    (256, 92, FULL_REGION),
 ];
 
 #[test]
-fn filehandles_name_nodes(rt: HostRuntime) -> Result<(), Fail> {
-    try_rows(&rt, rt.alloc(), &HANDLES)
+fn directories_are_made_and_found(rt: HostRuntime) -> Result<(), Fail> {
+    try_rows(&rt, rt.alloc(), &TRIALS)
 }
 
-#[test]
-fn a_device_without_a_volume_is_none(rt: HostRuntime) -> Result<(), Fail> {
-    let Some((fault, _)) = refused(rt.alloc(), MemDevice::new(rt.alloc(), 256)?) else {
-        return Err("mounted".into());
-    };
-    assert_eq!(rt; fault, MountFault::NotVolume);
-    Ok(())
-}
-
-/// Names are fronts of these.
-const TEXTS: [&[u8]; 5] = [
-    &[b'a'; 255],
-    &[b'b'; 255],
-    &[b'c'; 255],
-    &[b'd'; 255],
-    &[b'e'; 255],
-];
-
-/// Makes directories in the root until one is refused: how many there are then, and why.
-fn fill(fs: &mut Tree) -> (u32, Result<Answer, FsFault>) {
-    let mut made = 0u32;
-    for text in TEXTS {
-        for len in 1..256usize {
-            let name = text.get(..len).unwrap_or(b"a");
-            let answer = make_dir(fs, OWNER, ROOT, name, MODE_755, true);
-            if answer.is_err() {
-                return (made, answer);
+/// Makes directories in the root until one is refused: how many there are then.
+fn fill(alloc: Global, fs: &mut Tree) -> usize {
+    let mut out = Vec::new(alloc);
+    for first in b'a'..=b'z' {
+        for second in b'A'..=b'z' {
+            if make_dir(fs, OWNER, 1, &[first, second], &mut out).is_err() {
+                return out.len() / 16;
             }
-            made = made.saturating_add(1);
         }
     }
-    (made, Err(FsFault::NoRoom))
+    0
 }
 
-/// The stamp of the first change of the second run.
-const LATER: u64 = 0x2_0000_0001;
-
-const FULL_LATER: [Row; 3] = [
-    (
-        OWNER,
-        Call::LookUp(ROOT, b"a"),
-        Ok(Answer::Number(FIRST)),
-        b"",
-    ),
-    (OWNER, Call::MakeDir(ROOT, b"more", MODE_755), NO_SPACE, b""),
-    (
-        OWNER,
-        Call::MakeDir(FIRST, b"more", MODE_755),
-        Ok(Answer::Created(LATER, FIRST)),
-        b"",
-    ),
-];
+const FULL: &str = "
+7 mkdir 1 more = !28
+mount
+7 lookup 1 aA = 1:1
+7 mkdir 1 more = !28
+7 mkdir 1:1 more = 2:1 1:1";
 
 #[test]
 fn a_directory_has_1024_names(rt: HostRuntime) -> Result<(), Fail> {
-    let mut fs = mounted(rt.alloc(), 65536, 16384)?;
-    assert_eq!(rt; fill(&mut fs), (1024, NO_SPACE));
-    go_on(&rt, rt.alloc(), fs, &FULL_LATER)?;
+    let mut fs = mounted(rt.alloc(), 65_536, 16_384)?;
+    assert!(rt; fill(rt.alloc(), &mut fs) == 1_024, "another number");
+    play(&rt, rt.alloc(), fs, FULL)?;
     Ok(())
 }
 
-#[test]
-fn each_node_has_a_place(rt: HostRuntime) -> Result<(), Fail> {
-    let mut fs = mounted(rt.alloc(), 256, 4)?;
-    assert_eq!(rt; fill(&mut fs), (3, NO_SPACE));
-    Ok(())
-}
-
-/// Makes a directory in the one before, until one is refused: how many there are then, and why.
-fn nest(fs: &mut Tree) -> (u32, Result<Answer, FsFault>) {
-    let mut parent = ROOT;
-    for made in 0..256 {
-        match make_dir(fs, OWNER, parent, b"d", MODE_755, true) {
-            Ok(Answer::Created(number, _)) => parent = number,
-            answer => return (made, answer),
-        }
-    }
-    (256, Err(FsFault::NoRoom))
-}
-
-// A data region of 16 sectors: a directory with a name takes one, and one that tells where that is.
-#[test]
-fn names_take_sectors(rt: HostRuntime) -> Result<(), Fail> {
-    let mut fs = mounted(rt.alloc(), 256, 92)?;
-    assert_eq!(rt; nest(&mut fs), (8, NO_SPACE));
-    Ok(())
-}
-
-const NAMES: [&[u8]; 2] = [b"a", b"b"];
+const NAMES: [&str; 2] = ["a", "b"];
 
 /// Mounts a volume and makes directories in its root: how many were answered.
 fn serve(alloc: Global, device: &mut CrashDevice) -> usize {
-    let mut answered = 0usize;
     let Some(mut fs) = mount_on(alloc, device) else {
         return 0;
     };
+    let mut out = Vec::new(alloc);
     for name in NAMES {
-        if make_dir(&mut fs, OWNER, ROOT, name, MODE_755, true).is_err() {
-            return answered;
-        }
-        answered = answered.saturating_add(1);
-    }
-    answered
-}
-
-/// How many of the directories are there, the first ones.
-fn found(alloc: Global, fs: &mut Tree) -> usize {
-    let mut count = 0usize;
-    for name in NAMES {
-        let mut out = Vec::new(alloc);
-        if ask(alloc, fs, OWNER, Call::LookUp(ROOT, name), &mut out).is_ok() {
-            count = count.saturating_add(1);
+        if make_dir(&mut fs, OWNER, 1, name.as_bytes(), &mut out).is_err() {
+            break;
         }
     }
-    count
+    out.len() / 16
 }
 
-const IS_A: [Row; 1] = [(
-    OWNER,
-    Call::LookUp(ROOT, b"a"),
-    Ok(Answer::Number(FIRST)),
-    b"",
-)];
+/// Whether this name of the root leads to the directory that was made so early.
+fn is_there(alloc: Global, fs: &mut Tree, line: &str, made: u64) -> Result<bool, Fail> {
+    let number = made.saturating_add(1 << 32).to_be_bytes();
+    Ok(ask(alloc, fs, line)?.as_slice() == number.as_slice())
+}
 
-/// What stands on a landing: each answered directory, and at most the one under way.
+/// How many of the directories are there. The second one is only beside the first.
+fn found(alloc: Global, left: MemDevice) -> Result<usize, Fail> {
+    let mut fs = mount(alloc, left)?;
+    let is_a = is_there(alloc, &mut fs, "7 lookup 1 a", 1)?;
+    let is_b = is_there(alloc, &mut fs, "7 lookup 1 b", 2)?;
+    Ok(usize::from(is_a).saturating_add(usize::from(is_a && is_b)))
+}
+
+/// On each landing every answered directory is there, and at most the one under way.
 fn expect_answered(
     rt: &impl Abort,
     alloc: Global,
-    left: MemDevice,
+    device: &CrashDevice,
+    landings: &[Vec<Landed>],
     answered: usize,
 ) -> Result<(), Fail> {
-    let mut fs = mount(alloc, left)?;
-    let count = found(alloc, &mut fs);
-    assert!(rt; answered <= count, "{answered} {count}");
-    assert!(rt; count <= answered.saturating_add(1), "{answered} {count}");
-    if count > 0 {
-        play(rt, alloc, &mut fs, &IS_A)?;
+    for landing in landings {
+        let count = found(alloc, device.landed(alloc, landing)?)?;
+        assert!(rt;
+            count.saturating_sub(answered) <= 1 && answered <= count,
+            "{count}"
+        );
     }
     Ok(())
 }
@@ -226,15 +128,13 @@ fn expect_answered(
 fn stop_at(rt: &impl Abort, alloc: Global, stop: Stop) -> Result<(), Fail> {
     let mut device = CrashDevice::new(format(alloc, 256, 16)?, stop);
     let answered = serve(alloc, &mut device);
-    for landing in landings(alloc, &device.unsynced(alloc)?)?.iter() {
-        expect_answered(rt, alloc, device.landed(alloc, landing)?, answered)?;
-    }
-    Ok(())
+    let landings = landings(alloc, &device.unsynced(alloc)?)?;
+    expect_answered(rt, alloc, &device, &landings, answered)
 }
 
-// What a stop before a step leaves is among what one within it may leave.
+// What a crash before a step leaves is among what one within it may leave.
 #[test]
-fn a_stop_loses_no_answered_directory(rt: HostRuntime) -> Result<(), Fail> {
+fn a_crash_loses_no_answered_directory(rt: HostRuntime) -> Result<(), Fail> {
     let mut whole = CrashDevice::new(format(rt.alloc(), 256, 16)?, Stop::Never);
     assert_eq!(rt; serve(rt.alloc(), &mut whole), NAMES.len());
     for step in 0..whole.steps() {

@@ -1,19 +1,35 @@
 //! The calls that change no tree.
 
-use super::call::{Answer, Caller};
 use super::volumes::Tree;
-use acl_eval::Cred;
+use crate::tests::words::put_numbers;
+use acl_eval::{Cred, Gids};
 use fs::FsFault;
 use std::alloc::Global;
 use xdr::Writer;
+
+/// Who calls, by the number of the user, which is that of his group too.
+pub(crate) fn cred_of(uid: u32) -> Cred {
+    Cred {
+        uid,
+        gid: uid,
+        gids: Gids::new(),
+    }
+}
+
+/// What is answered.
+pub(crate) fn tell(numbers: &[u64], out: &mut Vec<u8>) -> Result<(), FsFault> {
+    Ok(put_numbers(numbers, out)?)
+}
 
 pub(crate) fn look_up(
     fs: &Tree,
     cred: &Cred,
     directory: u64,
     name: &[u8],
-) -> Result<Answer, FsFault> {
-    Ok(Answer::Number(fs.lookup(cred, directory, name)?))
+    out: &mut Vec<u8>,
+) -> Result<(), FsFault> {
+    let number = fs.lookup(cred, directory, name)?;
+    tell(&[number], out)
 }
 
 /// The attributes of a node that a bitmap asks, as a result has them.
@@ -22,47 +38,30 @@ pub(crate) fn attributes(
     fs: &Tree,
     cred: &Cred,
     number: u64,
-    asked: &[u32],
+    asked: [u32; 2],
     out: &mut Vec<u8>,
-) -> Result<Answer, FsFault> {
-    let answer = fs.attributes(cred, number, asked)?;
+) -> Result<(), FsFault> {
+    let answer = fs.attributes(cred, number, &asked)?;
     let mut writer = Writer::new(alloc);
     if answer.write(&mut writer).is_err() {
         return Err(FsFault::Memory);
     }
-    out.extend_from_slice(writer.as_slice())?;
-    Ok(Answer::Done)
+    Ok(out.extend_from_slice(writer.as_slice())?)
 }
 
-pub(crate) fn put_handle(fs: &Tree, bytes: &[u8]) -> Result<Answer, FsFault> {
-    Ok(Answer::Number(fs.put_handle(bytes)?))
-}
-
-pub(crate) fn handle(fs: &Tree, number: u64, out: &mut Vec<u8>) -> Result<Answer, FsFault> {
-    let bytes = fs.handle(number)?;
-    out.extend_from_slice(&bytes)?;
-    Ok(Answer::Done)
-}
-
-pub(crate) fn check(fs: &Tree, number: u64) -> Result<Answer, FsFault> {
-    fs.check_node(number)?;
-    Ok(Answer::Done)
-}
-
-/// So many bytes from an offset on.
+/// So many bytes from an offset on, and whether the file ends there.
 pub(crate) fn read(
     fs: &mut Tree,
-    caller: Caller,
+    uid: u32,
     number: u64,
     part: (u64, u32),
     out: &mut Vec<u8>,
-) -> Result<Answer, FsFault> {
+) -> Result<(), FsFault> {
     let (offset, count) = part;
-    let is_end = fs.read(&caller.cred(), number, Ok(()), offset, count, out)?;
-    Ok(Answer::Read(is_end))
+    let is_end = fs.read(&cred_of(uid), number, Ok(()), offset, count, out)?;
+    tell(&[u64::from(is_end)], out)
 }
 
-pub(crate) fn commit(fs: &mut Tree, caller: Caller, number: u64) -> Result<Answer, FsFault> {
-    fs.commit(&caller.cred(), number, true)?;
-    Ok(Answer::Done)
+pub(crate) fn commit(fs: &mut Tree, uid: u32, number: u64) -> Result<(), FsFault> {
+    fs.commit(&cred_of(uid), number, true)
 }

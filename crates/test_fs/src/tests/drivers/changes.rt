@@ -1,23 +1,51 @@
-//! The calls that change a tree. The reply has room, but where it is said.
+//! The calls that change a tree. The reply has room.
 
 ghost use Rattle.std.specs.Prelude.{◌≤◌, length};
 ghost use Rattle.fs.specs.Opening.{type_of};
 ghost use Rattle.model.specs.Open.{given_by};
 
-use super::call::{Answer, Caller, Given, Make};
+use super::calls::{cred_of, tell};
 use super::volumes::Tree;
 use disk::Device;
 use fs::{
-    Change, Fs, FsFault, How, NewDirectory, OpenRoom, Opening, Renamed, Renaming, Setting, Share,
+    Fs, FsFault, How, NewDirectory, OpenEffect, OpenRoom, Opening, Renaming, Setting, Share,
     Writing,
 };
 use set_attributes::GivenAttributes;
 
-fn attributes(given: Given<'_>) -> GivenAttributes<'_>
+/// When all is done, in nanoseconds since 1970.
+const NOW: u64 = 5;
+
+/// The attributes mode, size, and both.
+const MODE: [u32; 2] = [0, 2];
+
+const SIZE: [u32; 2] = [0x10, 0];
+
+const SIZE_AND_MODE: [u32; 2] = [0x10, 2];
+
+const MODE_755: [u8; 4] = [0, 0, 1, 0xED];
+
+/// Whether an OPEN by a name makes a file, which has the mode 755.
+#[derive(Clone, Copy)]
+pub(crate) enum Make<'a> {
+    /// It has to be there.
+    No,
+    /// It must not be there.
+    New,
+    /// Of this size, where there is none: what `sized` gives.
+    Sized(&'a [u8; 12]),
+}
+
+fn attributes<'a>(bitmap: &'a [u32; 2], values: &'a [u8]) -> GivenAttributes<'a>
     ensures { length result.bitmap.now ≤ 8 }
 {
-    let Given { bitmap, values } = given;
     GivenAttributes { bitmap, values }
+}
+
+/// A size, and the mode 755.
+pub(crate) fn sized(size: u64) -> [u8; 12] {
+    let [a, b, c, d, e, f, g, h] = size.to_be_bytes();
+    [a, b, c, d, e, f, g, h, 0, 0, 1, 0xED]
 }
 
 fn how_of(make: Make<'_>) -> How<'_>
@@ -25,43 +53,43 @@ fn how_of(make: Make<'_>) -> How<'_>
 {
     match make {
         Make::No => How::NoCreate,
-        Make::Unchecked(given) => How::Unchecked(attributes(given)),
-        Make::Guarded(given) => How::Guarded(attributes(given)),
+        Make::New => How::Guarded(attributes(&MODE, &MODE_755)),
+        Make::Sized(values) => How::Unchecked(attributes(&SIZE_AND_MODE, values)),
     }
 }
 
-/// CREATE of a directory; `has_room` as `Fs::make_dir` has it.
-pub(crate) fn make_dir<'a, D: Device>(
+/// CREATE of a directory of the mode 755: its number, and the change of its parent before.
+pub(crate) fn make_dir<D: Device>(
     fs: &mut Fs<D>,
-    caller: Caller,
+    uid: u32,
     parent: u64,
-    name: &'a [u8],
-    given: Given<'a>,
-    has_room: bool,
-) -> Result<Answer, FsFault> {
+    name: &[u8],
+    out: &mut Vec<u8>,
+) -> Result<(), FsFault> {
     let asked = NewDirectory {
         parent,
         name,
-        attributes: attributes(given),
+        attributes: attributes(&MODE, &MODE_755),
     };
-    let created = fs.make_dir(&caller.cred(), caller.now, asked, has_room)?;
-    Ok(Answer::Created(created.number, created.before))
+    let created = fs.make_dir(&cred_of(uid), NOW, asked, true)?;
+    tell(&[created.number, created.before], out)
 }
 
-/// Where the table of opens has room.
+/// OPEN of a name, where the table of opens has room: the file's number, 1 where it was cut and 2
+/// where it was made, and the change of the directory before and after.
 pub(crate) fn open<'a>(
     fs: &mut Tree,
-    caller: Caller,
+    uid: u32,
     directory: u64,
     name: &'a [u8],
-    share: (u32, u32),
+    access: u32,
     make: Make<'a>,
-) -> Result<Answer, FsFault> {
-    let (access, deny) = share;
+    out: &mut Vec<u8>,
+) -> Result<(), FsFault> {
     let asked = Opening {
         directory,
         name,
-        share: Share { access, deny },
+        share: Share { access, deny: 0 },
         how: how_of(make),
     };
     let room = OpenRoom {
@@ -69,76 +97,81 @@ pub(crate) fn open<'a>(
         cut: true,
         made: true,
     };
-    let opened = fs.open_file(&caller.cred(), caller.now, asked, false, room)?;
-    let Change { before, after } = opened.directory;
-    Ok(Answer::Opened(opened.number, opened.effect.into(), (before, after)))
+    let opened = fs.open_file(&cred_of(uid), NOW, asked, false, room)?;
+    let effect = number_of(opened.effect);
+    let change = opened.directory;
+    tell(&[opened.number, effect, change.before, change.after], out)
 }
 
+fn number_of(effect: OpenEffect) -> u64 {
+    match effect {
+        OpenEffect::Nothing => 0,
+        OpenEffect::Cut => 1,
+        OpenEffect::Made => 2,
+    }
+}
+
+/// The number of what is gone, and the change of its directory before and after.
 pub(crate) fn remove(
     fs: &mut Tree,
-    caller: Caller,
+    uid: u32,
     directory: u64,
     name: &[u8],
-) -> Result<Answer, FsFault> {
-    let removed = fs.remove(&caller.cred(), caller.now, directory, name, true)?;
-    Ok(Answer::Removed(removed.number, (removed.before, removed.after)))
+    out: &mut Vec<u8>,
+) -> Result<(), FsFault> {
+    let removed = fs.remove(&cred_of(uid), NOW, directory, name, true)?;
+    tell(&[removed.number, removed.before, removed.after], out)
 }
 
+/// The changes of both directories before and after, and the number of what is gone, or 0.
 pub(crate) fn rename<'a>(
     fs: &mut Tree,
-    caller: Caller,
+    uid: u32,
     old: (u64, &'a [u8]),
     new: (u64, &'a [u8]),
-) -> Result<Answer, FsFault> {
-    let (from, old_name) = old;
-    let (to, new_name) = new;
+    out: &mut Vec<u8>,
+) -> Result<(), FsFault> {
     let asked = Renaming {
-        from,
-        old_name,
-        to,
-        new_name,
+        from: old.0,
+        old_name: old.1,
+        to: new.0,
+        new_name: new.1,
     };
-    let renamed = fs.rename(&caller.cred(), caller.now, asked, true)?;
-    let Renamed {
-        source,
-        target,
-        replaced,
-    } = renamed;
-    Ok(Answer::Renamed(
-        (source.before, source.after),
-        (target.before, target.after),
-        replaced,
-    ))
+    let renamed = fs.rename(&cred_of(uid), NOW, asked, true)?;
+    let (from, to) = (renamed.source, renamed.target);
+    let replaced = renamed.replaced.unwrap_or(0);
+    tell(
+        &[from.before, from.after, to.before, to.after, replaced],
+        out,
+    )
 }
 
-pub(crate) fn set(
-    fs: &mut Tree,
-    caller: Caller,
-    number: u64,
-    given: Given<'_>,
-) -> Result<Answer, FsFault> {
+/// SETATTR of the size.
+pub(crate) fn set(fs: &mut Tree, uid: u32, number: u64, size: u64) -> Result<(), FsFault> {
+    let values = size.to_be_bytes();
     let asked = Setting {
         number,
         verdict: Ok(()),
-        attributes: attributes(given),
+        attributes: attributes(&SIZE, &values),
     };
-    fs.set_attributes(&caller.cred(), caller.now, asked, true)?;
-    Ok(Answer::Done)
+    fs.set_attributes(&cred_of(uid), NOW, asked, true)
 }
 
+/// How many bytes were taken.
 pub(crate) fn write(
     fs: &mut Tree,
-    caller: Caller,
+    uid: u32,
     number: u64,
     part: (u64, &[u8]),
     is_stable: bool,
-) -> Result<Answer, FsFault> {
+    out: &mut Vec<u8>,
+) -> Result<(), FsFault> {
     let (offset, bytes) = part;
     let asked = Writing {
         offset,
         bytes,
         is_stable,
     };
-    let taken = fs.write(&caller.cred(), caller.now, number, Ok(()), asked, true)?;
-    Ok(Answer::Taken(taken))
+    let taken = fs.write(&cred_of(uid), NOW, number, Ok(()), asked, true)?;
+    tell(&[u64::from(taken)], out)
 }

@@ -3,7 +3,7 @@
 ghost use Rattle.std.specs.Prelude.{All};
 ghost use Rattle.wire_attributes.specs.Listed.{EntryFits};
 
-use super::call::Answer;
+use super::calls::tell;
 use super::volumes::Tree;
 use acl_eval::Cred;
 use fs::{FsFault, Listing};
@@ -11,20 +11,22 @@ use std::alloc::Global;
 use wire_attributes::ListedEntry;
 use xdr::{Refusal, Writer};
 
-/// A page after a directory's cookie, of so many bytes.
+/// A page after a directory's cookie, whose verifier has this byte eight times, of so many bytes:
+/// the entries, and whether it is the last one.
 pub(crate) fn list(
     alloc: Global,
     fs: &Tree,
     cred: &Cred,
-    behind: (u64, (u64, [u8; 8])),
+    behind: (u64, u64, u32),
     max_count: u32,
     out: &mut Vec<u8>,
-) -> Result<Answer, FsFault> {
-    let (directory, (cookie, verifier)) = behind;
+) -> Result<(), FsFault> {
+    let (directory, cookie, verifier) = behind;
+    let [.., verifier] = verifier.to_be_bytes();
     let listing = Listing {
         directory,
         cookie,
-        verifier,
+        verifier: [verifier; 8],
         max_count,
         asked: &[],
     };
@@ -34,7 +36,7 @@ pub(crate) fn list(
         return Err(FsFault::Memory);
     }
     out.extend_from_slice(writer.as_slice())?;
-    Ok(Answer::Page(page.is_end))
+    tell(&[u64::from(page.is_end)], out)
 }
 
 fn write_entries(w: &mut Writer, entries: &[ListedEntry<'_>]) -> Result<(), Refusal>

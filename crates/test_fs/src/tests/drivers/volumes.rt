@@ -1,6 +1,6 @@
 //! Volumes in memory, and file systems on them.
 
-use disk::{Device, MemDevice, SECTOR};
+use disk::{Call, Device, MemDevice, SECTOR};
 use fs::{Fs, MountFault};
 use std::alloc::Global;
 use std::num::NonZeroUsize;
@@ -62,12 +62,20 @@ pub(crate) fn remount(alloc: Global, fs: Tree) -> Result<Tree, Fail> {
     mount(alloc, fs.into_device())
 }
 
-/// Why a device is not mounted, and what it is then.
-pub(crate) fn refused(alloc: Global, device: MemDevice) -> Option<(MountFault, MemDevice)> {
-    match Fs::mount(alloc, device) {
-        Ok(_) => None,
-        Err(refused) => Some((refused.fault, refused.device)),
-    }
+/// What a check and a mount both answer, if they answer the same, and neither writes to what it
+/// refuses.
+pub(crate) fn judge(alloc: Global, mut device: MemDevice) -> Option<Result<(), MountFault>> {
+    let checked = check(alloc, &mut device);
+    let holds = match Fs::mount(alloc, device) {
+        Ok(_) => checked.is_ok(),
+        Err(refused) => checked == Err(refused.fault) && is_as_it_was(&refused.device),
+    };
+    holds.then_some(checked)
+}
+
+/// Whether nothing was written to it.
+fn is_as_it_was(device: &MemDevice) -> bool {
+    device.calls().iter().all(|call| matches!(call, Call::Sync))
 }
 
 /// Whether a tree stands on a device.
