@@ -59,7 +59,7 @@ impl Inode {
     /// The most run sectors of a node.
     pub const MAX_RUN_SECTORS: usize = 9;
 
-    /// The same node once more, in memory of its own.
+    /// The same node once more, which shares the memory of its list.
     pub fn try_clone(&self, alloc: Global) -> Result<Inode, AllocError>
         ensures { IfOk result (λ inode. fields_of inode ≡ fields_of self.now) }
     {
@@ -73,7 +73,7 @@ impl Inode {
             size: self.size,
             runs: self.runs,
             run_sectors: Vec::from_slice(alloc, &self.run_sectors)?,
-            acl: Acl::from_slice(alloc, self.acl.as_slice())?,
+            acl: self.acl.try_clone()?,
         })
     }
 

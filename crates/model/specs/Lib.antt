@@ -1,5 +1,6 @@
 pub mod Access
 pub mod Acl
+pub mod AclEntries
 pub mod AclExamples
 pub mod AclLaws
 pub mod AclText

@@ -6,6 +6,7 @@ ghost use Rattle.std.specs.Prelude.{⊤, ◌≡◌, ◌<◌, ◌≤◌, ◌++◌
 use bitflags::{Flag, Flags, bitflag_items};
 use std::alloc::{AllocError, Global};
 use std::marker::Model;
+use std::rc::Rc;
 use xdr::Words;
 
 /// The rights that an entry names (RFC 8881, section 6.2.1.3, `acemask4`): a 32-bit word.
@@ -162,21 +163,25 @@ impl Ace {
     }
 }
 
-/// An access control list: its entries, in the order in which they are evaluated.
+/// An access control list: its entries, in the order in which they are evaluated. A copy shares
+/// their memory until one of the two changes.
 ///
 /// Contracts see the list of the entries.
 #[derive(Drop)]
 pub struct Acl {
-    entries: Vec<Ace>,
+    alloc: Global,
+    /// None, where there are no entries.
+    entries: Option<Rc<Vec<Ace>>>,
 }
 
 impl Model for Acl {
     ghost use Rattle.std.specs.Prelude.{List};
+    ghost use Rattle.model.specs.AclEntries.{entries_in};
     ghost use Rattle.model.specs.declared.acl.Ace.{Ace};
 
     ghost Value = { List Ace };
 
-    ghost view = { λ acl. acl.entries.items };
+    ghost view = { λ acl. entries_in (λ rc. rc.value.items) acl.entries };
 }
 
 impl Acl {
@@ -186,12 +191,13 @@ impl Acl {
     /// How many entries a node's list may have.
     pub const MAX_STORED: usize = 72;
 
-    /// A list without entries.
+    /// A list without entries. Takes no memory.
     pub fn new(alloc: Global) -> Acl
         ensures { result ≡ [] }
     {
         Acl {
-            entries: Vec::new(alloc),
+            alloc,
+            entries: None,
         }
     }
 
@@ -199,17 +205,45 @@ impl Acl {
     pub fn from_slice(alloc: Global, entries: &[Ace]) -> Result<Acl, AllocError>
         ensures { IfOk result (λ acl. acl ≡ entries.now) }
     {
+        if entries.is_empty() {
+            return Ok(Acl::new(alloc));
+        }
+        let own = Vec::from_slice(alloc, entries)?;
         Ok(Acl {
-            entries: Vec::from_slice(alloc, entries)?,
+            alloc,
+            entries: Some(Rc::new(alloc, own)?),
         })
     }
 
-    /// Puts an entry at the end. Where no memory is had, the list stays as it is.
+    /// The same list, in the same memory.
+    pub fn try_clone(&self) -> Result<Acl, AllocError>
+        ensures { IfOk result (λ acl. acl ≡ self.now) }
+    {
+        let entries = match &self.entries {
+            Some(entries) => Some(entries.clone()?),
+            None => None,
+        };
+        Ok(Acl {
+            alloc: self.alloc,
+            entries,
+        })
+    }
+
+    /// Puts an entry at the end, in place where nobody shares the memory. Where no memory is had,
+    /// the list stays as it is.
     pub fn push(&mut self, ace: Ace) -> Result<(), AllocError>
         ensures added { OnOk result (self.new ≡ self.old ++ ace ∷ []) }
         ensures kept { OnErr result (self.new ≡ self.old) }
     {
-        self.entries.push(ace)?;
+        if let Some(entries) = &mut self.entries
+            && let Some(own) = Rc::get_mut(entries)
+        {
+            own.push(ace)?;
+            return Ok(());
+        }
+        let mut own = Vec::from_slice(self.alloc, self.as_slice())?;
+        own.push(ace)?;
+        self.entries = Some(Rc::new(self.alloc, own)?);
         Ok(())
     }
 
@@ -217,7 +251,10 @@ impl Acl {
     pub fn as_slice(&self) -> &[Ace]
         ensures { result.now ≡ self.now }
     {
-        self.entries.as_slice()
+        match &self.entries {
+            Some(entries) => entries.as_slice(),
+            None => &[],
+        }
     }
 }
 
