@@ -3,8 +3,10 @@
 
 mod bitmap;
 mod fault;
+mod places;
 mod sectors;
 
 pub use bitmap::{Bitmap, one_spelling};
-pub use fault::{BitmapFault, Full};
+pub use fault::{BitmapFault, Full, TakeFault};
+pub use places::Places;
 pub use sectors::SECTOR_PLACES;

@@ -8,7 +8,7 @@ ghost use Rattle.layout.specs.Health.{Reads};
 
 use crate::doing::edit_all;
 use crate::edit::Edit;
-use freemap::Bitmap;
+use freemap::Places;
 use layout::sectors::Sectors;
 use node_table::Table;
 use std::alloc::Global;
@@ -26,7 +26,7 @@ pub fn outcome_of<S: Sectors>(
     alloc: Global,
     base: &mut S,
     table: &Table,
-    places: &Bitmap,
+    places: &Places,
     edits: Vec<Edit<'_>>,
 ) -> Result<PreparedTransaction, TransactionFault>
     requires whole { IsWholeVolume (S.size (S.kept base.old)) table.now places.now }

@@ -18,7 +18,7 @@ use crate::updates::Updates;
 use directory::{Names, RECORDS};
 use disk::SECTOR;
 use extents::BlockList;
-use freemap::Bitmap;
+use freemap::Places;
 use layout::sectors::Sectors;
 use sector::{put_bytes, put_zeros};
 use std::alloc::AllocError;
@@ -88,7 +88,7 @@ fn write_new(
 
 /// Takes a sector for a hole.
 fn take_sector(
-    places: &mut Bitmap,
+    places: &mut Places,
     first: u32,
     blocks: &mut BlockList,
     block: u32,
@@ -110,7 +110,7 @@ fn take_sector(
 /// one.
 fn write_block<S: Sectors>(
     updates: &mut Updates,
-    places: &mut Bitmap,
+    places: &mut Places,
     base: &mut S,
     first: u32,
     blocks: &mut BlockList,
@@ -159,7 +159,7 @@ fn write_block<S: Sectors>(
 /// any.
 pub(crate) fn write_blocks<S: Sectors>(
     updates: &mut Updates,
-    places: &mut Bitmap,
+    places: &mut Places,
     base: &mut S,
     first: u32,
     blocks: &mut BlockList,
@@ -206,7 +206,7 @@ pub(crate) fn write_blocks<S: Sectors>(
 
 /// The sector of a block, which takes one where it is a hole.
 fn sector_for(
-    places: &mut Bitmap,
+    places: &mut Places,
     first: u32,
     blocks: &mut BlockList,
     block: u32,
@@ -226,7 +226,7 @@ fn sector_for(
 /// Writes the names of a block, which may be a new one after the last.
 pub(crate) fn write_names(
     updates: &mut Updates,
-    places: &mut Bitmap,
+    places: &mut Places,
     first: u32,
     blocks: &mut BlockList,
     names: &Names,

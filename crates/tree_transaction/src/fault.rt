@@ -5,7 +5,7 @@ ghost use Rattle.tree_transaction.specs.declared.fault.TransactionFault.TheVaria
 ghost use Rattle.tree_transaction.specs.declared.fault.TransactionFault.TheVariants.{Memory};
 ghost use Rattle.tree_transaction.specs.declared.fault.SpaceFault.TheVariants as space;
 
-use freemap::Full;
+use freemap::TakeFault;
 use layout::sectors::ReadFault;
 use std::alloc::{AllocError, AllocFailed};
 use thiserror::Error;
@@ -64,11 +64,16 @@ impl From<AllocError> for TransactionFault {
     }
 }
 
-impl From<Full> for SpaceFault {
-    ghost from_gives = { λ _ e. e ≡ space.Full };
+impl From<TakeFault> for SpaceFault {
+    ghost use Rattle.tree_transaction.specs.Faults.{space_fault_of};
 
-    fn from(_e: Full) -> SpaceFault {
-        SpaceFault::Full
+    ghost from_gives = { λ cause e. e ≡ space_fault_of cause };
+
+    fn from(e: TakeFault) -> SpaceFault {
+        match e {
+            TakeFault::Memory => SpaceFault::Memory,
+            TakeFault::Full => SpaceFault::Full,
+        }
     }
 }
 

@@ -12,7 +12,7 @@ use crate::fault::SpaceFault;
 use crate::numbers::{give_numbers, take_numbers};
 use crate::updates::Updates;
 use extents::{MAX_SECTOR_RUNS, Run, Runs};
-use freemap::Bitmap;
+use freemap::Places;
 use layout::places::NODES;
 use node_table::CachedNode;
 use std::alloc::{AllocError, Global};
@@ -63,7 +63,7 @@ fn store_node_sectors(
 /// writes its node.
 fn store_given_runs(
     updates: &mut Updates,
-    places: &mut Bitmap,
+    places: &mut Places,
     nodes: u32,
     place: u32,
     card: &mut CachedNode,
@@ -78,7 +78,7 @@ fn store_given_runs(
         ≤ length updates.old + 1 + sectors_for (length runs.items) }
 {
     let wanted = (runs.len() + 499) / MAX_SECTOR_RUNS;
-    give_numbers(places, NODES + nodes, &mut card.inode.run_sectors, wanted);
+    give_numbers(places, NODES + nodes, &mut card.inode.run_sectors, wanted)?;
     card.inode.runs = runs.len() as u16;
     let runs = Runs::from_vec(runs)?;
     card.runs = runs;
@@ -90,7 +90,7 @@ fn store_given_runs(
 pub(crate) fn rerun(
     alloc: Global,
     updates: &mut Updates,
-    places: &mut Bitmap,
+    places: &mut Places,
     nodes: u32,
     place: u32,
     card: &mut CachedNode,
@@ -115,7 +115,7 @@ pub(crate) fn rerun(
 pub(crate) fn rerun_fewer(
     alloc: Global,
     updates: &mut Updates,
-    places: &mut Bitmap,
+    places: &mut Places,
     nodes: u32,
     place: u32,
     card: &mut CachedNode,

@@ -7,15 +7,15 @@ ghost use Rattle.tree_transaction.specs.Whole.{ShowsPart};
 
 use crate::updates::Updates;
 use disk::SECTOR;
-use freemap::Bitmap;
+use freemap::Places;
 use layout::places::BITMAP;
 use std::alloc::AllocError;
 
 /// Writes bitmap sector 0 or 1 where its places are not as before.
 pub(crate) fn put_marks(
     updates: &mut Updates,
-    places: &Bitmap,
-    before: &Bitmap,
+    places: &Places,
+    before: &Places,
     part: u32,
 ) -> Result<(), AllocError>
     requires { part < 2 }

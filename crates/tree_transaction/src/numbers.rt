@@ -8,11 +8,12 @@ ghost use Rattle.layout.specs.Marks.{times_set, mark_by};
 
 use crate::fault::SpaceFault;
 use extents::BlockList;
-use freemap::Bitmap;
+use freemap::Places;
+use std::alloc::AllocError;
 
 /// Takes sectors until there are so many.
 pub(crate) fn take_numbers(
-    places: &mut Bitmap,
+    places: &mut Places,
     first: u32,
     numbers: &mut Vec<u32>,
     wanted: usize,
@@ -37,32 +38,45 @@ pub(crate) fn take_numbers(
 }
 
 /// Gives sectors back until there are no more than so many.
-pub(crate) fn give_numbers(places: &mut Bitmap, first: u32, numbers: &mut Vec<u32>, wanted: usize)
+pub(crate) fn give_numbers(
+    places: &mut Places,
+    first: u32,
+    numbers: &mut Vec<u32>,
+    wanted: usize,
+) -> Result<(), AllocError>
     requires { AreMarked first places.old numbers.old.items }
     // How many are left
-    ensures most { length numbers.new.items ≤ wanted }
+    ensures most { OnOk result (length numbers.new.items ≤ wanted) }
     ensures least { wanted ≤ length numbers.old.items → wanted ≤ length numbers.new.items }
     // What it gives back
-    ensures marks { Follow first places.old places.new numbers.old.items numbers.new.items }
+    ensures marks { OnOk result (Follow first places.old places.new
+        numbers.old.items numbers.new.items) }
     ensures len { length places.new ≡ length places.old }
 {
     while numbers.len() > wanted {
         if let Some(number) = numbers.pop() {
-            places.give(number - first);
+            places.give(number - first)?;
         }
     }
+    Ok(())
 }
 
 /// Gives the sectors of the blocks from one on back.
-pub(crate) fn give_blocks(places: &mut Bitmap, first: u32, blocks: &BlockList, from: u32)
+pub(crate) fn give_blocks(
+    places: &mut Places,
+    first: u32,
+    blocks: &BlockList,
+    from: u32,
+) -> Result<(), AllocError>
     requires { HaveMarks first places.old blocks.now }
-    ensures marks { (n : ℕ) → mark_by first places.new n + times_set n blocks.now
-        ≡ mark_by first places.old n + times_set n (take from blocks.now) }
+    ensures marks { OnOk result ((n : ℕ) → mark_by first places.new n + times_set n blocks.now
+        ≡ mark_by first places.old n + times_set n (take from blocks.now)) }
     ensures len { length places.new ≡ length places.old }
 {
     for block in from..blocks.count() {
         if let Some(sector) = blocks.at(block) {
-            places.give(sector - first);
+            places.give(sector - first)?;
         }
     }
+    Ok(())
 }

@@ -32,7 +32,7 @@ use crate::updates::Updates;
 use directory::RECORDS;
 use disk::{SECTOR, Update};
 use extents::BlockList;
-use freemap::Bitmap;
+use freemap::Places;
 use layout::places::NODES;
 use layout::sectors::Sectors;
 use node_table::{CachedNode, Changes, Overlay, Table};
@@ -44,7 +44,7 @@ pub struct Transaction<'a> {
     pub alloc: Global,
     pub nodes: u32,
     pub updates: Updates,
-    pub places: Bitmap,
+    pub places: Places,
     pub cards: Overlay<'a>,
 }
 
@@ -53,7 +53,7 @@ pub struct Transaction<'a> {
 #[derive(Drop)]
 pub struct PreparedTransaction {
     pub updates: Vec<Update>,
-    pub places: Bitmap,
+    pub places: Places,
     pub changes: Changes,
 }
 
@@ -91,11 +91,11 @@ fn grow_to(card: &mut CachedNode, end: u64) -> Result<(), AllocError>
 
 impl<'a> Transaction<'a> {
     /// A transaction that has changed nothing yet, over a table of a volume and the places of its
-    /// data region, which are copied.
+    /// data region, whose memory is copied once one is taken or given back.
     pub fn new(
         alloc: Global,
         table: &'a Table,
-        places: &Bitmap,
+        places: &Places,
     ) -> Result<Transaction<'a>, AllocError>
         // Nothing is written yet
         ensures updates { IfOk result (λ transaction. transaction.updates ≡ []) }
@@ -195,8 +195,8 @@ impl<'a> Transaction<'a> {
     {
         let mut card = take_card(&mut self.cards, place)?;
         let first = NODES + self.nodes;
-        give_blocks(&mut self.places, first, &card.blocks, 0);
-        give_numbers(&mut self.places, first, &mut card.inode.run_sectors, 0);
+        give_blocks(&mut self.places, first, &card.blocks, 0)?;
+        give_numbers(&mut self.places, first, &mut card.inode.run_sectors, 0)?;
         self.updates.put(NODES + place, &[0; SECTOR])?;
         Ok(())
     }
@@ -264,7 +264,7 @@ impl<'a> Transaction<'a> {
         let left = card.names.count();
         card.inode.size = left as u64;
         let count = ((left + RECORDS - 1) / RECORDS) as u32;
-        give_blocks(&mut self.places, NODES + self.nodes, &card.blocks, count);
+        give_blocks(&mut self.places, NODES + self.nodes, &card.blocks, count)?;
         card.blocks.cut(count);
         let block = (at / RECORDS) as u32;
         let last = (left / RECORDS) as u32;
@@ -326,7 +326,7 @@ impl<'a> Transaction<'a> {
         let mut card = take_card(&mut self.cards, place)?;
         clear_tail(&mut self.updates, base, &card.blocks, size)?;
         let count = ((size + 4095) / 4096) as u32;
-        give_blocks(&mut self.places, NODES + self.nodes, &card.blocks, count);
+        give_blocks(&mut self.places, NODES + self.nodes, &card.blocks, count)?;
         card.blocks.cut(count);
         card.inode.size = size;
         self.store_node_and_fewer_runs(place, card)?;
@@ -392,7 +392,7 @@ impl<'a> Transaction<'a> {
     /// # Errors
     ///
     /// Memory alone.
-    pub fn finish(&mut self, before: &Bitmap) -> Result<(), AllocError>
+    pub fn finish(&mut self, before: &Places) -> Result<(), AllocError>
         requires { IsKnown self.old }
         ensures laid { OnOk result (Finishes before.now self.old self.new) }
         ensures targets { OnOk result (AreTargets (end_of self.old) self.new.updates) }

@@ -14,7 +14,7 @@ use crate::fault::MountFault;
 use crate::mount::Superblock;
 use crate::store::Store;
 use disk::Device;
-use freemap::Bitmap;
+use freemap::Places;
 use inode::Form;
 use layout::sectors::Sectors;
 use model::limits::Limits;
@@ -34,7 +34,7 @@ pub(crate) struct Loaded {
     /// The seats of persistent sessions.
     pub(crate) seats: Seats,
     pub(crate) table: Table,
-    pub(crate) places: Bitmap,
+    pub(crate) places: Places,
     pub(crate) parents: Parents,
 }
 
@@ -100,11 +100,12 @@ pub(crate) fn read_nodes<S: Sectors>(
         return Err(MountFault::Damaged);
     }
     let parents = Parents::from_table(alloc, &table)?;
+    let places = Places::new(alloc, contents.places)?;
     Ok(Loaded {
         mark: contents.mark,
         seats: contents.seats,
         table,
-        places: contents.places,
+        places,
         parents,
     })
 }

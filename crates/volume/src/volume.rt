@@ -18,7 +18,7 @@ use crate::mount::{Superblock, read_mountable_superblock};
 use crate::start::start;
 use crate::store::Store;
 use disk::Device;
-use freemap::Bitmap;
+use freemap::Places;
 use journal::{CACHED_SECTORS, Journal};
 use model::limits::Limits;
 use model::seats::Seats;
@@ -39,7 +39,7 @@ pub struct Volume<D: Device> {
     pub(crate) limits: Limits,
     run: u32,
     pub(crate) table: Table,
-    pub(crate) places: Bitmap,
+    pub(crate) places: Places,
     pub(crate) parents: Parents,
     ghost bounded: { run < 2 ^ 32 },
     ghost sized: { IsTrue (is_size (log_of store.journal).size limits.nodes) },

@@ -14,7 +14,7 @@ module _ (c : goal.After-store_node_sectors-arg-1) where
   was = subst (λ (card : layout.CachedNode). AreMarked (148 + c.args.nodes) c.args.places.now card.fields.run_sectors) (sym c.card.view_is) c.requires.can.marked
 
   marked : AreMarked (148 + c.args.nodes) c.give_numbers.new.places c.give_numbers.new.numbers.items
-  marked = follow-marked _ _ _ _ _ c.give_numbers.ensures.marks was
+  marked = follow-marked _ _ _ _ _ c.in_ok-give_numbers.ensures.marks was
 
   fits : IsInode c.card.inside.form (fields_with (fields_of c.card.inside.inode) c.len-2.result c.give_numbers.new.numbers.items)
   fits =
@@ -22,7 +22,7 @@ module _ (c : goal.After-store_node_sectors-arg-1) where
       let has = ap (λ (card : layout.CachedNode). length card.fields.run_sectors) c.card.view_is in
       let least = c.give_numbers.ensures.least (omega (arith, has, c.requires.enough, c.len.ensures)) in
       fields-fit c.card.inside.form (fields_with (fields_of c.card.inside.inode) 0 []) c.len-2.result c.give_numbers.new.numbers.items before
-      (omega (arith, c.len-2.ensures, c.requires.runs.few)) (omega (arith, c.len-2.ensures, c.len.ensures, c.give_numbers.ensures.most, least))
+      (omega (arith, c.len-2.ensures, c.requires.runs.few)) (omega (arith, c.len-2.ensures, c.len.ensures, c.in_ok-give_numbers.ensures.most, least))
       (numbers-fit (148 + c.args.nodes) c.give_numbers.new.places c.give_numbers.new.numbers.items (omega arith) (omega (arith, c.give_numbers.ensures.len, c.requires.can.room)) marked)
 
 pub store_node_sectors-requires-clause-fits : goal.store_node_sectors-requires-clause-fits
@@ -46,7 +46,7 @@ returns-clause-laid c = record {
     run_count = ap length c.in_ok-runs.ensures ∙ (sym c.args.runs.ok.0 ∙ sym c.len-2.ensures);
     fits = fits c.before.before.before;
   };
-  follow = (let numbers = ap (λ (card : layout.CachedNode). card.fields.run_sectors) c.card.view_is in rw (sym numbers) c.give_numbers.ensures.marks);
+  follow = (let numbers = ap (λ (card : layout.CachedNode). card.fields.run_sectors) c.card.view_is in rw (sym numbers) c.in_ok-give_numbers.ensures.marks);
   len = c.give_numbers.ensures.len;
   lays = c.in_ok-store_node_sectors.ensures.lays;
 }

@@ -3,7 +3,7 @@ use Rattle.std.proofs.lemmas.List.{length-set}
 use Rattle.layout.specs.Marks.{times_set, mark_by}
 use Rattle.tree_transaction.proofs.FreeLaws.{gives_block, take-hole}
 use Rattle.tree_transaction.proofs.numbers.give_blocks.Goals as goal
-use Rattle.tree_transaction.proofs.numbers.give_blocks.Goals.{in-Some, in_default}
+use Rattle.tree_transaction.proofs.numbers.give_blocks.Goals.{in-Some+in_ok-give, in_default}
 
 pub overflow_sub-sector : goal.overflow_sub-sector
 overflow_sub-sector c =
@@ -17,9 +17,9 @@ pub loop-block-preserved : goal.loop-block-preserved
 loop-block-preserved c =
     let inv = c.loop-block.invariant in
     elim c.match-at.branch [
-      | in-Some w ↦
+      | in-Some+in_ok-give w ↦
           let h = gives_block c.args.first c.args.places.now c.loop-block.places c.args.blocks.now c.args.from c.loop-block.block w.in-Some.sector c.requires inv.marks (sym c.at.ensures ∙ w.in-Some.is) in
-          let now : c.match-at.places ≡ set c.loop-block.places (w.in-Some.sector - c.args.first) false = w.places-is ∙ w.give.ensures in
+          let now : c.match-at.places ≡ set c.loop-block.places (w.in-Some.sector - c.args.first) false = w.places-is ∙ w.in_ok-give.ensures.given in
           record {
             marks = λ n. ap (λ (p : List Bool). mark_by c.args.first p n + times_set n (take (c.loop-block.block + 1) c.args.blocks.now)) now ∙ h.marks n;
             len = ap length now ∙ length-set c.loop-block.places (w.in-Some.sector - c.args.first) false ∙ inv.len;

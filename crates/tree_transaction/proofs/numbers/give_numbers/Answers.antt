@@ -15,10 +15,10 @@ overflow_sub-number c = let h = step c in h.behind
 pub give-requires : goal.give-requires
 give-requires c = let h = step c in h.used
 
-pub loop-numbers-preserved-in-Some : goal.loop-numbers-preserved-in-Some
-loop-numbers-preserved-in-Some c =
-    let h = step c.before in let long = ap length c.in-Some.ensures.items in record {
-      marks = λ n. ap (λ (b : List Bool). mark_by c.args.first b n + times n c.args.numbers.now.items) c.give.ensures ∙ h.follow n;
+pub loop-numbers-preserved-in-Continue-1 : goal.loop-numbers-preserved-in-Continue-1
+loop-numbers-preserved-in-Continue-1 c =
+    let h = step c.before.before.before in let long = ap length c.in-Some.ensures.items in record {
+      marks = λ n. ap (λ (b : List Bool). mark_by c.args.first b n + times n c.args.numbers.now.items) c.in_ok-give.ensures.given ∙ h.follow n;
       least = omega (arith, length-append c.pop.new.self.items (c.in-Some.number ∷ []));
-      len = ap length c.give.ensures ∙ length-set c.loop-numbers.places (c.in-Some.number - c.args.first) false ∙ c.loop-numbers.invariant.len;
+      len = ap length c.in_ok-give.ensures.given ∙ length-set c.loop-numbers.places (c.in-Some.number - c.args.first) false ∙ c.loop-numbers.invariant.len;
     }

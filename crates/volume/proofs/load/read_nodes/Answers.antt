@@ -75,7 +75,7 @@ returns-clause-loaded g c =
     let well_formed : AreWellFormed (limits_of found.sectors found.nodes) (stamp (found.run + 1) 0) (all_second cards) =
     asked c.of_volume-limits.result (limits_of found.sectors found.nodes) (c.from.result * 4294967296 + 4294967295 + 1) (stamp (found.run + 1) 0) c.in_ok-table.table (all_second cards)
     c.of_volume-limits.ensures (omega (arith, c.from.ensures)) table (c.in_ok-are_well_formed.ensures.0 c.if-not-branch.false) in
-    rw table (record {
+    rw (table, c.in_ok-places.ensures) (record {
       known = known_second found.sectors found.nodes cards contents.places c.in_ok-contents.ensures.found.known c.in_ok-contents.ensures.found.size_is;
       well_formed = ∣ well_formed ∣₁;
       marked = c.in_ok-contents.ensures.found.marked;

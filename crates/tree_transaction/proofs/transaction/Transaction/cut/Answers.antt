@@ -36,7 +36,7 @@ module _ (g : given.Over) (c : goal.After-store_node_and_fewer_runs-arg-1 g) whe
 
   marks : (n : ℕ) → mark_by (148 + c.args.self.now.nodes) c.give_blocks.new.places n + times_set n was.blocks ≡ mark_by (148 + c.args.self.now.nodes) c.args.self.now.places n + times_set n (take (blocks_of kind.File c.args.size) was.blocks)
   marks = subst (λ (one : CachedNode). (n : ℕ) → mark_by (148 + c.args.self.now.nodes) c.give_blocks.new.places n + times_set n one.blocks
-      ≡ mark_by (148 + c.args.self.now.nodes) c.args.self.now.places n + times_set n (take (blocks_of kind.File c.args.size) one.blocks)) c.card.view_is c.give_blocks.ensures.marks
+      ≡ mark_by (148 + c.args.self.now.nodes) c.args.self.now.places n + times_set n (take (blocks_of kind.File c.args.size) one.blocks)) c.card.view_is c.in_ok-give_blocks.ensures.marks
 
   same : c.requires.file.card ≡ was
   same = same_card c.args.self.now.cards.cards c.args.place c.requires.file.card was c.requires.file.there c.in_ok-card.ensures.card

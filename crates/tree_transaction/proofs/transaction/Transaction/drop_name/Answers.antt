@@ -80,7 +80,7 @@ module _ (c : goal.After-store_node_and_fewer_runs-arg-1) where
 
   marks_can : (n : ℕ) → mark_by (148 + c.args.self.now.nodes) c.give_blocks.new.places n + times_set n c.in_ok-card.card.blocks
       ≡ mark_by (148 + c.args.self.now.nodes) c.args.self.now.places n + times_set n (take (blocks_of kind.Directory (length c.remove.new.self)) c.in_ok-card.card.blocks)
-  marks_can = marks_left c.in_ok-card.card _ c.card.view_is c.remove.new.self c.count-left.result (148 + c.args.self.now.nodes) c.args.self.now.places c.give_blocks.new.places c.count-left.ensures.count c.give_blocks.ensures.marks
+  marks_can = marks_left c.in_ok-card.card _ c.card.view_is c.remove.new.self c.count-left.result (148 + c.args.self.now.nodes) c.args.self.now.places c.give_blocks.new.places c.count-left.ensures.count c.in_ok-give_blocks.ensures.marks
 
 pub store_node_and_fewer_runs-requires-clause-can : goal.store_node_and_fewer_runs-requires-clause-can
 store_node_and_fewer_runs-requires-clause-can c =
@@ -130,7 +130,7 @@ module _ (c : goal.After-drop-entry-2) where
       (of_some _ c.in_ok-remove.field-0 c.unwrap-at.result c.unwrap-at.ensures c.in_ok-remove.ensures.removed) c.count-left.ensures.count c.cut.ensures
 
   marks : (n : ℕ) → mark_by (148 + c.args.self.now.nodes) c.give_blocks.new.places n + times_set n was.blocks ≡ mark_by (148 + c.args.self.now.nodes) c.args.self.now.places n + times_set n blocks
-  marks = marks_left c.in_ok-card.card _ c.card.view_is c.remove.new.self c.count-left.result (148 + c.args.self.now.nodes) c.args.self.now.places c.give_blocks.new.places c.count-left.ensures.count c.give_blocks.ensures.marks
+  marks = marks_left c.in_ok-card.card _ c.card.view_is c.remove.new.self c.count-left.result (148 + c.args.self.now.nodes) c.args.self.now.places c.give_blocks.new.places c.count-left.ensures.count c.in_ok-give_blocks.ensures.marks
 
   one : (image : Image) → Rewrites (applied c.args.self.now.updates image) (applied c.rewrite_names.new.updates image) (get_or blocks (place_of name was.names / 15) None) (directory_sector (names_of_block (place_of name was.names / 15) names))
   one image = written (applied c.args.self.now.updates image) (applied c.rewrite_names.new.updates image) c.cut.new.self blocks (c.unwrap-at.result.0 / 15) (place_of name was.names / 15) names it.cut_is

@@ -16,7 +16,7 @@ give_blocks-requires c = subst (λ (one : CachedNode). HaveMarks (148 + c.args.s
 pub give_numbers-requires : goal.give_numbers-requires
 give_numbers-requires c = subst (λ (one : CachedNode). AreMarked (148 + c.args.self.now.nodes) c.give_blocks.new.places one.fields.run_sectors) (sym c.card.view_is)
     (numbers_marked c.args.self.now c.args.place c.in_ok-card.card c.give_blocks.new.places c.requires.known c.in_ok-card.ensures.card
-    (subst (λ (one : CachedNode). (n : ℕ) → mark_by (148 + c.args.self.now.nodes) c.give_blocks.new.places n + times_set n one.blocks ≡ mark_by (148 + c.args.self.now.nodes) c.args.self.now.places n + times_set n (take 0 one.blocks)) c.card.view_is c.give_blocks.ensures.marks))
+    (subst (λ (one : CachedNode). (n : ℕ) → mark_by (148 + c.args.self.now.nodes) c.give_blocks.new.places n + times_set n one.blocks ≡ mark_by (148 + c.args.self.now.nodes) c.args.self.now.places n + times_set n (take 0 one.blocks)) c.card.view_is c.in_ok-give_blocks.ensures.marks))
 
 module _ (c : goal.After-drop-card-inside-8) where
   abbrev was : CachedNode
@@ -26,7 +26,7 @@ module _ (c : goal.After-drop-card-inside-8) where
   marks n =
       let blocks = ap (λ (one : CachedNode). times_set n one.blocks) c.card.view_is in
       let runs = ap (λ (one : CachedNode). times n one.fields.run_sectors) c.card.view_is in
-      omega (arith, blocks, runs, c.give_blocks.ensures.marks n, c.give_numbers.ensures.marks n, none-named n c.give_numbers.new.numbers.items c.give_numbers.ensures.most)
+      omega (arith, blocks, runs, c.in_ok-give_blocks.ensures.marks n, c.in_ok-give_numbers.ensures.marks n, none-named n c.give_numbers.new.numbers.items c.in_ok-give_numbers.ensures.most)
 
   len : length c.give_numbers.new.places ≡ length c.args.self.now.places
   len = c.give_numbers.ensures.len ∙ c.give_blocks.ensures.len

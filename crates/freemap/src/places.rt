@@ -1,0 +1,100 @@
+//! A set of used places that copies share.
+
+ghost use Rattle.std.specs.Prelude.{◌≡◌, ◌<◌, ◌*◌, ◌↔◌, Some, false, true, slice_index_or, slice_get, slice_set, All, IfOk, IsErrOf, OnOk, OnErr, IsTrue};
+ghost use Rattle.freemap.specs.Places.{Shows, HaveSamePart};
+
+use crate::bitmap::Bitmap;
+use crate::fault::TakeFault;
+use crate::sectors::{SECTOR_BYTES, SECTOR_PLACES};
+use std::alloc::{AllocError, Global};
+use std::marker::Model;
+use std::rc::Rc;
+
+/// Which places are used. A copy shares the memory until one of the two changes.
+///
+/// Contracts see a list of booleans, true where the place is used.
+#[derive(Drop)]
+pub struct Places {
+    alloc: Global,
+    set: Rc<Bitmap>,
+}
+
+impl Model for Places {
+    ghost use Rattle.std.specs.Prelude.{Bool, List};
+
+    ghost Value = { List Bool };
+
+    ghost view = { λ places. places.set.value };
+}
+
+impl Places {
+    /// The places of a set.
+    pub fn new(alloc: Global, set: Bitmap) -> Result<Places, AllocError>
+        ensures { IfOk result (λ places. places ≡ set) }
+    {
+        let set = Rc::new(alloc, set)?;
+        Ok(Places { alloc, set })
+    }
+
+    /// The same places, in the same memory.
+    pub fn try_clone(&self) -> Result<Places, AllocError>
+        ensures { IfOk result (λ places. places ≡ self.now) }
+    {
+        let set = self.set.clone()?;
+        Ok(Places {
+            alloc: self.alloc,
+            set,
+        })
+    }
+
+    /// Writes bitmap sector `part`, 0 or 1, which shows the places from `32768 * part` on.
+    pub fn to_sector(&self, part: u32, sector: &mut [u8; SECTOR_BYTES])
+        requires { part < 2 }
+        ensures { Shows sector.new self.now (SECTOR_PLACES * part) }
+    {
+        self.set.to_sector(part, sector);
+    }
+
+    /// Whether bitmap sector `part`, 0 or 1, is the same of both.
+    pub fn has_same_part(&self, other: &Places, part: u32) -> bool
+        requires { part < 2 }
+        ensures { IsTrue result ↔ HaveSamePart self.now other.now (SECTOR_PLACES * part) }
+    {
+        self.set.has_same_part(&other.set, part)
+    }
+
+    /// Takes a free place, in place where nobody shares the memory. Which one is left open.
+    ///
+    /// # Errors
+    /// `Full` only where no place is free, and `Memory`; nothing changes then.
+    pub fn take(&mut self) -> Result<u32, TakeFault>
+        ensures free { IfOk result (λ place. slice_get self.old place ≡ Some false) }
+        ensures taken { IfOk result (λ place. self.new ≡ slice_set self.old place true) }
+        ensures full { IsErrOf result TakeFault.Full → All (λ used. used ≡ true) self.old }
+        ensures unchanged { OnErr result (self.new ≡ self.old) }
+    {
+        if let Some(own) = Rc::get_mut(&mut self.set) {
+            return Ok(own.take()?);
+        }
+        let mut own = self.set.try_clone()?;
+        let place = own.take()?;
+        self.set = Rc::new(self.alloc, own)?;
+        Ok(place)
+    }
+
+    /// Gives a used place back, in place where nobody shares the memory. An `Err` changes nothing.
+    pub fn give(&mut self, place: u32) -> Result<(), AllocError>
+        requires { slice_index_or self.old place false ≡ true }
+        ensures given { OnOk result (self.new ≡ slice_set self.old place false) }
+        ensures unchanged { OnErr result (self.new ≡ self.old) }
+    {
+        if let Some(own) = Rc::get_mut(&mut self.set) {
+            own.give(place);
+            return Ok(());
+        }
+        let mut own = self.set.try_clone()?;
+        own.give(place);
+        self.set = Rc::new(self.alloc, own)?;
+        Ok(())
+    }
+}
