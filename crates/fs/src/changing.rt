@@ -9,7 +9,7 @@ ghost use Rattle.fs.specs.Setting.{resizing};
 
 use crate::fault::FsFault;
 use crate::fs::Fs;
-use acl_eval::{Acl, NodeKind};
+use acl_eval::NodeKind;
 use disk::Device;
 use model::not_done::NotDone;
 use model::status::Status;
@@ -20,7 +20,6 @@ use tree_transaction::Shown;
 
 /// A node whose content a change alters: what it shows then.
 pub(crate) fn metadata_with_change(
-    alloc: Global,
     card: &CachedNode,
     stamp: u64,
     now: u64,
@@ -31,7 +30,7 @@ pub(crate) fn metadata_with_change(
     Ok(Shown {
         owner: inode.owner,
         group: inode.group,
-        acl: Acl::from_slice(alloc, inode.acl.as_slice())?,
+        acl: inode.acl.try_clone()?,
         change: stamp,
         time_modify: now,
     })

@@ -38,7 +38,7 @@ pub(crate) fn list_created(
 pub(crate) fn list_set(
     alloc: Global,
     kind: NodeKind,
-    acl: &[Ace],
+    acl: &Acl,
     mode: Option<u32>,
     set: Option<Acl>,
 ) -> Result<Acl, AllocError>
@@ -49,7 +49,7 @@ pub(crate) fn list_set(
         return Ok(set);
     }
     match mode {
-        Some(mode) => with_mode(alloc, kind, acl, mode).map_err(|_| AllocError),
-        None => Acl::from_slice(alloc, acl),
+        Some(mode) => with_mode(alloc, kind, acl.as_slice(), mode).map_err(|_| AllocError),
+        None => acl.try_clone(),
     }
 }

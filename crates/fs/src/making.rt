@@ -236,7 +236,7 @@ impl<D: Device> Fs<D> {
             ≡ tree_with (fs_of self.now) new.entry.directory new.entry.name.now
             (first_node new.entry.kind new.entry.size (shown_of shown)) now) }
     {
-        let directory_shown = metadata_with_change(self.alloc, parent, stamp, now)?;
+        let directory_shown = metadata_with_change(parent, stamp, now)?;
         let edits = made_edits(self.alloc, new, stamp, shown, directory_shown)?;
         Ok(edits)
     }

@@ -336,7 +336,7 @@ impl<D: Device> Fs<D> {
         let Some(stamp) = self.stamp_left() else {
             return Err(self.refuse_last_size(number, Some(0)));
         };
-        let shown = metadata_with_change(self.alloc, card, stamp, now)?;
+        let shown = metadata_with_change(card, stamp, now)?;
         let edits = set_edits(self.alloc, number, Some(0), shown)?;
         if !self.volume.fits(&edits) {
             return Err(NotDone::Status(Status::NoSpc));

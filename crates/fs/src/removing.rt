@@ -132,7 +132,7 @@ impl<D: Device> Fs<D> {
         let Some(stamp) = self.stamp_left() else {
             return Err(NotDone::Status(Status::ServerFault));
         };
-        let shown = metadata_with_change(self.alloc, holder, stamp, now)?;
+        let shown = metadata_with_change(holder, stamp, now)?;
         let edits = removed_edits(
             self.alloc,
             directory,

@@ -326,8 +326,8 @@ impl<D: Device> Fs<D> {
         self.permit_rename(cred, asked, moving, target)?;
         // where none is left: the stamp of the entry that goes, whose edits need as much room
         let stamp = self.stamp_left().unwrap_or(moving.stamp);
-        let from_shown = metadata_with_change(self.alloc, from, stamp, now)?;
-        let to_shown = metadata_with_change(self.alloc, to, stamp, now)?;
+        let from_shown = metadata_with_change(from, stamp, now)?;
+        let to_shown = metadata_with_change(to, stamp, now)?;
         let edits = renamed_edits(
             self.alloc, asked, moving, target, stamp, from_shown, to_shown,
         )?;

@@ -239,7 +239,7 @@ impl<D: Device> Fs<D> {
         let acl = list_set(
             self.alloc,
             inode.kind,
-            inode.acl.as_slice(),
+            &inode.acl,
             settings.mode,
             settings.acl,
         )?;

@@ -132,7 +132,7 @@ impl<D: Device> Fs<D> {
                 bytes: part,
             }]));
         };
-        let shown = metadata_with_change(self.alloc, card, stamp, now)?;
+        let shown = metadata_with_change(card, stamp, now)?;
         let edits = written_edits(self.alloc, number, offset, part, shown)?;
         if !self.volume.fits(&edits) {
             return Err(NotDone::Status(Status::NoSpc));
