@@ -15,8 +15,8 @@ use Rattle.directory.specs.Records.{Record}
 use Rattle.model.specs.Keyed.{Keyed, at, is_key, with, in_place_of, before_or_behind}
 use Rattle.model.specs.Need.{Right, granted_on, is_granted, are_granted, here, listing_rights}
 use Rattle.model.specs.NodeAttributes.{unreadable}
-use Rattle.model.specs.Operation.{Argument, ReadDirArguments}
-use Rattle.model.specs.ReadDir.{asks_lists, asks_errors, may_read_list, entry_attributes, listed_entry, names_after, all_entries, page, page_bytes, page_room, page_refusals}
+use Rattle.model.specs.Operation.{Argument, Attributes, ReadDirArguments}
+use Rattle.model.specs.ReadDir.{asks_lists, asks_errors, may_read_list, listed_entry, names_after, all_entries, page, page_bytes, page_room, page_refusals}
 use Rattle.model.specs.Refusal.{first_refusal, refused_or}
 use Rattle.model.specs.SetAttr.{attributes_at}
 use Rattle.model.specs.Step.{State, current, refusals, change_refusals, without_rights, effect, does, answered, refused, unless_refused}
@@ -24,22 +24,54 @@ use Rattle.model.specs.Tree.{Tree, Node, DirEntry, is_directory_at, names_at}
 use Rattle.model.proofs.BooleanLaws.{and_false, alone}
 use Rattle.model.proofs.RefusalLaws.{or_else}
 use Rattle.fs.specs.OnTree.{IsState}
-use Rattle.fs.specs.Listing.{list_refusals, may_read_lists, page_of}
+use Rattle.fs.specs.Listing.{list_refusals, may_read_lists, page_of, shown_attributes, shown_entry}
 use Rattle.fs.proofs.FileSteps.{or_none, does_by}
 
 module _ {A : Type 0} (x y : A) where
-  chosen : (asked may : Bool) → (asked ≡ false) ⊎ (may ≡ true) → (if asked && not may then x else y) ≡ y
+  chosen : (hides may : Bool) → (hides ≡ false) ⊎ (may ≡ true) → (if hides && not may then x else y) ≡ y
   chosen true true which = refl
   chosen true false (inl unasked) = absurd (cc)
   chosen true false (inr allowed) = absurd (cc)
   chosen false may which = refl
 
--- an entry whose list is not asked, or may be read
-pub attributes_shown : (limits : Limits) (cred : Cred) (bitmap : List ℕ) (number : ℕ) (found : Option Node)
-    → (asks_lists bitmap ≡ false) ⊎ (may_read_list cred found ≡ true)
-    → entry_attributes limits cred bitmap number found ≡ attributes_at limits bitmap number found
-attributes_shown limits cred bitmap number found which =
-    chosen unreadable (attributes_at limits bitmap number found) (asks_lists bitmap) (may_read_list cred found) which
+  -- where all lists may be read unless errors are asked, only where they are a list has to be tested
+  same_choice : (asked errors may others : Bool) → ((asked && not errors) && not (may && others)) ≡ false
+      → (if (asked && errors) && not may then x else y) ≡ (if asked && not may then x else y)
+  same_choice false errors may others passed = refl
+  same_choice true true may others passed = refl
+  same_choice true false true others passed = refl
+  same_choice true false false others passed = absurd (cc)
+
+others_passed : (must may others : Bool) → (must && not (may && others)) ≡ false → (must && not others) ≡ false
+others_passed false may others passed = refl
+others_passed true true others passed = passed
+others_passed true false others passed = absurd (cc)
+
+-- an entry whose list hides nothing, or may be read
+pub attributes_shown : (limits : Limits) (cred : Cred) (hides : Bool) (bitmap : List ℕ) (number : ℕ) (found : Option Node)
+    → (hides ≡ false) ⊎ (may_read_list cred found ≡ true)
+    → shown_attributes limits cred hides bitmap number found ≡ attributes_at limits bitmap number found
+attributes_shown limits cred hides bitmap number found which =
+    chosen unreadable (attributes_at limits bitmap number found) hides (may_read_list cred found) which
+
+-- the entries are the definition's where each list is tested before, or hides its node
+
+module _ (limits : Limits) (tree : Tree) (cred : Cred) (bitmap : List ℕ) where
+  abbrev may : ℕ × DirEntry → Bool
+  may name = may_read_list cred (at name.1.number tree)
+
+  one_shown : (name : ℕ × DirEntry) (others : Bool) → ((asks_lists bitmap && not (asks_errors bitmap)) && not (may name && others)) ≡ false
+      → shown_entry limits tree cred (asks_lists bitmap && asks_errors bitmap) bitmap name ≡ listed_entry limits tree cred bitmap name
+  one_shown name others passed =
+      ap (λ (shown : Attributes). record { cookie = name.0; name = name.1.name; attributes = shown })
+      (same_choice unreadable (attributes_at limits bitmap name.1.number (at name.1.number tree)) (asks_lists bitmap) (asks_errors bitmap) (may name) others passed)
+
+  each_shown : (names : Keyed DirEntry) → ((asks_lists bitmap && not (asks_errors bitmap)) && not (list_all may names)) ≡ false
+      → map (shown_entry limits tree cred (asks_lists bitmap && asks_errors bitmap) bitmap) names ≡ map (listed_entry limits tree cred bitmap) names
+  each_shown [] passed = refl
+  each_shown (name ∷ rest) passed =
+      ap₂ (λ (entry : Entry) (others : List Entry). entry ∷ others) (one_shown name (list_all may rest) passed)
+      (each_shown rest (others_passed (asks_lists bitmap && not (asks_errors bitmap)) (may name) (list_all may rest) passed))
 
 -- The right to read the list of each entry
 
@@ -72,6 +104,16 @@ regrouped false false true k r behind = refl
 regrouped false false false true r behind = refl
 regrouped false false false false true behind = refl
 regrouped false false false false false behind = refl
+
+last_passed : (n d g k r : Bool)
+    → refused_or n status.Stale (refused_or d status.NotDir (refused_or g status.Access (refused_or k status.NotSame (refused_or r status.Access None)))) ≡ None
+    → r ≡ false
+last_passed n d g k false none = refl
+last_passed true d g k true none = absurd (cc)
+last_passed false true g k true none = absurd (cc)
+last_passed false false true k true none = absurd (cc)
+last_passed false false false true true none = absurd (cc)
+last_passed false false false false true none = absurd (cc)
 
 -- whether there is no room for the first of so many entries, of which so many are shown
 
@@ -155,6 +197,12 @@ module _ (limits : Limits) (tree : Tree) (cred : Cred) (number : ℕ) (state : S
   same_page : page limits state arguments ≡ page_of (page_room limits arguments) all
   unfolding page
   same_page = ap (page_of (page_room limits arguments)) same_entries
+
+  pub all_shown : (hides : Bool) → hides ≡ (asks_lists arguments.bitmap && asks_errors arguments.bitmap) → first_refusal (list_refusals tree cred number arguments) ≡ None
+      → map (shown_entry limits tree cred hides arguments.bitmap) (names_after arguments.cookie (names_at tree number)) ≡ all
+  all_shown hides is passed =
+      ap (λ (b : Bool). map (shown_entry limits tree cred b arguments.bitmap) (names_after arguments.cookie (names_at tree number))) is
+      ∙ each_shown limits tree cred arguments.bitmap (names_after arguments.cookie (names_at tree number)) (last_passed _ _ _ _ _ passed)
 
   pub list_refused : (reason : Status) → first_refusal (list_refusals tree cred number arguments) ≡ Some reason
       → does limits state now operation ≡ refused state operation reason

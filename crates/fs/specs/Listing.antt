@@ -1,17 +1,20 @@
 -- READDIR, as a call on a file system.
-use Rattle.std.specs.Prelude.{◌≡◌, ◌==◌, ◌&&◌, ℕ, Bool, true, List, [], ◌∷◌, ◌++◌, Result, Ok, Err, not, length, map}
+use Rattle.std.specs.Prelude.{◌≡◌, ◌==◌, ◌&&◌, ℕ, Bool, true, List, [], ◌∷◌, ◌++◌, Option, Result, Ok, Err, not, length, map, if◌then◌else◌}
 use Rattle.std.specs.List.{AllByRecursion, list_all}
 use Rattle.model.specs.declared.acl.Cred.{Cred}
+use Rattle.model.specs.declared.limits.Limits.{Limits}
 use Rattle.model.specs.declared.status.Status.TheVariants as status
 use Rattle.model.specs.Acl.{read_data}
 use Rattle.model.specs.Answer.{Answer, Entry, ReadDirAnswer}
 use Rattle.model.specs.Keyed.{at, is_key}
 use Rattle.model.specs.Need.{granted_on}
-use Rattle.model.specs.Operation.{Argument, ReadDirArguments}
+use Rattle.model.specs.NodeAttributes.{unreadable}
+use Rattle.model.specs.Operation.{Argument, Attributes, ReadDirArguments}
 use Rattle.model.specs.ReadDir.{asks_errors, asks_lists, cookie_refusals, fitting, may_read_list, names_after}
 use Rattle.model.specs.Refusal.{Refusals}
+use Rattle.model.specs.SetAttr.{attributes_at}
 use Rattle.model.specs.Step.{State, answered, refused}
-use Rattle.model.specs.Tree.{Tree, DirEntry, is_directory_at, names_at}
+use Rattle.model.specs.Tree.{Tree, Node, DirEntry, is_directory_at, names_at}
 use Rattle.fs.specs.declared.fault.FsFault.{FsFault}
 use Rattle.fs.specs.declared.fault.FsFault.TheVariants as fault
 use Rattle.fs.specs.declared.listing.Listing.{Listing}
@@ -68,6 +71,24 @@ list_refusals tree cred number arguments =
           && not (may_read_lists tree cred number arguments.cookie),
       status.Access,
     ) ∷ []))
+
+-- Entries, where an unreadable list hides what its node shows, or does not. The definition's are
+-- those where it hides it if lists are asked.
+
+abbrev pub shown_attributes : Limits → Cred → (hides : Bool) → (bitmap : List ℕ) → (number : ℕ)
+    → Option Node → Attributes
+shown_attributes limits cred hides bitmap number node =
+    if hides && not (may_read_list cred node)
+    then unreadable
+    else attributes_at limits bitmap number node
+
+abbrev pub shown_entry : Limits → Tree → Cred → (hides : Bool) → (bitmap : List ℕ) → ℕ × DirEntry
+    → Entry
+shown_entry limits tree cred hides bitmap name = record {
+  cookie = name.0;
+  name = name.1.name;
+  attributes = shown_attributes limits cred hides bitmap name.1.number (at name.1.number tree);
+}
 
 -- the page of entries that has room in so many bytes
 abbrev pub page_of : (room : ℕ) → List Entry → ReadDirAnswer

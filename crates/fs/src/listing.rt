@@ -56,6 +56,14 @@ fn must_read_lists(asked: &[u32]) -> bool
     asks_lists(asked) && !is_asked(asked, Attribute::RdattrError.number())
 }
 
+/// Whether an entry is listed without its attributes where its list may not be read. Where lists are
+/// asked and it is not to be told of an entry, each list after the cookie passed its test before.
+fn hides_unreadable(asked: &[u32]) -> bool
+    ensures { result ≡ (asks_lists asked.now && asks_errors asked.now) }
+{
+    asks_lists(asked) && is_asked(asked, Attribute::RdattrError.number())
+}
+
 impl Listing<'_> {
     /// Whether a cookie comes with a verifier that goes with none.
     fn has_other_verifier(&self) -> bool
@@ -75,9 +83,10 @@ impl<D: Device> Fs<D> {
     ghost use Rattle.directory.specs.Rest.{record_at, rest_of};
     ghost use Rattle.fs.specs.Views.{fs_of};
     ghost use Rattle.fs.specs.Listing.{Lists, PageFits, list_arguments, list_refusals, page_of, page_view};
+    ghost use Rattle.fs.specs.Listing.{shown_attributes, shown_entry};
     ghost use Rattle.fs.specs.Operations.{IsOn};
     ghost use Rattle.model.specs.Keyed.{at};
-    ghost use Rattle.model.specs.ReadDir.{entry_attributes, listed_entry, may_read_list};
+    ghost use Rattle.model.specs.ReadDir.{may_read_list};
     ghost use Rattle.model.specs.Step.{State};
     ghost use Rattle.model.specs.Tree.{names_at};
     ghost use Rattle.set_attributes.specs.Given.{IsChecked};
@@ -110,7 +119,8 @@ impl<D: Device> Fs<D> {
             return Err(FsFault::Status(Status::TooSmall));
         }
         let names = card.names.list_after(listing.cookie);
-        let page = self.fill(cred, names, listing.asked, bytes - EMPTY_PAGE)?;
+        let hides = hides_unreadable(listing.asked);
+        let page = self.fill(cred, names, listing.asked, hides, bytes - EMPTY_PAGE)?;
         if page.entries.is_empty() && !page.is_end {
             return Err(FsFault::Status(Status::TooSmall));
         }
@@ -168,25 +178,27 @@ impl<D: Device> Fs<D> {
         true
     }
 
-    /// The page of these names that has room in so many bytes.
+    /// The page of these names that has room in so many bytes. `hides` says whether an entry whose
+    /// list may not be read is listed without its attributes.
     fn fill<'a>(
         &'a self,
         cred: &Cred,
         names: ListAfter<'a>,
         asked: &'a [u32],
+        hides: bool,
         room: usize,
     ) -> Result<Page<'a>, AllocError>
         requires { AllByRecursion IsRecord (rest_of names) }
         ensures page { IfOk result (λ page. page_view page ≡ page_of room (map
-            (listed_entry (fs_of self.entry.now).volume.limits
-            (fs_of self.entry.now).volume.tree cred.now asked.entry.now)
+            (shown_entry (fs_of self.entry.now).volume.limits
+            (fs_of self.entry.now).volume.tree cred.now hides asked.entry.now)
             (rest_of names.entry))) }
         ensures fits { IfOk result PageFits }
     {
         let mut room = room;
         let mut entries = Vec::new(self.alloc);
         for name in names {
-            let entry = self.listed(cred, name, asked);
+            let entry = self.listed(cred, name, asked, hides);
             let size = 4 + entry.size();
             if room < size {
                 return Ok(Page {
@@ -204,16 +216,23 @@ impl<D: Device> Fs<D> {
     }
 
     /// The entry of a name.
-    fn listed<'a>(&'a self, cred: &Cred, name: &'a Entry, asked: &'a [u32]) -> ListedEntry<'a>
+    fn listed<'a>(
+        &'a self,
+        cred: &Cred,
+        name: &'a Entry,
+        asked: &'a [u32],
+        hides: bool,
+    ) -> ListedEntry<'a>
         requires { IsRecord (record_at name) }
-        ensures view { entry_view result ≡ listed_entry (fs_of self.entry.now).volume.limits
-            (fs_of self.entry.now).volume.tree cred.now asked.entry.now (record_at name.entry) }
+        ensures view { entry_view result ≡ shown_entry (fs_of self.entry.now).volume.limits
+            (fs_of self.entry.now).volume.tree cred.now hides asked.entry.now
+            (record_at name.entry) }
         ensures fits { EntryFits result }
     {
         ListedEntry {
             cookie: name.stamp,
             name: &name.name,
-            attributes: self.listed_attributes(cred, name.number, asked),
+            attributes: self.listed_attributes(cred, name.number, asked, hides),
         }
     }
 
@@ -223,12 +242,14 @@ impl<D: Device> Fs<D> {
         cred: &Cred,
         number: u64,
         asked: &'a [u32],
+        hides: bool,
     ) -> ListedAttributes<'a>
-        ensures view { listed_view result ≡ entry_attributes (fs_of self.entry.now).volume.limits
-            cred.now asked.entry.now number (at number (fs_of self.entry.now).volume.tree) }
+        ensures view { listed_view result ≡ shown_attributes (fs_of self.entry.now).volume.limits
+            cred.now hides asked.entry.now number
+            (at number (fs_of self.entry.now).volume.tree) }
         ensures fits { ListedFits result }
     {
-        if asks_lists(asked) && !self.may_read_list(cred, number) {
+        if hides && !self.may_read_list(cred, number) {
             return ListedAttributes::Unreadable;
         }
         match self.volume.node(number) {

@@ -8,12 +8,12 @@ use Rattle.directory.specs.Rest.{rest_of}
 use Rattle.layout.specs.CachedNodes.{CachedNode}
 use Rattle.model.specs.declared.limits.Limits.{Limits}
 use Rattle.model.specs.Keyed.{Keyed}
-use Rattle.model.specs.ReadDir.{listed_entry, names_after, page_bytes, page_room}
+use Rattle.model.specs.ReadDir.{names_after, page_bytes, page_room}
 use Rattle.model.specs.Tree.{DirEntry, names_at}
 use Rattle.fs.specs.Views.{fs_of}
-use Rattle.fs.specs.Listing.{list_arguments, page_of, page_view}
+use Rattle.fs.specs.Listing.{list_arguments, page_of, page_view, shown_entry}
 use Rattle.fs.specs.declared.fault.FsFault.TheVariants as fault
-use Rattle.fs.proofs.ListLaws.{each_listed, all, list_refused, list_small, list_crowded, list_done}
+use Rattle.fs.proofs.ListLaws.{each_listed, all, all_shown, list_refused, list_small, list_crowded, list_done}
 use Rattle.volume.proofs.ServeLaws.{told_err}
 use Rattle.wire_attributes.specs.Listed.{entry_view}
 use Rattle.fs.proofs.fs.Fs.list.Goals as goal
@@ -45,14 +45,16 @@ returns-then-not-page-clause-step g c state now dir_count on =
     let held = (fs_of c.args.self.now).volume in
     let listing = c.args.listing in
     let arguments = list_arguments listing dir_count in
-    let listed = listed_entry held.limits held.tree c.args.cred.now listing.asked.now in
+    let shows = shown_entry held.limits held.tree c.args.cred.now c.hides_unreadable-hides.result listing.asked.now in
     let bytes : c.min-bytes.result ≡ page_bytes held.limits arguments = omega (arith, c.min-bytes.ensures, ap (λ (l : Limits). l.transfer_bytes) c.limits.ensures.limits) in
     let enough : 16 ≤ page_bytes held.limits arguments = omega (arith, bytes, c.if-bytes-lt-EMPTY_PAGE.false) in
     let behind : rest_of c.list_after-names.result ≡ names_after listing.cookie (names_at held.tree listing.directory) =
     c.list_after-names.ensures ∙ ap (λ (it : CachedNode). after listing.cookie (by_stamp it.names)) c.card.view_is ∙ ap (names_after listing.cookie) c.in_ok-card.ensures.names in
     let page = c.in_ok-page.page in
     let shown : page_view page ≡ page_of (page_room held.limits arguments) (all held.limits held.tree c.args.cred.now listing.directory state now on.is_state arguments) =
-    c.in_ok-page.ensures.page ∙ ap₂ (λ (n : ℕ) (names : Keyed DirEntry). page_of (n - 16) (map listed names)) bytes behind in
+    c.in_ok-page.ensures.page ∙ ap₂ (λ (n : ℕ) (names : Keyed DirEntry). page_of (n - 16) (map shows names)) bytes behind
+    ∙ ap (page_of (page_room held.limits arguments)) (all_shown held.limits held.tree c.args.cred.now listing.directory state now on.is_state arguments
+    c.hides_unreadable-hides.result c.hides_unreadable-hides.ensures (c.in_ok-card.ensures.tests dir_count)) in
     let count : length (map entry_view page.entries.items) ≡ vec_len page.entries = omega (arith, length-map page.entries.items entry_view, page.entries.ok.0) in
     list_crowded held.limits held.tree c.args.cred.now listing.directory state now on.is_state arguments (c.in_ok-card.ensures.tests dir_count)
     (le-ltb (page_bytes held.limits arguments) 16 enough) (page_view page) shown
@@ -64,14 +66,16 @@ returns-clause-step g c state now dir_count on =
     let held = (fs_of c.args.self.now).volume in
     let listing = c.args.listing in
     let arguments = list_arguments listing dir_count in
-    let listed = listed_entry held.limits held.tree c.args.cred.now listing.asked.now in
+    let shows = shown_entry held.limits held.tree c.args.cred.now c.hides_unreadable-hides.result listing.asked.now in
     let bytes : c.min-bytes.result ≡ page_bytes held.limits arguments = omega (arith, c.min-bytes.ensures, ap (λ (l : Limits). l.transfer_bytes) c.limits.ensures.limits) in
     let enough : 16 ≤ page_bytes held.limits arguments = omega (arith, bytes, c.if-bytes-lt-EMPTY_PAGE.false) in
     let behind : rest_of c.list_after-names.result ≡ names_after listing.cookie (names_at held.tree listing.directory) =
     c.list_after-names.ensures ∙ ap (λ (it : CachedNode). after listing.cookie (by_stamp it.names)) c.card.view_is ∙ ap (names_after listing.cookie) c.in_ok-card.ensures.names in
     let page = c.in_ok-page.page in
     let shown : page_view page ≡ page_of (page_room held.limits arguments) (all held.limits held.tree c.args.cred.now listing.directory state now on.is_state arguments) =
-    c.in_ok-page.ensures.page ∙ ap₂ (λ (n : ℕ) (names : Keyed DirEntry). page_of (n - 16) (map listed names)) bytes behind in
+    c.in_ok-page.ensures.page ∙ ap₂ (λ (n : ℕ) (names : Keyed DirEntry). page_of (n - 16) (map shows names)) bytes behind
+    ∙ ap (page_of (page_room held.limits arguments)) (all_shown held.limits held.tree c.args.cred.now listing.directory state now on.is_state arguments
+    c.hides_unreadable-hides.result c.hides_unreadable-hides.ensures (c.in_ok-card.ensures.tests dir_count)) in
     let count : length (map entry_view page.entries.items) ≡ vec_len page.entries = omega (arith, length-map page.entries.items entry_view, page.entries.ok.0) in
     let some : ((length (map entry_view page.entries.items) == 0) ≡ false) ⊎ (page.is_end ≡ true) =
     elim c.else-is_empty.branch [

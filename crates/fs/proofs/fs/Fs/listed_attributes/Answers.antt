@@ -1,12 +1,12 @@
 use Rattle.std.proofs.Common.{◌≡◌, ◌∙◌, ◌⊎◌, true, false, inl, inr, sym, ap}
 use Rattle.model.specs.Keyed.{at}
-use Rattle.model.specs.ReadDir.{asks_lists, may_read_list}
+use Rattle.model.specs.ReadDir.{may_read_list}
 use Rattle.model.specs.SetAttr.{attributes_at}
 use Rattle.fs.specs.Views.{fs_of}
 use Rattle.fs.proofs.AttributeLaws.{attributes_are}
 use Rattle.fs.proofs.ListLaws.{attributes_shown}
 use Rattle.fs.proofs.fs.Fs.listed_attributes.Goals as goal
-use Rattle.fs.proofs.fs.Fs.listed_attributes.Goals.{else-asks_lists-via-then-asks_lists+else-not-may_read_list, else-asks_lists-via-else-asks_lists}
+use Rattle.fs.proofs.fs.Fs.listed_attributes.Goals.{else-hides-via-then-hides+else-not-may_read_list, else-hides-via-else-hides}
 
 pub returns-in-Some-clause-view : goal.returns-in-Some-clause-view
 unfolding fs_of
@@ -15,12 +15,12 @@ returns-in-Some-clause-view g c =
     let bitmap = c.args.asked.now in
     let number = c.args.number in
     let is = c.in-Some.ensures.some in
-    let may : (asks_lists bitmap ≡ false) ⊎ (may_read_list c.args.cred.now (at number held.tree) ≡ true) =
-    elim c.else-asks_lists.branch [
-      | else-asks_lists-via-then-asks_lists+else-not-may_read_list w ↦ inr (sym w.may_read_list.ensures ∙ w.if-not-may_read_list.false)
-      | else-asks_lists-via-else-asks_lists w ↦ inl (sym c.asks_lists.ensures ∙ w.if-asks_lists.false)
+    let may : (c.args.hides ≡ false) ⊎ (may_read_list c.args.cred.now (at number held.tree) ≡ true) =
+    elim c.else-hides.branch [
+      | else-hides-via-then-hides+else-not-may_read_list w ↦ inr (sym w.may_read_list.ensures ∙ w.if-not-may_read_list.false)
+      | else-hides-via-else-hides w ↦ inl w.if-hides.false
     ] in
     c.shown.ensures.shows bitmap
     ∙ sym (attributes_are c.in-Some.card.now c.in-Some.ensures.fit held.limits held.tree number is bitmap)
     ∙ sym (ap (attributes_at held.limits bitmap number) is.there)
-    ∙ sym (attributes_shown held.limits c.args.cred.now bitmap number (at number held.tree) may)
+    ∙ sym (attributes_shown held.limits c.args.cred.now c.args.hides bitmap number (at number held.tree) may)
