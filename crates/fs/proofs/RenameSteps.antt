@@ -1,6 +1,9 @@
 -- RENAME's tests, one after the other, and what it does.
 use Rattle.std.proofs.Common.{ℕ, Bool, true, false, [], ◌∷◌, ◌++◌, ◌≡◌, ◌&&◌, ◌∙◌, not, refl, ap}
-use Rattle.std.specs.Prelude.{Option, Some, None, IsTrue, if◌then◌else◌}
+use Rattle.std.specs.Prelude.{Option, Some, None, Result, Ok, Err, IfOk, IsTrue, MatchOption, if◌then◌else◌}
+use Rattle.std.specs.Global.{Vec}
+use Rattle.tree_edits.specs.declared.edit.Edit.{Edit}
+use Rattle.model.specs.declared.not_done.NotDone.{NotDone}
 use Rattle.model.specs.declared.limits.Limits.{Limits}
 use Rattle.model.specs.declared.status.Status.{Status}
 use Rattle.model.specs.declared.status.Status.TheVariants as status
@@ -17,6 +20,7 @@ use Rattle.model.specs.Stamp.{is_stamp_left}
 use Rattle.model.specs.Step.{State, current, saved, late, without_rights, refusals, effect, does, refused, unless_refused}
 use Rattle.model.specs.Tree.{Tree, is_directory_at}
 use Rattle.model.proofs.RefusalLaws.{first-append, or_else}
+use Rattle.fs.specs.declared.renaming.Planned.{Planned}
 use Rattle.fs.specs.RenameTests.{directory_refusals, moving_refusals, placing_refusals}
 
 or_behind : (test : Bool) (reason : Status) (front rest : Option Status) → refused_or test reason (or_else front rest) ≡ or_else (refused_or test reason front) rest
@@ -165,3 +169,13 @@ module _ (limits : Limits) (state : State) (now : ℕ) (arguments : RenameArgume
 
           pub done : is_stamp_left state.changes ≡ true → does limits state now (Argument.Rename arguments) ≡ rename false state now arguments
           done left = does_is false other None (rw (moved, placed, room, left) refl)
+
+-- what holds of a plan with edits holds of one that may have none
+module _ (P : Planned → Type 0) (Q : Planned → Vec Edit → Type 0) where
+  either_edits : (planned : Planned) (edits : Option (Vec Edit)) → MatchOption edits ⊥ (Q planned) → MatchOption edits (P planned) (Q planned)
+  either_edits planned None some = absurd some
+  either_edits planned (Some edits) some = some
+
+  pub either_planned : (result : Result Planned NotDone) → IfOk result (λ planned. MatchOption planned.edits ⊥ (Q planned)) → IfOk result (λ planned. MatchOption planned.edits (P planned) (Q planned))
+  either_planned (Ok planned) some = either_edits planned planned.edits some
+  either_planned (Err refused) some = tt

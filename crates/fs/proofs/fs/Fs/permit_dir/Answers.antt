@@ -16,7 +16,33 @@ use Rattle.fs.proofs.Creating as creating
 use Rattle.fs.specs.Views.{fs_of}
 use Rattle.fs.proofs.CachedNodeViews.{granted_by, names_are, entry_is}
 use Rattle.fs.proofs.RefusedLaws.{carried}
+use Rattle.volume.proofs.ServeLaws.{told_err}
+use Rattle.model.specs.declared.not_done.NotDone.TheVariants as refusal
 use Rattle.fs.proofs.fs.Fs.permit_dir.Goals as goal
+
+pub returns-in_err-check_name-clause-parent : goal.returns-in_err-check_name-clause-parent
+returns-in_err-check_name-clause-parent g c = rw (told_err c.from_residual.result (refusal.Status c.in_err-check_name.field-0.0) c.from_residual.ensures.1) (tt)
+
+pub returns-in_err-check_name-clause-fit : goal.returns-in_err-check_name-clause-fit
+returns-in_err-check_name-clause-fit g c = rw (told_err c.from_residual.result (refusal.Status c.in_err-check_name.field-0.0) c.from_residual.ensures.1) (tt)
+
+pub returns-in_err-check_name-clause-settings : goal.returns-in_err-check_name-clause-settings
+returns-in_err-check_name-clause-settings g c = rw (told_err c.from_residual.result (refusal.Status c.in_err-check_name.field-0.0) c.from_residual.ensures.1) (tt)
+
+pub returns-in_err-check_name-clause-within : goal.returns-in_err-check_name-clause-within
+returns-in_err-check_name-clause-within g c = rw (told_err c.from_residual.result (refusal.Status c.in_err-check_name.field-0.0) c.from_residual.ensures.1) (tt)
+
+pub returns-in_err-settings-clause-parent : goal.returns-in_err-settings-clause-parent
+returns-in_err-settings-clause-parent g c = rw (told_err c.from_residual-in_err-settings.result c.in_err-settings.field-0.0 c.from_residual-in_err-settings.ensures.1) (tt)
+
+pub returns-in_err-settings-clause-fit : goal.returns-in_err-settings-clause-fit
+returns-in_err-settings-clause-fit g c = rw (told_err c.from_residual-in_err-settings.result c.in_err-settings.field-0.0 c.from_residual-in_err-settings.ensures.1) (tt)
+
+pub returns-in_err-settings-clause-settings : goal.returns-in_err-settings-clause-settings
+returns-in_err-settings-clause-settings g c = rw (told_err c.from_residual-in_err-settings.result c.in_err-settings.field-0.0 c.from_residual-in_err-settings.ensures.1) (tt)
+
+pub returns-in_err-settings-clause-within : goal.returns-in_err-settings-clause-within
+returns-in_err-settings-clause-within g c = rw (told_err c.from_residual-in_err-settings.result c.in_err-settings.field-0.0 c.from_residual-in_err-settings.ensures.1) (tt)
 
 -- whether something is found does not change with what is seen of it
 mapped : {A B : Type 0} (view : A → B) (found : Option A) → is_some (option_map view found) ≡ is_some found

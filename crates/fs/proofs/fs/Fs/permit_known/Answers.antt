@@ -7,7 +7,20 @@ use Rattle.fs.specs.Opening.{file_tests, may_use, type_of}
 use Rattle.fs.proofs.OpenTests as tests
 use Rattle.fs.proofs.RefusedLaws.{carried}
 use Rattle.volume.specs.Nodes.{IsNodeOf}
+use Rattle.volume.proofs.ServeLaws.{told_err}
 use Rattle.fs.proofs.fs.Fs.permit_known.Goals as goal
+
+pub returns-in_err-is_cut-clause-node : goal.returns-in_err-is_cut-clause-node
+returns-in_err-is_cut-clause-node g c = rw (told_err c.from_residual.result c.in_err-is_cut.field-0.0 c.from_residual.ensures.1) (tt)
+
+pub returns-in_err-is_cut-clause-file : goal.returns-in_err-is_cut-clause-file
+returns-in_err-is_cut-clause-file g c = rw (told_err c.from_residual.result c.in_err-is_cut.field-0.0 c.from_residual.ensures.1) (tt)
+
+pub returns-in_err-is_cut-clause-fit : goal.returns-in_err-is_cut-clause-fit
+returns-in_err-is_cut-clause-fit g c = rw (told_err c.from_residual.result c.in_err-is_cut.field-0.0 c.from_residual.ensures.1) (tt)
+
+pub returns-in_err-is_cut-clause-cut : goal.returns-in_err-is_cut-clause-cut
+returns-in_err-is_cut-clause-cut g c = rw (told_err c.from_residual.result c.in_err-is_cut.field-0.0 c.from_residual.ensures.1) (tt)
 
 pub returns-in_err-is_cut-clause-tests : goal.returns-in_err-is_cut-clause-tests
 unfolding fs_of

@@ -12,7 +12,17 @@ use Rattle.model.specs.Tree.{is_directory, names_at, entry_of}
 use Rattle.fs.specs.Views.{fs_of}
 use Rattle.fs.proofs.CachedNodeViews.{names_are, entry_at, may_remove_told}
 use Rattle.fs.proofs.RemoveTests as tests
+use Rattle.volume.proofs.ServeLaws.{told_err}
 use Rattle.fs.proofs.fs.Fs.permit_removal.Goals as goal
+
+pub returns-in_err-check_name-clause-directory : goal.returns-in_err-check_name-clause-directory
+returns-in_err-check_name-clause-directory g c = rw (told_err c.from_residual.result c.in_err-check_name.field-0.0 c.from_residual.ensures.1) (tt)
+
+pub returns-in_err-check_name-clause-fit : goal.returns-in_err-check_name-clause-fit
+returns-in_err-check_name-clause-fit g c = rw (told_err c.from_residual.result c.in_err-check_name.field-0.0 c.from_residual.ensures.1) (tt)
+
+pub returns-in_err-check_name-clause-entry : goal.returns-in_err-check_name-clause-entry
+returns-in_err-check_name-clause-entry g c = rw (told_err c.from_residual.result c.in_err-check_name.field-0.0 c.from_residual.ensures.1) (tt)
 
 pub returns-in_err-check_name-clause-tests : goal.returns-in_err-check_name-clause-tests
 unfolding fs_of

@@ -17,7 +17,48 @@ use Rattle.fs.specs.Setting.{may_set, setting_tests, sized_refusals}
 use Rattle.fs.proofs.CachedNodeViews.{is_directory_told}
 use Rattle.fs.proofs.RefusedLaws.{carried}
 use Rattle.fs.proofs.SettingTests.{kind_is, may_told, tests_are}
+use Rattle.volume.proofs.ServeLaws.{told_err}
+use Rattle.model.specs.declared.not_done.NotDone.TheVariants as refusal
 use Rattle.fs.proofs.fs.Fs.permit_setting.Goals as goal
+
+pub returns-in_err-settings-clause-node : goal.returns-in_err-settings-clause-node
+returns-in_err-settings-clause-node g c = rw (told_err c.from_residual.result c.in_err-settings.field-0.0 c.from_residual.ensures.1) (tt)
+
+pub returns-in_err-settings-clause-fit : goal.returns-in_err-settings-clause-fit
+returns-in_err-settings-clause-fit g c = rw (told_err c.from_residual.result c.in_err-settings.field-0.0 c.from_residual.ensures.1) (tt)
+
+pub returns-in_err-settings-clause-settings : goal.returns-in_err-settings-clause-settings
+returns-in_err-settings-clause-settings g c = rw (told_err c.from_residual.result c.in_err-settings.field-0.0 c.from_residual.ensures.1) (tt)
+
+pub returns-in_err-settings-clause-within : goal.returns-in_err-settings-clause-within
+returns-in_err-settings-clause-within g c = rw (told_err c.from_residual.result c.in_err-settings.field-0.0 c.from_residual.ensures.1) (tt)
+
+pub returns-in_err-check_sized-clause-node : goal.returns-in_err-check_sized-clause-node
+returns-in_err-check_sized-clause-node g c = rw (told_err c.from_residual-in_err-check_sized.result (refusal.Status c.in_err-check_sized.field-0.0) c.from_residual-in_err-check_sized.ensures.1) (tt)
+
+pub returns-in_err-check_sized-clause-fit : goal.returns-in_err-check_sized-clause-fit
+returns-in_err-check_sized-clause-fit g c = rw (told_err c.from_residual-in_err-check_sized.result (refusal.Status c.in_err-check_sized.field-0.0) c.from_residual-in_err-check_sized.ensures.1) (tt)
+
+pub returns-in_err-check_sized-clause-settings : goal.returns-in_err-check_sized-clause-settings
+returns-in_err-check_sized-clause-settings g c = rw (told_err c.from_residual-in_err-check_sized.result (refusal.Status c.in_err-check_sized.field-0.0) c.from_residual-in_err-check_sized.ensures.1) (tt)
+
+pub returns-in_err-check_sized-clause-within : goal.returns-in_err-check_sized-clause-within
+returns-in_err-check_sized-clause-within g c = rw (told_err c.from_residual-in_err-check_sized.result (refusal.Status c.in_err-check_sized.field-0.0) c.from_residual-in_err-check_sized.ensures.1) (tt)
+
+pub returns-in_err-attributes-clause-tests : goal.returns-in_err-attributes-clause-tests
+returns-in_err-attributes-clause-tests g c = rw (told_err c.from_residual-in_err-attributes.result refusal.Memory c.from_residual-in_err-attributes.ensures.1) (tt)
+
+pub returns-in_err-attributes-clause-node : goal.returns-in_err-attributes-clause-node
+returns-in_err-attributes-clause-node g c = rw (told_err c.from_residual-in_err-attributes.result refusal.Memory c.from_residual-in_err-attributes.ensures.1) (tt)
+
+pub returns-in_err-attributes-clause-fit : goal.returns-in_err-attributes-clause-fit
+returns-in_err-attributes-clause-fit g c = rw (told_err c.from_residual-in_err-attributes.result refusal.Memory c.from_residual-in_err-attributes.ensures.1) (tt)
+
+pub returns-in_err-attributes-clause-settings : goal.returns-in_err-attributes-clause-settings
+returns-in_err-attributes-clause-settings g c = rw (told_err c.from_residual-in_err-attributes.result refusal.Memory c.from_residual-in_err-attributes.ensures.1) (tt)
+
+pub returns-in_err-attributes-clause-within : goal.returns-in_err-attributes-clause-within
+returns-in_err-attributes-clause-within g c = rw (told_err c.from_residual-in_err-attributes.result refusal.Memory c.from_residual-in_err-attributes.ensures.1) (tt)
 
 pub returns-in_err-settings-clause-tests : goal.returns-in_err-settings-clause-tests
 unfolding fs_of

@@ -16,7 +16,27 @@ use Rattle.fs.proofs.NodePlans.{no_room, has_room}
 use Rattle.fs.proofs.SizePlans as plans
 use Rattle.volume.specs.Edits.{edited_by}
 use Rattle.volume.specs.Views.{volume_state}
+use Rattle.model.specs.declared.not_done.NotDone.TheVariants as refusal
+use Rattle.volume.proofs.ServeLaws.{told_err}
 use Rattle.fs.proofs.fs.Fs.plan_cut.Goals as goal
+
+pub returns-in_err-shown-clause-tests : goal.returns-in_err-shown-clause-tests
+returns-in_err-shown-clause-tests g c = rw (told_err c.from_residual.result refusal.Memory c.from_residual.ensures.1) (tt)
+
+pub returns-in_err-shown-clause-planned : goal.returns-in_err-shown-clause-planned
+returns-in_err-shown-clause-planned g c = rw (told_err c.from_residual.result refusal.Memory c.from_residual.ensures.1) (tt)
+
+pub returns-in_err-shown-clause-after : goal.returns-in_err-shown-clause-after
+returns-in_err-shown-clause-after g c = rw (told_err c.from_residual.result refusal.Memory c.from_residual.ensures.1) (tt)
+
+pub returns-in_err-edits-clause-tests : goal.returns-in_err-edits-clause-tests
+returns-in_err-edits-clause-tests g c = rw (told_err c.from_residual-in_err-edits.result refusal.Memory c.from_residual-in_err-edits.ensures.1) (tt)
+
+pub returns-in_err-edits-clause-planned : goal.returns-in_err-edits-clause-planned
+returns-in_err-edits-clause-planned g c = rw (told_err c.from_residual-in_err-edits.result refusal.Memory c.from_residual-in_err-edits.ensures.1) (tt)
+
+pub returns-in_err-edits-clause-after : goal.returns-in_err-edits-clause-after
+returns-in_err-edits-clause-after g c = rw (told_err c.from_residual-in_err-edits.result refusal.Memory c.from_residual-in_err-edits.ensures.1) (tt)
 
 pub refuse_last_size-requires : goal.refuse_last_size-requires
 unfolding fs_of volume_state

@@ -17,7 +17,38 @@ use Rattle.fs.proofs.CreatedLaws as laws
 use Rattle.fs.specs.Making.{first_node}
 use Rattle.fs.specs.Planned.{child_shown, list_by}
 use Rattle.volume.specs.Views.{volume_state}
+use Rattle.volume.proofs.ServeLaws.{told_err}
 use Rattle.fs.proofs.fs.Fs.plan_dir.Goals as goal
+
+pub returns-in_err-parent-clause-planned : goal.returns-in_err-parent-clause-planned
+returns-in_err-parent-clause-planned g c = rw (told_err c.from_residual.result c.in_err-parent.field-0.0 c.from_residual.ensures.1) (tt)
+
+pub returns-in_err-parent-clause-step : goal.returns-in_err-parent-clause-step
+returns-in_err-parent-clause-step g c = rw (told_err c.from_residual.result c.in_err-parent.field-0.0 c.from_residual.ensures.1) (λ state on. tt)
+
+pub returns-in_err-stamp-clause-planned : goal.returns-in_err-stamp-clause-planned
+returns-in_err-stamp-clause-planned g c = rw (told_err c.from_residual-in_err-stamp.result (refusal.Status c.in_err-stamp.field-0.0) c.from_residual-in_err-stamp.ensures.1) (tt)
+
+pub returns-in_err-stamp-clause-step : goal.returns-in_err-stamp-clause-step
+returns-in_err-stamp-clause-step g c = rw (told_err c.from_residual-in_err-stamp.result (refusal.Status c.in_err-stamp.field-0.0) c.from_residual-in_err-stamp.ensures.1) (λ state on. tt)
+
+pub returns-in_err-shown-clause-planned : goal.returns-in_err-shown-clause-planned
+returns-in_err-shown-clause-planned g c = rw (told_err c.from_residual-in_err-shown.result refusal.Memory c.from_residual-in_err-shown.ensures.1) (tt)
+
+pub returns-in_err-shown-clause-step : goal.returns-in_err-shown-clause-step
+returns-in_err-shown-clause-step g c = rw (told_err c.from_residual-in_err-shown.result refusal.Memory c.from_residual-in_err-shown.ensures.1) (λ state on. tt)
+
+pub returns-in_err-shown-clause-refused : goal.returns-in_err-shown-clause-refused
+returns-in_err-shown-clause-refused g c = rw (told_err c.from_residual-in_err-shown.result refusal.Memory c.from_residual-in_err-shown.ensures.1) (λ state on. tt)
+
+pub returns-in_err-edits-clause-planned : goal.returns-in_err-edits-clause-planned
+returns-in_err-edits-clause-planned g c = rw (told_err c.from_residual-in_err-edits.result refusal.Memory c.from_residual-in_err-edits.ensures.1) (tt)
+
+pub returns-in_err-edits-clause-step : goal.returns-in_err-edits-clause-step
+returns-in_err-edits-clause-step g c = rw (told_err c.from_residual-in_err-edits.result refusal.Memory c.from_residual-in_err-edits.ensures.1) (λ state on. tt)
+
+pub returns-in_err-edits-clause-refused : goal.returns-in_err-edits-clause-refused
+returns-in_err-edits-clause-refused g c = rw (told_err c.from_residual-in_err-edits.result refusal.Memory c.from_residual-in_err-edits.ensures.1) (λ state on. tt)
 
 pub returns-in_err-parent-clause-refused : goal.returns-in_err-parent-clause-refused
 returns-in_err-parent-clause-refused g c state on =

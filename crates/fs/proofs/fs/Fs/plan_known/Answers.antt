@@ -14,7 +14,32 @@ use Rattle.fs.specs.Operations.{IsNotDone}
 use Rattle.fs.specs.Refusals.{fault_of}
 use Rattle.fs.proofs.NamedOpens as laws
 use Rattle.fs.proofs.RemovalPlans.{change_shown}
+use Rattle.volume.proofs.ServeLaws.{told_err}
 use Rattle.fs.proofs.fs.Fs.plan_known.Goals as goal
+
+pub returns-in_err-card-clause-planned : goal.returns-in_err-card-clause-planned
+returns-in_err-card-clause-planned g c = rw (told_err c.from_residual.result c.in_err-card.field-0.0 c.from_residual.ensures.1) (tt)
+
+pub returns-in_err-card-clause-step : goal.returns-in_err-card-clause-step
+returns-in_err-card-clause-step g c = rw (told_err c.from_residual.result c.in_err-card.field-0.0 c.from_residual.ensures.1) (λ state arguments placed. tt)
+
+pub returns-in_err-card-clause-opened : goal.returns-in_err-card-clause-opened
+returns-in_err-card-clause-opened g c = rw (told_err c.from_residual.result c.in_err-card.field-0.0 c.from_residual.ensures.1) (tt)
+
+pub returns-in_err-card-clause-full : goal.returns-in_err-card-clause-full
+returns-in_err-card-clause-full g c = rw (told_err c.from_residual.result c.in_err-card.field-0.0 c.from_residual.ensures.1) (tt)
+
+pub returns-in_err-edits-clause-planned : goal.returns-in_err-edits-clause-planned
+returns-in_err-edits-clause-planned g c = rw (told_err c.from_residual-in_err-edits.result c.in_err-edits.field-0.0 c.from_residual-in_err-edits.ensures.1) (tt)
+
+pub returns-in_err-edits-clause-step : goal.returns-in_err-edits-clause-step
+returns-in_err-edits-clause-step g c = rw (told_err c.from_residual-in_err-edits.result c.in_err-edits.field-0.0 c.from_residual-in_err-edits.ensures.1) (λ state arguments placed. tt)
+
+pub returns-in_err-edits-clause-opened : goal.returns-in_err-edits-clause-opened
+returns-in_err-edits-clause-opened g c = rw (told_err c.from_residual-in_err-edits.result c.in_err-edits.field-0.0 c.from_residual-in_err-edits.ensures.1) (tt)
+
+pub returns-in_err-edits-clause-full : goal.returns-in_err-edits-clause-full
+returns-in_err-edits-clause-full g c = rw (told_err c.from_residual-in_err-edits.result c.in_err-edits.field-0.0 c.from_residual-in_err-edits.ensures.1) (tt)
 
 pub returns-in_err-card-clause-refused : goal.returns-in_err-card-clause-refused
 returns-in_err-card-clause-refused g c state arguments placed =

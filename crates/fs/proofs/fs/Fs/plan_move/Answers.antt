@@ -12,7 +12,48 @@ use Rattle.fs.proofs.RenamePlans as plans
 use Rattle.fs.proofs.RenamedLaws as laws
 use Rattle.volume.specs.Edits.{edited_by}
 use Rattle.volume.specs.Views.{volume_state}
+use Rattle.model.specs.declared.not_done.NotDone.TheVariants as refusal
+use Rattle.volume.proofs.ServeLaws.{told_err}
 use Rattle.fs.proofs.fs.Fs.plan_move.Goals as goal
+
+pub returns-in_err-permit_rename-clause-planned : goal.returns-in_err-permit_rename-clause-planned
+returns-in_err-permit_rename-clause-planned g c = rw (told_err c.from_residual.result (refusal.Status c.in_err-permit_rename.field-0.0) c.from_residual.ensures.1) (tt)
+
+pub returns-in_err-permit_rename-clause-replaced : goal.returns-in_err-permit_rename-clause-replaced
+returns-in_err-permit_rename-clause-replaced g c = rw (told_err c.from_residual.result (refusal.Status c.in_err-permit_rename.field-0.0) c.from_residual.ensures.1) (tt)
+
+pub returns-in_err-permit_rename-clause-step : goal.returns-in_err-permit_rename-clause-step
+returns-in_err-permit_rename-clause-step g c = rw (told_err c.from_residual.result (refusal.Status c.in_err-permit_rename.field-0.0) c.from_residual.ensures.1) (λ state on. tt)
+
+pub returns-in_err-from_shown : goal.returns-in_err-from_shown
+returns-in_err-from_shown g c =
+    let told = told_err c.from_residual-in_err-from_shown.result refusal.Memory c.from_residual-in_err-from_shown.ensures.1 in
+    rw told (record {
+      planned = tt;
+      replaced = tt;
+      step = λ state on. tt;
+      refused = λ state on. tt;
+    })
+
+pub returns-in_err-to_shown : goal.returns-in_err-to_shown
+returns-in_err-to_shown g c =
+    let told = told_err c.from_residual-in_err-to_shown.result refusal.Memory c.from_residual-in_err-to_shown.ensures.1 in
+    rw told (record {
+      planned = tt;
+      replaced = tt;
+      step = λ state on. tt;
+      refused = λ state on. tt;
+    })
+
+pub returns-in_err-edits : goal.returns-in_err-edits
+returns-in_err-edits g c =
+    let told = told_err c.from_residual-in_err-edits.result refusal.Memory c.from_residual-in_err-edits.ensures.1 in
+    rw told (record {
+      planned = tt;
+      replaced = tt;
+      step = λ state on. tt;
+      refused = λ state on. tt;
+    })
 
 pub returns-in_err-permit_rename-clause-refused : goal.returns-in_err-permit_rename-clause-refused
 unfolding fs_of volume_state

@@ -23,7 +23,50 @@ use Rattle.fs.proofs.FirstFiles as files
 use Rattle.fs.proofs.NamedOpens as laws
 use Rattle.fs.proofs.RemovalPlans.{change_shown}
 use Rattle.volume.specs.Views.{volume_state}
+use Rattle.volume.proofs.ServeLaws.{told_err}
 use Rattle.fs.proofs.fs.Fs.plan_new.Goals as goal
+
+pub returns-in_err-settings-clause-planned : goal.returns-in_err-settings-clause-planned
+returns-in_err-settings-clause-planned g c = rw (told_err c.from_residual.result c.in_err-settings.field-0.0 c.from_residual.ensures.1) (tt)
+
+pub returns-in_err-settings-clause-step : goal.returns-in_err-settings-clause-step
+returns-in_err-settings-clause-step g c = rw (told_err c.from_residual.result c.in_err-settings.field-0.0 c.from_residual.ensures.1) (λ state arguments placed. tt)
+
+pub returns-in_err-settings-clause-opened : goal.returns-in_err-settings-clause-opened
+returns-in_err-settings-clause-opened g c = rw (told_err c.from_residual.result c.in_err-settings.field-0.0 c.from_residual.ensures.1) (tt)
+
+pub returns-in_err-stamp-clause-planned : goal.returns-in_err-stamp-clause-planned
+returns-in_err-stamp-clause-planned g c = rw (told_err c.from_residual-in_err-stamp.result (refusal.Status c.in_err-stamp.field-0.0) c.from_residual-in_err-stamp.ensures.1) (tt)
+
+pub returns-in_err-stamp-clause-step : goal.returns-in_err-stamp-clause-step
+returns-in_err-stamp-clause-step g c = rw (told_err c.from_residual-in_err-stamp.result (refusal.Status c.in_err-stamp.field-0.0) c.from_residual-in_err-stamp.ensures.1) (λ state arguments placed. tt)
+
+pub returns-in_err-stamp-clause-opened : goal.returns-in_err-stamp-clause-opened
+returns-in_err-stamp-clause-opened g c = rw (told_err c.from_residual-in_err-stamp.result (refusal.Status c.in_err-stamp.field-0.0) c.from_residual-in_err-stamp.ensures.1) (tt)
+
+pub returns-in_err-shown-clause-planned : goal.returns-in_err-shown-clause-planned
+returns-in_err-shown-clause-planned g c = rw (told_err c.from_residual-in_err-shown.result refusal.Memory c.from_residual-in_err-shown.ensures.1) (tt)
+
+pub returns-in_err-shown-clause-step : goal.returns-in_err-shown-clause-step
+returns-in_err-shown-clause-step g c = rw (told_err c.from_residual-in_err-shown.result refusal.Memory c.from_residual-in_err-shown.ensures.1) (λ state arguments placed. tt)
+
+pub returns-in_err-shown-clause-opened : goal.returns-in_err-shown-clause-opened
+returns-in_err-shown-clause-opened g c = rw (told_err c.from_residual-in_err-shown.result refusal.Memory c.from_residual-in_err-shown.ensures.1) (tt)
+
+pub returns-in_err-shown-clause-refused : goal.returns-in_err-shown-clause-refused
+returns-in_err-shown-clause-refused g c = rw (told_err c.from_residual-in_err-shown.result refusal.Memory c.from_residual-in_err-shown.ensures.1) (λ state arguments placed. tt)
+
+pub returns-in_err-edits-clause-planned : goal.returns-in_err-edits-clause-planned
+returns-in_err-edits-clause-planned g c = rw (told_err c.from_residual-in_err-edits.result refusal.Memory c.from_residual-in_err-edits.ensures.1) (tt)
+
+pub returns-in_err-edits-clause-step : goal.returns-in_err-edits-clause-step
+returns-in_err-edits-clause-step g c = rw (told_err c.from_residual-in_err-edits.result refusal.Memory c.from_residual-in_err-edits.ensures.1) (λ state arguments placed. tt)
+
+pub returns-in_err-edits-clause-opened : goal.returns-in_err-edits-clause-opened
+returns-in_err-edits-clause-opened g c = rw (told_err c.from_residual-in_err-edits.result refusal.Memory c.from_residual-in_err-edits.ensures.1) (tt)
+
+pub returns-in_err-edits-clause-refused : goal.returns-in_err-edits-clause-refused
+returns-in_err-edits-clause-refused g c = rw (told_err c.from_residual-in_err-edits.result refusal.Memory c.from_residual-in_err-edits.ensures.1) (λ state arguments placed. tt)
 
 pub returns-in_err-settings-clause-refused : goal.returns-in_err-settings-clause-refused
 returns-in_err-settings-clause-refused g c state arguments placed =

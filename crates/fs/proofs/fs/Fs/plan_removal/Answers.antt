@@ -7,7 +7,42 @@ use Rattle.fs.specs.Views.{fs_of}
 use Rattle.fs.proofs.RemovalPlans as plans
 use Rattle.fs.proofs.RemovedLaws as laws
 use Rattle.volume.specs.Views.{volume_state}
+use Rattle.volume.proofs.ServeLaws.{told_err}
+use Rattle.model.specs.declared.not_done.NotDone.TheVariants as refusal
 use Rattle.fs.proofs.fs.Fs.plan_removal.Goals as goal
+
+pub returns-in_err-removal-clause-planned : goal.returns-in_err-removal-clause-planned
+returns-in_err-removal-clause-planned g c = rw (told_err c.from_residual.result (refusal.Status c.in_err-removal.field-0.0) c.from_residual.ensures.1) (tt)
+
+pub returns-in_err-removal-clause-gone : goal.returns-in_err-removal-clause-gone
+returns-in_err-removal-clause-gone g c = rw (told_err c.from_residual.result (refusal.Status c.in_err-removal.field-0.0) c.from_residual.ensures.1) (tt)
+
+pub returns-in_err-removal-clause-step : goal.returns-in_err-removal-clause-step
+returns-in_err-removal-clause-step g c = rw (told_err c.from_residual.result (refusal.Status c.in_err-removal.field-0.0) c.from_residual.ensures.1) (λ state on. tt)
+
+pub returns-in_err-shown-clause-planned : goal.returns-in_err-shown-clause-planned
+returns-in_err-shown-clause-planned g c = rw (told_err c.from_residual-in_err-shown.result refusal.Memory c.from_residual-in_err-shown.ensures.1) (tt)
+
+pub returns-in_err-shown-clause-gone : goal.returns-in_err-shown-clause-gone
+returns-in_err-shown-clause-gone g c = rw (told_err c.from_residual-in_err-shown.result refusal.Memory c.from_residual-in_err-shown.ensures.1) (tt)
+
+pub returns-in_err-shown-clause-step : goal.returns-in_err-shown-clause-step
+returns-in_err-shown-clause-step g c = rw (told_err c.from_residual-in_err-shown.result refusal.Memory c.from_residual-in_err-shown.ensures.1) (λ state on. tt)
+
+pub returns-in_err-shown-clause-refused : goal.returns-in_err-shown-clause-refused
+returns-in_err-shown-clause-refused g c = rw (told_err c.from_residual-in_err-shown.result refusal.Memory c.from_residual-in_err-shown.ensures.1) (λ state on. tt)
+
+pub returns-in_err-edits-clause-planned : goal.returns-in_err-edits-clause-planned
+returns-in_err-edits-clause-planned g c = rw (told_err c.from_residual-in_err-edits.result refusal.Memory c.from_residual-in_err-edits.ensures.1) (tt)
+
+pub returns-in_err-edits-clause-gone : goal.returns-in_err-edits-clause-gone
+returns-in_err-edits-clause-gone g c = rw (told_err c.from_residual-in_err-edits.result refusal.Memory c.from_residual-in_err-edits.ensures.1) (tt)
+
+pub returns-in_err-edits-clause-step : goal.returns-in_err-edits-clause-step
+returns-in_err-edits-clause-step g c = rw (told_err c.from_residual-in_err-edits.result refusal.Memory c.from_residual-in_err-edits.ensures.1) (λ state on. tt)
+
+pub returns-in_err-edits-clause-refused : goal.returns-in_err-edits-clause-refused
+returns-in_err-edits-clause-refused g c = rw (told_err c.from_residual-in_err-edits.result refusal.Memory c.from_residual-in_err-edits.ensures.1) (λ state on. tt)
 
 pub returns-in_err-removal-clause-refused : goal.returns-in_err-removal-clause-refused
 returns-in_err-removal-clause-refused g c state on =

@@ -5,7 +5,28 @@ use Rattle.fs.specs.Views.{fs_of}
 use Rattle.fs.specs.Renaming.{arguments_of}
 use Rattle.fs.proofs.RemovalPlans.{change_shown}
 use Rattle.fs.proofs.RenamedLaws as laws
+use Rattle.volume.proofs.ServeLaws.{told_err}
+use Rattle.model.specs.declared.not_done.NotDone.TheVariants as refusal
+use Rattle.fs.proofs.RenameSteps.{either_planned}
 use Rattle.fs.proofs.fs.Fs.plan_rename.Goals as goal
+
+pub returns-in_err-moving-clause-planned : goal.returns-in_err-moving-clause-planned
+returns-in_err-moving-clause-planned g c = rw (told_err c.from_residual.result (refusal.Status c.in_err-moving.field-0.0) c.from_residual.ensures.1) (tt)
+
+pub returns-in_err-moving-clause-replaced : goal.returns-in_err-moving-clause-replaced
+returns-in_err-moving-clause-replaced g c = rw (told_err c.from_residual.result (refusal.Status c.in_err-moving.field-0.0) c.from_residual.ensures.1) (tt)
+
+pub returns-in_err-moving-clause-step : goal.returns-in_err-moving-clause-step
+returns-in_err-moving-clause-step g c = rw (told_err c.from_residual.result (refusal.Status c.in_err-moving.field-0.0) c.from_residual.ensures.1) (λ state on. tt)
+
+pub returns-clause-planned : goal.returns-clause-planned
+returns-clause-planned g c = either_planned _ _ c.plan_move.result c.plan_move.ensures.planned
+
+pub returns-clause-step : goal.returns-clause-step
+returns-clause-step g c state on = either_planned _ _ c.plan_move.result (c.plan_move.ensures.step state on)
+
+pub returns-clause-replaced : goal.returns-clause-replaced
+returns-clause-replaced g c = rw (sym c.is_itself.ensures ∙ c.if-is_itself.false) c.plan_move.ensures.replaced
 
 pub returns-in_err-moving-clause-refused : goal.returns-in_err-moving-clause-refused
 returns-in_err-moving-clause-refused g c state on =

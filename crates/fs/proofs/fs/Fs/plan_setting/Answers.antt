@@ -12,7 +12,27 @@ use Rattle.fs.proofs.SettingLaws as laws
 use Rattle.fs.proofs.SettingPlans as plans
 use Rattle.volume.specs.Edits.{edited_by}
 use Rattle.volume.specs.Views.{volume_state}
+use Rattle.model.specs.declared.not_done.NotDone.TheVariants as refusal
+use Rattle.volume.proofs.ServeLaws.{told_err}
 use Rattle.fs.proofs.fs.Fs.plan_setting.Goals as goal
+
+pub returns-in_err-shown : goal.returns-in_err-shown
+returns-in_err-shown g c =
+    let told = told_err c.from_residual-in_err-shown.result refusal.Memory c.from_residual-in_err-shown.ensures.1 in
+    rw told (record {
+      planned = tt;
+      step = λ state arguments on is. tt;
+      refused = λ state arguments on is. tt;
+    })
+
+pub returns-in_err-edits : goal.returns-in_err-edits
+returns-in_err-edits g c =
+    let told = told_err c.from_residual-in_err-edits.result refusal.Memory c.from_residual-in_err-edits.ensures.1 in
+    rw told (record {
+      planned = tt;
+      step = λ state arguments on is. tt;
+      refused = λ state arguments on is. tt;
+    })
 
 pub returns-in_err-card-clause-refused : goal.returns-in_err-card-clause-refused
 returns-in_err-card-clause-refused g c state arguments on is =

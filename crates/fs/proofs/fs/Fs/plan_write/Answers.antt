@@ -12,7 +12,33 @@ use Rattle.fs.specs.Writing.{bytes_taken}
 use Rattle.fs.proofs.WrittenLaws.{early, too_big, doable, last_doable, last_refused, planned, plan_full, plan_goes_on}
 use Rattle.volume.specs.Edits.{edited_by}
 use Rattle.volume.specs.Views.{volume_state}
+use Rattle.model.specs.declared.not_done.NotDone.TheVariants as refusal
+use Rattle.volume.proofs.ServeLaws.{told_err}
 use Rattle.fs.proofs.fs.Fs.plan_write.Goals as goal
+
+pub returns-in_err-shown-clause-planned : goal.returns-in_err-shown-clause-planned
+returns-in_err-shown-clause-planned g c = rw (told_err c.from_residual-in_err-shown.result refusal.Memory c.from_residual-in_err-shown.ensures.1) (tt)
+
+pub returns-in_err-shown-clause-step : goal.returns-in_err-shown-clause-step
+returns-in_err-shown-clause-step g c = rw (told_err c.from_residual-in_err-shown.result refusal.Memory c.from_residual-in_err-shown.ensures.1) (λ state arguments on is. tt)
+
+pub returns-in_err-shown-clause-refused : goal.returns-in_err-shown-clause-refused
+returns-in_err-shown-clause-refused g c = rw (told_err c.from_residual-in_err-shown.result refusal.Memory c.from_residual-in_err-shown.ensures.1) (λ state arguments on is. tt)
+
+pub returns-in_err-edits-clause-planned : goal.returns-in_err-edits-clause-planned
+returns-in_err-edits-clause-planned g c = rw (told_err c.from_residual-in_err-edits.result refusal.Memory c.from_residual-in_err-edits.ensures.1) (tt)
+
+pub returns-in_err-edits-clause-step : goal.returns-in_err-edits-clause-step
+returns-in_err-edits-clause-step g c = rw (told_err c.from_residual-in_err-edits.result refusal.Memory c.from_residual-in_err-edits.ensures.1) (λ state arguments on is. tt)
+
+pub returns-in_err-edits-clause-refused : goal.returns-in_err-edits-clause-refused
+returns-in_err-edits-clause-refused g c = rw (told_err c.from_residual-in_err-edits.result refusal.Memory c.from_residual-in_err-edits.ensures.1) (λ state arguments on is. tt)
+
+pub returns-in_err-card-clause-planned : goal.returns-in_err-card-clause-planned
+returns-in_err-card-clause-planned g c = rw (told_err c.from_residual.result (refusal.Status c.in_err-card.field-0.0) c.from_residual.ensures.1) (tt)
+
+pub returns-in_err-card-clause-step : goal.returns-in_err-card-clause-step
+returns-in_err-card-clause-step g c = rw (told_err c.from_residual.result (refusal.Status c.in_err-card.field-0.0) c.from_residual.ensures.1) (λ state arguments on is. tt)
 
 pub returns-in_err-card-clause-refused : goal.returns-in_err-card-clause-refused
 returns-in_err-card-clause-refused g c state arguments on is =

@@ -1,12 +1,25 @@
 use Rattle.std.proofs.Common.{ap}
 use Rattle.std.specs.Prelude.{Err}
-use Rattle.fs.specs.Views.{fs_of}
+use Rattle.fs.specs.Views.{fs_of, fs_failures}
 use Rattle.fs.specs.Reading.{part_at, read_operation}
 use Rattle.fs.specs.Refusals.{volume_fault}
 use Rattle.fs.specs.declared.fault.FsFault.TheVariants as fault
 use Rattle.fs.proofs.ReadLaws.{read_early, read_goes, read_goes_on, read_fails}
 use Rattle.volume.proofs.ServeLaws.{told_err}
+use Rattle.fs.proofs.ChangeLaws.{left}
 use Rattle.fs.proofs.fs.Fs.read.Goals as goal
+
+pub returns-in_err-part-clause-volume : goal.returns-in_err-part-clause-volume
+returns-in_err-part-clause-volume g c = rw (told_err c.from_residual.result (fault.Status c.in_err-part.field-0.0) c.from_residual.ensures.1) (left g.D.Device.keeps_word _ (fs_of c.args.self.now) (fs_failures c.args.self.now))
+
+pub returns-in_err-part-clause-bytes : goal.returns-in_err-part-clause-bytes
+returns-in_err-part-clause-bytes g c = rw (told_err c.from_residual.result (fault.Status c.in_err-part.field-0.0) c.from_residual.ensures.1) (λ keeps. tt)
+
+pub returns-then-is_down-clause-volume : goal.returns-then-is_down-clause-volume
+returns-then-is_down-clause-volume g c = left g.D.Device.keeps_word _ (fs_of c.args.self.now) (fs_failures c.args.self.now)
+
+pub returns-else-part-gt0-clause-volume : goal.returns-else-part-gt0-clause-volume
+returns-else-part-gt0-clause-volume g c = left g.D.Device.keeps_word _ (fs_of c.args.self.now) (fs_failures c.args.self.now)
 
 pub returns-in_err-part-clause-step : goal.returns-in_err-part-clause-step
 returns-in_err-part-clause-step g c state now stateid on is =

@@ -1,12 +1,59 @@
-use Rattle.std.proofs.Common.{ap, ◌∙◌}
+use Rattle.std.proofs.Common.{ap, ◌∙◌, refl, sym}
 use Rattle.model.specs.Step.{Stepped}
-use Rattle.fs.specs.Views.{fs_of}
-use Rattle.fs.proofs.ChangeLaws.{changes_by}
+use Rattle.fs.specs.Views.{fs_of, fs_failures}
+use Rattle.fs.proofs.ChangeLaws.{changes_by, left, left_by, never_no_room, never_device, down_no_room, down_no_device, up_not_down, not_known, kept_no_room}
 use Rattle.volume.proofs.ServeLaws.{told_err}
 use Rattle.volume.specs.Changes.{IsTree}
 use Rattle.volume.specs.Edits.{edited_by}
 use Rattle.volume.specs.VolumeState.{with_tree}
+use Rattle.fs.specs.Refusals.{fault_of}
 use Rattle.fs.proofs.fs.Fs.rename.Goals as goal
+
+pub returns-in_err-change_stable-clause-step : goal.returns-in_err-change_stable-clause-step
+returns-in_err-change_stable-clause-step g c = rw (told_err c.from_residual-in_err-change_stable.result c.in_err-change_stable.field-0.0 c.from_residual-in_err-change_stable.ensures.1) (λ state on. not_known (fs_of c.args.self.now) state c.args.now _ c.in_err-change_stable.field-0.0 c.in_err-change_stable.ensures.only)
+
+pub returns-in_err-change_stable-clause-no_room : goal.returns-in_err-change_stable-clause-no_room
+returns-in_err-change_stable-clause-no_room g c = rw (told_err c.from_residual-in_err-change_stable.result c.in_err-change_stable.field-0.0 c.from_residual-in_err-change_stable.ensures.1) (λ same. absurd (kept_no_room c.in_err-change_stable.field-0.0 c.in_err-change_stable.ensures.only same))
+
+pub returns-in_err-change_stable-clause-down : goal.returns-in_err-change_stable-clause-down
+returns-in_err-change_stable-clause-down g c = rw (told_err c.from_residual-in_err-change_stable.result c.in_err-change_stable.field-0.0 c.from_residual-in_err-change_stable.ensures.1) (λ is. absurd (up_not_down c.is_down.result (fs_of c.args.self.now).volume.is_down c.is_down.ensures c.if-is_down.false is))
+
+pub returns-in_err-change_stable-clause-replaced : goal.returns-in_err-change_stable-clause-replaced
+returns-in_err-change_stable-clause-replaced g c = rw (told_err c.from_residual-in_err-change_stable.result c.in_err-change_stable.field-0.0 c.from_residual-in_err-change_stable.ensures.1) (tt)
+
+pub returns-in_err-change_stable-clause-room : goal.returns-in_err-change_stable-clause-room
+returns-in_err-change_stable-clause-room g c = rw (told_err c.from_residual-in_err-change_stable.result c.in_err-change_stable.field-0.0 c.from_residual-in_err-change_stable.ensures.1) (tt)
+
+pub returns-in_err-change_stable-clause-device_room : goal.returns-in_err-change_stable-clause-device_room
+returns-in_err-change_stable-clause-device_room g c = rw (told_err c.from_residual-in_err-change_stable.result c.in_err-change_stable.field-0.0 c.from_residual-in_err-change_stable.ensures.1) (λ same. c.if-not-has_room.false)
+
+pub returns-then-is_down : goal.returns-then-is_down
+returns-then-is_down g c = record {
+  step = λ state on. sym c.is_down.ensures ∙ c.if-is_down.true;
+  volume = left g.D.Device.keeps_word _ (fs_of c.args.self.now) (fs_failures c.args.self.now);
+  replaced = tt;
+  room = tt;
+  no_room = λ same. absurd (down_no_room same);
+  down = λ is. refl;
+  device_room = λ same. absurd (down_no_device same);
+}
+
+pub returns-in_err-planned : goal.returns-in_err-planned
+returns-in_err-planned g c =
+    let refused = c.in_err-planned.field-0.0 in
+    let told = told_err c.from_residual.result (fault_of refused) c.from_residual.ensures.1 in
+    rw told (record {
+      step = λ state on. c.in_err-planned.ensures.refused state on;
+      volume = left_by g.D.Device.keeps_word _ (fs_of c.args.self.now) (fs_failures c.args.self.now) refused;
+      replaced = tt;
+      room = tt;
+      no_room = λ same. absurd (never_no_room refused same);
+      down = λ is. absurd (up_not_down c.is_down.result (fs_of c.args.self.now).volume.is_down c.is_down.ensures c.if-is_down.false is);
+      device_room = λ same. absurd (never_device refused same);
+    })
+
+pub returns-then-not-has_room-clause-volume : goal.returns-then-not-has_room-clause-volume
+returns-then-not-has_room-clause-volume g c = left g.D.Device.keeps_word _ (fs_of c.args.self.now) (fs_failures c.args.self.now)
 
 pub returns-in_err-change_stable-clause-volume : goal.returns-in_err-change_stable-clause-volume
 returns-in_err-change_stable-clause-volume g c =

@@ -1,11 +1,40 @@
 use Rattle.fs.specs.Changes.{fs_ending}
-use Rattle.fs.specs.Views.{fs_of}
+use Rattle.fs.specs.Views.{fs_of, fs_failures}
 use Rattle.fs.specs.Setting.{SetsTree}
-use Rattle.fs.proofs.ChangeLaws.{changes_by}
+use Rattle.fs.proofs.ChangeLaws.{changes_by, left, left_by, never_no_room, never_device, down_no_room, down_no_device, up_not_down}
 use Rattle.fs.proofs.SettingLaws.{sets_tree}
 use Rattle.volume.specs.Changes.{IsTree}
 use Rattle.volume.specs.Edits.{edited_by}
+use Rattle.std.proofs.Common.{refl, sym, ◌∙◌}
+use Rattle.fs.specs.Refusals.{fault_of}
+use Rattle.volume.proofs.ServeLaws.{told_err}
 use Rattle.fs.proofs.fs.Fs.set_attributes.Goals as goal
+
+pub returns-then-is_down : goal.returns-then-is_down
+returns-then-is_down g c = record {
+  step = λ state arguments on is. sym c.is_down.ensures ∙ c.if-is_down.true;
+  volume = left g.D.Device.keeps_word _ (fs_of c.args.self.now) (fs_failures c.args.self.now);
+  room = tt;
+  no_room = λ same. absurd (down_no_room same);
+  down = λ is. refl;
+  device_room = λ same. absurd (down_no_device same);
+}
+
+pub returns-in_err-planned : goal.returns-in_err-planned
+returns-in_err-planned g c =
+    let refused = c.in_err-planned.field-0.0 in
+    let told = told_err c.from_residual.result (fault_of refused) c.from_residual.ensures.1 in
+    rw told (record {
+      step = λ state arguments on is. c.in_err-planned.ensures.refused state arguments on is;
+      volume = left_by g.D.Device.keeps_word _ (fs_of c.args.self.now) (fs_failures c.args.self.now) refused;
+      room = tt;
+      no_room = λ same. absurd (never_no_room refused same);
+      down = λ is. absurd (up_not_down c.is_down.result (fs_of c.args.self.now).volume.is_down c.is_down.ensures c.if-is_down.false is);
+      device_room = λ same. absurd (never_device refused same);
+    })
+
+pub returns-then-not-has_room-clause-volume : goal.returns-then-not-has_room-clause-volume
+returns-then-not-has_room-clause-volume g c = left g.D.Device.keeps_word _ (fs_of c.args.self.now) (fs_failures c.args.self.now)
 
 pub returns-clause-volume : goal.returns-clause-volume
 returns-clause-volume g c =

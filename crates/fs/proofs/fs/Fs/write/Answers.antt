@@ -1,15 +1,55 @@
-use Rattle.std.proofs.Common.{◌≡◌, ap, ◌∙◌, length, sym}
+use Rattle.std.proofs.Common.{◌≡◌, ap, ◌∙◌, length, sym, refl}
+use Rattle.std.specs.Prelude.{Err}
 use Rattle.std.proofs.lemmas.Bool.{eqb-true}
 use Rattle.model.specs.Runs.{is_done}
 use Rattle.model.specs.Step.{Stepped}
-use Rattle.fs.specs.Views.{fs_of}
+use Rattle.fs.specs.Views.{fs_of, fs_failures}
 use Rattle.fs.specs.Writing.{IsPut, WritesTree}
 use Rattle.fs.specs.declared.fault.FsFault.TheVariants as fault
 use Rattle.fs.proofs.BytesLaws.{none_bytes}
-use Rattle.fs.proofs.ChangeLaws.{changes_by}
+use Rattle.fs.proofs.ChangeLaws.{changes_by, left, left_by, never_no_room, never_device, down_no_room, down_no_device, up_not_down, down_no_memory, told_memory}
 use Rattle.fs.proofs.WrittenLaws.{early, nothing, puts_tree}
 use Rattle.volume.proofs.ServeLaws.{told_err}
+use Rattle.fs.specs.Refusals.{fault_of}
 use Rattle.fs.proofs.fs.Fs.write.Goals as goal
+
+pub returns-then-is_down : goal.returns-then-is_down
+returns-then-is_down g c = record {
+  step = λ state arguments on is. sym c.is_down.ensures ∙ c.if-is_down.true;
+  volume = left g.D.Device.keeps_word _ (fs_of c.args.self.now) (fs_failures c.args.self.now);
+  count = tt;
+  room = tt;
+  no_room = λ same. absurd (down_no_room same);
+  down = λ is. refl;
+  device_room = λ same. absurd (down_no_device same);
+  memory = λ none same. down_no_memory same;
+}
+
+pub returns-in_err-edits : goal.returns-in_err-edits
+returns-in_err-edits g c =
+    let refused = c.in_err-edits.field-0.0 in
+    let told = told_err c.from_residual-in_err-edits.result (fault_of refused) c.from_residual-in_err-edits.ensures.1 in
+    rw told (record {
+      step = λ state arguments on is. c.in_err-edits.ensures.refused state arguments on is;
+      volume = left_by g.D.Device.keeps_word _ (fs_of c.args.self.now) (fs_failures c.args.self.now) refused;
+      count = tt;
+      room = tt;
+      no_room = λ same. absurd (never_no_room refused same);
+      down = λ is. absurd (up_not_down c.is_down.result (fs_of c.args.self.now).volume.is_down c.is_down.ensures c.if-is_down.false is);
+      device_room = λ same. absurd (never_device refused same);
+      memory = λ none same. c.in_err-edits.ensures.memory none (ap Err (told_memory refused same));
+    })
+
+pub returns-then-not-has_room-2-clause-volume : goal.returns-then-not-has_room-2-clause-volume
+returns-then-not-has_room-2-clause-volume g c = left g.D.Device.keeps_word _ (fs_of c.args.self.now) (fs_failures c.args.self.now)
+
+pub returns-then-not-has_room-clause-volume : goal.returns-then-not-has_room-clause-volume
+returns-then-not-has_room-clause-volume g c = left g.D.Device.keeps_word _ (fs_of c.args.self.now) (fs_failures c.args.self.now)
+
+pub returns-in_err-permit_file-clause-volume : goal.returns-in_err-permit_file-clause-volume
+returns-in_err-permit_file-clause-volume g c =
+    let told = told_err c.from_residual.result (fault.Status c.in_err-permit_file.field-0.0) c.from_residual.ensures.1 in
+    rw told (left g.D.Device.keeps_word _ (fs_of c.args.self.now) (fs_failures c.args.self.now))
 
 pub returns-in_err-permit_file-clause-step : goal.returns-in_err-permit_file-clause-step
 returns-in_err-permit_file-clause-step g c state arguments on is =
