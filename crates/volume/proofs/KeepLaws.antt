@@ -6,11 +6,11 @@ use Rattle.std.specs.Prelude.{Result, Ok, Err, IfErr, IsErrOf}
 use Rattle.disk.specs.Cause.{IsCounted}
 use Rattle.disk.specs.Moments.{Image}
 use Rattle.tree_edits.specs.Outlines.{without_data}
-use Rattle.disk.proofs.MomentLemmas.{AddsOnly-join, AddsOnly-weaken}
+use Rattle.disk.proofs.MomentLemmas.{AddsOnly-join, AddsOnly-same, AddsOnly-weaken}
 use Rattle.layout.specs.Stands.{Kept}
 use Rattle.layout.proofs.KeptLaws.{same_kept}
 use Rattle.model.specs.Tree.{Tree}
-use Rattle.volume.specs.Changes.{Ending, Done, Nothing, Broken, IsTree, Changes, ending_of}
+use Rattle.volume.specs.Changes.{Given, Ending, Done, Nothing, Broken, IsTree, Changes, ending_of}
 use Rattle.volume.specs.Formed.{Shows}
 use Rattle.volume.specs.VolumeState.{VolumeState, IsSameVolume, StandsForOne, IsLeft, MayAdd, AddsTrees, kept_of, with_tree}
 use Rattle.volume.specs.Shown.{ShowsAs}
@@ -164,3 +164,13 @@ refused_unchanged keeps_word was now after first last faults.NoSpace change = un
 refused_unchanged keeps_word was now after first last faults.Memory change = unchanged keeps_word was now after first last Nothing (λ done. cc) change
 refused_unchanged keeps_word was now after first last faults.Device change = unchanged keeps_word was now after first last Broken (λ done. cc) change
 refused_unchanged keeps_word was now after first last faults.Down change = unchanged keeps_word was now after first last Nothing (λ done. cc) change
+
+-- a call that ends before its change leaves all as it was
+pub left : (keeps_word : Type 0) (given : Given) (held : VolumeState) (failed : ℕ) → Changes keeps_word given held held failed failed Nothing
+left keeps_word given held failed = record {
+  same = record { sectors = refl; limits = refl; run = refl };
+  later = omega arith;
+  none = λ other. refl;
+  moments = λ keeps after lasts is recent ready. AddsOnly-same _ held.history;
+  ends = refl;
+}

@@ -10,6 +10,12 @@ use Rattle.volume.proofs.LoadLaws.{err_is}
 use Rattle.volume.proofs.ServeLaws.{told_err}
 use Rattle.volume.proofs.load.load.Goals as goal
 
+pub returns-in_err-loaded-clause-loaded : goal.returns-in_err-loaded-clause-loaded
+returns-in_err-loaded-clause-loaded g c = rw (told_err c.from_residual.result c.in_err-loaded.field-0.0 c.from_residual.ensures.1) (tt)
+
+pub returns-in_err-loaded-clause-parents : goal.returns-in_err-loaded-clause-parents
+returns-in_err-loaded-clause-parents g c = rw (told_err c.from_residual.result c.in_err-loaded.field-0.0 c.from_residual.ensures.1) (tt)
+
 pub returns-in_err-loaded-clause-damaged : goal.returns-in_err-loaded-clause-damaged
 returns-in_err-loaded-clause-damaged g c = λ k is kept stands.
     let log : Log = log_of c.args.store.now.journal in

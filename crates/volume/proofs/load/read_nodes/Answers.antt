@@ -17,6 +17,18 @@ use Rattle.volume.proofs.ChangeLaws.{own_places}
 use Rattle.volume.proofs.ServeLaws.{told_err}
 use Rattle.volume.proofs.load.read_nodes.Goals as goal
 
+pub returns-in_err-contents-clause-loaded : goal.returns-in_err-contents-clause-loaded
+returns-in_err-contents-clause-loaded g c = rw (told_err c.from_residual.result (mount_fault c.in_err-contents.field-0.0) c.from_residual.ensures.1) (tt)
+
+pub returns-in_err-contents-clause-parents : goal.returns-in_err-contents-clause-parents
+returns-in_err-contents-clause-parents g c = rw (told_err c.from_residual.result (mount_fault c.in_err-contents.field-0.0) c.from_residual.ensures.1) (tt)
+
+pub returns-in_err-table-clause-loaded : goal.returns-in_err-table-clause-loaded
+returns-in_err-table-clause-loaded g c = rw (told_err c.from_residual-in_err-table.result (table_fault c.in_err-table.field-0.0) c.from_residual-in_err-table.ensures.1) (tt)
+
+pub returns-in_err-table-clause-parents : goal.returns-in_err-table-clause-parents
+returns-in_err-table-clause-parents g c = rw (told_err c.from_residual-in_err-table.result (table_fault c.in_err-table.field-0.0) c.from_residual-in_err-table.ensures.1) (tt)
+
 pub returns-in_err-contents-clause-damaged : goal.returns-in_err-contents-clause-damaged
 returns-in_err-contents-clause-damaged g c = λ k is kept stands.
     let found = c.args.found in

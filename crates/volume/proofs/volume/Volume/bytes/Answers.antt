@@ -1,9 +1,14 @@
 use Rattle.std.proofs.Common.{◌++◌, ◌∙◌, ℕ, List, take, drop, sym, ap}
 use Rattle.journal.specs.Journal.{log_of}
 use Rattle.journal.specs.Log.{Log, contents}
-use Rattle.volume.specs.Views.{volume_state}
+use Rattle.volume.specs.Views.{volume_state, volume_failures}
 use Rattle.volume.proofs.ReadLaws.{blocks_within, file_bytes, place_there, some_at}
+use Rattle.volume.proofs.KeepLaws.{left}
 use Rattle.volume.proofs.volume.Volume.bytes.Goals as goal
+
+pub returns-then-is_down-clause-volume : goal.returns-then-is_down-clause-volume
+unfolding volume_state volume_failures
+returns-then-is_down-clause-volume g c = left g.D.Device.keeps_word _ (volume_state c.args.self.now) (volume_failures c.args.self.now)
 
 pub unwrap-place-requires : goal.unwrap-place-requires
 unfolding volume_state

@@ -26,7 +26,17 @@ use Rattle.volume.proofs.EditLaws.{front_room, outline_doable, outline_few}
 use Rattle.volume.proofs.ServeLaws.{told_err}
 use Rattle.model.specs.Stamp.{stamp}
 use Rattle.tree_edits.specs.Outlines.{tree_without_data}
+use Rattle.volume.proofs.KeepLaws.{left}
 use Rattle.volume.proofs.volume.Volume.change.Goals as goal
+
+pub returns-then-is_down-clause-volume : goal.returns-then-is_down-clause-volume
+returns-then-is_down-clause-volume g c = left g.D.Device.keeps_word _ (volume_state c.args.self.now) (volume_failures c.args.self.now)
+
+pub returns-then-not-fits-clause-volume : goal.returns-then-not-fits-clause-volume
+returns-then-not-fits-clause-volume g c = left g.D.Device.keeps_word _ (volume_state c.args.self.now) (volume_failures c.args.self.now)
+
+pub returns-in_err-apply-clause-shows : goal.returns-in_err-apply-clause-shows
+returns-in_err-apply-clause-shows g c = rw (told_err c.from_residual-in_err-apply.result (fault_of c.in_err-apply.field-0.0) c.from_residual-in_err-apply.ensures.1) (tt)
 
 pub outcome_of-requires-clause-can : goal.outcome_of-requires-clause-can
 unfolding volume_state

@@ -13,6 +13,12 @@ use Rattle.volume.proofs.ServeLaws.{flush_serves, flush_refused, found_up, up_an
 use Rattle.volume.proofs.CheckpointLaws.{checkpoint_done, checkpoint_keeps, checkpoint_recent}
 use Rattle.volume.proofs.volume.Volume.checkpoint.Goals as goal
 
+pub returns-in_err-checkpoint-clause-shows : goal.returns-in_err-checkpoint-clause-shows
+returns-in_err-checkpoint-clause-shows g c = rw (told_err c.from_residual.result (fault_of c.in_err-checkpoint.field-0.0) c.from_residual.ensures.1) (tt)
+
+pub returns-in_err-checkpoint-clause-recent : goal.returns-in_err-checkpoint-clause-recent
+returns-in_err-checkpoint-clause-recent g c = rw (told_err c.from_residual.result (fault_of c.in_err-checkpoint.field-0.0) c.from_residual.ensures.1) (λ keeps. tt)
+
 pub invariant_of-self : goal.invariant_of-self
 invariant_of-self g c =
     let volume = c.args.self.now in

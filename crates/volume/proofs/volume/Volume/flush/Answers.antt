@@ -13,6 +13,9 @@ use Rattle.volume.proofs.FormedLaws.{shows_same}
 use Rattle.volume.proofs.ServeLaws.{flush_done, flush_keeps, flush_serves, flush_refused, found_up, up_answered, told_err}
 use Rattle.volume.proofs.volume.Volume.flush.Goals as goal
 
+pub returns-in_err-flush-clause-shows : goal.returns-in_err-flush-clause-shows
+returns-in_err-flush-clause-shows g c = rw (told_err c.from_residual.result (fault_of c.in_err-flush.field-0.0) c.from_residual.ensures.1) (tt)
+
 pub invariant_of-self : goal.invariant_of-self
 invariant_of-self g c =
     let volume = c.args.self.now in

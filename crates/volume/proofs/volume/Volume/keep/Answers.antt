@@ -4,6 +4,9 @@ use Rattle.volume.proofs.KeepLaws.{keep_flushed, refused_unchanged}
 use Rattle.volume.proofs.ServeLaws.{told_err}
 use Rattle.volume.proofs.volume.Volume.keep.Goals as goal
 
+pub returns-in_err-change-clause-shows : goal.returns-in_err-change-clause-shows
+returns-in_err-change-clause-shows g c = rw (told_err c.from_residual.result c.in_err-change.field-0.0 c.from_residual.ensures.1) (tt)
+
 pub returns-in_err-change-clause-volume : goal.returns-in_err-change-clause-volume
 returns-in_err-change-clause-volume g c =
     let fault = c.in_err-change.field-0.0 in

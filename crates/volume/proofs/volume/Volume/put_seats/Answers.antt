@@ -17,7 +17,24 @@ use Rattle.volume.proofs.FormedLaws.{shows_same}
 use Rattle.volume.proofs.SeatingLaws.{either_fault, seated_done, seated_refused, seated_serves, seated_tree, seats_behind}
 use Rattle.volume.proofs.ServeLaws.{flush_refused, found_up, told_err, up_answered}
 use Rattle.volume.proofs.StandLaws.{large}
+use Rattle.volume.proofs.KeepLaws.{left}
+use Rattle.volume.specs.declared.fault.VolumeFault.TheVariants as fault
 use Rattle.volume.proofs.volume.Volume.put_seats.Goals as goal
+
+pub returns-then-is_down-clause-volume : goal.returns-then-is_down-clause-volume
+returns-then-is_down-clause-volume g c = left g.D.Device.keeps_word _ (volume_state c.args.self.now) (volume_failures c.args.self.now)
+
+pub returns-in_err-updates-clause-shows : goal.returns-in_err-updates-clause-shows
+returns-in_err-updates-clause-shows g c = rw (told_err c.from_residual.result fault.Memory c.from_residual.ensures.1) (tt)
+
+pub returns-in_err-updates-clause-volume : goal.returns-in_err-updates-clause-volume
+returns-in_err-updates-clause-volume g c = rw (told_err c.from_residual.result fault.Memory c.from_residual.ensures.1) (left g.D.Device.keeps_word _ (volume_state c.args.self.now) (volume_failures c.args.self.now))
+
+pub returns-in_err-apply-clause-shows : goal.returns-in_err-apply-clause-shows
+returns-in_err-apply-clause-shows g c = rw (told_err c.from_residual-in_err-apply.result (fault_of c.in_err-apply.field-0.0) c.from_residual-in_err-apply.ensures.1) (tt)
+
+pub returns-in_err-flush-clause-shows : goal.returns-in_err-flush-clause-shows
+returns-in_err-flush-clause-shows g c = rw (told_err c.from_residual-in_err-flush.result (fault_of c.in_err-flush.field-0.0) c.from_residual-in_err-flush.ensures.1) (tt)
 
 pub apply-requires : goal.apply-requires
 apply-requires g c =
