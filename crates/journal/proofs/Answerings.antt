@@ -53,7 +53,7 @@ answers_up old new before after r no_fault no_down up stays same = record {
 }
 
 -- the error is the one that was handed on
-pub is_told : {T : Type 0} (r : Result T JournalFault) (reason : JournalFault) → IsErrAnd r (λ told. told ≡ reason) → r ≡ Err reason
+pub is_told : {T E : Type 0} (r : Result T E) (reason : E) → IsErrAnd r (λ told. told ≡ reason) → r ≡ Err reason
 is_told (Ok x) reason e = absurd e
 is_told (Err _) reason e = ap (λ f. Err f) e
 
@@ -69,3 +69,11 @@ fails_after before mid after e f same w =
 
 pub never_fails : {T E : Type 0} (before after : ℕ) (x : T) → after ≡ before → FailsCounted {E = E} before after (Ok x)
 never_fails before after x same = record { later = omega arith; ok = same; counted = tt }
+
+-- an error that was handed on, and that the device counted
+pub told_counted : {T E : Type 0} (before mid after : ℕ) (r : Result T E) (e : E) → r ≡ Err e → mid ≡ before → mid ≤ after → IsCounted mid after
+    → FailsCounted before after r
+told_counted {T} {E} before mid after r e told same later counted =
+    let P : ℕ → Type 0 = λ n. IsCounted n after in
+    let Q : Result T E → Type 0 = λ x. FailsCounted before after x in
+    subst Q (sym told) (record { later = omega (arith, same, later); ok = tt; counted = subst P same counted })

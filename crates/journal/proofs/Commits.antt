@@ -5,13 +5,15 @@ use Rattle.disk.specs.Moments.{Image, History, seen, applied, put, newest}
 use Rattle.disk.proofs.MomentLemmas.{AddsOnly-weaken, AddsOnly-join}
 use Rattle.journal.specs.Layout.{AreTargets, gate, through, targets, placed, copies}
 use Rattle.journal.specs.Settled.{AreSame, Settles}
+use Rattle.journal.specs.declared.recorded.Recorded.{Recorded}
+use Rattle.journal.specs.Recorded.{IsStored}
 use Rattle.journal.specs.Phase.{LeftWith, AddsUpdates, IsFixedAs, IsGated}
 use Rattle.journal.specs.Behind.{way_cost}
 use Rattle.journal.specs.Commit.{AddsEither, IsRecorded, KeepsShown, IsCopiedHome, MakesWay, IsCommitted}
 use Rattle.journal.proofs.Images.{Between, put_same, put_other}
 use Rattle.journal.proofs.Fronts.{settles_same, applied_keeps}
 use Rattle.journal.proofs.Phases.{length-placed, length-copies}
-use Rattle.journal.proofs.Stages.{gate_update, payload_stage, gate_stage, through_payload, homes_stage, homes_done, closing_stage, kept_not_1}
+use Rattle.journal.proofs.Stages.{gate_update, payload_behind, payload_stage, gate_stage, through_payload, homes_stage, homes_done, closing_stage, kept_not_1}
 use Rattle.journal.proofs.Moments.{between_of}
 
 -- what a read gives after a phase
@@ -53,6 +55,9 @@ module _ (size : ℕ) (to : List ℕ) (us : List Update) (h : History) (few : le
           rests = q.unsynced;
           gate_is = ap (λ (image : Image). image 1) last ∙ put_same (seen h1.now) (gate_update (to ++ targets us)) 1 refl;
         };
+        payload = payload_behind size to us (seen h.now) few fit gated.gate_is (seen h2.now) (λ n ne.
+            ap (λ (image : Image). image n) last ∙ put_other (seen h1.now) (gate_update (to ++ targets us)) n ne
+            ∙ ap (λ (image : Image). image n) (seen_fixed (placed (2 + length to) us) h h1 f));
         cost = omega (arith, f.cost, q.cost, length-placed (2 + length to) us);
         same = through_payload size to us (seen h.now) few fit gated.gate_is (seen h2.now) (λ n ne.
             ap (λ (image : Image). image n) last ∙ put_other (seen h1.now) (gate_update (to ++ targets us)) n ne
@@ -98,6 +103,20 @@ pub IsFixedAs-gate : (bytes : List ℕ) (to : List ℕ) (h h1 : History) → byt
 IsFixedAs-gate bytes to h h1 e w =
     let P : List ℕ → Type 0 = λ b. let u : Update = record { target = 1; content = b } in IsFixedAs (u ∷ []) h h1 in subst P e w
 
+-- the homes' phase, where the contents are the payload's
+pub AddsUpdates-at : (xs ys : List Update) (h h1 : History) → xs ≡ ys → AddsUpdates xs h h1 → AddsUpdates ys h h1
+AddsUpdates-at xs ys h h1 e w = let P : List Update → Type 0 = λ us. AddsUpdates us h h1 in subst P e w
+
+pub IsFixedAs-at : (xs ys : List Update) (h h1 : History) → xs ≡ ys → IsFixedAs xs h h1 → IsFixedAs ys h h1
+IsFixedAs-at xs ys h h1 e w = let P : List Update → Type 0 = λ us. IsFixedAs us h h1 in subst P e w
+
+-- a closed gate has nothing in its payload
+pub stored_closed : (recorded : Recorded) (h : History) → recorded.targets.items ≡ [] → recorded.updates.items ≡ [] → IsGated [] h → IsStored recorded h
+stored_closed recorded h none empty closed = record {
+  gated = let P : List ℕ → Type 0 = λ to. IsGated to h in subst P (sym none) closed;
+  payload = ap (λ (to : List ℕ). copies (seen h.now) 2 to) none ∙ sym empty;
+}
+
 -- the payload's phase, where what is shown was counted
 pub payload_moments_at : (behind count : ℕ) (us : List Update) (h h1 : History) → behind ≡ count → AddsUpdates (placed (2 + behind) us) h h1
     → AddsUpdates (placed (2 + count) us) h h1
@@ -137,3 +156,9 @@ module _ (size size1 : ℕ) (to : List ℕ) (us : List Update) (was shown : List
         same = λ n k. applied_keeps size us _ _ way.same n k ∙ recorded_here.same n k;
         cost = omega (arith, recorded_here.cost, way.cost, ap (λ (ts : List ℕ). way_cost was ts) named);
       }
+
+-- what is recorded of a sector is what the base has there
+pub recorded_at : (size : ℕ) (to : List ℕ) (us : List Update) (h : History) (n : ℕ) → length to ≤ 96 → AreTargets size to → seen h.now 1 ≡ gate to
+    → copies (seen h.now) 2 to ≡ us → applied us (seen h.now) n ≡ through to (seen h.now) n
+recorded_at size to us h n few fit open_for payload =
+    ap (λ (vs : List Update). applied vs (seen h.now) n) (sym payload) ∙ homes_done size to (seen h.now) few fit open_for n

@@ -167,3 +167,25 @@ holds_copies F place (t ∷ ts) = (refl, holds_copies F (place + 1) ts)
 pub length-targets : (us : List Update) → length (targets us) ≡ length us
 length-targets [] = refl
 length-targets (u ∷ us) = ap suc (length-targets us)
+
+pub copies-append : (F : Image) (place : ℕ) (a b : List ℕ) → copies F place (a ++ b) ≡ copies F place a ++ copies F (place + length a) b
+copies-append F place [] b = ap (λ (p : ℕ). copies F p b) (let q : place ≡ place + 0 = omega arith in q)
+copies-append F place (t ∷ a) b =
+    let u : Update = record { target = t; content = F place } in
+    ap (λ (us : List Update). u ∷ us) (copies-append F (place + 1) a b
+    ∙ ap (λ (p : ℕ). copies F (place + 1) a ++ copies F p b) (let q : place + 1 + length a ≡ place + length (t ∷ a) = omega arith in q))
+
+pub copies_same : (F G : Image) (place : ℕ) (to : List ℕ) → ((n : ℕ) → place ≤ n → n < place + length to → G n ≡ F n)
+    → copies G place to ≡ copies F place to
+copies_same F G place [] same = refl
+copies_same F G place (t ∷ ts) same =
+    let u : Update = record { target = t; content = F place } in
+    ap (λ (content : List ℕ). let v : Update = record { target = t; content = content } in v ∷ copies G (place + 1) ts) (same place (omega arith) (omega arith))
+    ∙ ap (λ (us : List Update). u ∷ us) (copies_same F G (place + 1) ts (λ n l m. same n (omega arith) (omega arith)))
+
+-- copies of where the contents stand are the updates
+pub copies_held : (F : Image) (place : ℕ) (us : List Update) → HoldsFrom F place us → copies F place (targets us) ≡ us
+copies_held F place [] holds = refl
+copies_held F place (u ∷ us) holds =
+    ap (λ (content : List ℕ). let v : Update = record { target = u.target; content = content } in v ∷ copies F (place + 1) (targets us)) holds.0
+    ∙ ap (λ (vs : List Update). u ∷ vs) (copies_held F (place + 1) us holds.1)

@@ -3,10 +3,12 @@ use Rattle.std.proofs.Common.{◌≡◌, ◌<◌, ◌+◌, ℕ, true, false, Lis
 use Rattle.std.proofs.lemmas.List.{take_more}
 use Rattle.disk.specs.declared.update.Update.{Update}
 use Rattle.disk.specs.Moments.{Image, History, seen}
-use Rattle.journal.specs.Layout.{AreTargets, gate, targets}
+use Rattle.journal.specs.declared.recorded.Recorded.{Recorded}
+use Rattle.journal.specs.Layout.{AreTargets, copies, gate, targets}
 use Rattle.journal.specs.Phase.{IsGated}
+use Rattle.journal.specs.Recorded.{IsStored}
 use Rattle.journal.specs.Commit.{AddsEither, IsCommitted}
-use Rattle.journal.proofs.Lists.{targets-push}
+use Rattle.journal.proofs.Lists.{targets-append, targets-push}
 
 -- the device's size stays
 pub same_fit : (old new : ℕ) (to : List ℕ) → new ≡ old → AreTargets old to → AreTargets new to
@@ -30,9 +32,20 @@ targets_more us i d l = ap (λ xs. targets xs) (take_more us i d l) ∙ targets-
 
 -- a commit that went well
 pub committed_at : {T E : Type 0} (r : Result T E) (size : ℕ) (xs ys : List Update) (was shown : List ℕ) (h h1 : History) → is_err r ≡ false → xs ≡ ys
-    → (IsGated was h → OnOk r (IsCommitted size xs was shown h h1)) → IsGated was h → IsCommitted size ys was shown h h1
-committed_at r size xs ys was shown h h1 ok e f w =
-    let P : List Update → Type 0 = λ us. IsGated was h → OnOk r (IsCommitted size us was shown h h1) in on_ok r ok (subst P e f w)
+    → OnOk r (IsCommitted size xs was shown h h1) → IsCommitted size ys was shown h h1
+committed_at r size xs ys was shown h h1 ok e w =
+    let P : List Update → Type 0 = λ us. OnOk r (IsCommitted size us was shown h h1) in on_ok r ok (subst P e w)
 
 pub either_at : (size : ℕ) (xs ys : List Update) (base : Image) (h h1 : History) → xs ≡ ys → AddsEither size xs base h h1 → AddsEither size ys base h h1
 either_at size xs ys base h h1 e w = let P : List Update → Type 0 = λ us. AddsEither size us base h h1 in subst P e w
+
+-- what is recorded of a journal that is up
+pub stored_of : (recorded : Recorded) (h : History) → length h.now.unsynced ≡ 0 → seen h.now 1 ≡ gate recorded.targets.items
+    → copies (seen h.now) 2 recorded.targets.items ≡ recorded.updates.items → IsStored recorded h
+stored_of recorded h rests open_for payload = record { gated = gated_of recorded.targets.items h rests open_for; payload = payload }
+
+-- once a flush took them over, the updates are those of what the gate names
+pub taken_named : (kept us now : List Update) (way to : List ℕ) → targets kept ≡ way → to ≡ targets us → now ≡ kept ++ us → targets now ≡ way ++ to
+taken_named kept us now way to e q more =
+    ap (λ (vs : List Update). targets vs) more ∙ targets-append kept us
+    ∙ ap (λ (ts : List ℕ). ts ++ targets us) e ∙ ap (λ (ts : List ℕ). way ++ ts) (sym q)

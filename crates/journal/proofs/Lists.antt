@@ -92,6 +92,10 @@ pub targets-push : (us : List Update) (u : Update) → targets (us ++ u ∷ []) 
 targets-push [] u = refl
 targets-push (v ∷ us) u = ap (λ ts. v.target ∷ ts) (targets-push us u)
 
+pub targets-append : (us vs : List Update) → targets (us ++ vs) ≡ targets us ++ targets vs
+targets-append [] vs = refl
+targets-append (u ∷ us) vs = ap (λ (ts : List ℕ). u.target ∷ ts) (targets-append us vs)
+
 pub get_or-targets : (us : List Update) (i : ℕ) → get_or (targets us) i 0 ≡ (get_or us i no_update).target
 get_or-targets [] i = refl
 get_or-targets (u ∷ us) zero = refl

@@ -15,8 +15,8 @@ use Rattle.journal.proofs.Journals.{gated_of}
 pub settled_up : {D : _} {g : _} (journal : Journal D g) → g.keeps_word → journal.is_down ≡ false → IsSettled (log_of journal)
 unfolding log_of
 settled_up {D} {g} journal k up =
-    settled_of (g.size journal.device) journal.shown.items (g.history journal.device) journal.shown_fits.few journal.shown_fits.fit
-    (gated_of journal.shown.items (g.history journal.device) (journal.rests k up) (journal.gate_is k up))
+    settled_of (g.size journal.device) journal.recorded.targets.items (g.history journal.device) journal.shown_fits.few journal.shown_fits.fit
+    (gated_of journal.recorded.targets.items (g.history journal.device) (journal.rests k up) (journal.gate_is k up))
 
 pub stays_safe : {D : _} {g : _} (journal : Journal D g) → IsSafe g.keeps_word (log_of journal) (log_of journal)
 unfolding log_of

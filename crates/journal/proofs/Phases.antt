@@ -4,10 +4,8 @@ use Rattle.std.proofs.lemmas.List.{take_more, take-append-drop}
 use Rattle.disk.specs.declared.update.Update.{Update}
 use Rattle.disk.specs.Moments.{Image, History, MayHold, Among, AddsOnly, moment, wrote, synced, seen}
 use Rattle.disk.proofs.MomentLemmas.{AddsOnly-weaken, AddsOnly-join}
-use Rattle.journal.specs.Layout.{AreTargets, placed, copies, targets}
+use Rattle.journal.specs.Layout.{placed, copies}
 use Rattle.journal.specs.Phase.{LeftWith, AddsUpdates, IsFixedAs}
-use Rattle.journal.proofs.Images.{Out, low_out, applied_out, targets_copies}
-use Rattle.journal.proofs.Stages.{Fit-of}
 use Rattle.journal.proofs.Moments.{wrote_all, AddsOnly-wrote_all, AddsOnly-synced, seen-wrote_all, moment-wrote_all, wrote_all-push}
 
 Among-front : (a b : List Update) (n : ℕ) (content : List ℕ) → Among a n content → Among (a ++ b) n content
@@ -104,29 +102,18 @@ payload_at place us i l =
     let u : Update = record { target = place + i; content = (get_or us i no_update).content } in
     get_or-placed place us i u no_update l
 
-Out-front : (us : List Update) (i n : ℕ) → Out (targets us) n → Out (targets (take i us)) n
-Out-front us zero n o = tt
-Out-front [] (suc i) n o = tt
-Out-front (u ∷ us) (suc i) n o = (o.0, Out-front us i n o.1)
-
--- while the homes are written, the payload reads as at the start
-pub payload_stays : (size : ℕ) (to : List ℕ) (i : ℕ) (h h1 : History) → AreTargets size to → length to ≤ 96 → i < length to
-    → h1 ≡ wrote_all (take i (copies (seen h.now) 2 to)) h → seen h1.now (2 + i) ≡ seen h.now (2 + i)
-payload_stays size to i h h1 fit few l e =
-    let all : List Update = copies (seen h.now) 2 to in
-    let out : Out to (2 + i) = low_out size to (2 + i) (Fit-of size to fit) (omega arith) in
-    let out_all : Out (targets all) (2 + i) =
-    let P : List ℕ → Type 0 = λ ts. Out ts (2 + i) in subst P (sym (targets_copies (seen h.now) 2 to)) out in
-    ap (λ (k : History). seen k.now (2 + i)) e
-    ∙ ap (λ (image : Image). image (2 + i)) (seen-wrote_all (take i all) h)
-    ∙ applied_out (take i all) (seen h.now) (2 + i) (Out-front all i (2 + i) out_all)
-
--- the homes' write at an index
-pub home_at : (size : ℕ) (to : List ℕ) (i : ℕ) (h h1 : History) (content : List ℕ) → AreTargets size to → length to ≤ 96 → i < length to
-    → h1 ≡ wrote_all (take i (copies (seen h.now) 2 to)) h → content ≡ seen h1.now (2 + i)
-    → (let u : Update = record { target = get_or to i 0; content = content } in get_or (copies (seen h.now) 2 to) i u ≡ u)
-home_at size to i h h1 content fit few l e read =
+-- one more sector of the payload was read
+pub copied_more : (image : Image) (to : List ℕ) (i : ℕ) (us next : List Update) (content : List ℕ) → i < length to → us ≡ take i (copies image 2 to)
+    → content ≡ image (2 + i) → (let u : Update = record { target = get_or to i 0; content = content } in next ≡ us ++ u ∷ [])
+    → next ≡ take (i + 1) (copies image 2 to)
+copied_more image to i us next content l e read more =
     let u : Update = record { target = get_or to i 0; content = content } in
-    get_or-copies (seen h.now) 2 to i u l
-    ∙ ap (λ (bytes : List ℕ). let r : Update = record { target = get_or to i 0; content = bytes } in r)
-    (sym (payload_stays size to i h h1 fit few l e) ∙ sym read)
+    let all : List Update = copies image 2 to in
+    let at : get_or all i u ≡ u =
+    get_or-copies image 2 to i u l
+    ∙ ap (λ (bytes : List ℕ). let r : Update = record { target = get_or to i 0; content = bytes } in r) (sym read) in
+    more ∙ ap (λ (vs : List Update). vs ++ u ∷ []) e
+    ∙ sym (take_more all i u (omega (arith, length-copies image 2 to)) ∙ ap (λ (v : Update). take i all ++ v ∷ []) at)
+
+pub copied_whole : (image : Image) (to : List ℕ) (i : ℕ) (us : List Update) → length to ≤ i → us ≡ take i (copies image 2 to) → copies image 2 to ≡ us
+copied_whole image to i us l e = sym (e ∙ take_past i (copies image 2 to) (omega (arith, length-copies image 2 to)))

@@ -55,17 +55,11 @@ recover_since size h h2 h3 to e small few fit gated w =
     (settles_once size (seen h2.now) (through to (seen h2.now)) settled small
     (gated_stage size to (seen h2.now) few fit gated.gate_is (seen h2.now) (λ n. refl)) (subst Q (sym same) t)) s) w)
 
-pub keeps_shown_at : (old new : ℕ) (xs ys : List ℕ) (h h1 : History) → new ≡ old → xs ≡ ys → (IsGated xs h → KeepsShown new xs h h1) → IsGated ys h → KeepsShown old ys h h1
-keeps_shown_at old new xs ys h h1 e q f gated =
-    let P : List ℕ → Type 0 = λ to. IsGated to h → KeepsShown new to h h1 in
-    let Q : ℕ → Type 0 = λ size. KeepsShown size ys h h1 in
-    subst Q e (subst P q f gated)
+pub keeps_shown_at : (old new : ℕ) (to : List ℕ) (h h1 : History) → new ≡ old → KeepsShown new to h h1 → KeepsShown old to h h1
+keeps_shown_at old new to h h1 e keeps = let P : ℕ → Type 0 = λ size. KeepsShown size to h h1 in subst P e keeps
 
-pub copied_home_at : (old new : ℕ) (xs ys : List ℕ) (h h1 : History) → new ≡ old → xs ≡ ys → (IsGated xs h → IsCopiedHome new xs h h1) → IsGated ys h → IsCopiedHome old ys h h1
-copied_home_at old new xs ys h h1 e q f gated =
-    let P : List ℕ → Type 0 = λ to. IsGated to h → IsCopiedHome new to h h1 in
-    let Q : ℕ → Type 0 = λ size. IsCopiedHome size ys h h1 in
-    subst Q e (subst P q f gated)
+pub copied_home_at : (old new : ℕ) (to : List ℕ) (h h1 : History) → new ≡ old → IsCopiedHome new to h h1 → IsCopiedHome old to h h1
+copied_home_at old new to h h1 e copied = let P : ℕ → Type 0 = λ size. IsCopiedHome size to h h1 in subst P e copied
 
 pub gated_after : (h h1 h2 : History) (to : List ℕ) → h2 ≡ h1 → h1 ≡ synced h → seen h1.now 1 ≡ gate to → IsGated to h2
 gated_after h h1 h2 to q e names = record {

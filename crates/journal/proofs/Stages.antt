@@ -5,7 +5,7 @@ use Rattle.disk.specs.declared.update.Update.{Update}
 use Rattle.disk.specs.Moments.{Image, applied}
 use Rattle.journal.specs.Layout.{AreTargets, home, through, gate, targets, placed, copies}
 use Rattle.journal.specs.Settled.{IsKept, AreSame, Settles}
-use Rattle.journal.proofs.Images.{Out, Fit, Between, Fit-front, Fit-back, home_cases, home_of_out, home_behind, home_out, low_out, applied_out, between_out, applied_home, placed_out_below, placed_out_above, applied_placed, targets_copies, holds_copies, length-targets}
+use Rattle.journal.proofs.Images.{Out, Fit, Between, Fit-front, Fit-back, home_cases, home_of_out, home_behind, home_out, low_out, applied_out, between_out, applied_home, placed_out_below, placed_out_above, applied_placed, copies-append, copies_same, copies_held, targets_copies, holds_copies, length-targets}
 use Rattle.journal.proofs.Lists.{Out-each, targets_of-Fit}
 
 AreTargets-rest : (size t : ℕ) (ts : List ℕ) → AreTargets size (t ∷ ts) → AreTargets size ts
@@ -118,6 +118,18 @@ module _ (size : ℕ) (to : List ℕ) (us : List Update) (F : Image) (few : leng
       ∙ sym (rest (home to 2 n) (λ e. omega (arith, w.2, e)))
       ∙ ap image (sym w.1))
       (home_behind size to (targets us) 2 n fitted)
+
+  -- behind what it had the payload has the updates' contents
+  pub payload_behind : (image : Image) → ((n : ℕ) → (1 ≡ n → ⊥) → image n ≡ applied (placed (2 + length to) us) F n)
+      → copies image 2 (to ++ targets us) ≡ copies F 2 to ++ us
+  payload_behind image rest =
+      copies-append image 2 to (targets us)
+      ∙ ap (λ (vs : List Update). vs ++ copies image (2 + length to) (targets us))
+      (copies_same F image 2 to (λ n l m. rest n (λ e. omega (arith, e))
+      ∙ applied_out (placed (2 + length to) us) F n (placed_out_below us (2 + length to) n m)))
+      ∙ ap (λ (vs : List Update). copies F 2 to ++ vs)
+      (copies_same (applied (placed (2 + length to) us) F) image (2 + length to) (targets us) (λ n l m. rest n (λ e. omega (arith, e)))
+      ∙ copies_held (applied (placed (2 + length to) us) F) (2 + length to) us (applied_placed us F (2 + length to)))
 
   -- within the gate's phase an image is as before, or with the whole transaction
   pub gate_stage : (image : Image) → Between (applied (placed (2 + length to) us) F) (gate_update (to ++ targets us) ∷ []) image

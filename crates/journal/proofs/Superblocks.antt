@@ -4,11 +4,11 @@ use Rattle.std.proofs.lemmas.Bool.{cases_eq}
 use Rattle.disk.specs.declared.update.Update.{Update}
 use Rattle.disk.specs.Moments.{Image, History, seen, put, applied}
 use Rattle.disk.proofs.MomentLemmas.{AddsOnly-weaken}
-use Rattle.journal.specs.Layout.{AreTargets, gate, home, through, targets}
+use Rattle.journal.specs.Layout.{AreTargets, copies, gate, home, through, targets}
 use Rattle.journal.specs.Settled.{AreSame, Settles}
 use Rattle.journal.specs.Phase.{LeftWith, AddsUpdates, IsFixedAs, IsGated}
 use Rattle.journal.specs.Commit.{AddsEither}
-use Rattle.journal.proofs.Images.{Out, Fit, applied_out, Between, put_same, put_other, home_cases, home_of_out, low_out}
+use Rattle.journal.proofs.Images.{Out, Fit, applied_out, Between, put_same, put_other, copies_same, home_cases, home_of_out, low_out}
 use Rattle.journal.proofs.Stages.{Fit-of, between_one}
 use Rattle.journal.proofs.Moments.{between_of}
 use Rattle.journal.proofs.Commits.{seen_fixed}
@@ -99,3 +99,11 @@ module _ (size : ℕ) (to : List ℕ) (content : List ℕ) (h h1 : History) (few
         rests = f.unsynced;
         gate_is = ap (λ (image : Image). image 1) (seen_fixed (u ∷ []) h h1 f) ∙ put_other (seen h.now) u 1 (λ e. omega arith) ∙ gated.gate_is;
       }
+
+  -- and so is the payload
+  pub superblock_payload : (let u : Update = record { target = 0; content = content } in
+      IsFixedAs (u ∷ []) h h1 → copies (seen h1.now) 2 to ≡ copies (seen h.now) 2 to)
+  superblock_payload f =
+      let u : Update = record { target = 0; content = content } in
+      copies_same (seen h.now) (seen h1.now) 2 to (λ n l m.
+      ap (λ (image : Image). image n) (seen_fixed (u ∷ []) h h1 f) ∙ put_other (seen h.now) u n (λ e. omega (arith, e, l)))

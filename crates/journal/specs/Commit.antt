@@ -1,9 +1,9 @@
 -- What opening and closing the gate do to a device.
-use Rattle.std.specs.Prelude.{◌≡◌, ◌≤◌, ◌⊎◌, ◌+◌, ℕ, List, [], length, vec_capacity}
+use Rattle.std.specs.Prelude.{◌≡◌, ◌≤◌, ◌⊎◌, ◌+◌, ◌++◌, ℕ, List, [], length, vec_capacity}
 use Rattle.std.specs.Global.{Vec}
 use Rattle.disk.specs.declared.update.Update.{Update}
 use Rattle.disk.specs.Moments.{Image, History, AddsOnly, applied, seen, moment}
-use Rattle.journal.specs.Layout.{AreTargets, payload_sectors, through, targets}
+use Rattle.journal.specs.Layout.{AreTargets, copies, payload_sectors, through, targets}
 use Rattle.journal.specs.Behind.{FitsGate, way_cost}
 use Rattle.journal.specs.Settled.{AreSame, Settles}
 use Rattle.journal.specs.Phase.{IsGated}
@@ -20,12 +20,14 @@ abbrev pub AddsEither : ℕ → List Update → Image → History → History �
 AddsEither size updates base old new =
     AddsOnly (λ image. Settles size image base ⊎ Settles size image (applied updates base)) old new
 
--- The gate names the updates' sectors too, and through it the device reads as with them.
+-- The gate names the updates' sectors too, and through it the device reads as with them. The payload
+-- has their contents behind what it had.
 pub record IsRecorded (size : ℕ) (updates : List Update) (was shown : List ℕ) (old new : History)
     : Type 0 where
   pub gated : IsGated shown new
   pub same : AreSame size (applied updates (through was (seen old.now)))
       (through shown (seen new.now))
+  pub payload : copies (seen new.now) 2 shown ≡ copies (seen old.now) 2 was ++ updates
   pub cost : moment new ≡ moment old + (length updates + 3)
 
 -- while the payload is copied home, a map left settles to what the gate shows

@@ -13,7 +13,7 @@ listed (update ∷ updates) = (update ∷ updates) ∷ []
 
 unfoldable pub log_of : {D : _} {g : _} → Journal D g → Log
 log_of {D} {g} journal = record {
-  base = through journal.shown.items (seen (g.history journal.device).now);
+  base = through journal.recorded.targets.items (seen (g.history journal.device).now);
   list = listed journal.pending.items;
   is_down = journal.is_down;
   size = g.size journal.device;
@@ -26,4 +26,4 @@ failures_of {D} {g} journal = g.failed journal.device
 
 -- the sectors whose content in the base is not at home yet: the gate names them
 unfoldable pub shown_of : {D : _} {g : _} → Journal D g → List ℕ
-shown_of journal = journal.shown.items
+shown_of journal = journal.recorded.targets.items

@@ -3,93 +3,108 @@
 
 ghost use Rattle.std.specs.Prelude.{OnOk, ◌≡◌, ◌≤◌, ◌<◌, ◌++◌, ◌+◌, [], length, vec_capacity};
 ghost use Rattle.disk.specs.Moments.{seen};
-ghost use Rattle.journal.specs.Layout.{AreTargets, targets, through};
-ghost use Rattle.journal.specs.Behind.{FitsGate, goes_behind, way_for};
+ghost use Rattle.journal.specs.Layout.{copies, targets, through};
+ghost use Rattle.journal.specs.Behind.{FitsGate, way_for};
+ghost use Rattle.journal.specs.Recorded.{FitsRecorded, IsStored};
 ghost use Rattle.journal.specs.Phase.{IsGated, FailsCounted};
 ghost use Rattle.journal.specs.Commit.{AddsEither, IsTransaction, IsRecorded, KeepsShown, IsCopiedHome, MakesWay, IsCommitted, KeepsRoom};
 
 use crate::layout::{FIRST_TARGET, GATE, PAYLOAD_SECTORS};
+use crate::recorded::Recorded;
 use crate::{gate, phase};
 use disk::{Device, DiskFault, Update};
 
-/// Takes updates through the gate, which shows them afterwards, alone or after what it showed.
+/// Takes updates through the gate, which shows them afterwards, alone or after what it showed. That
+/// they are recorded too is left to the caller.
 pub(crate) fn commit<D: Device>(
     device: &mut D,
-    shown: &mut Vec<u32>,
+    recorded: &mut Recorded,
     to: &[u32],
     updates: &[Update],
 ) -> Result<(), DiskFault>
     requires taken { IsTransaction (D.size device.old) to.now updates.now }
-    requires fits { FitsGate (D.size device.old) shown.old.items }
-    requires room { PAYLOAD_SECTORS ≤ vec_capacity shown.old }
+    requires fits { FitsRecorded (D.size device.old) recorded.old }
     requires large { FIRST_TARGET ≤ D.size device.old }
     // On a device that keeps its word
-    ensures moments { D.keeps_word → IsGated shown.old.items (D.history device.old)
+    ensures moments { D.keeps_word → IsStored recorded.old (D.history device.old)
         → AddsEither (D.size device.old) updates.now
-        (through shown.old.items (seen (D.history device.old).now))
+        (through recorded.old.targets.items (seen (D.history device.old).now))
         (D.history device.old) (D.history device.new) }
-    ensures ok { D.keeps_word → IsGated shown.old.items (D.history device.old)
-        → OnOk result (IsCommitted (D.size device.old) updates.now shown.old.items shown.new.items
+    ensures ok { D.keeps_word → IsStored recorded.old (D.history device.old)
+        → OnOk result (IsCommitted (D.size device.old) updates.now
+        recorded.old.targets.items recorded.new.targets.items
         (D.history device.old) (D.history device.new)) }
+    ensures payload { D.keeps_word → IsStored recorded.old (D.history device.old)
+        → OnOk result (copies (seen (D.history device.new).now) 2 recorded.new.targets.items
+        ≡ recorded.new.updates.items ++ updates.now) }
     // On any device
-    ensures shown { OnOk result (shown.new.items ≡ way_for shown.old.items to.now ++ to.now) }
-    ensures kept { KeepsRoom (D.size device.old) shown.old shown.new }
+    ensures shown { OnOk result
+        ((recorded.new.targets.items ≡ way_for recorded.old.targets.items to.now ++ to.now)
+        × (targets recorded.new.updates.items ≡ way_for recorded.old.targets.items to.now)) }
+    ensures kept { FitsGate (D.size device.old) recorded.new.targets.items }
     ensures size { D.size device.new ≡ D.size device.old }
     ensures failures { FailsCounted (D.failed device.old) (D.failed device.new) result }
 {
-    make_way(device, shown, to)?;
-    write_commit_record(device, shown, to, updates)?;
+    make_way(device, recorded, to)?;
+    write_commit_record(device, &mut recorded.targets, to, updates)?;
     Ok(())
 }
 
 /// Where more targets do not go behind what the gate shows, copies that home and closes the gate.
 pub(crate) fn make_way<D: Device>(
     device: &mut D,
-    shown: &mut Vec<u32>,
+    recorded: &mut Recorded,
     to: &[u32],
 ) -> Result<(), DiskFault>
     requires few { length to.now ≤ PAYLOAD_SECTORS }
-    requires fits { FitsGate (D.size device.old) shown.old.items }
+    requires fits { FitsRecorded (D.size device.old) recorded.old }
     requires large { FIRST_TARGET ≤ D.size device.old }
     // On a device that keeps its word
-    ensures moments { D.keeps_word → IsGated shown.old.items (D.history device.old)
-        → KeepsShown (D.size device.old) shown.old.items
+    ensures moments { D.keeps_word → IsStored recorded.old (D.history device.old)
+        → KeepsShown (D.size device.old) recorded.old.targets.items
         (D.history device.old) (D.history device.new) }
-    ensures ok { D.keeps_word → IsGated shown.old.items (D.history device.old)
-        → OnOk result (MakesWay (D.size device.old) to.now shown.old.items shown.new.items
+    ensures ok { D.keeps_word → IsStored recorded.old (D.history device.old)
+        → OnOk result (MakesWay (D.size device.old) to.now
+        recorded.old.targets.items recorded.new.targets.items
         (D.history device.old) (D.history device.new)) }
+    ensures stored { D.keeps_word → IsStored recorded.old (D.history device.old)
+        → OnOk result (IsStored recorded.new (D.history device.new)) }
     // On any device
-    ensures shown { OnOk result (shown.new.items ≡ way_for shown.old.items to.now) }
-    ensures kept { KeepsRoom (D.size device.old) shown.old shown.new }
+    ensures shown { OnOk result
+        ((recorded.new.targets.items ≡ way_for recorded.old.targets.items to.now)
+        × (targets recorded.new.updates.items ≡ recorded.new.targets.items)) }
+    ensures kept { FitsGate (D.size device.old) recorded.new.targets.items }
     ensures size { D.size device.new ≡ D.size device.old }
     ensures failures { FailsCounted (D.failed device.old) (D.failed device.new) result }
 {
-    if gate::goes_behind(shown, to) {
+    if gate::goes_behind(&recorded.targets, to) {
         return Ok(());
     }
-    close(device, shown)?;
+    close(device, recorded)?;
     Ok(())
 }
 
-/// Copies home what the gate shows, and closes it.
-pub(crate) fn close<D: Device>(device: &mut D, shown: &mut Vec<u32>) -> Result<(), DiskFault>
-    requires fits { FitsGate (D.size device.old) shown.old.items }
+/// Copies home what the gate shows, and closes it. Nothing is read.
+pub(crate) fn close<D: Device>(device: &mut D, recorded: &mut Recorded) -> Result<(), DiskFault>
+    requires fits { FitsRecorded (D.size device.old) recorded.old }
     requires large { FIRST_TARGET ≤ D.size device.old }
     // On a device that keeps its word
-    ensures moments { D.keeps_word → IsGated shown.old.items (D.history device.old)
-        → KeepsShown (D.size device.old) shown.old.items
+    ensures moments { D.keeps_word → IsStored recorded.old (D.history device.old)
+        → KeepsShown (D.size device.old) recorded.old.targets.items
         (D.history device.old) (D.history device.new) }
-    ensures ok { D.keeps_word → IsGated shown.old.items (D.history device.old)
-        → OnOk result (IsCopiedHome (D.size device.old) shown.old.items
+    ensures ok { D.keeps_word → IsStored recorded.old (D.history device.old)
+        → OnOk result (IsCopiedHome (D.size device.old) recorded.old.targets.items
         (D.history device.old) (D.history device.new)) }
     // On any device
-    ensures shown { OnOk result (shown.new.items ≡ []) }
-    ensures kept { KeepsRoom (D.size device.old) shown.old shown.new }
+    ensures shown { OnOk result
+        ((recorded.new.targets.items ≡ []) × (recorded.new.updates.items ≡ [])) }
+    ensures kept { FitsGate (D.size device.old) recorded.new.targets.items }
     ensures size { D.size device.new ≡ D.size device.old }
     ensures failures { FailsCounted (D.failed device.old) (D.failed device.new) result }
 {
-    replay(device, shown)?;
-    shown.clear();
+    phase::write_homes(device, &recorded.updates)?;
+    phase::write_sector(device, GATE, &gate::closed())?;
+    recorded.clear();
     Ok(())
 }
 
@@ -121,25 +136,5 @@ pub(crate) fn write_commit_record<D: Device>(
     phase::write_payload(device, shown.len(), updates)?;
     gate::name_all(shown, to);
     phase::write_sector(device, GATE, &gate::encode(shown))?;
-    Ok(())
-}
-
-/// Copies the payload to the targets of the open gate, and then closes it.
-pub(crate) fn replay<D: Device>(device: &mut D, to: &[u32]) -> Result<(), DiskFault>
-    requires few { length to.now ≤ PAYLOAD_SECTORS }
-    requires fit { AreTargets (D.size device.old) to.now }
-    requires large { FIRST_TARGET ≤ D.size device.old }
-    // On a device that keeps its word
-    ensures moments { D.keeps_word → IsGated to.now (D.history device.old)
-        → KeepsShown (D.size device.old) to.now (D.history device.old) (D.history device.new) }
-    ensures ok { D.keeps_word → IsGated to.now (D.history device.old)
-        → OnOk result (IsCopiedHome (D.size device.old) to.now
-        (D.history device.old) (D.history device.new)) }
-    // On any device
-    ensures size { D.size device.new ≡ D.size device.old }
-    ensures failures { FailsCounted (D.failed device.old) (D.failed device.new) result }
-{
-    phase::checkpoint_payload(device, to)?;
-    phase::write_sector(device, GATE, &gate::closed())?;
     Ok(())
 }

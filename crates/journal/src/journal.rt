@@ -7,7 +7,7 @@ ghost use Rattle.journal.specs.Behind.{FitsGate};
 ghost use Rattle.journal.specs.Calls.{AddsFirst, GoesThrough, GoesThroughFirst, HasApplied, HasCheckpointed, HasFlushed, HasWritten, IsPart, IsSafe, list_with};
 ghost use Rattle.journal.specs.Format.{AddsFormats, IsFormatted};
 ghost use Rattle.journal.specs.Cached.{AreCopies};
-ghost use Rattle.journal.specs.Layout.{AreTargets, gate, max_updates, targets, through};
+ghost use Rattle.journal.specs.Layout.{AreTargets, copies, gate, max_updates, targets, through};
 ghost use Rattle.journal.specs.Log.{Answers, Moved, contents};
 ghost use Rattle.journal.specs.MountAnswers.{ComesBack, HasMounted, IsNew, IsMountRefused};
 ghost use Rattle.journal.specs.Phase.{FailsCounted};
@@ -15,7 +15,8 @@ ghost use Rattle.journal.specs.Transactions.{FitTogether, gathered, sectors_of};
 
 use crate::cache::Cache;
 use crate::layout::{self, MAX_UPDATES, MIN_SECTORS, PAYLOAD_SECTORS, SUPERBLOCK};
-use crate::{JournalFault, Unmounted, View, commit, gate, list, phase, recover};
+use crate::recorded::Recorded;
+use crate::{JournalFault, Unmounted, View, commit, list, phase, recover};
 use disk::{Device, DiskFault, SECTOR, Update};
 use std::alloc::{AllocError, Global};
 use std::num::NonZeroUsize;
@@ -32,8 +33,8 @@ pub struct Journal<D: Device> {
     device: D,
     pending: Vec<Update>,
     pending_sectors: Vec<u32>,
-    /// The sectors that the open gate names: their content stands in the payload, in this order.
-    shown: Vec<u32>,
+    /// What the open gate shows.
+    recorded: Recorded,
     /// What was read last.
     cache: Cache,
     is_down: bool,
@@ -43,12 +44,15 @@ pub struct Journal<D: Device> {
     ghost sectors_room: { PAYLOAD_SECTORS ≤ vec_capacity pending_sectors },
     ghost sectors_are: { pending_sectors.items ≡ targets pending.items },
     ghost fit: { AreTargets (D.size device) (targets pending.items) },
-    ghost shown_room: { PAYLOAD_SECTORS ≤ vec_capacity shown },
-    ghost shown_fits: { FitsGate (D.size device) shown.items },
+    ghost shown_fits: { FitsGate (D.size device) recorded.targets.items },
+    ghost named: { is_down ≡ false → targets recorded.updates.items ≡ recorded.targets.items },
     ghost rests: { D.keeps_word → is_down ≡ false → length (D.history device).now.unsynced ≡ 0 },
-    ghost gate_is: { D.keeps_word → is_down ≡ false → seen (D.history device).now 1 ≡ gate shown.items },
+    ghost gate_is: { D.keeps_word → is_down ≡ false → seen (D.history device).now 1
+        ≡ gate recorded.targets.items },
+    ghost payload: { D.keeps_word → is_down ≡ false
+        → copies (seen (D.history device).now) 2 recorded.targets.items ≡ recorded.updates.items },
     ghost cached: { D.keeps_word → is_down ≡ false → AreCopies (D.size device)
-        (applied pending.items (through shown.items (seen (D.history device).now)))
+        (applied pending.items (through recorded.targets.items (seen (D.history device).now)))
         cache.sectors.entries },
 }
 
@@ -57,7 +61,7 @@ pub struct Journal<D: Device> {
 struct Room {
     pending: Vec<Update>,
     pending_sectors: Vec<u32>,
-    shown: Vec<u32>,
+    recorded: Recorded,
     cache: Cache,
 }
 
@@ -65,15 +69,15 @@ struct Room {
 fn room_for(alloc: Global, cached: NonZeroUsize) -> Result<Room, AllocError>
     ensures none { IfOk result
         (λ room. (room.pending.items ≡ []) × (room.pending_sectors.items ≡ [])
+        × (room.recorded.targets.items ≡ []) × (room.recorded.updates.items ≡ [])
         × (room.cache.sectors.entries ≡ [])) }
     ensures room { IfOk result (λ room. (PAYLOAD_SECTORS ≤ vec_capacity room.pending)
-        × (PAYLOAD_SECTORS ≤ vec_capacity room.pending_sectors)
-        × (PAYLOAD_SECTORS ≤ vec_capacity room.shown)) }
+        × (PAYLOAD_SECTORS ≤ vec_capacity room.pending_sectors)) }
 {
     Ok(Room {
         pending: Vec::with_capacity(alloc, PAYLOAD_SECTORS)?,
         pending_sectors: Vec::with_capacity(alloc, PAYLOAD_SECTORS)?,
-        shown: Vec::with_capacity(alloc, PAYLOAD_SECTORS)?,
+        recorded: Recorded::new(alloc)?,
         cache: Cache::new(alloc, cached)?,
     })
 }
@@ -168,12 +172,12 @@ impl<D: Device> Journal<D> {
                 });
             }
         };
-        match recover::recover(&mut device, &mut room.shown) {
+        match recover::recover(&mut device, &mut room.recorded) {
             Ok(()) => Ok(Journal {
                 device,
                 pending: room.pending,
                 pending_sectors: room.pending_sectors,
-                shown: room.shown,
+                recorded: room.recorded,
                 cache: room.cache,
                 is_down: false,
             }),
@@ -269,8 +273,10 @@ impl<D: Device> Journal<D> {
         if self.cache.get(n, content) {
             return Ok(());
         }
-        let place = gate::place_of(&self.shown, n);
-        if self.device.read(place, content).is_err() {
+        if self.recorded.get(n, content) {
+            return Ok(());
+        }
+        if self.device.read(n, content).is_err() {
             self.is_down = true;
             return Err(JournalFault::Fault);
         }
@@ -330,11 +336,11 @@ impl<D: Device> Journal<D> {
         if self.is_down {
             return Err(JournalFault::Down);
         }
-        if self.shown.is_empty() {
+        if self.recorded.targets.is_empty() {
             return Ok(());
         }
         self.is_down = true;
-        if commit::close(&mut self.device, &mut self.shown).is_err() {
+        if commit::close(&mut self.device, &mut self.recorded).is_err() {
             return Err(JournalFault::Fault);
         }
         self.is_down = false;
@@ -359,7 +365,7 @@ impl<D: Device> Journal<D> {
         self.is_down = true;
         if commit::commit(
             &mut self.device,
-            &mut self.shown,
+            &mut self.recorded,
             &self.pending_sectors,
             &self.pending,
         )
@@ -367,7 +373,7 @@ impl<D: Device> Journal<D> {
         {
             return Err(DiskFault::Fault);
         }
-        self.pending.clear();
+        self.recorded.take_over(&mut self.pending);
         self.pending_sectors.clear();
         self.is_down = false;
         Ok(())

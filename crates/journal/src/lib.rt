@@ -10,6 +10,7 @@ mod laws;
 mod layout;
 mod list;
 mod phase;
+mod recorded;
 mod recover;
 mod view;
 

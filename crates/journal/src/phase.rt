@@ -1,8 +1,7 @@
 //! The phases of a flush. Each writes its sectors one after the other, and then syncs.
 
 ghost use Rattle.std.specs.Prelude.{OnOk, ◌≡◌, ◌≤◌, ◌<◌, ◌+◌, [], ◌∷◌, length};
-ghost use Rattle.disk.specs.Moments.{seen};
-ghost use Rattle.journal.specs.Layout.{AreTargets, placed, copies};
+ghost use Rattle.journal.specs.Layout.{AreTargets, placed, targets};
 ghost use Rattle.journal.specs.Format.{fresh};
 ghost use Rattle.journal.specs.Phase.{AddsUpdates, IsFixedAs, FailsCounted};
 
@@ -35,29 +34,20 @@ pub(crate) fn write_payload<D: Device>(
     Ok(())
 }
 
-/// Copies the payload to its targets.
-pub(crate) fn checkpoint_payload<D: Device>(
-    device: &mut D,
-    targets: &[u32],
-) -> Result<(), DiskFault>
-    requires few { length targets.now ≤ PAYLOAD_SECTORS }
-    requires fit { AreTargets (D.size device.old) targets.now }
-    requires large { FIRST_TARGET ≤ D.size device.old }
+/// Writes the updates to their sectors.
+pub(crate) fn write_homes<D: Device>(device: &mut D, updates: &[Update]) -> Result<(), DiskFault>
+    requires { AreTargets (D.size device.old) (targets updates.now) }
     // On a device that keeps its word
-    ensures moments { D.keeps_word
-        → AddsUpdates (copies (seen (D.history device.old).now) 2 targets.now)
+    ensures moments { D.keeps_word → AddsUpdates updates.now
         (D.history device.old) (D.history device.new) }
-    ensures ok { D.keeps_word → OnOk result
-        (IsFixedAs (copies (seen (D.history device.old).now) 2 targets.now)
+    ensures ok { D.keeps_word → OnOk result (IsFixedAs updates.now
         (D.history device.old) (D.history device.new)) }
     // On any device
     ensures size { D.size device.new ≡ D.size device.old }
     ensures failures { FailsCounted (D.failed device.old) (D.failed device.new) result }
 {
-    let mut content = [0; SECTOR];
-    for (i, target) in targets.iter().enumerate() {
-        device.read(PAYLOAD + i as u32, &mut content)?;
-        device.write(*target, &content)?;
+    for update in updates {
+        device.write(update.target, &update.content)?;
     }
     device.sync()?;
     Ok(())

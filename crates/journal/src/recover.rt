@@ -2,19 +2,24 @@
 
 ghost use Rattle.std.specs.Prelude.{◌≡◌, ◌≤◌, ◌<◌, ◌^◌, ℕ, List, [], OnOk, IsErrOf, length, vec_capacity};
 ghost use Rattle.disk.specs.Moments.{AddsOnly, seen};
-ghost use Rattle.journal.specs.Layout.{AreTargets, NamesTargets, gate};
+ghost use Rattle.journal.specs.Layout.{AreTargets, NamesTargets, copies, gate, targets};
 ghost use Rattle.journal.specs.Settled.{SettlesAs};
+ghost use Rattle.journal.specs.Phase.{FailsCounted};
 ghost use Rattle.journal.specs.Recover.{Recovers, LeavesOnlySynced, IsClosed, WritesNothing, FaultsCounted};
 
-use crate::layout::{MIN_SECTORS, PAYLOAD_SECTORS};
+use crate::layout::{MIN_SECTORS, PAYLOAD, PAYLOAD_SECTORS};
+use crate::recorded::Recorded;
 use crate::{JournalFault, commit, gate, layout};
-use disk::{Device, SECTOR};
+use disk::{Device, DiskFault, SECTOR, Update};
 
 /// Syncs, since contents of an earlier run may still be unsynced, and then copies an open gate's
-/// payload home. Where that went well, `named` is left empty, with the room that it had.
-pub(crate) fn recover<D: Device>(device: &mut D, named: &mut Vec<u32>) -> Result<(), JournalFault>
+/// payload home. Where that went well, nothing is recorded any more.
+pub(crate) fn recover<D: Device>(
+    device: &mut D,
+    recorded: &mut Recorded,
+) -> Result<(), JournalFault>
     requires large { MIN_SECTORS ≤ D.size device.old }
-    requires room { PAYLOAD_SECTORS ≤ vec_capacity named.old }
+    requires empty { recorded.old.updates.items ≡ [] }
     // On a device that keeps its word
     ensures moments { D.keeps_word
         → AddsOnly (SettlesAs (D.size device.old) (seen (D.history device.old).now))
@@ -27,17 +32,17 @@ pub(crate) fn recover<D: Device>(device: &mut D, named: &mut Vec<u32>) -> Result
         → LeavesOnlySynced (D.size device.old) (D.history device.old) (D.history device.new) }
     // On any device
     ensures none { OnOk result
-        ((named.new.items ≡ []) × (vec_capacity named.new ≡ vec_capacity named.old)) }
+        ((recorded.new.targets.items ≡ []) × (recorded.new.updates.items ≡ [])) }
     ensures size { D.size device.new ≡ D.size device.old }
     ensures failures { FaultsCounted (D.failed device.old) (D.failed device.new) result }
 {
     device.sync()?;
-    read_gate(device, named)?;
-    if named.is_empty() {
+    read_gate(device, &mut recorded.targets)?;
+    if recorded.targets.is_empty() {
         return Ok(());
     }
-    commit::replay(device, named)?;
-    named.clear();
+    read_payload(device, &recorded.targets, &mut recorded.updates)?;
+    commit::close(device, recorded)?;
     Ok(())
 }
 
@@ -64,6 +69,36 @@ pub(crate) fn read_gate<D: Device>(device: &mut D, named: &mut Vec<u32>) -> Resu
     device.read(layout::GATE, &mut sector)?;
     if !gate::decode(&sector, sectors, named) {
         return Err(JournalFault::Damaged);
+    }
+    Ok(())
+}
+
+/// Reads what the payload has for these targets.
+fn read_payload<D: Device>(
+    device: &mut D,
+    to: &[u32],
+    updates: &mut Vec<Update>,
+) -> Result<(), DiskFault>
+    requires large { MIN_SECTORS ≤ D.size device.old }
+    requires few { length to.now ≤ PAYLOAD_SECTORS }
+    requires empty { updates.old.items ≡ [] }
+    requires room { PAYLOAD_SECTORS ≤ vec_capacity updates.old }
+    ensures ok { D.keeps_word → OnOk result
+        (copies (seen (D.history device.old).now) 2 to.now ≡ updates.new.items) }
+    ensures named { OnOk result (targets updates.new.items ≡ to.now) }
+    ensures capacity { vec_capacity updates.new ≡ vec_capacity updates.old }
+    // The device is read
+    ensures reads { (D.history device.new ≡ D.history device.old)
+        × (D.size device.new ≡ D.size device.old) }
+    ensures failures { FailsCounted (D.failed device.old) (D.failed device.new) result }
+{
+    let mut content = [0; SECTOR];
+    for (i, target) in to.iter().enumerate() {
+        device.read(PAYLOAD + i as u32, &mut content)?;
+        updates.push_reserved(Update {
+            target: *target,
+            content,
+        });
     }
     Ok(())
 }

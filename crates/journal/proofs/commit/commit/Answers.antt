@@ -1,4 +1,5 @@
-use Rattle.std.proofs.Common.{◌++◌, ap, ℕ, List, length, arith, sym, subst}
+use Rattle.std.proofs.Common.{◌∙◌, ◌++◌, ap, ℕ, List, length, arith, sym, subst}
+use Rattle.disk.specs.declared.update.Update.{Update}
 use Rattle.journal.specs.Behind.{FitsGate}
 use Rattle.journal.specs.Layout.{AreTargets}
 use Rattle.journal.proofs.Behinds.{fits_at, way_fits}
@@ -15,31 +16,47 @@ write_commit_record-requires-clause-fits g c =
     let to = c.args.to.now in
     let P : List ℕ → Type 0 = λ ts. AreTargets size ts in
     let Q : List ℕ → Type 0 = λ ts. FitsGate size (ts ++ to) in
-    fits_at size (g.D.Device.size c.make_way.new.device) (c.make_way.new.shown.items ++ to) c.in_ok-make_way.ensures.size
-    (subst Q (sym c.in_ok-make_way.ensures.shown)
-    (way_fits size c.args.shown.now.items to c.requires.fits
+    fits_at size (g.D.Device.size c.make_way.new.device) (c.make_way.new.recorded.targets.items ++ to) c.in_ok-make_way.ensures.size
+    (subst Q (sym c.in_ok-make_way.ensures.shown.0)
+    (way_fits size c.args.recorded.now.targets.items to c.requires.fits.fits
     (omega (arith, c.requires.taken.few, ap (λ (ts : List ℕ). length ts) c.requires.taken.named, length-targets c.args.updates.now))
     (subst P (sym c.requires.taken.named) c.requires.taken.fit)))
 
 pub returns-in_err-write_commit_record-clause-moments : goal.returns-in_err-write_commit_record-clause-moments
-returns-in_err-write_commit_record-clause-moments g c = λ k gated.
-    let way = c.in_ok-make_way.ensures.ok k gated in
-    committed_moments (g.D.Device.size c.args.device.now) (g.D.Device.size c.make_way.new.device) c.args.to.now c.args.updates.now c.args.shown.now.items c.make_way.new.shown.items
-    (g.D.Device.history c.args.device.now) (g.D.Device.history c.make_way.new.device) c.in_ok-make_way.ensures.size (c.in_ok-make_way.ensures.moments k gated) way
+returns-in_err-write_commit_record-clause-moments g c = λ k stored.
+    let way = c.in_ok-make_way.ensures.ok k stored in
+    committed_moments (g.D.Device.size c.args.device.now) (g.D.Device.size c.make_way.new.device) c.args.to.now c.args.updates.now
+    c.args.recorded.now.targets.items c.make_way.new.recorded.targets.items
+    (g.D.Device.history c.args.device.now) (g.D.Device.history c.make_way.new.device) c.in_ok-make_way.ensures.size (c.in_ok-make_way.ensures.moments k stored) way
     (g.D.Device.history c.write_commit_record.new.device)
     (c.in_err-write_commit_record.ensures.moments k way.gated)
 
 pub returns-clause-moments : goal.returns-clause-moments
-returns-clause-moments g c = λ k gated.
-    let way = c.in_ok-make_way.ensures.ok k gated in
-    committed_moments (g.D.Device.size c.args.device.now) (g.D.Device.size c.make_way.new.device) c.args.to.now c.args.updates.now c.args.shown.now.items c.make_way.new.shown.items
-    (g.D.Device.history c.args.device.now) (g.D.Device.history c.make_way.new.device) c.in_ok-make_way.ensures.size (c.in_ok-make_way.ensures.moments k gated) way
+returns-clause-moments g c = λ k stored.
+    let way = c.in_ok-make_way.ensures.ok k stored in
+    committed_moments (g.D.Device.size c.args.device.now) (g.D.Device.size c.make_way.new.device) c.args.to.now c.args.updates.now
+    c.args.recorded.now.targets.items c.make_way.new.recorded.targets.items
+    (g.D.Device.history c.args.device.now) (g.D.Device.history c.make_way.new.device) c.in_ok-make_way.ensures.size (c.in_ok-make_way.ensures.moments k stored) way
     (g.D.Device.history c.write_commit_record.new.device)
     (c.in_ok-write_commit_record.ensures.moments k way.gated)
 
 pub returns-clause-ok : goal.returns-clause-ok
-returns-clause-ok g c = λ k gated.
-    let way = c.in_ok-make_way.ensures.ok k gated in
-    committed (g.D.Device.size c.args.device.now) (g.D.Device.size c.make_way.new.device) c.args.to.now c.args.updates.now c.args.shown.now.items c.make_way.new.shown.items
-    (g.D.Device.history c.args.device.now) (g.D.Device.history c.make_way.new.device) c.in_ok-make_way.ensures.size (c.in_ok-make_way.ensures.moments k gated) way
-    (g.D.Device.history c.write_commit_record.new.device) c.write_commit_record.new.shown.items c.requires.taken.named (c.in_ok-write_commit_record.ensures.ok k way.gated)
+returns-clause-ok g c = λ k stored.
+    let way = c.in_ok-make_way.ensures.ok k stored in
+    committed (g.D.Device.size c.args.device.now) (g.D.Device.size c.make_way.new.device) c.args.to.now c.args.updates.now
+    c.args.recorded.now.targets.items c.make_way.new.recorded.targets.items
+    (g.D.Device.history c.args.device.now) (g.D.Device.history c.make_way.new.device) c.in_ok-make_way.ensures.size (c.in_ok-make_way.ensures.moments k stored) way
+    (g.D.Device.history c.write_commit_record.new.device) c.write_commit_record.new.shown.items c.requires.taken.named
+    (c.in_ok-write_commit_record.ensures.ok k way.gated)
+
+pub returns-clause-payload : goal.returns-clause-payload
+returns-clause-payload g c = λ k stored.
+    let way = c.in_ok-make_way.ensures.stored k stored in
+    (c.in_ok-write_commit_record.ensures.ok k way.gated).payload
+    ∙ ap (λ (us : List Update). us ++ c.args.updates.now) way.payload
+
+pub returns-clause-shown : goal.returns-clause-shown
+returns-clause-shown g c = (
+  c.in_ok-write_commit_record.ensures.shown ∙ ap (λ (ts : List ℕ). ts ++ c.args.to.now) c.in_ok-make_way.ensures.shown.0,
+  c.in_ok-make_way.ensures.shown.1 ∙ c.in_ok-make_way.ensures.shown.0,
+)

@@ -89,16 +89,20 @@ const ROWS: [(&[(Step<'static>, u8)], usize, u64); 4] = [
         200,
         1,
     ),
-    // behind the gate it is read once
+    // what the gate shows is in memory, also for the flush that copies it home, and a checkpoint
     (
         &[
             (Step::Apply(&[200], 7), 0),
             (Step::Flush, 0),
             (Step::Byte(200), 7),
-            (Step::Byte(200), 7),
+            (Step::Apply(&[200], 8), 0),
+            (Step::Flush, 0),
+            (Step::Byte(200), 8),
+            (Step::Checkpoint, 0),
+            (Step::Byte(200), 8),
         ],
         2,
-        1,
+        0,
     ),
     // the first sector is not kept
     (

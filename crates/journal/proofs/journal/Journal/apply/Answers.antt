@@ -22,7 +22,7 @@ use Rattle.journal.proofs.journal.Journal.apply.Goals.{After-merge_into}
 -- the log after the call
 after : (g : Over) (c : After-merge_into g) → Log
 after g c = record {
-  base = through c.flush_if_full.new.self.shown.items (seen (g.D.Device.history c.flush_if_full.new.self.device).now);
+  base = through c.flush_if_full.new.self.recorded.targets.items (seen (g.D.Device.history c.flush_if_full.new.self.device).now);
   list = listed c.merge_into.new.pending.items;
   is_down = c.flush_if_full.new.self.is_down;
   size = g.D.Device.size c.flush_if_full.new.self.device;
@@ -157,7 +157,7 @@ pub invariant_of-self-clause-cached : goal.invariant_of-self-clause-cached
 unfolding log_of
 invariant_of-self-clause-cached g c = λ k up.
     let mid = c.flush_if_full.new.self in
-    let image = through mid.shown.items (seen (g.D.Device.history mid.device).now) in
+    let image = through mid.recorded.targets.items (seen (g.D.Device.history mid.device).now) in
     copies_applied (g.D.Device.size mid.device) c.args.updates.items c.deref-2.result.now (applied mid.pending.items image) (applied c.merge_into.new.pending.items image)
     mid.cache.sectors.entries c.forget.new.self.sectors.entries (mid.cached k up) c.forget.ensures.among c.forget.ensures.gone c.deref-2.ensures.value
     (λ n. c.merge_into.ensures.applied image n)

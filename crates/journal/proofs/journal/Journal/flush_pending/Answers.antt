@@ -1,42 +1,67 @@
-use Rattle.std.proofs.Common.{◌≡◌, ◌∙◌, ◌+◌, ◌++◌, ap, sym, ℕ, List, false, rules}
-use Rattle.disk.specs.Moments.{AddsOnly, seen, moment}
-use Rattle.journal.specs.Commit.{IsCommitted}
-use Rattle.journal.specs.Layout.{through}
-use Rattle.journal.specs.Phase.{IsGated}
+use Rattle.std.proofs.Common.{◌≡◌, ◌∙◌, ◌+◌, ◌++◌, ap, sym, ℕ, List, length, false, rules, arith}
+use Rattle.std.proofs.lemmas.List.{length-append}
+use Rattle.std.specs.Global.{Vec}
+use Rattle.disk.specs.declared.update.Update.{Update}
+use Rattle.disk.specs.Moments.{AddsOnly, applied, seen, moment}
 use Rattle.journal.specs.Behind.{way_for}
-use Rattle.journal.specs.Transactions.{sectors_of}
+use Rattle.journal.specs.Commit.{IsCommitted}
 use Rattle.journal.specs.Journal.{log_of, failures_of, shown_of, listed}
+use Rattle.journal.specs.Layout.{copies, targets, through}
 use Rattle.journal.specs.Log.{StandsForFront}
+use Rattle.journal.specs.Recorded.{IsStored}
+use Rattle.journal.specs.Settled.{AreSame}
+use Rattle.journal.specs.Transactions.{sectors_of}
 use Rattle.journal.proofs.Cachings.{copies_flushed}
 use Rattle.journal.proofs.Fronts.{fronts_either, listed_sectors_are, listed_cost}
-use Rattle.journal.proofs.Journals.{gated_of, on_ok, committed_at, either_at}
+use Rattle.journal.proofs.Images.{length-targets}
+use Rattle.journal.proofs.Journals.{stored_of, on_ok, committed_at, either_at, taken_named}
 use Rattle.journal.proofs.Recovers.{not_empty}
 use Rattle.journal.proofs.journal.Journal.flush_pending.Goals as goal
 use Rattle.journal.proofs.journal.Journal.flush_pending.Given.{Over}
-use Rattle.journal.proofs.journal.Journal.flush_pending.Goals.{After-is_err}
+use Rattle.journal.proofs.journal.Journal.flush_pending.Goals.{After-is_err, After-take_over}
 
-gated : (g : Over) (c : After-is_err g) → g.D.Device.keeps_word → IsGated c.args.self.now.shown.items (g.D.Device.history c.args.self.now.device)
+stored : (g : Over) (c : After-is_err g) → g.D.Device.keeps_word → IsStored c.args.self.now.recorded (g.D.Device.history c.args.self.now.device)
 unfolding log_of
-gated g c k = gated_of c.args.self.now.shown.items (g.D.Device.history c.args.self.now.device) (c.args.self.now.rests k c.requires) (c.args.self.now.gate_is k c.requires)
+stored g c k = stored_of c.args.self.now.recorded (g.D.Device.history c.args.self.now.device) (c.args.self.now.rests k c.requires)
+    (c.args.self.now.gate_is k c.requires) (c.args.self.now.payload k c.requires)
 
 done : (g : Over) (c : After-is_err g) → c.is_err.result ≡ false → g.D.Device.keeps_word
-    → IsCommitted (g.D.Device.size c.args.self.now.device) c.args.self.now.pending.items c.args.self.now.shown.items c.commit.new.shown.items (g.D.Device.history c.args.self.now.device) (g.D.Device.history c.commit.new.device)
-done g c e k = committed_at c.commit.result (g.D.Device.size c.args.self.now.device) c.deref-2.result.now c.args.self.now.pending.items c.args.self.now.shown.items c.commit.new.shown.items
+    → IsCommitted (g.D.Device.size c.args.self.now.device) c.args.self.now.pending.items c.args.self.now.recorded.targets.items c.commit.new.recorded.targets.items
     (g.D.Device.history c.args.self.now.device) (g.D.Device.history c.commit.new.device)
-    (sym c.is_err.ensures.value ∙ e) c.deref-2.ensures.value (c.commit.ensures.ok k) (gated g c k)
+done g c e k = committed_at c.commit.result (g.D.Device.size c.args.self.now.device) c.deref-2.result.now c.args.self.now.pending.items
+    c.args.self.now.recorded.targets.items c.commit.new.recorded.targets.items
+    (g.D.Device.history c.args.self.now.device) (g.D.Device.history c.commit.new.device)
+    (sym c.is_err.ensures.value ∙ e) c.deref-2.ensures.value (c.commit.ensures.ok k (stored g c k))
+
+-- which sectors are shown then, and of which of them the updates are kept
+shown : (g : Over) (c : After-is_err g) → c.is_err.result ≡ false
+    → (c.commit.new.recorded.targets.items ≡ way_for c.args.self.now.recorded.targets.items c.deref.result.now ++ c.deref.result.now)
+    × (targets c.commit.new.recorded.updates.items ≡ way_for c.args.self.now.recorded.targets.items c.deref.result.now)
+shown g c e = on_ok c.commit.result (sym c.is_err.ensures.value ∙ e) c.commit.ensures.shown
+
+same : (g : Over) (c : After-take_over g)
+    → AreSame (g.D.Device.size c.args.self.now.device)
+    (applied c.args.self.now.pending.items (through c.args.self.now.recorded.targets.items (seen (g.D.Device.history c.args.self.now.device).now)))
+    (through c.commit.new.recorded.targets.items (seen (g.D.Device.history c.commit.new.device).now))
+    → AreSame (g.D.Device.size c.args.self.now.device)
+    (applied c.args.self.now.pending.items (through c.args.self.now.recorded.targets.items (seen (g.D.Device.history c.args.self.now.device).now)))
+    (through c.take_over.new.self.targets.items (seen (g.D.Device.history c.commit.new.device).now))
+same g c before n kept =
+    before n kept
+    ∙ ap (λ (to : Vec ℕ). through to.items (seen (g.D.Device.history c.commit.new.device).now) n) (sym c.take_over.ensures.targets)
 
 moments : (g : Over) (c : After-is_err g) → g.D.Device.keeps_word
-    → AddsOnly (StandsForFront (g.D.Device.size c.args.self.now.device) (through c.args.self.now.shown.items (seen (g.D.Device.history c.args.self.now.device).now)) (listed c.args.self.now.pending.items))
+    → AddsOnly (StandsForFront (g.D.Device.size c.args.self.now.device) (through c.args.self.now.recorded.targets.items (seen (g.D.Device.history c.args.self.now.device).now)) (listed c.args.self.now.pending.items))
     (g.D.Device.history c.args.self.now.device) (g.D.Device.history c.commit.new.device)
 unfolding log_of
 moments g c k =
     let size = g.D.Device.size c.args.self.now.device in
     let h = g.D.Device.history c.args.self.now.device in
     let h1 = g.D.Device.history c.commit.new.device in
-    let base = through c.args.self.now.shown.items (seen h.now) in
+    let base = through c.args.self.now.recorded.targets.items (seen h.now) in
     fronts_either size c.args.self.now.pending.items base h h1
     (either_at size c.deref-2.result.now c.args.self.now.pending.items base h h1 c.deref-2.ensures.value
-    (c.commit.ensures.moments k (gated g c k)))
+    (c.commit.ensures.moments k (stored g c k)))
 
 pub returns-then-is_err-clause-part : goal.returns-then-is_err-clause-part
 unfolding log_of failures_of
@@ -64,10 +89,10 @@ returns-clause-gate g c =
     let named : c.deref.result.now ≡ sectors_of (listed was.pending.items) =
     c.deref.ensures.value ∙ was.sectors_are ∙ sym (listed_sectors_are was.pending.items) in
     record {
-      shown = on_ok c.commit.result (sym c.is_err.ensures.value ∙ c.if-is_err.false) c.commit.ensures.shown
-          ∙ ap (λ (ts : List ℕ). way_for was.shown.items ts ++ ts) named;
+      shown = ap (λ (to : Vec ℕ). to.items) c.take_over.ensures.targets ∙ (shown g at c.if-is_err.false).0
+          ∙ ap (λ (ts : List ℕ). way_for was.recorded.targets.items ts ++ ts) named;
       cost = λ k. (done g at c.if-is_err.false k).cost
-          ∙ ap (λ (n : ℕ). moment (g.D.Device.history was.device) + n) (sym (listed_cost was.shown.items was.pending.items
+          ∙ ap (λ (n : ℕ). moment (g.D.Device.history was.device) + n) (sym (listed_cost was.recorded.targets.items was.pending.items
           (λ none. not_empty _ _ c.is_empty.ensures c.if-is_empty.false
           (was.pending.ok.0 ∙ none))));
     }
@@ -77,6 +102,36 @@ unfolding log_of
 invariant_of-self-2-clause-cached g c = λ k up.
     let at = (goal.at.invariant_of-self-2-clause-cached g c).After-is_err in
     let was = c.args.self.now in
-    copies_flushed (g.D.Device.size was.device) (g.D.Device.size c.commit.new.device) was.pending.items c.clear.new.self.items
-    (through was.shown.items (seen (g.D.Device.history was.device).now)) (through c.commit.new.shown.items (seen (g.D.Device.history c.commit.new.device).now))
-    was.cache.sectors.entries c.commit.ensures.size c.clear.ensures.items (done g at c.if-is_err.false k).same (was.cached k c.requires)
+    copies_flushed (g.D.Device.size was.device) (g.D.Device.size c.commit.new.device) was.pending.items c.take_over.new.updates.items
+    (through was.recorded.targets.items (seen (g.D.Device.history was.device).now)) (through c.take_over.new.self.targets.items (seen (g.D.Device.history c.commit.new.device).now))
+    was.cache.sectors.entries c.commit.ensures.size c.take_over.ensures.emptied (same g (goal.at.invariant_of-self-2-clause-cached g c).After-take_over (done g at c.if-is_err.false k).same) (was.cached k c.requires)
+
+pub take_over-requires-clause-few : goal.take_over-requires-clause-few
+take_over-requires-clause-few g c =
+    let kept = (shown g (goal.at.take_over-requires-clause-few g c).After-is_err c.if-is_err.false) in
+    omega (
+      arith,
+      c.commit.ensures.kept.few,
+      ap (λ (ts : List ℕ). length ts) kept.0,
+      length-append (way_for c.args.self.now.recorded.targets.items c.deref.result.now) c.deref.result.now,
+      ap (λ (ts : List ℕ). length ts) kept.1,
+      length-targets c.commit.new.recorded.updates.items,
+      ap (λ (ts : List ℕ). length ts) (c.deref.ensures.value ∙ c.args.self.now.sectors_are),
+      length-targets c.args.self.now.pending.items,
+    )
+
+pub invariant_of-self-2-clause-named : goal.invariant_of-self-2-clause-named
+invariant_of-self-2-clause-named g c = λ up.
+    let kept = (shown g (goal.at.invariant_of-self-2-clause-named g c).After-is_err c.if-is_err.false) in
+    taken_named c.commit.new.recorded.updates.items c.args.self.now.pending.items c.take_over.new.self.updates.items _ c.deref.result.now
+    kept.1 (c.deref.ensures.value ∙ c.args.self.now.sectors_are) c.take_over.ensures.items
+    ∙ sym kept.0 ∙ ap (λ (to : Vec ℕ). to.items) (sym c.take_over.ensures.targets)
+
+pub invariant_of-self-2-clause-payload : goal.invariant_of-self-2-clause-payload
+unfolding log_of
+invariant_of-self-2-clause-payload g c = λ k up.
+    let at = (goal.at.invariant_of-self-2-clause-payload g c).After-is_err in
+    ap (λ (to : Vec ℕ). copies (seen (g.D.Device.history c.commit.new.device).now) 2 to.items) c.take_over.ensures.targets
+    ∙ on_ok c.commit.result (sym c.is_err.ensures.value ∙ c.if-is_err.false) (c.commit.ensures.payload k (stored g at k))
+    ∙ ap (λ (us : List Update). c.commit.new.recorded.updates.items ++ us) c.deref-2.ensures.value
+    ∙ sym c.take_over.ensures.items

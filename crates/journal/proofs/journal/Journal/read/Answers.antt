@@ -1,12 +1,13 @@
-use Rattle.std.proofs.Common.{◌≡◌, ◌∙◌, ap, sym, arith, ℕ, List, false}
+use Rattle.std.proofs.Common.{◌≡◌, ◌∙◌, ap, sym, arith, ℕ, false}
 use Rattle.std.proofs.lemmas.List.{get_or_default}
 use Rattle.disk.specs.declared.update.Update.{Update}
-use Rattle.disk.specs.Moments.{Image, applied, seen}
+use Rattle.disk.specs.Moments.{History, Image, applied, seen}
 use Rattle.journal.specs.Journal.{log_of}
-use Rattle.journal.specs.Layout.{home, targets, through}
+use Rattle.journal.specs.Layout.{copies, targets, through}
 use Rattle.journal.proofs.Cachings.{copies_among, copies_more}
+use Rattle.journal.proofs.Commits.{recorded_at}
 use Rattle.journal.proofs.Fronts.{listed_applied}
-use Rattle.journal.proofs.Images.{applied_out}
+use Rattle.journal.proofs.Images.{applied_out, home_of_out}
 use Rattle.journal.proofs.Journals.{on_ok}
 use Rattle.journal.proofs.Lists.{IsLastUpdate, last_update, not_named, not_has-out, applied_last, no_update}
 use Rattle.journal.proofs.journal.Journal.read.Goals as goal
@@ -24,7 +25,7 @@ pub returns-in-Some-clause-ok : goal.returns-in-Some-clause-ok
 unfolding log_of
 returns-in-Some-clause-ok g c = λ k.
     let last = found g (goal.at.returns-in-Some-clause-ok g c).In-Some in
-    let base = through c.args.self.now.shown.items (seen (g.D.Device.history c.args.self.now.device).now) in
+    let base = through c.args.self.now.recorded.targets.items (seen (g.D.Device.history c.args.self.now.device).now) in
     let items = c.args.self.now.pending.items in
     ap (λ (u : Update). u.content) (c.index.ensures ∙ get_or_default items c.in-Some.place c.index.result.now no_update last.there)
     ∙ sym (applied_last items c.in-Some.place c.args.n base last.there last.is last.last)
@@ -38,18 +39,40 @@ alone g c image =
     let items = c.args.self.now.pending.items in
     applied_out items image c.args.n (not_has-out (targets items) c.args.n none)
 
+pub returns-then-get-2-clause-ok : goal.returns-then-get-2-clause-ok
+unfolding log_of
+returns-then-get-2-clause-ok g c = λ k.
+    let was = c.args.self.now in
+    let h = g.D.Device.history was.device in
+    let base = through was.recorded.targets.items (seen h.now) in
+    c.get-2.ensures.found c.if-get-2.true (seen h.now)
+    ∙ recorded_at (g.D.Device.size was.device) was.recorded.targets.items was.recorded.updates.items h c.args.n
+    was.shown_fits.few was.shown_fits.fit (was.gate_is k c.if-self.false) (was.payload k c.if-self.false)
+    ∙ sym (alone g (goal.at.returns-then-get-2-clause-ok g c).In_default base)
+    ∙ ap (λ (f : Image). f c.args.n) (sym (listed_applied was.pending.items base))
+
+pub invariant_of-self-then-get-2-clause-cached : goal.invariant_of-self-then-get-2-clause-cached
+unfolding log_of
+invariant_of-self-then-get-2-clause-cached g c = λ k up. copies_among _ _ _ _ (c.args.self.now.cached k up) c.get.ensures.among
+
+pub invariant_of-self-2-clause-payload : goal.invariant_of-self-2-clause-payload
+invariant_of-self-2-clause-payload g c = λ k up.
+    ap (λ (h : History). copies (seen h.now) 2 c.args.self.now.recorded.targets.items) c.read.ensures.history
+    ∙ c.args.self.now.payload k c.if-self.false
+
 -- what was read is what the base has
 found_there : (g : Over) (c : After-is_err g) → c.is_err.result ≡ false → g.D.Device.keeps_word
-    → c.read.new.content ≡ through c.args.self.now.shown.items (seen (g.D.Device.history c.args.self.now.device).now) c.args.n
+    → c.read.new.content ≡ through c.args.self.now.recorded.targets.items (seen (g.D.Device.history c.args.self.now.device).now) c.args.n
 found_there g c up k =
+    let to = c.args.self.now.recorded.targets.items in
+    let none = (c.get-2.ensures.missing c.if-get-2.false).0 in
     on_ok c.read.result (sym c.is_err.ensures.value ∙ up) (c.read.ensures.ok k)
-    ∙ ap (λ (place : ℕ). seen (g.D.Device.history c.args.self.now.device).now place)
-    (c.place_of-place.ensures.place ∙ ap (λ (ts : List ℕ). home ts 2 c.args.n) c.deref-2.ensures.value)
+    ∙ ap (λ (place : ℕ). seen (g.D.Device.history c.args.self.now.device).now place) (sym (home_of_out to 2 c.args.n (not_has-out to c.args.n none)))
 
 pub returns-clause-ok : goal.returns-clause-ok
 unfolding log_of
 returns-clause-ok g c = λ k.
-    let base = through c.args.self.now.shown.items (seen (g.D.Device.history c.args.self.now.device).now) in
+    let base = through c.args.self.now.recorded.targets.items (seen (g.D.Device.history c.args.self.now.device).now) in
     let items = c.args.self.now.pending.items in
     found_there g (goal.at.returns-clause-ok g c).After-is_err c.if-is_err.false k
     ∙ sym (alone g (goal.at.returns-clause-ok g c).In_default base)
@@ -58,7 +81,7 @@ returns-clause-ok g c = λ k.
 pub returns-then-get-clause-ok : goal.returns-then-get-clause-ok
 unfolding log_of
 returns-then-get-clause-ok g c = λ k.
-    let base = through c.args.self.now.shown.items (seen (g.D.Device.history c.args.self.now.device).now) in
+    let base = through c.args.self.now.recorded.targets.items (seen (g.D.Device.history c.args.self.now.device).now) in
     let items = c.args.self.now.pending.items in
     ((c.args.self.now.cached k c.if-self.false).each c.args.n c.get.new.content (c.get.ensures.found c.if-get.true)).2
     ∙ ap (λ (f : Image). f c.args.n) (sym (listed_applied items base))
@@ -71,8 +94,8 @@ pub invariant_of-self-2-clause-cached : goal.invariant_of-self-2-clause-cached
 unfolding log_of
 invariant_of-self-2-clause-cached g c = λ k up.
     let was = c.args.self.now in
-    let base = through was.shown.items (seen (g.D.Device.history was.device).now) in
-    copies_more (g.D.Device.size was.device) (g.D.Device.size c.read.new.self) c.args.n was.pending.items was.shown.items
+    let base = through was.recorded.targets.items (seen (g.D.Device.history was.device).now) in
+    copies_more (g.D.Device.size was.device) (g.D.Device.size c.read.new.self) c.args.n was.pending.items was.recorded.targets.items
     (g.D.Device.history was.device) (g.D.Device.history c.read.new.self) c.read.new.content c.get.new.self.sectors.entries c.keep.new.self.sectors.entries
     c.read.ensures.size c.read.ensures.history
     (copies_among _ _ _ _ (was.cached k c.if-self.false) c.get.ensures.among) c.keep.ensures c.requires

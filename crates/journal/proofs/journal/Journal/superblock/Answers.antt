@@ -9,13 +9,13 @@ use Rattle.journal.proofs.Cachings.{copies_beside}
 use Rattle.journal.proofs.Fronts.{listed_applied, settled_of}
 use Rattle.journal.proofs.Journals.{gated_of, on_ok, same_fit}
 use Rattle.journal.proofs.Stages.{Fit-of}
-use Rattle.journal.proofs.Superblocks.{superblock_moments, superblock_base, superblock_contents, superblock_gated}
+use Rattle.journal.proofs.Superblocks.{superblock_moments, superblock_base, superblock_contents, superblock_gated, superblock_payload}
 use Rattle.journal.proofs.journal.Journal.superblock.Goals as goal
 use Rattle.journal.proofs.journal.Journal.superblock.Given.{Over}
 use Rattle.journal.proofs.journal.Journal.superblock.Goals.{After-is_err}
 
-gated : (g : Over) (c : After-is_err g) → g.D.Device.keeps_word → IsGated c.args.self.now.shown.items (g.D.Device.history c.args.self.now.device)
-gated g c k = gated_of c.args.self.now.shown.items (g.D.Device.history c.args.self.now.device) (c.args.self.now.rests k c.if-self.false) (c.args.self.now.gate_is k c.if-self.false)
+gated : (g : Over) (c : After-is_err g) → g.D.Device.keeps_word → IsGated c.args.self.now.recorded.targets.items (g.D.Device.history c.args.self.now.device)
+gated g c k = gated_of c.args.self.now.recorded.targets.items (g.D.Device.history c.args.self.now.device) (c.args.self.now.rests k c.if-self.false) (c.args.self.now.gate_is k c.if-self.false)
 
 fixed : (g : Over) (c : After-is_err g) → c.is_err.result ≡ false → g.D.Device.keeps_word
     → (let u : Update = record { target = 0; content = c.args.content.now } in
@@ -26,7 +26,7 @@ pub returns-then-is_err-clause-moments : goal.returns-then-is_err-clause-moments
 unfolding log_of
 returns-then-is_err-clause-moments g c = λ k.
     let size = g.D.Device.size c.args.self.now.device in
-    superblock_moments size c.args.self.now.shown.items c.args.content.now
+    superblock_moments size c.args.self.now.recorded.targets.items c.args.content.now
     (g.D.Device.history c.args.self.now.device) (g.D.Device.history c.write_sector.new.device) c.args.self.now.shown_fits.few c.args.self.now.shown_fits.fit
     (gated g (goal.at.returns-then-is_err-clause-moments g c).After-is_err k) (c.write_sector.ensures.moments k)
 
@@ -34,16 +34,16 @@ pub returns-clause-moments : goal.returns-clause-moments
 unfolding log_of
 returns-clause-moments g c = λ k.
     let size = g.D.Device.size c.args.self.now.device in
-    superblock_moments size c.args.self.now.shown.items c.args.content.now
+    superblock_moments size c.args.self.now.recorded.targets.items c.args.content.now
     (g.D.Device.history c.args.self.now.device) (g.D.Device.history c.write_sector.new.device) c.args.self.now.shown_fits.few c.args.self.now.shown_fits.fit
     (gated g (goal.at.returns-clause-moments g c).After-is_err k) (c.write_sector.ensures.moments k)
 
 base : (g : Over) (c : After-is_err g) → c.is_err.result ≡ false → g.D.Device.keeps_word
     → (let u : Update = record { target = 0; content = c.args.content.now } in
-    AreSame (g.D.Device.size c.args.self.now.device) (put (through c.args.self.now.shown.items (seen (g.D.Device.history c.args.self.now.device).now)) u)
-    (through c.args.self.now.shown.items (seen (g.D.Device.history c.write_sector.new.device).now)))
+    AreSame (g.D.Device.size c.args.self.now.device) (put (through c.args.self.now.recorded.targets.items (seen (g.D.Device.history c.args.self.now.device).now)) u)
+    (through c.args.self.now.recorded.targets.items (seen (g.D.Device.history c.write_sector.new.device).now)))
 base g c e k =
-    superblock_base (g.D.Device.size c.args.self.now.device) c.args.self.now.shown.items c.args.content.now
+    superblock_base (g.D.Device.size c.args.self.now.device) c.args.self.now.recorded.targets.items c.args.content.now
     (g.D.Device.history c.args.self.now.device) (g.D.Device.history c.write_sector.new.device) c.args.self.now.shown_fits.few c.args.self.now.shown_fits.fit
     (gated g c k) (fixed g c e k)
 
@@ -53,8 +53,8 @@ returns-clause-ok g c =
     let at = (goal.at.returns-clause-ok g c).After-is_err in
     let size = g.D.Device.size c.args.self.now.device in
     let list = c.args.self.now.pending.items in
-    let was = through c.args.self.now.shown.items (seen (g.D.Device.history c.args.self.now.device).now) in
-    let now = through c.args.self.now.shown.items (seen (g.D.Device.history c.write_sector.new.device).now) in
+    let was = through c.args.self.now.recorded.targets.items (seen (g.D.Device.history c.args.self.now.device).now) in
+    let now = through c.args.self.now.recorded.targets.items (seen (g.D.Device.history c.write_sector.new.device).now) in
     record {
       ok = λ k. base g at c.if-is_err.false k;
       contents = λ k n kept.
@@ -62,9 +62,9 @@ returns-clause-ok g c =
           ap (λ (f : Image). put f u n) (listed_applied list was)
           ∙ superblock_contents size list was now c.args.content.now (Fit-of size (targets list) c.args.self.now.fit) (base g at c.if-is_err.false k) n kept
           ∙ ap (λ (f : Image). f n) (sym (listed_applied list now));
-      settled = λ k. settled_of (g.D.Device.size c.write_sector.new.device) c.args.self.now.shown.items (g.D.Device.history c.write_sector.new.device)
-          c.args.self.now.shown_fits.few (same_fit size _ c.args.self.now.shown.items c.write_sector.ensures.size c.args.self.now.shown_fits.fit)
-          (superblock_gated size c.args.self.now.shown.items c.args.content.now (g.D.Device.history c.args.self.now.device) (g.D.Device.history c.write_sector.new.device)
+      settled = λ k. settled_of (g.D.Device.size c.write_sector.new.device) c.args.self.now.recorded.targets.items (g.D.Device.history c.write_sector.new.device)
+          c.args.self.now.shown_fits.few (same_fit size _ c.args.self.now.recorded.targets.items c.write_sector.ensures.size c.args.self.now.shown_fits.fit)
+          (superblock_gated size c.args.self.now.recorded.targets.items c.args.content.now (g.D.Device.history c.args.self.now.device) (g.D.Device.history c.write_sector.new.device)
           c.args.self.now.shown_fits.few c.args.self.now.shown_fits.fit (gated g at k) (fixed g at c.if-is_err.false k));
       cost = λ k. (fixed g at c.if-is_err.false k).cost;
     }
@@ -74,6 +74,15 @@ unfolding log_of
 invariant_of-self-2-clause-cached g c = λ k up.
     let at = (goal.at.invariant_of-self-2-clause-cached g c).After-is_err in
     copies_beside (g.D.Device.size c.args.self.now.device) (g.D.Device.size c.write_sector.new.device) c.args.self.now.pending.items
-    (through c.args.self.now.shown.items (seen (g.D.Device.history c.args.self.now.device).now))
-    (through c.args.self.now.shown.items (seen (g.D.Device.history c.write_sector.new.device).now))
+    (through c.args.self.now.recorded.targets.items (seen (g.D.Device.history c.args.self.now.device).now))
+    (through c.args.self.now.recorded.targets.items (seen (g.D.Device.history c.write_sector.new.device).now))
     c.args.content.now c.args.self.now.cache.sectors.entries c.write_sector.ensures.size (base g at c.if-is_err.false k) (c.args.self.now.cached k c.if-self.false)
+
+pub invariant_of-self-2-clause-payload : goal.invariant_of-self-2-clause-payload
+unfolding log_of
+invariant_of-self-2-clause-payload g c = λ k up.
+    let at = (goal.at.invariant_of-self-2-clause-payload g c).After-is_err in
+    superblock_payload (g.D.Device.size c.args.self.now.device) c.args.self.now.recorded.targets.items c.args.content.now
+    (g.D.Device.history c.args.self.now.device) (g.D.Device.history c.write_sector.new.device)
+    c.args.self.now.shown_fits.few c.args.self.now.shown_fits.fit (gated g at k) (fixed g at c.if-is_err.false k)
+    ∙ c.args.self.now.payload k c.if-self.false

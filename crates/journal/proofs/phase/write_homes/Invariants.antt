@@ -1,0 +1,11 @@
+use Rattle.std.proofs.Common.{◌≡◌, take}
+use Rattle.journal.proofs.Moments.{wrote_all}
+use Rattle.journal.proofs.phase.write_homes.Given as goal
+
+abbrev pub invariant-loop-update : goal.invariant-loop-update
+invariant-loop-update g l = record {
+  wrote : g.D.Device.keeps_word
+      → g.D.Device.history l.device ≡ wrote_all (take l.update-index l.updates) (g.D.Device.history l.fn.device);
+  size : g.D.Device.size l.device ≡ g.D.Device.size l.fn.device;
+  none : g.D.Device.failed l.device ≡ g.D.Device.failed l.fn.device;
+}
