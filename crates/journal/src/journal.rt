@@ -444,7 +444,7 @@ impl<D: Device> Journal<D> {
         }
         self.flush_if_full(&updates)?;
         self.cache.forget(&updates);
-        list::merge_into(&mut self.pending, &mut self.pending_sectors, updates);
+        list::merge_into(&mut self.pending, &mut self.pending_sectors, &updates);
         Ok(())
     }
 

@@ -59,28 +59,31 @@ pub(crate) fn fits(pending_sectors: &[u32], updates: &[Update]) -> bool
 }
 
 /// Puts an update in the place of the one of its sector, or else after the others.
-pub(crate) fn put(pending: &mut Vec<Update>, pending_sectors: &mut Vec<u32>, update: Update)
+pub(crate) fn put(pending: &mut Vec<Update>, pending_sectors: &mut Vec<u32>, update: &Update)
     // There is room for it
     requires sectors_are { pending_sectors.old.items ≡ targets pending.old.items }
-    requires few { length (gathered pending_sectors.old.items (update.target ∷ []))
+    requires few { length (gathered pending_sectors.old.items (update.now.target ∷ []))
         ≤ PAYLOAD_SECTORS }
     requires room { PAYLOAD_SECTORS ≤ vec_capacity pending.old }
     requires sectors_room { PAYLOAD_SECTORS ≤ vec_capacity pending_sectors.old }
     // What the list has then
     ensures applied { (image : Image) (n : ℕ) → applied pending.new.items image n
-        ≡ with (applied pending.old.items image) update n }
+        ≡ with (applied pending.old.items image) update.now n }
     ensures targets { targets pending.new.items
-        ≡ gathered (targets pending.old.items) (update.target ∷ []) }
+        ≡ gathered (targets pending.old.items) (update.now.target ∷ []) }
     ensures sectors_are { pending_sectors.new.items ≡ targets pending.new.items }
     // It takes no memory
     ensures capacity { vec_capacity pending.new ≡ vec_capacity pending.old }
     ensures named_capacity { vec_capacity pending_sectors.new ≡ vec_capacity pending_sectors.old }
 {
     match find(pending_sectors, update.target) {
-        Some(place) => pending[place] = update,
+        Some(place) => pending[place].content = update.content,
         None => {
             pending_sectors.push_reserved(update.target);
-            pending.push_reserved(update);
+            pending.push_reserved(Update {
+                target: update.target,
+                content: update.content,
+            });
         }
     }
 }
@@ -89,19 +92,19 @@ pub(crate) fn put(pending: &mut Vec<Update>, pending_sectors: &mut Vec<u32>, upd
 pub(crate) fn merge_into(
     pending: &mut Vec<Update>,
     pending_sectors: &mut Vec<u32>,
-    updates: Vec<Update>,
+    updates: &[Update],
 )
     // There is room for it
     requires sectors_are { pending_sectors.old.items ≡ targets pending.old.items }
-    requires few { length (gathered pending_sectors.old.items (targets updates.items))
+    requires few { length (gathered pending_sectors.old.items (targets updates.now))
         ≤ PAYLOAD_SECTORS }
     requires room { PAYLOAD_SECTORS ≤ vec_capacity pending.old }
     requires sectors_room { PAYLOAD_SECTORS ≤ vec_capacity pending_sectors.old }
     // What the list has then
     ensures applied { (image : Image) (n : ℕ) → applied pending.new.items image n
-        ≡ applied updates.items (applied pending.old.items image) n }
+        ≡ applied updates.now (applied pending.old.items image) n }
     ensures targets { targets pending.new.items
-        ≡ gathered (targets pending.old.items) (targets updates.items) }
+        ≡ gathered (targets pending.old.items) (targets updates.now) }
     ensures sectors_are { pending_sectors.new.items ≡ targets pending.new.items }
     // It takes no memory
     ensures capacity { vec_capacity pending.new ≡ vec_capacity pending.old }

@@ -1,7 +1,7 @@
-use Rattle.std.proofs.Common.{◌≤◌, ◌<◌, ◌∙◌, ◌++◌, ◌∷◌, [], ap, refl, sym, subst, arith, length, ℕ, List, ⊎_elim}
+use Rattle.std.proofs.Common.{◌≡◌, ◌≤◌, ◌<◌, ◌∙◌, ◌++◌, ◌∷◌, [], ap, refl, sym, subst, arith, length, ℕ, List, ⊎_elim}
 use Rattle.std.proofs.lemmas.Bool.{cases_lt}
 use Rattle.disk.specs.declared.update.Update.{Update}
-use Rattle.disk.specs.Moments.{seen, applied}
+use Rattle.disk.specs.Moments.{Image, seen, applied}
 use Rattle.journal.specs.Journal.{failures_of, log_of, listed}
 use Rattle.journal.specs.Layout.{targets, through}
 use Rattle.journal.specs.Log.{Log, IsJoined, Moved, Takes}
@@ -18,6 +18,19 @@ use Rattle.journal.proofs.Stages.{Fit-of}
 use Rattle.journal.proofs.journal.Journal.apply.Goals as goal
 use Rattle.journal.proofs.journal.Journal.apply.Given.{Over}
 use Rattle.journal.proofs.journal.Journal.apply.Goals.{After-merge_into}
+
+-- what waits then
+all_put : (g : Over) (c : After-merge_into g) (image : Image) (n : ℕ)
+    → applied c.merge_into.new.pending.items image n ≡ applied c.args.updates.items (applied c.flush_if_full.new.self.pending.items image) n
+all_put g c image n =
+    c.merge_into.ensures.applied image n
+    ∙ ap (λ (us : List Update). applied us (applied c.flush_if_full.new.self.pending.items image) n) c.deref-3.ensures.value
+
+targets_put : (g : Over) (c : After-merge_into g)
+    → targets c.merge_into.new.pending.items ≡ gathered (targets c.flush_if_full.new.self.pending.items) (targets c.args.updates.items)
+targets_put g c =
+    c.merge_into.ensures.targets
+    ∙ ap (λ (us : List Update). gathered (targets c.flush_if_full.new.self.pending.items) (targets us)) c.deref-3.ensures.value
 
 -- the log after the call
 after : (g : Over) (c : After-merge_into g) → Log
@@ -39,7 +52,7 @@ taken g c fit =
     let kept = c.flush_if_full.ensures.kept (subst P (sym c.deref.ensures.value) fit) in
     record {
       list = joined_as_one (listed was ++ us ∷ []) c.merge_into.new.pending.items (put_does was us c.merge_into.new.pending.items
-          (λ image n. c.merge_into.ensures.applied image n ∙ ap (λ (xs : List Update). applied us (applied xs image) n) kept.1));
+          (λ image n. all_put g c image n ∙ ap (λ (xs : List Update). applied us (applied xs image) n) kept.1));
       only = ap (λ (log : Log). let next : Log = record log { list = listed c.merge_into.new.pending.items } in next) kept.0;
     }
 
@@ -51,7 +64,7 @@ alone g c over =
     let us = c.args.updates.items in
     let P : List Update → Type 0 = λ vs. FitTogether (listed was ++ vs ∷ []) in
     joined_as_one (us ∷ []) c.merge_into.new.pending.items (put_alone c.flush_if_full.new.self.pending.items us c.merge_into.new.pending.items
-    (c.in_ok-flush_if_full.ensures.emptied (λ fit. over (subst P c.deref.ensures.value fit))) c.merge_into.ensures.applied)
+    (c.in_ok-flush_if_full.ensures.emptied (λ fit. over (subst P c.deref.ensures.value fit))) (all_put g c))
 
 moved : (g : Over) (c : After-merge_into g) → g.D.Device.keeps_word
     → Moved ((log_of c.args.self.now).list ++ c.args.updates.items ∷ []) (log_of c.args.self.now) (after g c)
@@ -83,7 +96,7 @@ few : (g : Over) (c : After-merge_into g) → length c.merge_into.new.pending.it
 few g c = omega (
   arith,
   length-targets c.merge_into.new.pending.items,
-  ap (λ (ts : List ℕ). length ts) c.merge_into.ensures.targets,
+  ap (λ (ts : List ℕ). length ts) (targets_put g c),
   ap (λ (ts : List ℕ). length (gathered ts (targets c.args.updates.items))) c.flush_if_full.new.self.sectors_are,
   ap (λ (us : List Update). length (gathered c.flush_if_full.new.self.pending_sectors.items (targets us))) c.deref.ensures.value,
   c.in_ok-flush_if_full.ensures.room,
@@ -100,7 +113,7 @@ invariant_of-self-clause-fit g c =
     let us = c.args.updates.items in
     let P : List ℕ → Type 0 = λ ts. Fit size ts in
     targets_of-Fit size (targets c.merge_into.new.pending.items)
-    (subst P (sym c.merge_into.ensures.targets)
+    (subst P (sym (targets_put g (goal.at.invariant_of-self-clause-fit g c).After-merge_into))
     (Fit-gathered size (targets mid.pending.items) (targets us) (Fit-of size (targets mid.pending.items) mid.fit)
     (Fit-of size (targets us) (same_fit (g.D.Device.size c.args.self.now.device) size (targets us) c.flush_if_full.ensures.part.size c.requires))))
 
@@ -160,4 +173,4 @@ invariant_of-self-clause-cached g c = λ k up.
     let image = through mid.recorded.targets.items (seen (g.D.Device.history mid.device).now) in
     copies_applied (g.D.Device.size mid.device) c.args.updates.items c.deref-2.result.now (applied mid.pending.items image) (applied c.merge_into.new.pending.items image)
     mid.cache.sectors.entries c.forget.new.self.sectors.entries (mid.cached k up) c.forget.ensures.among c.forget.ensures.gone c.deref-2.ensures.value
-    (λ n. c.merge_into.ensures.applied image n)
+    (λ n. all_put g (goal.at.invariant_of-self-clause-cached g c).After-merge_into image n)
