@@ -1,7 +1,8 @@
 -- How many bytes a reply has.
-use Rattle.std.proofs.Common.{◌≡◌, ℕ, ◌+◌, ◌≤◌, List, ◌++◌, length, arith, length-append}
+use Rattle.std.proofs.Common.{◌≡◌, ℕ, ◌+◌, ◌≤◌, List, ◌++◌, ◌-◌, length, take, drop, refl, ap, ◌∙◌, arith, length-append, take_all}
 use Rattle.std.proofs.lemmas.Grind.{common_steps}
 use Rattle.xdr.specs.Forms.{counted}
+use Rattle.xdr.specs.Grammar.{number}
 use Rattle.xdr.proofs.Sizes.{counted_length}
 use Rattle.xdr.proofs.Numbers.{length-number_32}
 use Rattle.model.specs.Answer.{Outcome, Done, Refused}
@@ -29,6 +30,17 @@ success_length xid result = simp (length-append, length-number_32) (omega arith)
 pub framed_length : (bytes : List ℕ) → length (framed bytes) ≡ 4 + length bytes
 unfolding framed
 framed_length bytes = grind (arith, common_steps)
+
+-- a result stands behind the record's header and those words
+result_behind : (xid : ℕ) (result : List ℕ) → drop 28 (framed (reply_text xid (Success result))) ≡ result
+unfolding framed reply_text number
+result_behind xid result = refl
+
+pub result_within : (xid : ℕ) (result bytes : List ℕ) → bytes ≡ framed (reply_text xid (Success result)) → take (length bytes - 28) (drop 28 bytes) ≡ result
+result_within xid result bytes is =
+    let size : length bytes - 28 ≡ length result = omega (arith, ap length is, framed_length (reply_text xid (Success result)), success_length xid result) in
+    let behind : drop 28 bytes ≡ result = ap (drop 28) is ∙ result_behind xid result in
+    rw (size, behind) (take_all (length result) result (omega arith))
 
 pub tag_brief : (tag : List ℕ) → length tag ≤ 255 → length (counted tag) ≤ 262
 tag_brief tag short = omega (arith, counted_length tag)

@@ -1,14 +1,18 @@
 -- A step of a request is the turn of the definition.
-use Rattle.std.proofs.Common.{◌≡◌, ◌+◌, ℕ, List, refl, sym, ap, subst, ◌∙◌}
+use Rattle.std.proofs.Common.{◌≡◌, ◌+◌, ℕ, List, refl, sym, ap, ap₂, subst, ◌∙◌}
 use Rattle.model.specs.Answer as model
+use Rattle.model.specs.Record.{framed}
+use Rattle.model.specs.Rpc.{Success, reply_text}
 use Rattle.model.specs.Session.{Table}
-use Rattle.model.specs.World.{InProgress, Turned}
+use Rattle.model.specs.World as world
+use Rattle.model.specs.World.{World, InProgress, Turned, Replied, with_connection}
 use Rattle.compound.specs.Operates.{left_by}
 use Rattle.compound.specs.Runs.{with_rest}
 use Rattle.compound.specs.Views.{Asked}
-use Rattle.compound.specs.States.{SharedState, with_state}
-use Rattle.compound.specs.Steps.{Steps, StaysInRun, GoesFurther, GoesOn, still_fits}
-use Rattle.compound.specs.Turns.{TurnsTo, StandsAfter}
+use Rattle.compound.specs.States.{SharedState, HasState, with_state}
+use Rattle.compound.specs.Steps.{Steps, StaysInRun, GoesFurther, GoesOn, still_fits, stepped_on}
+use Rattle.compound.specs.Turns.{TurnsTo, StandsAfter, repeated}
+use Rattle.compound.proofs.Rooms.{state_same}
 use Rattle.compound.specs.declared.executed.Effect.{Effect}
 use Rattle.compound.specs.declared.executed.Effect.TheVariants as effect
 use Rattle.compound.specs.declared.step.Stepped.{Stepped}
@@ -75,3 +79,15 @@ steps_to now old middle new asked before request left after outcome done turn sa
       ap (λ (one : Turned). one.turn) gave.1 ∙ made.0,
       ap (λ (one : Turned). one.world) gave.1 ∙ made.1,
     )
+
+-- a kept reply is sent again
+pub repeats_to : (now : ℕ) (old new : SharedState) (request : InProgress) (session : List ℕ) (slot : ℕ) (reply bytes : List ℕ) → new ≡ old
+    → ((one : World) (number : ℕ) → HasState one old → stepped_on one number now request ≡ repeated one number request reply session slot)
+    → bytes ≡ framed (reply_text request.xid (Success reply))
+    → (one : World) (number : ℕ) → HasState one old
+    → ((stepped_on one number now request).turn ≡ world.Answered) × ((stepped_on one number now request).world ≡ with_connection (with_state one new) number (Replied bytes))
+repeats_to now old new request session slot reply bytes same turn is one number served = (
+  ap (λ (t : Turned). t.turn) (turn one number served),
+  ap (λ (t : Turned). t.world) (turn one number served)
+      ∙ ap₂ (λ (left : World) (sent : List ℕ). with_connection left number (Replied sent)) (sym (ap (with_state one) same ∙ state_same one old served)) (sym is),
+)

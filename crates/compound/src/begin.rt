@@ -1,6 +1,8 @@
 //! A COMPOUND before its first operation, and between two.
 
-ghost use Rattle.std.specs.Prelude.{◌≡◌};
+ghost use Rattle.std.specs.Prelude.{◌≡◌, ◌≤◌, [], IfOk, IfErr};
+ghost use Rattle.compound.specs.declared.fault.Fault.TheVariants.{Memory};
+ghost use Rattle.compound.specs.declared.progress.TheConstants.{RESULT_BUFFER};
 
 use crate::fault::Fault;
 use crate::progress::{Progress, RECORD_BUFFER, RESULT_BUFFER};
@@ -8,6 +10,7 @@ use crate::running::Running;
 use model::acl::Cred;
 use rpc::Compound;
 use std::alloc::Global;
+use std::mem;
 use xdr::Writer;
 
 impl Progress {
@@ -16,19 +19,17 @@ impl Progress {
     ghost use Rattle.compound.specs.declared.fault.Fault.TheVariants.{Memory};
 
     /// Before the first operation, in this run of the server. All memory for the reply is taken
-    /// here.
-    pub(crate) fn begin(alloc: Global, run: u32) -> Result<Progress, Fault>
+    /// here, and that of the results only where `spare` has too little.
+    pub(crate) fn begin(alloc: Global, run: u32, spare: &mut Writer) -> Result<Progress, Fault>
         ensures ok { IfOk result (IsBegin run) }
         ensures err { IfErr result (λ fault. fault ≡ Memory) }
     {
-        let results = Writer::with_capacity(alloc, RESULT_BUFFER)?;
-        let kept = Writer::with_capacity(alloc, RESULT_BUFFER)?;
         let reply = Writer::with_capacity(alloc, RECORD_BUFFER)?;
+        let results = take_memory(alloc, spare)?;
         Ok(Progress {
             position: 0,
             answered: 0,
             results,
-            kept,
             reply,
             client: 0,
             run,
@@ -40,6 +41,17 @@ impl Progress {
     }
 }
 
+/// Memory for the results: what an earlier COMPOUND left, or where that is too little more.
+fn take_memory(alloc: Global, spare: &mut Writer) -> Result<Writer, Fault>
+    ensures bytes { IfOk result (λ results. results.bytes ≡ []) }
+    ensures room { IfOk result (λ results. RESULT_BUFFER ≤ results.capacity) }
+    ensures err { IfErr result (λ fault. fault ≡ Memory) }
+{
+    spare.truncate(0);
+    spare.reserve(RESULT_BUFFER)?;
+    Ok(mem::replace(spare, Writer::new(alloc)))
+}
+
 impl<'a> Running<'a> {
     ghost use Rattle.std.specs.Prelude.{◌≡◌, true, IfOk, IfErr};
     ghost use Rattle.model.specs.World.{World, in_progress};
@@ -48,13 +60,14 @@ impl<'a> Running<'a> {
     ghost use Rattle.compound.specs.declared.fault.Fault.TheVariants.{Memory};
 
     /// Begins the COMPOUND of a call with this xid, by this caller, in this run of the server. All
-    /// memory for its reply is taken here.
+    /// memory for its reply is taken here, or from `spare`, which an earlier COMPOUND left.
     pub fn begin(
         alloc: Global,
         xid: u32,
         run: u32,
         cred: Cred,
         compound: Compound<'a>,
+        spare: &mut Writer,
     ) -> Result<Running<'a>, Fault>
         ensures asked { IfOk result (λ running.
             asked_of running ≡ asks xid cred (compound_view compound.entry)) }
@@ -63,7 +76,7 @@ impl<'a> Running<'a> {
         ensures run { IfOk result (λ running. (in_progress_of running).context.run ≡ run) }
         ensures err { IfErr result (λ fault. fault ≡ Memory) }
     {
-        let progress = Progress::begin(alloc, run)?;
+        let progress = Progress::begin(alloc, run, spare)?;
         Ok(Running::resume(alloc, xid, cred, compound, progress))
     }
 

@@ -1,9 +1,11 @@
 //! The end of a COMPOUND: its whole result, which the slot keeps and a seat may hold, and the
 //! reply's record.
 
-ghost use Rattle.std.specs.Prelude.{◌≡◌, ◌≤◌, ◌+◌, [], Some, length};
+ghost use Rattle.std.specs.Prelude.{◌≡◌, ◌≤◌, Some, length};
+ghost use Rattle.std.specs.Option.{option_map};
 ghost use Rattle.model.specs.Rpc.{compound_text};
 ghost use Rattle.model.specs.Session.{finish};
+ghost use Rattle.model.specs.World.{kept_by};
 ghost use Rattle.rpc.specs.Views.{result_text};
 ghost use Rattle.session.specs.Views.{table_of};
 ghost use Rattle.compound.specs.Turns.{AreOfReply};
@@ -21,6 +23,10 @@ use rpc::{Compound, CompoundResult, Reply, Tag, write_reply};
 use session::Table;
 use xdr::Writer;
 
+/// The bytes of a reply's record before the result of its COMPOUND: the header, the xid, the message
+/// type and four words up to the accept status.
+const BEFORE_RESULT: usize = 28;
+
 impl Running<'_> {
     ghost use Rattle.std.specs.Prelude.{◌≡◌, ℕ, List, false, Some, IfOk, IfErr, OnOk};
     ghost use Rattle.fs.specs.Views.{fs_of, Alters};
@@ -35,9 +41,16 @@ impl Running<'_> {
     ghost use Rattle.compound.specs.declared.fault.Fault.TheVariants.{Memory};
 
     /// The reply's whole record, once the last result is there. The slot keeps the result of the
-    /// COMPOUND, and where a seat holds it these edits are made of the seats. No memory is taken.
+    /// COMPOUND, and where a seat holds it these edits are made of the seats. No memory is taken, and
+    /// what is left over goes to `spare`.
     #[tactic(auto, unfolding(crate::specs::Views::in_progress_of), using(crate::proofs::Replies::success_length, crate::proofs::Replies::framed_length))]
-    pub(crate) fn end(self, table: &mut Table, last: Status, edits: Option<SeatEdits>) -> Vec<u8>
+    pub(crate) fn end(
+        self,
+        table: &mut Table,
+        last: Status,
+        edits: Option<SeatEdits>,
+        spare: &mut Writer,
+    ) -> Vec<u8>
         requires { AreOfReply (in_progress_of self).slot (result_of (in_progress_of self) last)
             (table_of table.old) edits }
         ensures reply { result.items ≡ framed (reply_text (in_progress_of self.entry).xid
@@ -54,19 +67,18 @@ impl Running<'_> {
         let Progress {
             answered,
             results,
-            kept,
             reply,
             slot,
             ..
         } = progress;
         let compound = result_of(last, tag, answered, results.as_slice());
-        if let Some(id) = slot {
-            keep(table, &id, &compound, kept, edits);
-        }
-        match write_reply(reply, xid, &Reply::Compound(compound)) {
-            Ok(reply) => reply,
+        let record = match write_reply(reply, xid, &Reply::Compound(compound)) {
+            Ok(record) => record,
             Err(_) => unreachable!(),
-        }
+        };
+        let left = keep_by(table, slot, &record[BEFORE_RESULT..], results, edits);
+        give_back(left, spare);
+        record
     }
 
     /// Where a seat is to hold the reply, it does so on the volume; and what that makes of the seats
@@ -113,9 +125,9 @@ impl Running<'_> {
     }
 
     /// The reply's whole record, where the result is the one that this slot keeps. No memory is
-    /// taken.
+    /// taken, and that of the results goes to `spare`.
     #[tactic(auto, unfolding(crate::specs::Views::in_progress_of), using(crate::proofs::Replies::success_length, crate::proofs::Replies::framed_length))]
-    pub(crate) fn repeat(self, table: &Table, id: &SlotId) -> Vec<u8>
+    pub(crate) fn repeat(self, table: &Table, id: &SlotId, spare: &mut Writer) -> Vec<u8>
         requires { (reply : List ℕ)
             × (reply_kept id.now.session id.now.slot (table_of table.now) ≡ Some reply) }
         ensures { (reply : List ℕ)
@@ -126,7 +138,8 @@ impl Running<'_> {
             unreachable!();
         };
         let Running { xid, progress, .. } = self;
-        let Progress { reply, .. } = progress;
+        let Progress { results, reply, .. } = progress;
+        *spare = results;
         match write_reply(reply, xid, &Reply::Success(kept)) {
             Ok(reply) => reply,
             Err(_) => unreachable!(),
@@ -147,29 +160,65 @@ fn result_of<'a>(status: Status, tag: Tag<'a>, count: u32, results: &'a [u8]) ->
     }
 }
 
-/// The slot keeps the result, spelled into this memory, and these edits are made of the seats where
-/// one holds it.
+/// Where a slot runs the COMPOUND it keeps the result, as `keep` says. What is left of the memory
+/// comes back.
+fn keep_by(
+    table: &mut Table,
+    slot: Option<SlotId>,
+    bytes: &[u8],
+    memory: Writer,
+    edits: Option<SeatEdits>,
+) -> Option<Vec<u8>>
+    requires room { RESULT_BUFFER ≤ memory.capacity }
+    requires short { length bytes.now ≤ RESULT_BUFFER }
+    requires edits { AreOfReply (option_map slot_of slot) bytes.now (table_of table.old) edits }
+    ensures { table_of table.new ≡ kept_by (option_map slot_of slot) bytes.now
+        (table_of table.old) }
+{
+    match slot {
+        Some(id) => keep(table, &id, bytes, memory, edits),
+        None => Some(memory.into_vec()),
+    }
+}
+
+/// The slot keeps the bytes of a result, in this memory, and these edits are made of the seats where
+/// one holds it. The memory of the reply before comes back.
 #[tactic(auto, unfolding(model::specs::Session::finish))]
 fn keep(
     table: &mut Table,
     id: &SlotId,
-    compound: &CompoundResult<'_>,
+    bytes: &[u8],
     memory: Writer,
     edits: Option<SeatEdits>,
-)
-    requires fresh { memory.bytes ≡ [] }
+) -> Option<Vec<u8>>
     requires room { RESULT_BUFFER ≤ memory.capacity }
-    requires short { length (result_text compound.now) ≤ RESULT_BUFFER }
-    requires edits { AreOfReply (Some (slot_of id.now)) (result_text compound.now)
-        (table_of table.old) edits }
-    ensures { table_of table.new ≡ finish id.now.session id.now.slot (result_text compound.now)
-        (table_of table.old) }
+    requires short { length bytes.now ≤ RESULT_BUFFER }
+    requires edits { AreOfReply (Some (slot_of id.now)) bytes.now (table_of table.old) edits }
+    ensures { table_of table.new ≡ finish id.now.session id.now.slot bytes.now (table_of table.old) }
 {
-    let Ok(result) = compound.write(memory) else {
-        unreachable!();
-    };
+    let kept = copied(bytes, memory);
     match edits {
-        Some(edits) => table.finish_held(&id.session, id.slot, result, edits),
-        None => table.finish(&id.session, id.slot, result),
+        Some(edits) => table.finish_held(&id.session, id.slot, kept, edits),
+        None => table.finish(&id.session, id.slot, kept),
+    }
+}
+
+/// The bytes, in place of those that the memory had.
+fn copied(bytes: &[u8], memory: Writer) -> Vec<u8>
+    requires { length bytes.now ≤ memory.capacity }
+    ensures { result.items ≡ bytes.now }
+{
+    let mut copy = memory.into_vec();
+    copy.clear();
+    match copy.extend_from_slice(bytes) {
+        Ok(()) => copy,
+        Err(_) => unreachable!(),
+    }
+}
+
+/// What is left over of a COMPOUND's memory is there for the next one.
+fn give_back(left: Option<Vec<u8>>, spare: &mut Writer) {
+    if let Some(memory) = left {
+        *spare = Writer::from_vec(memory);
     }
 }

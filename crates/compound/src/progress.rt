@@ -8,7 +8,7 @@ use wire::StateId;
 use xdr::Writer;
 
 /// The bytes for which each COMPOUND has memory from its begin on: those of its longest result,
-/// which a slot keeps.
+/// which a slot keeps in the memory of the operations' results.
 pub(crate) const RESULT_BUFFER: usize = 16_384;
 
 /// Those of the longest reply's record: the record's header, and six words, stand round the result.
@@ -36,9 +36,8 @@ pub struct Progress {
     pub(crate) position: usize,
     /// How many operations have their results.
     pub(crate) answered: u32,
+    /// Their bytes, in memory for the whole result.
     pub(crate) results: Writer,
-    /// Memory for the whole result, which the slot keeps.
-    pub(crate) kept: Writer,
     /// Memory for the reply's record.
     pub(crate) reply: Writer,
     /// The client of the session, 0 before SEQUENCE.
@@ -54,8 +53,17 @@ pub struct Progress {
     pub(crate) ended: Option<Status>,
     ghost first: { answered ≡ 0 → results.bytes ≡ [] },
     ghost room: { RESULT_BUFFER ≤ results.capacity },
-    ghost kept_fresh: { kept.bytes ≡ [] },
-    ghost kept_room: { RESULT_BUFFER ≤ kept.capacity },
     ghost reply_fresh: { reply.bytes ≡ [] },
     ghost reply_room: { RECORD_BUFFER ≤ reply.capacity },
+}
+
+impl Progress {
+    ghost use Rattle.std.specs.Prelude.{◌≡◌};
+
+    /// The memory of its results, which the next COMPOUND may have.
+    pub fn into_memory(self) -> Writer
+        ensures { result ≡ self.results }
+    {
+        self.results
+    }
 }

@@ -18,6 +18,7 @@ use model::status::Status;
 use opens::Opens;
 use session::Table;
 use wire::Outcome;
+use xdr::Writer;
 
 /// What a step leaves.
 #[derive(Drop)]
@@ -57,7 +58,8 @@ impl Running<'_> {
 
     /// Reads the next operation, tests it and runs it, at this moment in nanoseconds since 1970. A
     /// change is kept on the device before its result is there. Once the last result is there and a
-    /// seat is to hold the reply, it is held on the device, and then the reply is there.
+    /// seat is to hold the reply, it is held on the device, and then the reply is there. With the
+    /// reply `spare` has the memory that the next COMPOUND may begin with.
     ///
     /// # Errors
     /// What was kept of the COMPOUND comes back as it was. After `Memory` nothing changed; after
@@ -68,6 +70,7 @@ impl Running<'_> {
         table: &mut Table,
         opens: &mut Opens,
         now: u64,
+        spare: &mut Writer,
     ) -> Result<Stepped, StepError>
         requires up { (fs_of fs.old).volume.is_down ≡ false }
         requires run { (in_progress_of self).context.run ≡ (fs_of fs.old).volume.run }
@@ -90,8 +93,8 @@ impl Running<'_> {
             (undone_ending result) }
     {
         match self.progress.ended {
-            Some(last) => Ok(Stepped::Answered(self.store(fs, table, last)?)),
-            None => self.run(fs, table, opens, now),
+            Some(last) => Ok(Stepped::Answered(self.store(fs, table, last, spare)?)),
+            None => self.run(fs, table, opens, now, spare),
         }
     }
 
@@ -102,6 +105,7 @@ impl Running<'_> {
         table: &mut Table,
         opens: &mut Opens,
         now: u64,
+        spare: &mut Writer,
     ) -> Result<Stepped, StepError>
         requires ready { CanRun (fs_of fs.old) (in_progress_of self) }
         requires agrees { D.keeps_word → Agrees (fs_of fs.old) (table_of table.old) }
@@ -130,17 +134,17 @@ impl Running<'_> {
         let mut running = self;
         running.advance(position);
         match done {
-            Executed::Replays(slot) => Ok(Stepped::Answered(running.repeat(table, &slot))),
+            Executed::Replays(slot) => Ok(Stepped::Answered(running.repeat(table, &slot, spare))),
             Executed::GivesSpelled { operation, values } => {
                 let encoded = EncodedResult::Spelled {
                     operation,
                     values: values.as_slice(),
                 };
-                Ok(running.answer(table, encoded))
+                Ok(running.answer(table, encoded, spare))
             }
             Executed::Gives { outcome, effect } => {
                 running.leave(effect);
-                Ok(running.answer(table, EncodedResult::Whole(&outcome)))
+                Ok(running.answer(table, EncodedResult::Whole(&outcome), spare))
             }
         }
     }
@@ -229,7 +233,7 @@ impl Running<'_> {
 
     /// The COMPOUND after this result: it goes on; or this result is the last one or not OK, and the
     /// reply is there, unless a seat is to hold it first.
-    fn answer(self, table: &mut Table, encoded: EncodedResult<'_>) -> Stepped
+    fn answer(self, table: &mut Table, encoded: EncodedResult<'_>, spare: &mut Writer) -> Stepped
         requires encoded { CanBeTold (in_progress_of self) encoded }
         requires more { (in_progress_of self).ended ≡ None }
         ensures stands { (outcome : model.Outcome) → Tells encoded.entry outcome
@@ -246,7 +250,7 @@ impl Running<'_> {
         if running.is_to_hold(table) {
             return Stepped::Ran(running.progress);
         }
-        Stepped::Answered(running.end(table, last, None))
+        Stepped::Answered(running.end(table, last, None, spare))
     }
 
     /// With this result, which is the last one.
@@ -282,6 +286,7 @@ impl Running<'_> {
         fs: &mut Fs<D>,
         table: &mut Table,
         last: Status,
+        spare: &mut Writer,
     ) -> Result<Vec<u8>, StepError>
         requires up { (fs_of fs.old).volume.is_down ≡ false }
         requires ended { (in_progress_of self).ended ≡ Some last }
@@ -301,7 +306,7 @@ impl Running<'_> {
             (undone_ending result) }
     {
         match self.hold(fs, table, last) {
-            Ok(edits) => Ok(self.end(table, last, edits)),
+            Ok(edits) => Ok(self.end(table, last, edits, spare)),
             Err(fault) => Err(StepError {
                 fault,
                 progress: self.progress,

@@ -6,6 +6,7 @@ ghost use Rattle.server.specs.Stages.{is_ready};
 use crate::stage::Stage;
 use rpc::Assembler;
 use std::alloc::Global;
+use xdr::Writer;
 
 /// A connection: bytes come in pieces, a whole record waits for its turn, its COMPOUND runs, and
 /// its reply waits to be taken.
@@ -15,6 +16,8 @@ pub struct Connection {
     /// Has the memory for each record that comes. It holds the record while its request runs, and
     /// nothing while a reply waits.
     pub(crate) assembler: Assembler,
+    /// Memory that a COMPOUND left, for the results of the next one.
+    pub(crate) spare: Writer,
     pub(crate) stage: Stage,
     ghost ready: { is_ready stage assembler ≡ true },
 }

@@ -7,6 +7,7 @@ use crate::stage::Stage;
 use rpc::Assembler;
 use std::alloc::{AllocError, Global};
 use std::mem;
+use xdr::Writer;
 
 /// What a server asks of a connection.
 #[tactic(auto, unfolding(crate::specs::Connections::connection_view))]
@@ -48,6 +49,7 @@ impl Connection {
         Ok(Connection {
             alloc,
             assembler,
+            spare: Writer::new(alloc),
             stage: Stage::Receiving,
         })
     }

@@ -39,7 +39,7 @@ pub enum Opened<'a> {
 }
 
 /// The first turn of a whole record: its call is answered at once, or the first operation of its
-/// COMPOUND runs.
+/// COMPOUND runs, in the memory that an earlier one left.
 pub fn first_turn<D: Device>(
     alloc: Global,
     request: &[u8],
@@ -47,6 +47,7 @@ pub fn first_turn<D: Device>(
     table: &mut Table,
     opens: &mut Opens,
     now: u64,
+    spare: &mut Writer,
 ) -> Result<Stepped, Fault>
     requires up { (fs_of fs.old).volume.is_down ≡ false }
     requires call { is_call_read (rpc.read_call request.now) ≡ true }
@@ -65,17 +66,26 @@ pub fn first_turn<D: Device>(
     ensures volume { Alters fs.old fs.new (TurnGives (shared_of fs.old table.old opens.old)
         (λ world number. called world number now (rpc.read_call request.now))) (ending result) }
 {
-    match open(alloc, fs.restart_count(), request)? {
+    match open(alloc, fs.restart_count(), request, spare)? {
         Opened::Answers(reply) => Ok(Stepped::Answered(reply)),
-        Opened::Begins(running) => match running.step(fs, table, opens, now) {
+        Opened::Begins(running) => match running.step(fs, table, opens, now, spare) {
             Ok(done) => Ok(done),
-            Err(undone) => Err(undone.fault),
+            Err(undone) => {
+                *spare = undone.progress.into_memory();
+                Err(undone.fault)
+            }
         },
     }
 }
 
-/// Reads the call of a whole record, and tests it. All memory for its reply is taken here.
-pub fn open(alloc: Global, run: u32, request: &[u8]) -> Result<Opened<'_>, Fault>
+/// Reads the call of a whole record, and tests it. All memory for its reply is taken here, or from
+/// `spare`.
+pub fn open<'a>(
+    alloc: Global,
+    run: u32,
+    request: &'a [u8],
+    spare: &mut Writer,
+) -> Result<Opened<'a>, Fault>
     requires { is_call_read (rpc.read_call request.now) ≡ true }
     ensures ok { IfOk result (OpensTo run request.now) }
     ensures err { IfErr result (λ fault. fault ≡ Memory) }
@@ -91,7 +101,7 @@ pub fn open(alloc: Global, run: u32, request: &[u8]) -> Result<Opened<'_>, Fault
     match call.request() {
         Request::Answers(reply) => Ok(Opened::Answers(record_of(alloc, call.xid, &reply)?)),
         Request::Runs(cred, compound) => {
-            let running = Running::begin(alloc, call.xid, run, cred, compound)?;
+            let running = Running::begin(alloc, call.xid, run, cred, compound, spare)?;
             Ok(Opened::Begins(running))
         }
     }

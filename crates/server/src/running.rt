@@ -57,7 +57,15 @@ impl Connection {
     {
         match mem::replace(&mut self.stage, Stage::Receiving) {
             Stage::Receiving => match self.assembler.record() {
-                Some(record) => match first_turn(self.alloc, record, fs, table, opens, now) {
+                Some(record) => match first_turn(
+                    self.alloc,
+                    record,
+                    fs,
+                    table,
+                    opens,
+                    now,
+                    &mut self.spare,
+                ) {
                     Ok(done) => Ok(self.settle(done)),
                     Err(fault) => Err(fault),
                 },
@@ -107,7 +115,7 @@ impl Connection {
         let Some(record) = self.assembler.record() else {
             unreachable!();
         };
-        match resume(self.alloc, record, progress).step(fs, table, opens, now) {
+        match resume(self.alloc, record, progress).step(fs, table, opens, now, &mut self.spare) {
             Ok(done) => Ok(self.settle(done)),
             Err(undone) => {
                 self.stage = Stage::Running(undone.progress);

@@ -10,7 +10,7 @@ use Rattle.session.specs.declared.slot.Next.TheVariants as next
 
 abbrev pub state_of : SlotState → model.SlotState
 state_of slot_state.Free = model.Free
-state_of slot_state.Running = model.Running
+state_of (slot_state.Running memory) = model.Running
 state_of (slot_state.Kept reply) = model.Kept reply.bytes.items
 
 abbrev pub slot_of : Slot → model.Slot

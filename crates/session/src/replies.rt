@@ -42,14 +42,15 @@ impl Table {
         Some(held.result.as_slice())
     }
 
-    /// The slot keeps the reply, whatever it held. Where no session has this id, or the session no
-    /// such slot, nothing changes. A session that has a seat takes `finish_held`.
-    pub fn finish(&mut self, id: &[u8; 16], slot: u32, reply: Vec<u8>)
+    /// The slot keeps the reply, whatever it held, and the memory of the reply before comes back.
+    /// Where no session has this id, or the session no such slot, nothing changes, and the reply's
+    /// own comes back. A session that has a seat takes `finish_held`.
+    pub fn finish(&mut self, id: &[u8; 16], slot: u32, reply: Vec<u8>) -> Option<Vec<u8>>
         requires small { length reply.items ≤ MAX_RECORD_BYTES }
         requires unseated { has_seat id.now (table_of self.old).seats ≡ false }
         ensures { table_of self.new ≡ finish id.now slot reply.items (table_of self.old) }
     {
-        self.sessions.keep(id, slot, reply);
+        self.sessions.keep(id, slot, reply)
     }
 
     /// What a reply makes of the session's seat, which is to hold it. Where the session has no seat,
@@ -86,15 +87,22 @@ impl Table {
     }
 
     /// The slot keeps the reply, and the seat holds it, by the edits that were planned. It takes no
-    /// memory.
-    pub fn finish_held(&mut self, id: &[u8; 16], slot: u32, reply: Vec<u8>, edits: SeatEdits)
+    /// memory, and gives back what `finish` does.
+    pub fn finish_held(
+        &mut self,
+        id: &[u8; 16],
+        slot: u32,
+        reply: Vec<u8>,
+        edits: SeatEdits,
+    ) -> Option<Vec<u8>>
         requires small { length reply.items ≤ MAX_RECORD_BYTES }
         requires planned { edited_all (edits_view edits) (table_of self.old).seats
             ≡ held_by id.now slot reply.items (table_of self.old).seats
             (find (is_session id.now) (table_of self.old).sessions) }
         ensures { table_of self.new ≡ finish id.now slot reply.items (table_of self.old) }
     {
-        self.sessions.keep(id, slot, reply);
+        let former = self.sessions.keep(id, slot, reply);
         edit_seats(&mut self.seats, edits);
+        former
     }
 }

@@ -98,8 +98,8 @@ impl Session {
         };
         let is_last = arguments.sequence == slot.last;
         match &slot.state {
-            SlotState::Running if is_last => Err(Status::Delay),
-            SlotState::Running => Err(Status::SeqMisordered),
+            SlotState::Running(_) if is_last => Err(Status::Delay),
+            SlotState::Running(_) => Err(Status::SeqMisordered),
             SlotState::Kept(_) if is_last => {
                 if uid == slot.uid {
                     Ok(Next::Replays)
@@ -144,14 +144,17 @@ impl Session {
         }
     }
 
-    /// The slot keeps the reply to what it ran. Where there is no such slot the session stays.
-    pub fn keep(&mut self, slot: u32, reply: Vec<u8>)
+    /// The slot keeps the reply to what it ran, and gives back the memory of the one before. Where
+    /// there is no such slot the session stays, and the reply's own comes back.
+    pub fn keep(&mut self, slot: u32, reply: Vec<u8>) -> Option<Vec<u8>>
         requires small { length reply.items ≤ MAX_RECORD_BYTES }
         ensures { session_of self.new ≡ finished_slot slot reply.items (session_of self.old) }
     {
         let place = slot as usize;
         if place < self.slots.len() {
-            self.slots[place].keep(reply);
+            self.slots[place].keep(reply)
+        } else {
+            Some(reply)
         }
     }
 

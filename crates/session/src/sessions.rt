@@ -82,15 +82,17 @@ impl Sessions {
         }
     }
 
-    /// The slot of the session keeps the reply to what it ran.
-    pub fn keep(&mut self, id: &[u8; 16], slot: u32, reply: Vec<u8>)
+    /// The slot of the session keeps the reply to what it ran, and gives back the memory of the one
+    /// before.
+    pub fn keep(&mut self, id: &[u8; 16], slot: u32, reply: Vec<u8>) -> Option<Vec<u8>>
         requires small { length reply.items ≤ MAX_RECORD_BYTES }
         ensures { book_of self.new ≡ book_with self.old
             (changed_where (is_session id.now) (finished_slot slot reply.items)
             (sessions_of self.old)) }
     {
-        if let Some(at) = self.position(id) {
-            self.list[at].keep(slot, reply);
+        match self.position(id) {
+            Some(at) => self.list[at].keep(slot, reply),
+            None => Some(reply),
         }
     }
 

@@ -7,12 +7,14 @@ ghost use Rattle.session.specs.Slots.{slot_of};
 use crate::held::KeptReply;
 use crate::limits::MAX_RECORD_BYTES;
 use std::alloc::{AllocError, Global};
+use std::mem;
 
 /// What a slot holds: nothing yet, a request that runs, or the COMPOUND result of the last one.
 #[derive(Drop)]
 pub enum SlotState {
     Free,
-    Running,
+    /// The memory of the reply before stays, and goes back where this one's is kept.
+    Running(Option<Vec<u8>>),
     Kept(KeptReply),
 }
 
@@ -54,7 +56,7 @@ impl Slot {
     pub fn is_running(&self) -> bool
         ensures { result ≡ is_running_state (slot_of self.now).state }
     {
-        matches!(self.state, SlotState::Running)
+        matches!(self.state, SlotState::Running(_))
     }
 
     /// The reply that it keeps.
@@ -65,7 +67,7 @@ impl Slot {
     {
         match &self.state {
             SlotState::Kept(reply) => Some(reply.bytes.as_slice()),
-            SlotState::Free | SlotState::Running => None,
+            SlotState::Free | SlotState::Running(_) => None,
         }
     }
 
@@ -75,15 +77,26 @@ impl Slot {
     {
         self.last = number;
         self.uid = uid;
-        self.state = SlotState::Running;
+        let memory = memory_of(mem::replace(&mut self.state, SlotState::Free));
+        self.state = SlotState::Running(memory);
     }
 
-    /// Keeps the reply to its last request.
-    pub fn keep(&mut self, reply: Vec<u8>)
+    /// Keeps the reply to its last request, and gives back the memory of the one before.
+    pub fn keep(&mut self, reply: Vec<u8>) -> Option<Vec<u8>>
         requires small { length reply.items ≤ MAX_RECORD_BYTES }
         ensures { slot_of self.new ≡ kept_slot reply.items (slot_of self.old) }
     {
-        self.state = SlotState::Kept(KeptReply { bytes: reply });
+        let kept = SlotState::Kept(KeptReply { bytes: reply });
+        memory_of(mem::replace(&mut self.state, kept))
+    }
+}
+
+/// The memory of a reply, where the slot has any.
+fn memory_of(state: SlotState) -> Option<Vec<u8>> {
+    match state {
+        SlotState::Free => None,
+        SlotState::Running(memory) => memory,
+        SlotState::Kept(reply) => Some(reply.bytes),
     }
 }
 

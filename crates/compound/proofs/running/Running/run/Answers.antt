@@ -1,14 +1,17 @@
-use Rattle.std.proofs.Common.{ℕ, List, refl, sym, subst, ap, ◌∙◌}
+use Rattle.std.proofs.Common.{◌≡◌, ℕ, List, Some, refl, sym, subst, ap, ◌∙◌}
 use Rattle.std.specs.Prelude.{drop}
 use Rattle.model.specs.Answer as model
-use Rattle.session.specs.Views.{table_of}
+use Rattle.model.specs.Record.{framed}
+use Rattle.model.specs.Rpc.{Success, reply_text}
+use Rattle.model.specs.World.{InProgress}
+use Rattle.session.specs.Views.{table_of, reply_kept}
 use Rattle.wire.specs.Numbers.{number_of}
 use Rattle.wire.specs.OutcomeView.{outcome_view}
 use Rattle.compound.specs.Operates.{Spells, left_by}
 use Rattle.compound.specs.Runs.{with_rest}
-use Rattle.compound.specs.States.{shared_of}
+use Rattle.compound.specs.States.{SharedState, shared_of}
 use Rattle.compound.specs.Views.{asked_of, in_progress_of}
-use Rattle.compound.proofs.Stepping.{steps_to, left_rest}
+use Rattle.compound.proofs.Stepping.{steps_to, left_rest, repeats_to}
 use Rattle.compound.proofs.running.Running.run.Goals as goal
 
 pub returns-in-Gives-clause-step : goal.returns-in-Gives-clause-step
@@ -30,3 +33,13 @@ returns-in-GivesSpelled-clause-step g c = λ keeps.
     steps_to c.args.now (shared_of c.args.fs.now c.args.table.now c.args.opens.now) (shared_of c.run_next.new.fs c.run_next.new.table c.run_next.new.opens) (table_of c.answer.new.table)
     (asked_of c.args.self) (asked_of c.advance.new.self) request (with_rest request rest) (in_progress_of c.advance.new.self)
     (model.Done turns.0) c.answer.result turns.2 c.advance.ensures.asked c.advance.ensures.request (c.answer.ensures.stands (model.Done turns.0) (turns.0, refl, spells))
+
+pub returns-in-Replays-clause-step : goal.returns-in-Replays-clause-step
+returns-in-Replays-clause-step g c = λ keeps.
+    let old = shared_of c.args.fs.now c.args.table.now c.args.opens.now in
+    let new = shared_of c.run_next.new.fs c.run_next.new.table c.run_next.new.opens in
+    let slot = c.in-Replays.slot in
+    let turns = rw c.in-Replays.is at c.in-Ok.ensures.turns keeps in
+    let kept : reply_kept slot.session slot.slot new.table ≡ Some turns.0 = ap (λ (state : SharedState). reply_kept slot.session slot.slot state.table) turns.1 ∙ turns.2 in
+    repeats_to c.args.now old new (in_progress_of c.args.self) slot.session slot.slot turns.0 c.repeat.result.items turns.1 turns.3
+    (c.repeat.ensures turns.0 kept ∙ ap (λ (one : InProgress). framed (reply_text one.xid (Success turns.0))) c.advance.ensures.request)

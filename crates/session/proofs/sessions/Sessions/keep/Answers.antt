@@ -12,7 +12,7 @@ returns-in-Some c =
     (changed_at session_of serial_of (is_session c.args.id.now) (finished_slot c.args.slot c.args.reply.items) old.list.items c.in-Some.at c.index_mut.result.now c.keep.new.self
     old.rising (one_session c.args.id.now old.serial old.list.items old.small old.made) (sym c.position.ensures ∙ c.in-Some.is) c.index_mut.ensures.value c.keep.ensures)
 
-pub returns-in_default : goal.returns-in_default
-returns-in_default c =
+pub returns-in-None : goal.returns-in-None
+returns-in-None c =
     ap (λ sessions. (c.args.self.now.serial, sessions))
-    (sym (untouched session_of (is_session c.args.id.now) (finished_slot c.args.slot c.args.reply.items) c.args.self.now.list.items (sym c.position.ensures ∙ c.in_default.is)))
+    (sym (untouched session_of (is_session c.args.id.now) (finished_slot c.args.slot c.args.reply.items) c.args.self.now.list.items (sym c.position.ensures ∙ c.in-None.is)))

@@ -11,6 +11,6 @@ invariant_of-self c =
     let old = c.args.self.now in
     record {
       counted = old.counted;
-      given = given_moved old.clients.run old.sessions.serial _ _ _ (ap (λ (book : ℕ × List Session). book.0) c.keep.ensures) (c.edit_seats.ensures ∙ c.requires.planned)
+      given = given_moved old.clients.run old.sessions.serial _ _ _ (ap (λ (book : ℕ × List Session). book.0) c.keep-former.ensures) (c.edit_seats.ensures ∙ c.requires.planned)
           (given_held c.args.id.now c.args.slot c.args.reply.items _ _ (seats_view old.seats) (find (is_session c.args.id.now) (sessions_of old.sessions)) old.given);
     }
