@@ -60,9 +60,7 @@ where
         } => format_file(rt, file, sectors, nodes, out),
         Request::Run { file, script } => run_file(rt, file, script, out),
         Request::Check { file } => check_file(rt, file, out),
-        Request::Serve { file, port, count } => {
-            serve(rt, open_volume(rt, file)?, port, count, out)
-        }
+        Request::Serve { file, port, count } => serve_file(rt, file, port, count, out),
     }
 }
 
@@ -123,6 +121,17 @@ where
 {
     let mut device = open_volume(rt, file)?;
     run_script(rt, &mut device, &mut text.as_bytes(), out)
+}
+
+/// Serves the volume in a file. The server borrows its device, as that of a script does: it is
+/// compiled once for each type of device.
+fn serve_file<R, O>(rt: &R, file: &str, port: u16, count: u32, out: &mut O) -> Result<(), Refused>
+where
+    R: Machine,
+    O: Write,
+{
+    let mut device = open_volume(rt, file)?;
+    serve(rt, &mut device, port, count, out)
 }
 
 /// Tells what a mount would find, and writes nothing.
