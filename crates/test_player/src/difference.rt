@@ -1,9 +1,10 @@
 //! How a server or the program does otherwise than a row or a case has it.
 
+use crate::device::TrialDevice;
 use crate::fault::Fault;
 use callers::Refused;
 use disk::DiskFault;
-use server::{FormatFault, MountFault, ServerFault, Turn};
+use server::{FormatFault, MountFault, ServerFault, Turn, Unmounted};
 use std::alloc::{AllocError, Global};
 use std::{fmt, io};
 use thiserror::Error;
@@ -96,6 +97,12 @@ pub enum Difference {
     /// There is no memory.
     #[error("no memory")]
     Memory(#[from(alloc)] AllocError),
+}
+
+impl From<Unmounted<TrialDevice>> for Difference {
+    fn from(unmounted: Unmounted<TrialDevice>) -> Difference {
+        Difference::Mount(unmounted.fault)
+    }
 }
 
 /// What a call of a server answers.

@@ -3,6 +3,7 @@
 #![tactic(auto)]
 
 mod cases;
+mod device;
 mod difference;
 mod drivers;
 mod fault;

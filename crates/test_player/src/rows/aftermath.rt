@@ -107,13 +107,17 @@ impl State {
     }
 }
 
-/// Adds what `RECORD` or `RECORD REPLY` says.
+/// Adds what `RECORD` or `RECORD REPLY` says. The states, which have a reply to each, stand below
+/// all looks.
 pub fn add_look(
     alloc: Global,
     records: &Records<'_>,
     words: &[&str],
     aftermath: &mut Aftermath,
 ) -> Result<(), Fault> {
+    if !aftermath.states.is_empty() {
+        return Err(Fault::Place);
+    }
     let look = match words {
         [record] => Look {
             record: records.pattern(alloc, *record)?,

@@ -2,18 +2,21 @@
 
 use super::aftermath::{Left, Mark, Tally};
 use super::landings::Tried;
-use super::life::{Life, live};
+use super::life::live;
 use super::looking::find;
 use super::player::{Patience, new_volume};
 use super::remount::Remount;
 use super::row::{Placed, Row};
 use super::step::Step;
+use crate::device::{crashing, failing, lasting};
 use crate::difference::{Difference, Differs, placed};
-use disk::{CallKind, CrashDevice, Device, FaultDevice, Landed, MemDevice, Stop, landings};
+use crate::fault::Fault;
+use disk::{CallKind, CrashDevice, Device, Landed, MemDevice, Stop, landings};
 use std::alloc::Global;
 
 /// Has the device of a row crash and fail as the row says.
 pub fn crash(alloc: Global, row: &Row<'_>) -> Result<Tally, Differs> {
+    expect_one_mount(row)?;
     let mut trial = placed(0, Trial::new(alloc, row))?;
     if row.aftermath.trials.crashes {
         trial.crash_each()?;
@@ -24,6 +27,19 @@ pub fn crash(alloc: Global, row: &Row<'_>) -> Result<Tally, Differs> {
         trial.fail_all()?;
     }
     Ok(trial.tally)
+}
+
+/// A life has one mount, and no sockets over which a record waits.
+fn expect_one_mount(row: &Row<'_>) -> Result<(), Differs> {
+    for Placed { line, step } in row.steps.iter() {
+        if matches!(step, Step::Restarts { .. } | Step::Waits { .. }) {
+            return Err(Differs {
+                line: *line,
+                difference: Difference::Record(Fault::Step),
+            });
+        }
+    }
+    Ok(())
 }
 
 /// A row that is played again and again on the same volume.
@@ -45,7 +61,7 @@ impl<'a> Trial<'a> {
             alloc,
             row,
             steps: row.steps.as_slice(),
-            volume: CrashDevice::new(new_volume(alloc, Patience::None)?, Stop::Never),
+            volume: new_volume(alloc, Patience::None)?.into_inner(),
             left: Left { first: 0, end: 0 },
             tried: Tried::new(alloc),
             tally: Tally::new(alloc),
@@ -56,16 +72,12 @@ impl<'a> Trial<'a> {
         Ok(self.volume.landed(self.alloc, &[])?)
     }
 
-    fn device(&self, stop: Stop) -> Result<CrashDevice, Difference> {
-        Ok(CrashDevice::new(self.at_rest()?, stop))
-    }
-
     /// Plays the row to its end. From then on a trial begins with what that leaves, and has no
     /// steps but the mount.
     fn live(&mut self) -> Result<(), Differs> {
-        let mut device = placed(0, self.device(Stop::Never))?;
-        let life = live(self.alloc, self.steps, self.left, &mut device)?;
-        self.volume = device;
+        let device = lasting(placed(0, self.at_rest())?);
+        let life = live(self.alloc, self.steps, self.left, device)?;
+        self.volume = life.device.into_inner();
         self.left = life.left;
         self.steps = &[];
         Ok(())
@@ -73,9 +85,9 @@ impl<'a> Trial<'a> {
 
     /// How many steps the device takes up to the end of these of the row.
     fn steps_of(&self, steps: &[Placed]) -> Result<u64, Differs> {
-        let mut device = placed(0, self.device(Stop::Never))?;
-        live(self.alloc, steps, self.left, &mut device)?;
-        Ok(device.steps())
+        let device = lasting(placed(0, self.at_rest())?);
+        let life = live(self.alloc, steps, self.left, device)?;
+        Ok(life.device.into_inner().steps())
     }
 
     /// The steps of the row in front of those that crash.
@@ -101,23 +113,24 @@ impl<'a> Trial<'a> {
     }
 
     fn crash_at(&mut self, stop: Stop) -> Result<(), Differs> {
-        let mut crashed = placed(0, self.device(stop))?;
-        let life = live(self.alloc, self.steps, self.left, &mut crashed)?;
+        let device = crashing(placed(0, self.at_rest())?, stop);
+        let life = live(self.alloc, self.steps, self.left, device)?;
         self.tally.crashes = self.tally.crashes.saturating_add(1);
-        placed(0, self.land(&crashed, life))
+        placed(0, self.land(&life.device.into_inner(), life.left))
     }
 
     /// Tries what may land of the device, and mounts each.
-    fn land(&mut self, crashed: &CrashDevice, life: Life) -> Result<(), Difference> {
+    fn land(&mut self, crashed: &CrashDevice, left: Left) -> Result<(), Difference> {
         if !crashed.is_stopped() {
             return Err(Difference::NoCrash);
         }
         for landing in landings(self.alloc, &crashed.unsynced(self.alloc)?)?.iter() {
             let is_new = self.tried.adds(crashed, landing)?;
             if self.row.aftermath.trials.twice && is_new {
-                self.remount(crashed.landed(self.alloc, landing)?, life.left)?;
+                let landed = crashed.landed(self.alloc, landing)?;
+                self.remount(&CrashDevice::new(landed, Stop::Never), left)?;
             } else {
-                self.look(crashed, landing, life.left)?;
+                self.look(crashed, landing, left)?;
             }
         }
         Ok(())
@@ -135,12 +148,11 @@ impl<'a> Trial<'a> {
     }
 
     /// Mounts the device, and crashes that in its turn.
-    fn remount(&mut self, device: MemDevice, left: Left) -> Result<(), Difference> {
-        let device = CrashDevice::new(device, Stop::Never);
+    fn remount(&mut self, device: &CrashDevice, left: Left) -> Result<(), Difference> {
         let remount = Remount {
             alloc: self.alloc,
             aftermath: &self.row.aftermath,
-            device: &device,
+            device,
             left,
         };
         remount.crash(&mut self.tally)
@@ -166,14 +178,14 @@ impl<'a> Trial<'a> {
 
     /// Lets the call of this number fail. Whether there was such a call.
     fn fail(&mut self, kind: CallKind, number: u64) -> Result<bool, Differs> {
-        let mut device = FaultDevice::new(placed(0, self.at_rest())?, kind, number);
-        let life = live(self.alloc, self.steps, self.left, &mut device)?;
-        let has_failed = device.failures() > 0;
+        let device = failing(placed(0, self.at_rest())?, kind, number);
+        let life = live(self.alloc, self.steps, self.left, device)?;
+        let has_failed = life.device.failures() > 0;
         if has_failed != life.has_failed {
             return placed(0, Err(Difference::Untold));
         }
         if has_failed {
-            placed(0, self.remount(device.into_inner(), life.left))?;
+            placed(0, self.remount(&life.device.into_inner(), life.left))?;
         }
         Ok(has_failed)
     }

@@ -5,7 +5,6 @@ use super::player::{Arrival, CONNECTIONS, Stage, new_volume};
 use super::served::Served;
 use super::step::Step;
 use crate::difference::{Answer, Difference, expect, expect_reply};
-use disk::{Device, MemDevice};
 use server::{ServerFault, Turn};
 use std::alloc::Global;
 use std::cmp::Ordering;
@@ -16,7 +15,7 @@ const MAX_TURNS: u32 = 32;
 /// A server of a volume in memory, with the connections that a row begins with.
 #[derive(Drop)]
 pub struct Direct {
-    served: Served<MemDevice>,
+    served: Served,
     arrival: Arrival,
 }
 
@@ -53,7 +52,7 @@ impl Stage for Direct {
 }
 
 /// Makes the connections.
-pub fn connect<D: Device>(mut served: Served<D>) -> Result<Served<D>, Difference> {
+pub fn connect(mut served: Served) -> Result<Served, Difference> {
     for connection in 0..CONNECTIONS {
         expect(Answer::Connected(connection), served.connected())?;
     }
@@ -61,11 +60,7 @@ pub fn connect<D: Device>(mut served: Served<D>) -> Result<Served<D>, Difference
 }
 
 /// Takes a step of the server itself.
-pub fn act<D: Device>(
-    alloc: Global,
-    served: &mut Served<D>,
-    step: &Step,
-) -> Result<(), Difference> {
+pub fn act(alloc: Global, served: &mut Served, step: &Step) -> Result<(), Difference> {
     match step {
         Step::Feeds { connection, record } => feed(served, *connection, record),
         Step::Drips { connection, record } => drip(served, *connection, record),
@@ -93,20 +88,12 @@ pub fn act<D: Device>(
 }
 
 /// Hands in a record, which is taken whole.
-pub fn feed<D: Device>(
-    served: &mut Served<D>,
-    connection: usize,
-    record: &[u8],
-) -> Result<(), Difference> {
+pub fn feed(served: &mut Served, connection: usize, record: &[u8]) -> Result<(), Difference> {
     expect(Answer::Took(record.len()), served.fed(connection, record))
 }
 
 /// Hands in a record byte by byte, each after a turn that is idle.
-fn drip<D: Device>(
-    served: &mut Served<D>,
-    connection: usize,
-    record: &[u8],
-) -> Result<(), Difference> {
+fn drip(served: &mut Served, connection: usize, record: &[u8]) -> Result<(), Difference> {
     for byte in record {
         turn(served, connection, Turn::Idle)?;
         feed(served, connection, &[*byte])?;
@@ -115,11 +102,7 @@ fn drip<D: Device>(
 }
 
 /// Hands in a record, which is answered or closes the connection.
-fn send<D: Device>(
-    served: &mut Served<D>,
-    connection: usize,
-    record: &[u8],
-) -> Result<(), Difference> {
+fn send(served: &mut Served, connection: usize, record: &[u8]) -> Result<(), Difference> {
     match served.fed(connection, record) {
         Answer::Refused(ServerFault::Closed) => Ok(()),
         got => {
@@ -130,16 +113,13 @@ fn send<D: Device>(
 }
 
 /// Runs the request up to its reply, and takes that.
-fn answer<D: Device>(served: &mut Served<D>, connection: usize) -> Result<(), Difference> {
+fn answer(served: &mut Served, connection: usize) -> Result<(), Difference> {
     run_to_reply(served, connection)?;
     expect(Answer::Reply, served.replied(connection))
 }
 
 /// Runs the request up to its reply.
-pub fn run_to_reply<D: Device>(
-    served: &mut Served<D>,
-    connection: usize,
-) -> Result<(), Difference> {
+pub fn run_to_reply(served: &mut Served, connection: usize) -> Result<(), Difference> {
     let mut got = served.turned(connection);
     for _ in 1..MAX_TURNS {
         if got != Answer::Turned(Turn::Ran) {
@@ -151,20 +131,12 @@ pub fn run_to_reply<D: Device>(
 }
 
 /// Gives a turn, which does what is wanted.
-fn turn<D: Device>(
-    served: &mut Served<D>,
-    connection: usize,
-    wanted: Turn,
-) -> Result<(), Difference> {
+fn turn(served: &mut Served, connection: usize, wanted: Turn) -> Result<(), Difference> {
     expect(Answer::Turned(wanted), served.turned(connection))
 }
 
 /// Runs so many operations, of which the last one gives a reply.
-pub fn run_all<D: Device>(
-    served: &mut Served<D>,
-    connection: usize,
-    turns: u32,
-) -> Result<(), Difference> {
+pub fn run_all(served: &mut Served, connection: usize, turns: u32) -> Result<(), Difference> {
     for _ in 1..turns {
         turn(served, connection, Turn::Ran)?;
     }
@@ -172,9 +144,9 @@ pub fn run_all<D: Device>(
 }
 
 /// Runs so many operations, of which the last one gives this reply.
-fn end<D: Device>(
+fn end(
     alloc: Global,
-    served: &mut Served<D>,
+    served: &mut Served,
     connection: usize,
     turns: u32,
     reply: &[u8],
@@ -189,11 +161,7 @@ fn end<D: Device>(
 }
 
 /// Hands in records one after the other, and then has the turns of their connections alternate.
-pub fn meet<D: Device>(
-    alloc: Global,
-    served: &mut Served<D>,
-    calls: &[&Call],
-) -> Result<(), Difference> {
+pub fn meet(alloc: Global, served: &mut Served, calls: &[&Call]) -> Result<(), Difference> {
     let mut most = 0;
     for call in calls {
         feed(served, call.connection, &call.record)?;
@@ -206,9 +174,9 @@ pub fn meet<D: Device>(
 }
 
 /// The turn of this number of each connection.
-fn go_round<D: Device>(
+fn go_round(
     alloc: Global,
-    served: &mut Served<D>,
+    served: &mut Served,
     calls: &[&Call],
     number: u32,
 ) -> Result<(), Difference> {
@@ -223,11 +191,7 @@ fn go_round<D: Device>(
 }
 
 /// Hands in bytes that close the connection, which stays so.
-fn close<D: Device>(
-    served: &mut Served<D>,
-    connection: usize,
-    record: &[u8],
-) -> Result<(), Difference> {
+fn close(served: &mut Served, connection: usize, record: &[u8]) -> Result<(), Difference> {
     let closed = Answer::Refused(ServerFault::Closed);
     expect(closed, served.fed(connection, record))?;
     expect(closed, served.fed(connection, &[]))?;
@@ -237,7 +201,7 @@ fn close<D: Device>(
 }
 
 /// Each call of a connection that is not there is refused.
-fn lack<D: Device>(served: &mut Served<D>, connection: usize) -> Result<(), Difference> {
+fn lack(served: &mut Served, connection: usize) -> Result<(), Difference> {
     let none = Answer::Refused(ServerFault::NoConnection);
     expect(none, served.fed(connection, &[]))?;
     expect(none, served.turned(connection))?;

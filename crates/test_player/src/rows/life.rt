@@ -7,71 +7,77 @@ use super::player::Patience;
 use super::row::Placed;
 use super::served::Served;
 use super::step::Step;
+use crate::device::TrialDevice;
 use crate::difference::{Answer, Difference, Differs, expect, expect_reply, placed};
-use disk::Device;
-use server::{MountFault, ServerFault};
+use server::{MountFault, ServerFault, Unmounted};
 use std::alloc::Global;
 
 /// How a life went.
-#[derive(Clone, Copy)]
+#[derive(Drop)]
 pub struct Life {
     /// What it left.
     pub left: Left,
     /// Whether the device failed.
     pub has_failed: bool,
+    /// The device at its end.
+    pub device: TrialDevice,
 }
 
 /// Mounts a device on which one of these states may stand, and takes the steps up to its failure.
-pub fn live<D: Device>(
+pub fn live(
     alloc: Global,
     steps: &[Placed],
     left: Left,
-    device: D,
+    device: TrialDevice,
 ) -> Result<Life, Differs> {
     match Served::mount(alloc, device, true, Patience::None) {
-        Ok(served) => live_on(alloc, steps, left, &mut placed(0, connect(served))?),
-        Err(Difference::Mount(MountFault::Device)) => Ok(Life {
+        Ok(served) => live_on(alloc, steps, left, placed(0, connect(served))?),
+        Err(
+            Unmounted {
+                device,
+                fault: MountFault::Device,
+            },
+        ) => Ok(Life {
             left: Left {
                 end: left.end.max(1),
                 ..left
             },
             has_failed: true,
+            device,
         }),
-        Err(difference) => Err(Differs {
-            line: 0,
-            difference,
-        }),
+        Err(unmounted) => placed(0, Err(unmounted.into())),
     }
 }
 
-fn live_on<D: Device>(
+fn live_on(
     alloc: Global,
     steps: &[Placed],
-    left: Left,
-    served: &mut Served<D>,
+    mut left: Left,
+    mut served: Served,
 ) -> Result<Life, Differs> {
-    let mut life = Life {
-        left,
-        has_failed: false,
-    };
+    let mut has_failed = false;
     let mut waits = None;
     for step in steps {
         if let Step::Leaves(call) = &step.step {
             waits = Some(call);
         }
-        life.has_failed = placed(step.line, take(alloc, served, &step.step, &mut life.left))?;
-        if life.has_failed {
+        has_failed = placed(step.line, take(alloc, &mut served, &step.step, &mut left))?;
+        if has_failed {
             break;
         }
     }
-    placed(0, end(alloc, served, waits, life.has_failed))?;
-    Ok(life)
+    placed(0, end(alloc, &mut served, waits, has_failed))?;
+    Ok(Life {
+        left,
+        has_failed,
+        device: served.into_device(),
+    })
 }
 
 /// Takes a step. Whether the device failed.
-fn take<D: Device>(
+fn take(
     alloc: Global,
-    served: &mut Served<D>,
+    served: &mut Served,
     step: &Step,
     left: &mut Left,
 ) -> Result<bool, Difference> {
@@ -97,15 +103,15 @@ fn take<D: Device>(
 }
 
 /// Runs a request up to its reply, which stays.
-fn leave<D: Device>(served: &mut Served<D>, call: &Call) -> Result<(), Difference> {
+fn leave(served: &mut Served, call: &Call) -> Result<(), Difference> {
     feed(served, call.connection, &call.record)?;
     run_all(served, call.connection, call.turns)
 }
 
 /// A server whose device failed is down, and still gives the reply that waits.
-fn end<D: Device>(
+fn end(
     alloc: Global,
-    served: &mut Served<D>,
+    served: &mut Served,
     waits: Option<&Call>,
     has_failed: bool,
 ) -> Result<(), Difference> {
@@ -118,11 +124,7 @@ fn end<D: Device>(
     }
 }
 
-fn expect_waiting<D: Device>(
-    alloc: Global,
-    served: &mut Served<D>,
-    call: &Call,
-) -> Result<(), Difference> {
+fn expect_waiting(alloc: Global, served: &mut Served, call: &Call) -> Result<(), Difference> {
     match served.reply(call.connection) {
         Ok(Some(got)) => expect_reply(alloc, &call.reply, got),
         Ok(None) => expect(Answer::Reply, Answer::NoReply),

@@ -4,6 +4,7 @@ use super::aftermath::{Aftermath, Left, Look};
 use super::direct::{connect, feed, run_to_reply};
 use super::player::Patience;
 use super::served::Served;
+use crate::device::lasting;
 use crate::difference::{Answer, Answers, Difference, expect, expect_reply};
 use disk::MemDevice;
 use std::alloc::Global;
@@ -15,7 +16,7 @@ pub fn find(
     left: Left,
     device: MemDevice,
 ) -> Result<usize, Difference> {
-    let mut served = connect(Served::mount(alloc, device, true, Patience::None)?)?;
+    let mut served = connect(Served::mount(alloc, lasting(device), true, Patience::None)?)?;
     let run = served.run();
     let answers = look(alloc, &aftermath.looks, &mut served, run)?;
     match number_of(alloc, aftermath, left, &answers, run)? {
@@ -28,7 +29,7 @@ pub fn find(
 fn look(
     alloc: Global,
     looks: &[Look],
-    served: &mut Served<MemDevice>,
+    served: &mut Served,
     run: u32,
 ) -> Result<Vec<Vec<u8>>, Difference> {
     let mut answers = Vec::new(alloc);
@@ -43,7 +44,7 @@ fn look(
 }
 
 /// The reply to a record over connection 0.
-fn ask(served: &mut Served<MemDevice>, record: &[u8]) -> Result<Vec<u8>, Difference> {
+fn ask(served: &mut Served, record: &[u8]) -> Result<Vec<u8>, Difference> {
     feed(served, 0, record)?;
     run_to_reply(served, 0)?;
     match served.reply(0) {

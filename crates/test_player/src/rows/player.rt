@@ -4,6 +4,7 @@ use super::direct::Direct;
 use super::row::Row;
 use super::sockets::Sockets;
 use super::step::Step;
+use crate::device::{TrialDevice, lasting};
 use crate::difference::{Difference, Differs, placed};
 use crate::drivers;
 use disk::MemDevice;
@@ -107,8 +108,8 @@ fn play_on<S: Stage>(rt: &HostRuntime, row: &Row<'_>, arrival: Arrival) -> Resul
 }
 
 /// A new volume.
-pub fn new_volume(alloc: Global, patience: Patience) -> Result<MemDevice, Difference> {
-    let mut device = MemDevice::new(alloc, SECTORS)?;
+pub fn new_volume(alloc: Global, patience: Patience) -> Result<TrialDevice, Difference> {
+    let mut device = lasting(MemDevice::new(alloc, SECTORS)?);
     let mut told = drivers::format(alloc, &mut device, NODES);
     if patience == Patience::Once && told.err() == Some(FormatFault::Memory) {
         told = drivers::format(alloc, &mut device, NODES);

@@ -5,9 +5,10 @@ use super::landings::{Tried, count_syncs};
 use super::looking::find;
 use super::player::Patience;
 use super::served::Served;
+use crate::device::{TrialDevice, crashing, lasting};
 use crate::difference::Difference;
 use disk::{Call, CrashDevice, Device, MemDevice, Stop, landings};
-use server::MountFault;
+use server::{MountFault, Unmounted};
 use std::alloc::Global;
 
 /// A device, with the states of which one is on it.
@@ -25,8 +26,7 @@ impl Remount<'_> {
     pub fn crash(&self, tally: &mut Tally) -> Result<(), Difference> {
         let found = self.find(self.again()?)?;
         tally.count(found)?;
-        let mut whole = CrashDevice::new(self.again()?, Stop::Never);
-        mount(self.alloc, &mut whole)?;
+        let whole = mount(self.alloc, lasting(self.again()?))?;
         let mut tried = Tried::new(self.alloc);
         for step in 0..whole.steps() {
             self.crash_at(Stop::Before(step), found, &mut tried, tally)?;
@@ -63,8 +63,7 @@ impl Remount<'_> {
         tried: &mut Tried,
         tally: &mut Tally,
     ) -> Result<(), Difference> {
-        let mut crashed = CrashDevice::new(self.again()?, stop);
-        expect_crash(mount(self.alloc, &mut crashed))?;
+        let crashed = crash(self.alloc, crashing(self.again()?, stop))?;
         tally.mounts = tally.mounts.saturating_add(1);
         let has_synced = count_syncs(crashed.calls()) > 0;
         for landing in landings(self.alloc, &crashed.unsynced(self.alloc)?)?.iter() {
@@ -79,18 +78,22 @@ impl Remount<'_> {
 }
 
 /// Begins a run on a device, and ends it.
-fn mount<D: Device>(alloc: Global, device: D) -> Result<(), Difference> {
-    match Served::mount(alloc, device, true, Patience::None) {
-        Ok(_) => Ok(()),
-        Err(difference) => Err(difference),
-    }
+fn mount(alloc: Global, device: TrialDevice) -> Result<CrashDevice, Difference> {
+    let served = Served::mount(alloc, device, true, Patience::None)?;
+    Ok(served.into_device().into_inner())
 }
 
-fn expect_crash(outcome: Result<(), Difference>) -> Result<(), Difference> {
-    match outcome {
-        Err(Difference::Mount(MountFault::Device)) => Ok(()),
-        Err(difference) => Err(difference),
-        Ok(()) => Err(Difference::NoCrash),
+/// The same of a device that crashes meanwhile.
+fn crash(alloc: Global, device: TrialDevice) -> Result<CrashDevice, Difference> {
+    match Served::mount(alloc, device, true, Patience::None) {
+        Err(
+            Unmounted {
+                device,
+                fault: MountFault::Device,
+            },
+        ) => Ok(device.into_inner()),
+        Err(unmounted) => Err(unmounted.into()),
+        Ok(_) => Err(Difference::NoCrash),
     }
 }
 

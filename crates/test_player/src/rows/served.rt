@@ -1,47 +1,47 @@
 //! A server as a row is played on it, and the calls that come again for want of memory.
 
 use super::player::Patience;
+use crate::device::TrialDevice;
 use crate::difference::{Answer, Difference};
 use crate::drivers;
-use disk::Device;
-use server::{MountFault, Server, ServerFault};
+use server::{MountFault, Server, ServerFault, Unmounted};
 use std::alloc::Global;
 
 /// A server of the volume on a device.
 #[derive(Drop)]
-pub struct Served<D: Device> {
-    server: Server<D>,
+pub struct Served {
+    server: Server<TrialDevice>,
     patience: Patience,
     /// How many calls came again.
     again: u32,
 }
 
-impl<D: Device> Served<D> {
-    /// Mounts a device, with persistent sessions or without.
+impl Served {
+    /// Mounts a device, with persistent sessions or without. It comes back where that is refused.
     pub fn mount(
         alloc: Global,
-        device: D,
+        device: TrialDevice,
         persistent: bool,
         patience: Patience,
-    ) -> Result<Served<D>, Difference> {
-        let (server, again) = match Server::mount(alloc, device, persistent) {
-            Ok(server) => (server, 0),
-            Err(unmounted) => match (unmounted.fault, patience) {
-                (MountFault::Memory, Patience::Once) => {
-                    (mount_again(alloc, unmounted.device, persistent)?, 1)
-                }
-                (fault, _) => return Err(fault.into()),
-            },
+    ) -> Result<Served, Unmounted<TrialDevice>> {
+        let (told, again) = match Server::mount(alloc, device, persistent) {
+            Err(
+                Unmounted {
+                    device,
+                    fault: MountFault::Memory,
+                },
+            ) if patience == Patience::Once => (Server::mount(alloc, device, persistent), 1),
+            told => (told, 0),
         };
         Ok(Served {
-            server,
+            server: told?,
             patience,
             again,
         })
     }
 
     /// Mounts its device anew, with persistent sessions or without.
-    pub fn mount_anew(self, alloc: Global, persistent: bool) -> Result<Served<D>, Difference> {
+    pub fn mount_anew(self, alloc: Global, persistent: bool) -> Result<Served, Difference> {
         let Served {
             server,
             patience,
@@ -51,6 +51,11 @@ impl<D: Device> Served<D> {
         let mut served = Served::mount(alloc, device, persistent, patience)?;
         served.again = served.again.saturating_add(again);
         Ok(served)
+    }
+
+    /// Its device, as it is now.
+    pub fn into_device(self) -> TrialDevice {
+        drivers::into_device(self.server)
     }
 
     /// The number of this mount of the volume.
@@ -131,17 +136,5 @@ impl<D: Device> Served<D> {
             self.again = self.again.saturating_add(1);
         }
         is_again
-    }
-}
-
-/// Mounts a device whose first mount was refused for want of memory.
-fn mount_again<D: Device>(
-    alloc: Global,
-    device: D,
-    persistent: bool,
-) -> Result<Server<D>, MountFault> {
-    match Server::mount(alloc, device, persistent) {
-        Ok(server) => Ok(server),
-        Err(unmounted) => Err(unmounted.fault),
     }
 }

@@ -3,9 +3,9 @@
 use super::call::{Call, in_order};
 use super::player::{Arrival, CONNECTIONS, Stage, new_volume};
 use super::step::Step;
+use crate::device::TrialDevice;
 use crate::difference::{Answer, Difference, expect, expect_reply};
 use callers::Refused;
-use disk::MemDevice;
 use event_loop::{Door, Hub, Pace, Settings};
 use server::ServerFault;
 use slab::Slab;
@@ -43,7 +43,7 @@ impl Clock for Still {
 /// A loop over a server's peers, and the peers by their numbers.
 #[derive(Drop)]
 pub struct Sockets {
-    hub: Hub<MemDevice>,
+    hub: Hub<TrialDevice>,
     address: SocketAddr,
     clock: (Still, Global),
     /// How soon the loop is to go on.
@@ -85,7 +85,7 @@ impl Sockets {
     /// A loop over a device's volume, and the connections that a row begins with.
     fn over(
         rt: &HostRuntime,
-        device: MemDevice,
+        device: TrialDevice,
         persistent: bool,
         arrival: Arrival,
     ) -> Result<Sockets, Difference> {
