@@ -1,16 +1,9 @@
-//! What no contract says: that calls succeed, what stands after mounts and crashes, and which
-//! images a mount refuses.
+//! What no contract says: what stands after mounts of version 1 and their crashes, and which images
+//! a mount refuses.
 
-mod caches;
 mod drivers;
-mod files;
 mod filling;
 mod images;
 mod migrations;
-mod olds;
-mod pages;
-mod rows;
 mod sectors;
 mod version_1;
-mod volumes;
-mod words;

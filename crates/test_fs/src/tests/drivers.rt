@@ -1,15 +1,72 @@
-//! The calls of a file system over memory. Each stands here once, with no contract: a call brings
-//! all that it promises into the proof of its caller.
+//! The calls of a file system and of a device. Each stands here once, with no contract: a call
+//! brings all that it promises into the proof of its caller.
 
-mod asking;
-mod calls;
-mod changes;
-mod pages;
-mod volumes;
+use super::sectors::Image;
+use disk::{Call, CallKind, CrashDevice, Device, FaultDevice, MemDevice, SECTOR, Stop};
+use fs::{Fs, MountFault};
+use std::alloc::Global;
+use std::test::Fail;
 
-pub(super) use asking::ask;
-pub(super) use changes::make_dir;
-pub(super) use volumes::{
-    Tree, check, device_of, format, image_of, judge, mount, mount_cached, mount_on, mounted,
-    remount, try_mount,
-};
+/// Memory that crashes, or of which a call fails. It is the one type of device that a file system
+/// is compiled for.
+pub(super) type Disk = FaultDevice<CrashDevice>;
+
+/// No call of a device.
+pub(super) const NO_CALL: (CallKind, u64) = (CallKind::Read, u64::MAX);
+
+/// Memory with these sectors that stops there, and of which the call of this kind and number fails.
+pub(super) fn disk_of(
+    alloc: Global,
+    image: Image,
+    stop: Stop,
+    failing: (CallKind, u64),
+) -> Result<Disk, Fail> {
+    if image.len() > u32::MAX as usize {
+        return Err("too many sectors".into());
+    }
+    let device = CrashDevice::new(MemDevice::with_sectors(alloc, image)?, stop);
+    Ok(FaultDevice::new(device, failing.0, failing.1))
+}
+
+/// Mounts a disk, whatever stands on it, and leaves it. The run, or why it was refused.
+pub(super) fn try_mount(alloc: Global, disk: &mut Disk) -> Result<u32, MountFault> {
+    match Fs::mount(alloc, disk) {
+        Ok(fs) => Ok(fs.restart_count()),
+        Err(refused) => Err(refused.fault),
+    }
+}
+
+/// Whether a tree stands on a disk.
+pub(super) fn check(alloc: Global, disk: &mut Disk) -> Result<(), MountFault> {
+    let mut disk = disk;
+    Fs::check(alloc, &mut disk)?;
+    Ok(())
+}
+
+/// What a check and a mount both answer, if they answer the same, and neither writes to what it
+/// refuses.
+pub(super) fn judge(alloc: Global, disk: Disk) -> Option<Result<(), MountFault>> {
+    let mut disk = disk;
+    let checked = check(alloc, &mut disk);
+    let holds = match try_mount(alloc, &mut disk) {
+        Ok(_) => checked.is_ok(),
+        Err(fault) => checked == Err(fault) && is_as_it_was(&disk.into_inner()),
+    };
+    holds.then_some(checked)
+}
+
+/// Whether nothing was written to it.
+fn is_as_it_was(device: &CrashDevice) -> bool {
+    device.calls().iter().all(|call| matches!(call, Call::Sync))
+}
+
+/// The sectors of a device.
+pub(super) fn image_of<D: Device>(alloc: Global, device: &mut D) -> Result<Image, Fail> {
+    let mut image = Vec::new(alloc);
+    for number in 0..device.sectors() {
+        let mut content = [0; SECTOR];
+        device.read(number, &mut content)?;
+        image.push(content)?;
+    }
+    Ok(image)
+}

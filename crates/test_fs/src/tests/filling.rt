@@ -1,31 +1,72 @@
-//! A volume with directories and files.
+//! A volume with directories and files, of 16 nodes and of 64: what the calls of version 2 left.
+//!
+//! A directory `a` with `b` in it and `c` in that, a file `f` of 5,000 bytes, and a file `g` with a
+//! hole, of two runs. It was mounted twice: the second mount copied home what the gate still named,
+//! and closed it.
 
-use super::drivers::{image_of, mounted, remount};
-use super::rows::play;
-use super::sectors::Image;
-use std::alloc::Global;
-use std::process::Abort;
-use std::test::Fail;
+use super::sectors::Volume;
 
-/// What fills the volume.
-const FILLING: &str = "
-7 mkdir 1 a = 1:1 1
-7 mkdir 1:1 b = 1:2 1:1
-7 mkdir 1:2 c = 1:3 1:2
-7 create 1 f = 1:4 2 1:1 1:4
-7 write 1:4 0 stable 7*5000 = 5000
-7 create 1 g = 1:6 2 1:4 1:6
-7 write 1:6 0 stable 'first = 5
-7 write 1:6 8192 stable 'third = 5";
-
-/// A directory `a` with `b` in it and `c` in that, a file `f` of 5,000 bytes, and a file `g` with a
-/// hole, of two runs. It was mounted twice: the second mount copied home what the gate still named,
-/// and closed it.
-///
 /// Of 16 nodes they are those of the sectors 148 (the root), 163, 162, 161, 160 and 159. From 164
 /// on stand the block of the root and its run sector, those of `a` and of `b`, two blocks of `f`
 /// and its run sector, and the first block of `g`, its run sector and its other block.
-pub(super) fn filled(rt: &impl Abort, alloc: Global, nodes: u32) -> Result<Image, Fail> {
-    let fs = play(rt, alloc, mounted(alloc, 256, nodes)?, FILLING)?;
-    image_of(alloc, &mut remount(alloc, fs)?.into_device())
-}
+pub(super) const OF_16_NODES: Volume = (256, OF_16);
+
+pub(super) const OF_64_NODES: Volume = (256, OF_64);
+
+const OF_16: &str = "
+@0 4e46533431564f4c 0*3 02 0*2 01 0*4 10 0*3 02
+@98 fff0
+@148 4e4f443202 0*2 01 0*7 01 0*11 01 0*3 06 0*7 05 0*7 03 0*3 a5 0*33 01 0*43 02 0*3 1f01e7
+@159 4e4f443201 0*2 02 0*3 01 0*3 06 0*3 07 0*3 07 0*3 01 0*3 08 0*7 05 0*6 2005 0*3 ae 0*33 04
+ 0*49 27 0*9 01 0*5 21 0*8 0101 0*5 06 0*9 02 0*5 21
+@160 4e4f443201 0*2 01 0*3 01 0*3 04 0*3 07 0*3 07 0*3 01 0*3 05 0*7 05 0*6 1388 0*3 ac 0*33 04
+ 0*49 27 0*9 01 0*5 21 0*8 0101 0*5 06 0*9 02 0*5 21
+@161 4e4f443202 0*6 01 0*3 03 0*3 07 0*3 07 0*3 01 0*3 03 0*7 05 0*45 04 0*49 67 0*9 01 0*5 21 0*8
+ 0101 0*5 46 0*9 02 0*5 21
+@162 4e4f443202 0*2 01 0*3 01 0*3 02 0*3 07 0*3 07 0*3 01 0*3 03 0*7 05 0*7 01 0*3 a9 0*33 04 0*49
+ 67 0*9 01 0*5 21 0*8 0101 0*5 46 0*9 02 0*5 21
+@163 4e4f443202 0*2 01 0*3 01 0*3 01 0*3 07 0*3 07 0*3 01 0*3 02 0*7 05 0*7 01 0*3 a7 0*33 04 0*49
+ 67 0*9 01 0*5 21 0*8 0101 0*5 46 0*9 02 0*5 21
+@164 0*3 01 0*3 01 0*3 01 0*3 010161 0*257 01 0*3 04 0*3 01 0*3 040166 0*257 01 0*3 06 0*3 01 0*3
+ 060167
+@165 52554e53 0*95 01 0*3 a4
+@166 0*3 01 0*3 02 0*3 01 0*3 020162
+@167 52554e53 0*95 01 0*3 a6
+@168 0*3 01 0*3 03 0*3 01 0*3 030163
+@169 52554e53 0*95 01 0*3 a8
+@170 07070707
+@171 07070707
+@172 52554e53 0*95 02 0*3 aa
+@173 6669727374
+@174 52554e53 0*95 01 0*3 ad 0*1 02 0*1 01 0*3 af
+@175 7468697264
+";
+
+const OF_64: &str = "
+@0 4e46533431564f4c 0*3 02 0*2 01 0*4 40 0*3 02
+@98 fff0
+@148 4e4f443202 0*2 01 0*7 01 0*11 01 0*3 06 0*7 05 0*7 03 0*3 d5 0*33 01 0*43 02 0*3 1f01e7
+@207 4e4f443201 0*2 02 0*3 01 0*3 06 0*3 07 0*3 07 0*3 01 0*3 08 0*7 05 0*6 2005 0*3 de 0*33 04
+ 0*49 27 0*9 01 0*5 21 0*8 0101 0*5 06 0*9 02 0*5 21
+@208 4e4f443201 0*2 01 0*3 01 0*3 04 0*3 07 0*3 07 0*3 01 0*3 05 0*7 05 0*6 1388 0*3 dc 0*33 04
+ 0*49 27 0*9 01 0*5 21 0*8 0101 0*5 06 0*9 02 0*5 21
+@209 4e4f443202 0*6 01 0*3 03 0*3 07 0*3 07 0*3 01 0*3 03 0*7 05 0*45 04 0*49 67 0*9 01 0*5 21 0*8
+ 0101 0*5 46 0*9 02 0*5 21
+@210 4e4f443202 0*2 01 0*3 01 0*3 02 0*3 07 0*3 07 0*3 01 0*3 03 0*7 05 0*7 01 0*3 d9 0*33 04 0*49
+ 67 0*9 01 0*5 21 0*8 0101 0*5 46 0*9 02 0*5 21
+@211 4e4f443202 0*2 01 0*3 01 0*3 01 0*3 07 0*3 07 0*3 01 0*3 02 0*7 05 0*7 01 0*3 d7 0*33 04 0*49
+ 67 0*9 01 0*5 21 0*8 0101 0*5 46 0*9 02 0*5 21
+@212 0*3 01 0*3 01 0*3 01 0*3 010161 0*257 01 0*3 04 0*3 01 0*3 040166 0*257 01 0*3 06 0*3 01 0*3
+ 060167
+@213 52554e53 0*95 01 0*3 d4
+@214 0*3 01 0*3 02 0*3 01 0*3 020162
+@215 52554e53 0*95 01 0*3 d6
+@216 0*3 01 0*3 03 0*3 01 0*3 030163
+@217 52554e53 0*95 01 0*3 d8
+@218 07070707
+@219 07070707
+@220 52554e53 0*95 02 0*3 da
+@221 6669727374
+@222 52554e53 0*95 01 0*3 dd 0*1 02 0*1 01 0*3 df
+@223 7468697264
+";

@@ -4,13 +4,13 @@
 //! A line of a text is such a volume, after its name: what is put into a good one, as
 //! `sectors::put_all` has it.
 
-use super::drivers::{device_of, judge};
-use super::filling::filled;
-use super::sectors::{Image, copy_image, put_all};
+use super::drivers::{Disk, NO_CALL, disk_of, judge};
+use super::filling::OF_16_NODES;
+use super::sectors::{Image, copy_image, put_all, volume_image};
 use super::version_1::take_back;
-use disk::MemDevice;
+use disk::Stop;
 use fs::MountFault;
-use std::alloc::Global;
+use std::alloc::{AllocError, Global};
 use std::process::Abort;
 use std::test::Fail;
 
@@ -123,10 +123,10 @@ the number of ACEs in form two: @163 0*84 01
 its other byte: @163 0*85 03";
 
 /// The volume with the change of a line.
-fn changed(alloc: Global, good: &Image, line: &str) -> Result<MemDevice, Fail> {
+fn changed(alloc: Global, good: &Image, line: &str) -> Result<Disk, Fail> {
     let mut image = copy_image(alloc, good)?;
     put_line(&mut image, line);
-    device_of(alloc, image)
+    disk_of(alloc, image, Stop::Never, NO_CALL)
 }
 
 fn put_line(image: &mut Image, line: &str) {
@@ -155,48 +155,48 @@ const DAMAGED: Result<(), MountFault> = Err(MountFault::Damaged);
 const NO_VOLUME: Result<(), MountFault> = Err(MountFault::NotVolume);
 
 /// With the seat.
-fn seated(rt: &impl Abort, alloc: Global) -> Result<Image, Fail> {
-    let mut image = filled(rt, alloc, 16)?;
+fn seated(alloc: Global) -> Result<Image, AllocError> {
+    let mut image = volume_image(alloc, OF_16_NODES)?;
     put_line(&mut image, SEAT);
     Ok(image)
 }
 
 /// Of version 1, of which so many places are moved.
-fn moving(rt: &impl Abort, alloc: Global, moved: u8) -> Result<Image, Fail> {
-    let mut image = filled(rt, alloc, 16)?;
+fn moving(alloc: Global, moved: u8) -> Result<Image, AllocError> {
+    let mut image = volume_image(alloc, OF_16_NODES)?;
     take_back(&mut image, 16, moved);
     Ok(image)
 }
 
 #[test]
 fn good_volumes_are_taken(rt: HostRuntime) -> Result<(), Fail> {
-    expect(&rt, rt.alloc(), &filled(&rt, rt.alloc(), 16)?, GOOD, Ok(()))?;
     expect(
         &rt,
         rt.alloc(),
-        &seated(&rt, rt.alloc())?,
-        GOOD_SEATS,
+        &volume_image(rt.alloc(), OF_16_NODES)?,
+        GOOD,
         Ok(()),
-    )
+    )?;
+    expect(&rt, rt.alloc(), &seated(rt.alloc())?, GOOD_SEATS, Ok(()))
 }
 
 #[test]
 fn faults_are_refused(rt: HostRuntime) -> Result<(), Fail> {
-    let good = filled(&rt, rt.alloc(), 16)?;
+    let good = volume_image(rt.alloc(), OF_16_NODES)?;
     expect(&rt, rt.alloc(), &good, FAULTS, DAMAGED)?;
     expect(&rt, rt.alloc(), &good, NO_VERSIONS, NO_VOLUME)
 }
 
 #[test]
 fn faults_of_a_migration_are_refused(rt: HostRuntime) -> Result<(), Fail> {
-    let good = moving(&rt, rt.alloc(), 13)?;
+    let good = moving(rt.alloc(), 13)?;
     expect(&rt, rt.alloc(), &good, MOVING_FAULTS, DAMAGED)?;
     expect(&rt, rt.alloc(), &good, NO_VERSIONS, NO_VOLUME)
 }
 
 #[test]
 fn faults_of_a_seat_are_refused(rt: HostRuntime) -> Result<(), Fail> {
-    let good = seated(&rt, rt.alloc())?;
+    let good = seated(rt.alloc())?;
     expect(&rt, rt.alloc(), &good, SEAT_FAULTS, DAMAGED)
 }
 
@@ -204,7 +204,7 @@ fn faults_of_a_seat_are_refused(rt: HostRuntime) -> Result<(), Fail> {
 #[test]
 fn a_seat_in_version_1_is_refused(rt: HostRuntime) -> Result<(), Fail> {
     for moved in [0, 4, 16] {
-        let good = moving(&rt, rt.alloc(), moved)?;
+        let good = moving(rt.alloc(), moved)?;
         expect(&rt, rt.alloc(), &good, NO_CHANGE, Ok(()))?;
         expect(&rt, rt.alloc(), &good, SEAT, DAMAGED)?;
     }

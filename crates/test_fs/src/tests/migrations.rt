@@ -1,14 +1,13 @@
 //! Mounts of version 1: wherever one crashes, and whatever call of the device fails, the same tree
 //! stands, and in the end it has version 2.
 
-use super::drivers::{check, device_of, image_of, try_mount};
-use super::filling::filled;
-use super::sectors::{Image, MARK, NODES, byte_at, copy_image, put_all};
-use super::version_1::{FILLED, WIDE, old_image, take_back};
-use disk::{CallKind, CrashDevice, FaultDevice, Landed, MemDevice, SECTOR, Stop, landings};
+use super::drivers::{NO_CALL, check, disk_of, image_of, try_mount};
+use super::filling::{OF_16_NODES, OF_64_NODES};
+use super::sectors::{Image, MARK, NODES, byte_at, copy_image, put_all, volume_image};
+use super::version_1::{FILLED, WIDE, take_back};
+use disk::{CallKind, CrashDevice, Landed, SECTOR, Stop, landings};
 use fs::MountFault;
 use std::alloc::{AllocError, Global};
-use std::process::Abort;
 use std::test::Fail;
 
 /// More calls of a kind than a mount makes, and more places than crashes leave.
@@ -87,16 +86,12 @@ fn need(holds: bool, why: &'static str) -> Result<(), Fail> {
     if holds { Ok(()) } else { Err(why.into()) }
 }
 
-/// Memory that holds the volume.
-fn device(alloc: Global, image: &Image) -> Result<MemDevice, Fail> {
-    device_of(alloc, copy_image(alloc, image)?)
-}
-
 /// A check finds a tree and writes nothing.
 fn expect_check(alloc: Global, image: &Image) -> Result<(), Fail> {
-    let mut device = device(alloc, image)?;
-    let answer = check(alloc, &mut device);
-    need(answer.is_ok() && device.calls().is_empty(), "a check")
+    let mut disk = disk_of(alloc, copy_image(alloc, image)?, Stop::Never, NO_CALL)?;
+    let answer = check(alloc, &mut disk);
+    let is_unchanged = disk.into_inner().calls().is_empty();
+    need(answer.is_ok() && is_unchanged, "a check")
 }
 
 /// What a mount answered and left, and how many writes and syncs it made.
@@ -108,22 +103,27 @@ struct Left {
 }
 
 /// A mount of which the call of this kind and number fails.
-fn mount(alloc: Global, before: &Image, kind: CallKind, number: u64) -> Result<Left, Fail> {
-    let mut device = FaultDevice::new(device(alloc, before)?, kind, number);
-    let answer = try_mount(alloc, &mut device);
-    let mut inner = device.into_inner();
+fn mount(alloc: Global, before: &Image, failing: (CallKind, u64)) -> Result<Left, Fail> {
+    let mut disk = disk_of(alloc, copy_image(alloc, before)?, Stop::Never, failing)?;
+    let answer = try_mount(alloc, &mut disk);
+    let mut device = disk.into_inner();
     Ok(Left {
         answer,
-        steps: inner.calls().len(),
-        image: image_of(alloc, &mut inner)?,
+        steps: device.calls().len(),
+        image: image_of(alloc, &mut device)?,
     })
 }
 
 /// A mount that crashes within this step.
 fn crash(alloc: Global, before: &Image, step: u64) -> Result<CrashDevice, Fail> {
-    let mut device = CrashDevice::new(device(alloc, before)?, Stop::Within(step));
-    if try_mount(alloc, &mut device) == Err(MountFault::Device) {
-        Ok(device)
+    let mut disk = disk_of(
+        alloc,
+        copy_image(alloc, before)?,
+        Stop::Within(step),
+        NO_CALL,
+    )?;
+    if try_mount(alloc, &mut disk) == Err(MountFault::Device) {
+        Ok(disk.into_inner())
     } else {
         Err("no crash".into())
     }
@@ -182,7 +182,7 @@ impl Trial {
 
     /// The whole mount. How many writes and syncs it takes.
     fn finish(&self, before: &Image) -> Result<usize, Fail> {
-        let left = mount(self.alloc, before, CallKind::Read, u64::MAX)?;
+        let left = mount(self.alloc, before, NO_CALL)?;
         self.expect_end(before, &left)?;
         Ok(left.steps)
     }
@@ -249,7 +249,7 @@ impl Trial {
     /// A mount of which one call fails, or none where there are not so many. After it the next
     /// mount ends it all.
     fn fail(&self, before: &Image, kind: CallKind, number: u64) -> Result<bool, Fail> {
-        let left = mount(self.alloc, before, kind, number)?;
+        let left = mount(self.alloc, before, (kind, number))?;
         if left.answer == Err(MountFault::Device) {
             self.expect(before, &left.image)?;
             self.finish(&left.image)?;
@@ -282,19 +282,26 @@ impl Trial {
     }
 }
 
-/// The volume of `filling` with so many nodes, as a migration left it that has moved so many.
-fn moving(rt: &impl Abort, alloc: Global, nodes: u8, moved: u8) -> Result<Image, Fail> {
-    let mut image = filled(rt, alloc, u32::from(nodes))?;
-    take_back(&mut image, nodes, moved);
+/// The volume of `filling` with 16 nodes, as a migration left it that has moved so many.
+fn moving(alloc: Global, moved: u8) -> Result<Image, AllocError> {
+    let mut image = volume_image(alloc, OF_16_NODES)?;
+    take_back(&mut image, 16, moved);
+    Ok(image)
+}
+
+/// That with 64 nodes, of which none was moved.
+fn unmoved(alloc: Global) -> Result<Image, AllocError> {
+    let mut image = volume_image(alloc, OF_64_NODES)?;
+    take_back(&mut image, 64, 0);
     Ok(image)
 }
 
 /// The same tree is on a volume of version 1 whatever was moved, and each is migrated.
 #[test]
 fn a_migration_goes_on_from_each_mark(rt: HostRuntime) -> Result<(), Fail> {
-    let trial = Trial::new(rt.alloc(), filled(&rt, rt.alloc(), 16)?)?;
+    let trial = Trial::new(rt.alloc(), volume_image(rt.alloc(), OF_16_NODES)?)?;
     for moved in 0..17 {
-        let image = moving(&rt, rt.alloc(), 16, moved)?;
+        let image = moving(rt.alloc(), moved)?;
         expect_check(rt.alloc(), &image)?;
         trial.finish(&image)?;
     }
@@ -329,7 +336,7 @@ fn hide_root(image: &mut Image) {
 /// Each landing of the first mount's crashes, and the mounts of what they leave.
 #[test]
 fn crashes_of_a_migration(rt: HostRuntime) -> Result<(), Fail> {
-    let mut image = moving(&rt, rt.alloc(), 64, 0)?;
+    let mut image = unmoved(rt.alloc())?;
     hide_root(&mut image);
     let mut trial = Trial::new(rt.alloc(), image)?;
     trial.crash_all()?;
@@ -339,17 +346,17 @@ fn crashes_of_a_migration(rt: HostRuntime) -> Result<(), Fail> {
 /// All of the 64 nodes are used, so that a transaction has as many sectors as it may have.
 #[test]
 fn crashes_of_the_migration_of_64_nodes(rt: HostRuntime) -> Result<(), Fail> {
-    try_crashes(rt.alloc(), &old_image(rt.alloc(), WIDE)?, 64)
+    try_crashes(rt.alloc(), &volume_image(rt.alloc(), WIDE)?, 64)
 }
 
 /// Holes, files of several runs and long lists.
 #[test]
 fn crashes_of_the_migration_of_a_filled_volume(rt: HostRuntime) -> Result<(), Fail> {
-    try_crashes(rt.alloc(), &old_image(rt.alloc(), FILLED)?, 60)
+    try_crashes(rt.alloc(), &volume_image(rt.alloc(), FILLED)?, 60)
 }
 
 #[test]
 fn failing_calls_of_a_migration(rt: HostRuntime) -> Result<(), Fail> {
-    let image = moving(&rt, rt.alloc(), 64, 0)?;
+    let image = unmoved(rt.alloc())?;
     Trial::new(rt.alloc(), copy_image(rt.alloc(), &image)?)?.fail_all(&image)
 }

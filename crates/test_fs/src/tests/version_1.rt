@@ -1,31 +1,16 @@
 //! Volumes of version 1: what a program of that version left, and what a migration leaves on its
 //! way.
 
-mod empty;
 mod filled;
 mod wide;
 
-use super::sectors::{Image, MARK, NODES, put_all};
+use super::sectors::{Image, MARK, NODES, Volume};
 use disk::SECTOR;
-use std::alloc::{AllocError, Global};
 
-/// A volume that a program of version 1 left: how many sectors it has, and what stands in those
-/// that are not zero, as `put_all` has it. Payload sectors are left out, since the gate is closed.
-pub(super) type Old = (usize, &'static str);
+/// What programs of version 1 left.
+pub(super) const FILLED: Volume = (320, filled::TEXT);
 
-pub(super) const EMPTY: Old = (256, empty::TEXT);
-
-pub(super) const FILLED: Old = (320, filled::TEXT);
-
-pub(super) const WIDE: Old = (256, wide::TEXT);
-
-/// Its sectors.
-pub(super) fn old_image(alloc: Global, old: Old) -> Result<Image, AllocError> {
-    let (sectors, text) = old;
-    let mut image = Vec::from_elem(alloc, [0; SECTOR], sectors)?;
-    put_all(&mut image, text);
-    Ok(image)
-}
+pub(super) const WIDE: Volume = (256, wide::TEXT);
 
 /// The sector of a node of form two as it was in form one.
 fn take_node_back(bytes: &mut [u8; SECTOR]) {
