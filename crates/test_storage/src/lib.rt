@@ -1,4 +1,4 @@
-//! Tests of devices, of the journal, and of what a volume's mount finds.
+//! Tests of devices and of the journal.
 #![tactic(auto)]
 
 #[cfg(test)]

@@ -6,6 +6,7 @@ use super::held::{Held, Step};
 use disk::{Device, DiskFault, SECTOR};
 use journal::JournalFault;
 use std::alloc::Global;
+use std::num::NonZeroUsize;
 use std::test::Fail;
 
 // a device that counts how often each of these sectors is read
@@ -54,6 +55,7 @@ impl<D: Device> Device for Counting<D> {
 // what the steps answer, and how often the device read this sector
 fn reads_of(
     alloc: Global,
+    cached: usize,
     steps: &[(Step<'_>, u8)],
     sector: usize,
 ) -> Result<(bool, u64), JournalFault> {
@@ -61,9 +63,10 @@ fn reads_of(
         device: memory(alloc, SECTORS)?,
         reads: [0; 256],
     };
+    let cached = NonZeroUsize::new(cached).unwrap_or(NonZeroUsize::MIN);
     let mut is_right = true;
     {
-        let mut held = Held::mount(alloc, &mut counting)?;
+        let mut held = Held::mount_cached(alloc, &mut counting, cached)?;
         for (step, wanted) in steps {
             let answer = held.take(alloc, *step)?;
             is_right = is_right && answer == *wanted;
@@ -72,12 +75,25 @@ fn reads_of(
     Ok((is_right, counting.reads.get(sector).copied().unwrap_or(0)))
 }
 
-// steps with their answers, and how often a sector is then read
-const ROWS: [(&[(Step<'static>, u8)], usize, u64); 4] = [
+const BETWEEN: [(Step<'static>, u8); 3] = [
+    (Step::Byte(200), 0),
+    (Step::Byte(201), 0),
+    (Step::Byte(200), 0),
+];
+
+// how many sectors are kept, steps with their answers, and how often a sector is then read
+type Row = (usize, &'static [(Step<'static>, u8)], usize, u64);
+
+const ROWS: [Row; 7] = [
     // twice
-    (&[(Step::Byte(200), 0), (Step::Byte(200), 0)], 200, 1),
+    (64, &[(Step::Byte(200), 0), (Step::Byte(200), 0)], 200, 1),
+    (1, &[(Step::Byte(200), 0), (Step::Byte(200), 0)], 200, 1),
+    // with another between
+    (64, &BETWEEN, 200, 1),
+    (1, &BETWEEN, 200, 2),
     // what waits is read in memory, and what was flushed behind the gate
     (
+        64,
         &[
             (Step::Byte(200), 0),
             (Step::Apply(&[200], 7), 0),
@@ -91,6 +107,7 @@ const ROWS: [(&[(Step<'static>, u8)], usize, u64); 4] = [
     ),
     // what the gate shows is in memory, also for the flush that copies it home, and a checkpoint
     (
+        64,
         &[
             (Step::Apply(&[200], 7), 0),
             (Step::Flush, 0),
@@ -106,6 +123,7 @@ const ROWS: [(&[(Step<'static>, u8)], usize, u64); 4] = [
     ),
     // the first sector is not kept
     (
+        64,
         &[
             (Step::Byte(0), 0),
             (Step::Superblock(9), 0),
@@ -118,8 +136,8 @@ const ROWS: [(&[(Step<'static>, u8)], usize, u64); 4] = [
 
 #[test]
 fn sectors_are_read_once(rt: HostRuntime) -> Result<(), Fail> {
-    for (i, (steps, sector, wanted)) in ROWS.iter().enumerate() {
-        let (is_right, reads) = reads_of(rt.alloc(), steps, *sector)?;
+    for (i, (cached, steps, sector, wanted)) in ROWS.iter().enumerate() {
+        let (is_right, reads) = reads_of(rt.alloc(), *cached, steps, *sector)?;
         assert!(rt; is_right, "row {i}");
         assert_eq!(rt; reads, *wanted, "row {i}");
     }

@@ -9,6 +9,7 @@ use super::SECTORS;
 use disk::{Device, Update};
 use journal::{Journal, JournalFault};
 use std::alloc::{AllocError, Global};
+use std::num::NonZeroUsize;
 
 /// The first sector that a transaction may write.
 const FIRST_TARGET: u32 = 98;
@@ -65,6 +66,21 @@ impl<D: Device> Held<D> {
             return Err(JournalFault::Damaged);
         }
         match Journal::mount(alloc, device) {
+            Ok(journal) => Ok(Held { journal }),
+            Err(refused) => Err(refused.fault),
+        }
+    }
+
+    /// The same, by a journal that keeps so many sectors.
+    pub(super) fn mount_cached(
+        alloc: Global,
+        device: D,
+        cached: NonZeroUsize,
+    ) -> Result<Held<D>, JournalFault> {
+        if device.sectors() != SECTORS {
+            return Err(JournalFault::Damaged);
+        }
+        match Journal::mount_cached(alloc, device, cached) {
             Ok(journal) => Ok(Held { journal }),
             Err(refused) => Err(refused.fault),
         }
