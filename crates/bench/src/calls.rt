@@ -1,10 +1,10 @@
 //! Calls of a file system, made again and again.
 
+use crate::rows::Rows;
 use crate::volumes::{
     Directory, NOW, SizedFile, TRANSFER_BYTES, Tree, caller, make_file, mount, name_of, write,
 };
 use crate::work::{Undone, Work};
-use disk::Device;
 use fs::{FsFault, Listing, Renaming};
 use std::alloc::Global;
 use std::fmt;
@@ -58,15 +58,15 @@ impl fmt::Display for Call {
 
 /// A call on a volume.
 #[derive(Drop)]
-pub struct Calls<D: Device> {
-    pub tree: Tree<D>,
+pub struct Calls {
+    pub tree: Tree,
     pub call: Call,
     /// What is read.
     read: Vec<u8>,
 }
 
-impl<D: Device> Calls<D> {
-    pub fn new(alloc: Global, tree: Tree<D>) -> anyhow::Result<Calls<D>> {
+impl Calls {
+    pub fn new(alloc: Global, tree: Tree) -> anyhow::Result<Calls> {
         Ok(Calls {
             tree,
             call: Call::List,
@@ -151,7 +151,7 @@ fn last_offset(file: SizedFile) -> u64 {
     file.bytes.saturating_sub(TRANSFER_BYTES as u64)
 }
 
-impl<D: Device> Work for Calls<D> {
+impl Work for Calls {
     fn turn(&mut self) -> anyhow::Result<u64> {
         for i in 0..CALLS {
             self.call_once(i)?;
@@ -162,12 +162,12 @@ impl<D: Device> Work for Calls<D> {
 
 /// Makes files of no bytes in a directory; undone, they are removed.
 #[derive(Drop)]
-pub struct Makes<D: Device> {
-    pub tree: Tree<D>,
+pub struct Makes {
+    pub tree: Tree,
     pub directory: Directory,
 }
 
-impl<D: Device> Work for Makes<D> {
+impl Work for Makes {
     fn turn(&mut self) -> anyhow::Result<u64> {
         let Directory { number, files, .. } = self.directory;
         for i in 0..MADE {
@@ -177,7 +177,7 @@ impl<D: Device> Work for Makes<D> {
     }
 }
 
-impl<D: Device> Undone for Makes<D> {
+impl Undone for Makes {
     fn undo(&mut self) -> anyhow::Result<u64> {
         let Directory { number, files, .. } = self.directory;
         for i in 0..MADE {
@@ -190,13 +190,13 @@ impl<D: Device> Undone for Makes<D> {
 
 /// Mounts a volume again and again.
 #[derive(Drop)]
-pub struct Mounts<D: Device> {
+pub struct Mounts {
     alloc: Global,
-    device: Option<D>,
+    device: Option<Rows>,
 }
 
-impl<D: Device> Mounts<D> {
-    pub fn new(alloc: Global, tree: Tree<D>) -> Mounts<D> {
+impl Mounts {
+    pub fn new(alloc: Global, tree: Tree) -> Mounts {
         Mounts {
             alloc,
             device: Some(tree.fs.into_device()),
@@ -204,7 +204,7 @@ impl<D: Device> Mounts<D> {
     }
 }
 
-impl<D: Device> Work for Mounts<D> {
+impl Work for Mounts {
     fn turn(&mut self) -> anyhow::Result<u64> {
         let Some(device) = self.device.take() else {
             anyhow::bail!("no device");

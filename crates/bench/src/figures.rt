@@ -4,7 +4,7 @@ use crate::calls::{Call, Calls, Makes, Mounts};
 use crate::rows::Rows;
 use crate::volumes::{Directory, LARGE, SAMPLE, SMALL, Shape, SizedFile, Tree};
 use crate::work::{Measure, Work, how_many, how_many_of_both, shortest_turn};
-use disk::{Device, FileDevice};
+use disk::FileDevice;
 use std::alloc::Global;
 use std::fs::{File, Files};
 use std::time::Clock;
@@ -21,7 +21,7 @@ where
     }
     for shape in [SMALL, LARGE] {
         print_shape(rt, shape, "a file")?;
-        let device = FileDevice::create(rt, alloc, path, shape.sectors)?;
+        let device = Rows::over(alloc, FileDevice::create(rt, alloc, path, shape.sectors)?);
         print_volume(rt, alloc, Measure::Rate, device, shape)?;
     }
     Ok(())
@@ -40,11 +40,11 @@ fn print_shape<R: Print>(rt: &R, shape: Shape, over: &str) -> anyhow::Result<()>
     Ok(())
 }
 
-fn print_volume<R: Clock + Print, D: Device>(
+fn print_volume<R: Clock + Print>(
     rt: &R,
     alloc: Global,
     measure: Measure,
-    device: D,
+    device: Rows,
     shape: Shape,
 ) -> anyhow::Result<()> {
     let tree = Tree::new(alloc, device, shape)?;
@@ -55,11 +55,7 @@ fn print_volume<R: Clock + Print, D: Device>(
     print_mount(rt, measure, &mut mounts)
 }
 
-fn print_all_makes<R: Clock + Print, D: Device>(
-    rt: &R,
-    measure: Measure,
-    tree: Tree<D>,
-) -> anyhow::Result<Tree<D>> {
+fn print_all_makes<R: Clock + Print>(rt: &R, measure: Measure, tree: Tree) -> anyhow::Result<Tree> {
     let mut makes = Makes {
         directory: tree.few,
         tree,
@@ -72,10 +68,10 @@ fn print_all_makes<R: Clock + Print, D: Device>(
     Ok(makes.tree)
 }
 
-fn print_makes<R: Clock + Print, D: Device>(
+fn print_makes<R: Clock + Print>(
     rt: &R,
     measure: Measure,
-    makes: &mut Makes<D>,
+    makes: &mut Makes,
 ) -> anyhow::Result<()> {
     let names = makes.directory.files;
     let (made, removed) = how_many_of_both(rt, measure, makes)?;
@@ -84,10 +80,10 @@ fn print_makes<R: Clock + Print, D: Device>(
     Ok(())
 }
 
-fn print_all_calls<R: Clock + Print, D: Device>(
+fn print_all_calls<R: Clock + Print>(
     rt: &R,
     measure: Measure,
-    calls: &mut Calls<D>,
+    calls: &mut Calls,
 ) -> anyhow::Result<()> {
     let (few, many) = (calls.tree.few, calls.tree.many);
     print_in_directory(rt, measure, calls, few)?;
@@ -102,20 +98,20 @@ fn print_all_calls<R: Clock + Print, D: Device>(
     print_call(rt, measure, calls, Call::List)
 }
 
-fn print_in_directory<R: Clock + Print, D: Device>(
+fn print_in_directory<R: Clock + Print>(
     rt: &R,
     measure: Measure,
-    calls: &mut Calls<D>,
+    calls: &mut Calls,
     directory: Directory,
 ) -> anyhow::Result<()> {
     print_call(rt, measure, calls, Call::Rename(directory))?;
     print_call(rt, measure, calls, Call::LookUp(directory))
 }
 
-fn print_in_file<R: Clock + Print, D: Device>(
+fn print_in_file<R: Clock + Print>(
     rt: &R,
     measure: Measure,
-    calls: &mut Calls<D>,
+    calls: &mut Calls,
     file: SizedFile,
 ) -> anyhow::Result<()> {
     for is_stable in [true, false] {
@@ -124,10 +120,10 @@ fn print_in_file<R: Clock + Print, D: Device>(
     print_call(rt, measure, calls, Call::Read(file))
 }
 
-fn print_call<R: Clock + Print, D: Device>(
+fn print_call<R: Clock + Print>(
     rt: &R,
     measure: Measure,
-    calls: &mut Calls<D>,
+    calls: &mut Calls,
     call: Call,
 ) -> anyhow::Result<()> {
     calls.call = call;
@@ -136,10 +132,10 @@ fn print_call<R: Clock + Print, D: Device>(
     Ok(())
 }
 
-fn print_mount<R: Clock + Print, D: Device>(
+fn print_mount<R: Clock + Print>(
     rt: &R,
     measure: Measure,
-    mounts: &mut Mounts<D>,
+    mounts: &mut Mounts,
 ) -> anyhow::Result<()> {
     match measure {
         Measure::Turn => {

@@ -1,28 +1,95 @@
-//! A device of memory.
+//! The device of a volume: memory, or a file. It is one type, so that a file system is compiled
+//! once.
 
-ghost use Rattle.std.specs.Prelude.{◌≡◌, [], IfOk, vec_len};
+ghost use Rattle.std.specs.Prelude.{◌≡◌, [], IfOk};
+ghost use Rattle.disk.specs.Cause.{IsCounted};
 ghost use Rattle.disk.specs.Moments.{at_rest};
 
-use disk::{Device, DiskFault, SECTOR};
+use disk::{Device, DiskFault, FileDevice, SECTOR};
 use std::alloc::{AllocError, Global};
 
-/// Sectors in memory, without a record of the calls. It never fails, and claims nothing.
+/// Sectors in memory, without a record of the calls, or those of a file. It claims nothing.
 #[derive(Drop)]
 pub struct Rows {
+    /// Those in memory.
     rows: Vec<[u8; SECTOR]>,
+    file: Option<FileDevice>,
     sectors: u32,
-    ghost whole: { vec_len rows ≡ sectors },
+    failures: u64,
 }
 
 impl Rows {
-    /// A device of so many sectors of zeros.
+    /// So many sectors of zeros in memory.
     pub fn new(alloc: Global, sectors: u32) -> Result<Rows, AllocError>
         ensures size { IfOk result (λ device. device.sectors ≡ sectors) }
     {
         Ok(Rows {
             rows: Vec::from_elem(alloc, [0; SECTOR], sectors as usize)?,
+            file: None,
             sectors,
+            failures: 0,
         })
+    }
+
+    /// Those of a file.
+    pub fn over(alloc: Global, file: FileDevice) -> Rows {
+        Rows {
+            rows: Vec::new(alloc),
+            sectors: file.sectors(),
+            file: Some(file),
+            failures: 0,
+        }
+    }
+
+    /// Counts a failure.
+    fn fail(&mut self) -> DiskFault
+        ensures fault { result ≡ DiskFault.Fault }
+        ensures counted { IsCounted self.old.failures self.new.failures }
+        ensures size { self.new.sectors ≡ self.old.sectors }
+    {
+        self.failures = self.failures.saturating_add(1);
+        DiskFault::Fault
+    }
+
+    /// Whether a sector was read.
+    fn copy_out(&mut self, n: u32, content: &mut [u8; SECTOR]) -> bool
+        ensures size { self.new.sectors ≡ self.old.sectors }
+        ensures failures { self.new.failures ≡ self.old.failures }
+    {
+        if let Some(file) = &mut self.file {
+            return file.read(n, content).is_ok();
+        }
+        let Some(row) = self.rows.get(n as usize) else {
+            return false;
+        };
+        *content = *row;
+        true
+    }
+
+    /// Whether a sector was written.
+    fn copy_in(&mut self, n: u32, content: &[u8; SECTOR]) -> bool
+        ensures size { self.new.sectors ≡ self.old.sectors }
+        ensures failures { self.new.failures ≡ self.old.failures }
+    {
+        if let Some(file) = &mut self.file {
+            return file.write(n, content).is_ok();
+        }
+        let Some(row) = self.rows.get_mut(n as usize) else {
+            return false;
+        };
+        *row = *content;
+        true
+    }
+
+    /// Whether the sectors were synced.
+    fn flush(&mut self) -> bool
+        ensures size { self.new.sectors ≡ self.old.sectors }
+        ensures failures { self.new.failures ≡ self.old.failures }
+    {
+        match &mut self.file {
+            Some(file) => file.sync().is_ok(),
+            None => true,
+        }
     }
 }
 
@@ -31,7 +98,7 @@ impl Device for Rows {
 
     ghost size = { λ device. device.sectors };
 
-    ghost failed = { λ _. 0 };
+    ghost failed = { λ device. device.failures };
 
     ghost history = { λ _. at_rest (λ _. []) };
 
@@ -40,16 +107,17 @@ impl Device for Rows {
     }
 
     fn failures(&self) -> u64 {
-        0
+        self.failures
     }
 
     fn read(&mut self, n: u32, content: &mut [u8; SECTOR]) -> Result<(), DiskFault> {
-        match self.rows.get(n as usize) {
-            Some(row) => {
-                *content = *row;
-                Ok(())
-            }
-            None => Err(DiskFault::Range),
+        if n >= self.sectors {
+            return Err(DiskFault::Range);
+        }
+        if self.copy_out(n, content) {
+            Ok(())
+        } else {
+            Err(self.fail())
         }
     }
 
@@ -57,12 +125,19 @@ impl Device for Rows {
         if n >= self.sectors {
             return Err(DiskFault::Range);
         }
-        self.rows[n as usize] = *content;
-        Ok(())
+        if self.copy_in(n, content) {
+            Ok(())
+        } else {
+            Err(self.fail())
+        }
     }
 
     fn sync(&mut self) -> Result<(), DiskFault> {
-        Ok(())
+        if self.flush() {
+            Ok(())
+        } else {
+            Err(self.fail())
+        }
     }
 
     ghost holds_sectors = { λ never. absurd never };

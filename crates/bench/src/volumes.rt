@@ -2,8 +2,8 @@
 
 ghost use Rattle.std.specs.Prelude.{◌≤◌, length};
 
+use crate::rows::Rows;
 use acl_eval::{Cred, Gids};
-use disk::Device;
 use fs::{Fs, FsFault, How, NewDirectory, OpenRoom, Opening, Share, Writing};
 use set_attributes::GivenAttributes;
 use std::alloc::Global;
@@ -53,12 +53,13 @@ pub const LARGE: Shape = Shape {
     long_transfers: 2_048,
 };
 
-/// A small volume that has all that the large one has.
+/// A volume that has all that the large one has, with a directory that files are made in until it
+/// is full.
 pub const SAMPLE: Shape = Shape {
-    sectors: 256,
-    nodes: 32,
+    sectors: 4_800,
+    nodes: 1_100,
     directories: 1,
-    files: 8,
+    files: 1_020,
     long_transfers: 2,
 };
 
@@ -110,7 +111,7 @@ fn attributes() -> GivenAttributes<'static>
     }
 }
 
-fn make_directory<D: Device>(fs: &mut Fs<D>, parent: u64, name: &[u8]) -> Result<u64, FsFault> {
+fn make_directory(fs: &mut Fs<Rows>, parent: u64, name: &[u8]) -> Result<u64, FsFault> {
     let asked = NewDirectory {
         parent,
         name,
@@ -120,7 +121,7 @@ fn make_directory<D: Device>(fs: &mut Fs<D>, parent: u64, name: &[u8]) -> Result
 }
 
 /// Makes a file of no bytes, kept before the answer.
-pub fn make_file<D: Device>(fs: &mut Fs<D>, directory: u64, name: &[u8]) -> Result<u64, FsFault> {
+pub fn make_file(fs: &mut Fs<Rows>, directory: u64, name: &[u8]) -> Result<u64, FsFault> {
     let asked = Opening {
         directory,
         name,
@@ -136,8 +137,8 @@ pub fn make_file<D: Device>(fs: &mut Fs<D>, directory: u64, name: &[u8]) -> Resu
 }
 
 /// Writes these bytes, kept before the answer or not.
-pub fn write<D: Device>(
-    fs: &mut Fs<D>,
+pub fn write(
+    fs: &mut Fs<Rows>,
     number: u64,
     offset: u64,
     bytes: &[u8],
@@ -153,12 +154,7 @@ pub fn write<D: Device>(
 }
 
 /// Makes a directory of the root with so many files.
-fn fill<D: Device>(
-    fs: &mut Fs<D>,
-    name: u32,
-    files: u32,
-    bytes: &[u8],
-) -> Result<Directory, FsFault> {
+fn fill(fs: &mut Fs<Rows>, name: u32, files: u32, bytes: &[u8]) -> Result<Directory, FsFault> {
     let number = make_directory(fs, ROOT, &name_of(name))?;
     let mut last_file = number;
     for i in 0..files {
@@ -173,11 +169,7 @@ fn fill<D: Device>(
 }
 
 /// Makes so many directories, and answers the last.
-fn fill_many<D: Device>(
-    fs: &mut Fs<D>,
-    shape: Shape,
-    bytes: &[u8],
-) -> Result<Option<Directory>, FsFault> {
+fn fill_many(fs: &mut Fs<Rows>, shape: Shape, bytes: &[u8]) -> Result<Option<Directory>, FsFault> {
     let mut last = None;
     for i in 0..shape.directories {
         let name = i.saturating_add(1);
@@ -187,8 +179,8 @@ fn fill_many<D: Device>(
 }
 
 /// Makes a file of the root of so many transfers, if it is to have any.
-fn fill_long<D: Device>(
-    fs: &mut Fs<D>,
+fn fill_long(
+    fs: &mut Fs<Rows>,
     transfers: u32,
     bytes: &[u8],
 ) -> Result<Option<SizedFile>, FsFault> {
@@ -204,7 +196,7 @@ fn fill_long<D: Device>(
     Ok(Some(SizedFile { number, bytes: end }))
 }
 
-pub fn mount<D: Device>(alloc: Global, device: D) -> anyhow::Result<Fs<D>> {
+pub fn mount(alloc: Global, device: Rows) -> anyhow::Result<Fs<Rows>> {
     match Fs::mount(alloc, device) {
         Ok(fs) => Ok(fs),
         Err(refused) => anyhow::bail!("not mounted: {}", refused.fault),
@@ -213,8 +205,8 @@ pub fn mount<D: Device>(alloc: Global, device: D) -> anyhow::Result<Fs<D>> {
 
 /// A mounted volume, and what is measured on it.
 #[derive(Drop)]
-pub struct Tree<D: Device> {
-    pub fs: Fs<D>,
+pub struct Tree {
+    pub fs: Fs<Rows>,
     pub few: Directory,
     /// A full directory.
     pub many: Option<Directory>,
@@ -224,9 +216,9 @@ pub struct Tree<D: Device> {
     pub bytes: Vec<u8>,
 }
 
-impl<D: Device> Tree<D> {
+impl Tree {
     /// A new volume of this shape on the device, mounted and filled.
-    pub fn new(alloc: Global, device: D, shape: Shape) -> anyhow::Result<Tree<D>> {
+    pub fn new(alloc: Global, device: Rows, shape: Shape) -> anyhow::Result<Tree> {
         let mut device = device;
         Fs::format(alloc, &mut device, shape.nodes)?;
         let mut fs = mount(alloc, device)?;
