@@ -5,6 +5,7 @@ use super::sectors::Image;
 use disk::{Call, CallKind, CrashDevice, Device, FaultDevice, MemDevice, SECTOR, Stop};
 use fs::{Fs, MountFault};
 use std::alloc::Global;
+use std::num::NonZeroUsize;
 use std::test::Fail;
 
 /// Memory that crashes, or of which a call fails. It is the one type of device that a file system
@@ -28,9 +29,10 @@ pub(super) fn disk_of(
     Ok(FaultDevice::new(device, failing.0, failing.1))
 }
 
-/// Mounts a disk, whatever stands on it, and leaves it. The run, or why it was refused.
+/// Mounts a disk, whatever stands on it, by a journal that keeps one sector, and leaves it. The run,
+/// or why it was refused.
 pub(super) fn try_mount(alloc: Global, disk: &mut Disk) -> Result<u32, MountFault> {
-    match Fs::mount(alloc, disk) {
+    match Fs::mount_cached(alloc, disk, NonZeroUsize::MIN) {
         Ok(fs) => Ok(fs.restart_count()),
         Err(refused) => Err(refused.fault),
     }
