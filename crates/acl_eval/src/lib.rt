@@ -2,7 +2,7 @@
 #![tactic(auto)]
 
 ghost use Rattle.std.specs.Prelude.{◌≡◌, ◌+◌, ◌&&◌};
-ghost use Rattle.model.specs.Acl.{counts, granted, matches, read_acl, write_acl, write_attributes};
+ghost use Rattle.model.specs.Rights.Acl.{counts, granted, matches, read_acl, write_acl, write_attributes};
 
 use bitflags::Flags;
 pub use model::acl::{Ace, AceFlags, AceKind, Acl, Cred, Gids, Mask, Who};

@@ -6,8 +6,8 @@ use Rattle.std.proofs.lemmas.List.Sums.{prefix_len-le-length}
 use Rattle.std.proofs.Math.Nat.{min_comm}
 use Rattle.std.proofs.lemmas.Bool.{and_parts, cases_lt, false≢true, le-ltb, lt-ltb}
 use Rattle.std.specs.List.{position, position_or_len}
-use Rattle.model.specs.Acl.{counts, first_of, is_allow, meets}
-use Rattle.model.specs.Mode.{allows_right}
+use Rattle.model.specs.Rights.Acl.{counts, first_of, is_allow, meets}
+use Rattle.model.specs.Rights.Mode.{allows_right}
 use Rattle.model.specs.declared.acl.Ace.{Ace}
 use Rattle.model.specs.declared.acl.Who.{Who}
 

@@ -1,6 +1,6 @@
 -- Whose bits of a mode are asked for.
 use Rattle.std.specs.Prelude.{Bool, ◌||◌}
-use Rattle.model.specs.Mode.{is_owner, is_group, is_everyone}
+use Rattle.model.specs.Rights.Mode.{is_owner, is_group, is_everyone}
 use Rattle.model.specs.declared.acl.Who.{Who}
 use Rattle.acl_set.specs.declared.modes.Class.{Class}
 use Rattle.acl_set.specs.declared.modes.Class.TheVariants as class

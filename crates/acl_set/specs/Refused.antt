@@ -1,6 +1,6 @@
 -- Which entry of a given list is refused.
 use Rattle.std.specs.Prelude.{ℕ, Option, Some, None, List}
-use Rattle.model.specs.Inherit.{first_refused}
+use Rattle.model.specs.Rights.Inherit.{first_refused}
 use Rattle.model.specs.declared.acl.Ace.{Ace}
 use Rattle.model.specs.declared.node.NodeKind.{NodeKind}
 

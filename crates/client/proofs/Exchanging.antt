@@ -1,7 +1,7 @@
 -- A client's record that is sent over a stream, and what comes of it.
 use Rattle.std.proofs.Common.{◌≡◌, ℕ, List, Option, Some, None, Result, Err, inl, inr, refl, sym, ap, ◌∙◌}
 use Rattle.std.specs.Global.{Vec}
-use Rattle.model.specs.Record.{Front, Partial, Refused, Whole, front}
+use Rattle.model.specs.Wire.Record.{Front, Partial, Refused, Whole, front}
 use Rattle.rpc.specs.Assembly.{record_limits}
 use Rattle.wire.specs.declared.outcome.Outcome.{Outcome}
 use Rattle.client.specs.declared.fault.ClientFault.{ClientFault}

@@ -12,22 +12,22 @@ use Rattle.xdr.proofs.Sequences.{then_exact}
 use Rattle.xdr.proofs.Opaques.{opaque_exact}
 use Rattle.model.specs.declared.acl.Cred.{Cred}
 use Rattle.model.specs.declared.status.Status.{Status}
-use Rattle.model.specs.Answer.{Outcome}
-use Rattle.model.specs.Keyed.{at}
-use Rattle.model.specs.Operation.{Argument}
-use Rattle.model.specs.Record.{Front, Whole, front, framed}
-use Rattle.model.specs.Results.{compound_result, AreResults}
-use Rattle.model.specs.Rpc.{CallRead, Calls, Call, Reply, Success, Request, Runs, Compound, read_call, is_call_read, request_of, reply_text, compound_head, by_cred, by_head, cred_told, credential_in, cred_of, is_empty}
-use Rattle.model.specs.RpcGrammar.{call_head, call_with, read_reply, reply_head, head_of}
-use Rattle.model.specs.RpcGrammar as rpc
-use Rattle.model.specs.RuledOut.{request_at, request_in, request_by}
-use Rattle.model.specs.Status.{code_of}
-use Rattle.model.specs.WireTypes.{system_credential}
-use Rattle.model.specs.World.{World, InProgress, Connection, Quiet, Waiting, Closed, arrives, arrives_at, arrived, connection_changed, with_connection, in_progress, result_of}
-use Rattle.model.proofs.KeyedLaws.{at-with_same}
-use Rattle.model.proofs.RecordLaws.{sent_is_read}
-use Rattle.model.proofs.ResultLaws.{result_exact, spells_results}
-use Rattle.model.proofs.RpcExact.{reads_calls, reads_credentials, reply_head_exact}
+use Rattle.model.specs.Operations.Answer.{Outcome}
+use Rattle.model.specs.Trees.Keyed.{at}
+use Rattle.model.specs.Operations.Operation.{Argument}
+use Rattle.model.specs.Wire.Record.{Front, Whole, front, framed}
+use Rattle.model.specs.Wire.Results.{compound_result, AreResults}
+use Rattle.model.specs.Wire.Rpc.{CallRead, Calls, Call, Reply, Success, Request, Runs, Compound, read_call, is_call_read, request_of, reply_text, compound_head, by_cred, by_head, cred_told, credential_in, cred_of, is_empty}
+use Rattle.model.specs.Wire.RpcGrammar.{call_head, call_with, read_reply, reply_head, head_of}
+use Rattle.model.specs.Wire.RpcGrammar as rpc
+use Rattle.model.specs.Server.RuledOut.{request_at, request_in, request_by}
+use Rattle.model.specs.Operations.Status.{code_of}
+use Rattle.model.specs.Wire.WireTypes.{system_credential}
+use Rattle.model.specs.Server.World.{World, InProgress, Connection, Quiet, Waiting, Closed, arrives, arrives_at, arrived, connection_changed, with_connection, in_progress, result_of}
+use Rattle.model.proofs.Trees.KeyedLaws.{at-with_same}
+use Rattle.model.proofs.Wire.RecordLaws.{sent_is_read}
+use Rattle.model.proofs.Wire.ResultLaws.{result_exact, spells_results}
+use Rattle.model.proofs.Wire.RpcExact.{reads_calls, reads_credentials, reply_head_exact}
 use Rattle.client.specs.Client.{Sent}
 use Rattle.client.specs.Replies.{ReplyRead, Gives, NoReply, ending, gives_by, result_by, results_by, reply_by, told_by, message_by, behind_header, message_of, reply_read}
 use Rattle.client.specs.Requests.{credential_of, credential_text, compound_call, head_text, operations_text, call_text, record_text}

@@ -6,11 +6,11 @@ use Rattle.xdr.specs.declared.refusal.Refusal.{Refusal}
 use Rattle.xdr.specs.Grammar.{number, number_at}
 use Rattle.xdr.proofs.Numbers.{int_again}
 use Rattle.model.specs.declared.status.Status.TheVariants as status
-use Rattle.model.specs.Operation.{Argument, operation_of}
-use Rattle.model.specs.Rpc.{is_empty}
-use Rattle.model.specs.Served.{is_served, looks_no_further}
-use Rattle.model.specs.WireArguments.{argument_told, arguments_at, argument}
-use Rattle.model.specs.World.{InProgress, Next, Refuses, Reads, next_operation, is_last, is_no_operation, is_sequence, stands_alone, op_illegal, first_tests, later_tests, first_or, by_arguments, by_number, tests_of}
+use Rattle.model.specs.Operations.Operation.{Argument, operation_of}
+use Rattle.model.specs.Wire.Rpc.{is_empty}
+use Rattle.model.specs.Server.Served.{is_served, looks_no_further}
+use Rattle.model.specs.Wire.WireArguments.{argument_told, arguments_at, argument}
+use Rattle.model.specs.Server.World.{InProgress, Next, Refuses, Reads, next_operation, is_last, is_no_operation, is_sequence, stands_alone, op_illegal, first_tests, later_tests, first_or, by_arguments, by_number, tests_of}
 use Rattle.wire.proofs.ExactArguments.{argument_again}
 
 number_is : (a : Argument) → (argument_told a).number ≡ operation_of a

@@ -2,10 +2,10 @@
 use Rattle.std.proofs.Common.{◌≡◌, ℕ, Option, None, Some, ap}
 use Rattle.std.proofs.lemmas.Option.{same_Some}
 use Rattle.model.specs.declared.status.Status.{Status}
-use Rattle.model.specs.Keyed.{at}
-use Rattle.model.specs.Rpc.{CallRead, NoCall, OtherVersion, Calls, Request, Answers, Runs, read_call, request_of}
-use Rattle.model.specs.RuledOut.{request_at, request_in, request_by, with_operations}
-use Rattle.model.specs.World.{World, InProgress, Connection, Quiet, Waiting, Busy, Replied, Closed, next_operation, in_progress, operates, requested as request_runs, called, further, turned, one}
+use Rattle.model.specs.Trees.Keyed.{at}
+use Rattle.model.specs.Wire.Rpc.{CallRead, NoCall, OtherVersion, Calls, Request, Answers, Runs, read_call, request_of}
+use Rattle.model.specs.Server.RuledOut.{request_at, request_in, request_by, with_operations}
+use Rattle.model.specs.Server.World.{World, InProgress, Connection, Quiet, Waiting, Busy, Replied, Closed, next_operation, in_progress, operates, requested as request_runs, called, further, turned, one}
 
 pub one_operates : (world : World) (number now : ℕ) (request : InProgress) → request_at world (at number world.connections) ≡ Some request
     → one world number now ≡ operates world number now request (next_operation request)

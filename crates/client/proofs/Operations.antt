@@ -3,8 +3,8 @@ use Rattle.std.proofs.Common.{◌≡◌, ℕ, suc, ◌+◌, List, [], ◌∷◌,
 use Rattle.std.specs.Prelude.{map, IfOk}
 use Rattle.std.specs.Option.{option_map}
 use Rattle.std.specs.List.{flat_map}
-use Rattle.model.specs.Operation.{operation_of}
-use Rattle.model.specs.WireArguments.{argument}
+use Rattle.model.specs.Operations.Operation.{operation_of}
+use Rattle.model.specs.Wire.WireArguments.{argument}
 use Rattle.wire.specs.declared.argument.Argument.{Argument}
 use Rattle.wire.specs.ArgumentView.{argument_view}
 use Rattle.xdr.specs.declared.refusal.Refusal.{Refusal}

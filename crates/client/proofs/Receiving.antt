@@ -5,7 +5,7 @@ use lib.Seq.{take-add, take-append-le, take-append-add}
 use Rattle.std.specs.Int.{w32, from_be_bytes, to_be_bytes}
 use Rattle.std.specs.Io.KnownBytes.{Consumes}
 use Rattle.std.proofs.KnownBytes.{Consumes-nil, Consumes-trans}
-use Rattle.model.specs.Record.{RecordTooBig, TooManyFragments, Gathered, Partial, Whole, front, front_from, framed}
+use Rattle.model.specs.Wire.Record.{RecordTooBig, TooManyFragments, Gathered, Partial, Whole, front, front_from, framed}
 use Rattle.rpc.specs.declared.fragment.Place.{Place}
 use Rattle.rpc.specs.declared.fragment.Fragment.TheVariants as found
 use Rattle.rpc.specs.Assembly.{record_limits, Finds}

@@ -7,22 +7,22 @@ use Rattle.std.proofs.lemmas.Bool.{eq-eqb}
 use Rattle.std.proofs.lemmas.Option.{same_Some}
 use Rattle.model.specs.declared.status.Status.{Status}
 use Rattle.model.specs.declared.status.Status.TheVariants as status
-use Rattle.model.specs.Answer.{Outcome}
-use Rattle.model.specs.Keyed.{at}
-use Rattle.model.specs.Operation.{Argument, operation_of}
-use Rattle.model.specs.Record.{framed}
-use Rattle.model.specs.Results.{compound_result, AreResults}
-use Rattle.model.specs.Rpc.{CallRead, NoCall, OtherVersion, Calls, Request, Answers, Runs, Success, is_empty, read_call, request_of, reply_text}
-use Rattle.model.specs.RuledOut.{IsOutcome, IsBehind, HasOneMore, HasLast, IsAnswered, IsRepeated, IsOneFurther, request_at, request_in, request_by, with_operations}
-use Rattle.model.specs.Runs.{Event, effect_of, is_done}
-use Rattle.model.specs.Status.{code_of}
-use Rattle.model.specs.Tree.{Tree}
-use Rattle.model.specs.WireArguments.{argument}
-use Rattle.model.specs.World as worlds
-use Rattle.model.specs.World.{World, InProgress, Connection, Quiet, Waiting, Busy, Replied, Closed, Entry, Next, Refuses, Reads, next_operation, in_progress, with_result, result_of, Turned, one, arrives}
-use Rattle.model.proofs.KeyedLaws.{at-with_same}
-use Rattle.model.proofs.ResultLaws.{one_more}
-use Rattle.model.proofs.RuledOutLaws.{one_a_turn, ends_by_holding}
+use Rattle.model.specs.Operations.Answer.{Outcome}
+use Rattle.model.specs.Trees.Keyed.{at}
+use Rattle.model.specs.Operations.Operation.{Argument, operation_of}
+use Rattle.model.specs.Wire.Record.{framed}
+use Rattle.model.specs.Wire.Results.{compound_result, AreResults}
+use Rattle.model.specs.Wire.Rpc.{CallRead, NoCall, OtherVersion, Calls, Request, Answers, Runs, Success, is_empty, read_call, request_of, reply_text}
+use Rattle.model.specs.Server.RuledOut.{IsOutcome, IsBehind, HasOneMore, HasLast, IsAnswered, IsRepeated, IsOneFurther, request_at, request_in, request_by, with_operations}
+use Rattle.model.specs.Server.Runs.{Event, effect_of, is_done}
+use Rattle.model.specs.Operations.Status.{code_of}
+use Rattle.model.specs.Trees.Tree.{Tree}
+use Rattle.model.specs.Wire.WireArguments.{argument}
+use Rattle.model.specs.Server.World as worlds
+use Rattle.model.specs.Server.World.{World, InProgress, Connection, Quiet, Waiting, Busy, Replied, Closed, Entry, Next, Refuses, Reads, next_operation, in_progress, with_result, result_of, Turned, one, arrives}
+use Rattle.model.proofs.Trees.KeyedLaws.{at-with_same}
+use Rattle.model.proofs.Wire.ResultLaws.{one_more}
+use Rattle.model.proofs.Server.RuledOutLaws.{one_a_turn, ends_by_holding}
 use Rattle.client.specs.Client.{Client, Sent}
 use Rattle.client.specs.Replies.{Gives, number_of, status_of, is_ok, ending, reply_read, reply_to, reply_to_sent}
 use Rattle.client.specs.Requests.{operations_text, credential_text, record_text, new_record}

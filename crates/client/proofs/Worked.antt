@@ -8,19 +8,19 @@ use Rattle.xdr.specs.Forms.{padded, padded_at, counted, counted_at, each_at, ele
 use Rattle.xdr.specs.Grammar.{number, number_at}
 use Rattle.xdr.specs.Laws.{IsBytes}
 use Rattle.model.specs.declared.status.Status.TheVariants as status
-use Rattle.model.specs.Answer.{Answer, Outcome}
-use Rattle.model.specs.Keyed.{at}
-use Rattle.model.specs.Operation.{Argument, SequenceArguments, operation_of}
-use Rattle.model.specs.Record.{framed}
-use Rattle.model.specs.Rpc.{Success, words, reply_text, compound_text}
-use Rattle.model.specs.RpcGrammar.{read_reply}
-use Rattle.model.specs.RuledOut.{IsOutcome, request_at}
-use Rattle.model.specs.Runs.{Connects}
-use Rattle.model.specs.Session.{Running, session_id, begin, started}
-use Rattle.model.specs.Step.{refusals, effect, does}
-use Rattle.model.specs.WireAnswers.{outcome_at}
-use Rattle.model.specs.WireArguments.{arguments_at}
-use Rattle.model.specs.World.{World, InProgress, Quiet, Waiting, Replied, Gives, Next, Reads, Turned, next_operation, run, in_progress, outcome_text, one, arrives, connects, with_connection, with_result, result_of, state_of, has_room, in_room, refuses, executed_entry, goes_on, ends, behind, has_run, operates}
+use Rattle.model.specs.Operations.Answer.{Answer, Outcome}
+use Rattle.model.specs.Trees.Keyed.{at}
+use Rattle.model.specs.Operations.Operation.{Argument, SequenceArguments, operation_of}
+use Rattle.model.specs.Wire.Record.{framed}
+use Rattle.model.specs.Wire.Rpc.{Success, words, reply_text, compound_text}
+use Rattle.model.specs.Wire.RpcGrammar.{read_reply}
+use Rattle.model.specs.Server.RuledOut.{IsOutcome, request_at}
+use Rattle.model.specs.Server.Runs.{Connects}
+use Rattle.model.specs.Sessions.Session.{Running, session_id, begin, started}
+use Rattle.model.specs.Operations.Step.{refusals, effect, does}
+use Rattle.model.specs.Wire.WireAnswers.{outcome_at}
+use Rattle.model.specs.Wire.WireArguments.{arguments_at}
+use Rattle.model.specs.Server.World.{World, InProgress, Quiet, Waiting, Replied, Gives, Next, Reads, Turned, next_operation, run, in_progress, outcome_text, one, arrives, connects, with_connection, with_result, result_of, state_of, has_room, in_room, refuses, executed_entry, goes_on, ends, behind, has_run, operates}
 use Rattle.client.specs.ExchangeExample.{ExchangeExample, caller, session, asking, client, operations, call, table, world, outcomes, reply}
 use Rattle.client.specs.Joined.{CanBeSent, IsWithin, compound_sent}
 use Rattle.client.specs.Replies.{Gives as Tells, message_of, reply_read, reply_to}

@@ -3,14 +3,14 @@
 use Rattle.std.specs.Prelude.{◌≡◌, ℕ, true, false, List, [], ◌∷◌, None, Some}
 use Rattle.model.specs.declared.acl.Cred.{Cred}
 use Rattle.model.specs.declared.status.Status.TheVariants as status
-use Rattle.model.specs.Answer.{Answer, Outcome}
-use Rattle.model.specs.Fresh.{fresh_tree}
-use Rattle.model.specs.Limits.{limits_of}
-use Rattle.model.specs.Operation.{Argument}
-use Rattle.model.specs.Rpc.{words}
-use Rattle.model.specs.Seats.{no_seats}
-use Rattle.model.specs.Session.{Table, no_slot}
-use Rattle.model.specs.World.{World, ServerLimits, Quiet, mounted_world}
+use Rattle.model.specs.Operations.Answer.{Answer, Outcome}
+use Rattle.model.specs.Trees.Fresh.{fresh_tree}
+use Rattle.model.specs.Trees.Limits.{limits_of}
+use Rattle.model.specs.Operations.Operation.{Argument}
+use Rattle.model.specs.Wire.Rpc.{words}
+use Rattle.model.specs.Sessions.Seats.{no_seats}
+use Rattle.model.specs.Sessions.Session.{Table, no_slot}
+use Rattle.model.specs.Server.World.{World, ServerLimits, Quiet, mounted_world}
 use Rattle.client.specs.Client.{Client, Session}
 use Rattle.client.specs.Requests.{call_text, credential_text, new_client, requested, sequence_of, with_record}
 use Rattle.client.specs.Replies.{Gives, reply_to}

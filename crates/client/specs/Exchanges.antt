@@ -1,7 +1,7 @@
 -- What a client's record that is sent over a stream comes to, and what the client knows then.
 use Rattle.std.specs.Prelude.{◌≡◌, ◌⊎◌, ℕ, List, [], map, Option, None, Some, Result, Ok, Err}
 use Rattle.std.specs.Global.{Vec}
-use Rattle.model.specs.Record.{Front, Partial, Refused, Whole, front, framed}
+use Rattle.model.specs.Wire.Record.{Front, Partial, Refused, Whole, front, framed}
 use Rattle.rpc.specs.Assembly.{record_limits}
 use Rattle.wire.specs.declared.outcome.Outcome.{Outcome}
 use Rattle.wire.specs.OutcomeView.{outcome_view}

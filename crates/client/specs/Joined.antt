@@ -4,16 +4,16 @@ use Rattle.std.specs.Prelude.{◌≡◌, ◌<◌, ◌≤◌, ◌^◌, ℕ, List,
 use Rattle.xdr.specs.Laws.{IsBytes}
 use Rattle.model.specs.declared.acl.Cred.{Cred}
 use Rattle.model.specs.declared.status.Status.{Status}
-use Rattle.model.specs.Answer.{Outcome}
-use Rattle.model.specs.Keyed.{at}
-use Rattle.model.specs.Operation.{Argument}
-use Rattle.model.specs.Record.{framed}
-use Rattle.model.specs.Results.{compound_result, AreResults}
-use Rattle.model.specs.Rpc.{Compound, Success, reply_text}
-use Rattle.model.specs.RuledOut.{request_at}
-use Rattle.model.specs.Status.{code_of}
-use Rattle.model.specs.WireTypes.{system_credential}
-use Rattle.model.specs.World.{World, InProgress, Quiet, arrives, in_progress, result_of}
+use Rattle.model.specs.Operations.Answer.{Outcome}
+use Rattle.model.specs.Trees.Keyed.{at}
+use Rattle.model.specs.Operations.Operation.{Argument}
+use Rattle.model.specs.Wire.Record.{framed}
+use Rattle.model.specs.Wire.Results.{compound_result, AreResults}
+use Rattle.model.specs.Wire.Rpc.{Compound, Success, reply_text}
+use Rattle.model.specs.Server.RuledOut.{request_at}
+use Rattle.model.specs.Operations.Status.{code_of}
+use Rattle.model.specs.Wire.WireTypes.{system_credential}
+use Rattle.model.specs.Server.World.{World, InProgress, Quiet, arrives, in_progress, result_of}
 use Rattle.client.specs.Client.{Sent}
 use Rattle.client.specs.Replies.{ReplyRead, Gives, ending, reply_read}
 use Rattle.client.specs.Requests.{credential_of, credential_text, operations_text, call_text, record_text}

@@ -7,13 +7,13 @@ use Rattle.xdr.specs.declared.refusal.Refusal.{Refusal}
 use Rattle.xdr.specs.Grammar.{number_at}
 use Rattle.model.specs.declared.status.Status.{Status}
 use Rattle.model.specs.declared.status.Status.TheVariants as status
-use Rattle.model.specs.Status.{code_of}
-use Rattle.model.specs.Answer.{Answer, Outcome, Done, Refused}
-use Rattle.model.specs.OperationNumber.{OP_SEQUENCE}
-use Rattle.model.specs.Results.{compound_result}
-use Rattle.model.specs.Rpc.{Reply, Success, is_empty}
-use Rattle.model.specs.RpcGrammar.{read_reply}
-use Rattle.model.specs.WireAnswers.{outcome_told}
+use Rattle.model.specs.Operations.Status.{code_of}
+use Rattle.model.specs.Operations.Answer.{Answer, Outcome, Done, Refused}
+use Rattle.model.specs.Operations.OperationNumber.{OP_SEQUENCE}
+use Rattle.model.specs.Wire.Results.{compound_result}
+use Rattle.model.specs.Wire.Rpc.{Reply, Success, is_empty}
+use Rattle.model.specs.Wire.RpcGrammar.{read_reply}
+use Rattle.model.specs.Wire.WireAnswers.{outcome_told}
 use Rattle.client.specs.Client.{Client, Session, Sent}
 
 -- The results of the operations of a record

@@ -4,13 +4,13 @@ use Rattle.std.specs.Prelude.{ℕ, ◌+◌, ◌%◌, ◌^◌, Bool, true, false,
 use Rattle.std.specs.List.{flat_map}
 use Rattle.std.specs.Option.{option_map}
 use Rattle.model.specs.declared.acl.Cred.{Cred}
-use Rattle.model.specs.Operation.{Argument, SystemCredential, operation_of}
-use Rattle.model.specs.Record.{framed}
-use Rattle.model.specs.Rpc.{compound_head}
-use Rattle.model.specs.RpcGrammar.{CallHead, call_head}
-use Rattle.model.specs.WireTypes.{system_credential}
-use Rattle.model.specs.WireArguments.{argument}
-use Rattle.model.specs.World.{stands_alone}
+use Rattle.model.specs.Operations.Operation.{Argument, SystemCredential, operation_of}
+use Rattle.model.specs.Wire.Record.{framed}
+use Rattle.model.specs.Wire.Rpc.{compound_head}
+use Rattle.model.specs.Wire.RpcGrammar.{CallHead, call_head}
+use Rattle.model.specs.Wire.WireTypes.{system_credential}
+use Rattle.model.specs.Wire.WireArguments.{argument}
+use Rattle.model.specs.Server.World.{stands_alone}
 use Rattle.client.specs.Client.{Client, Session, Sent}
 
 -- The call

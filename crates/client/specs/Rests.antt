@@ -4,9 +4,9 @@ use Rattle.std.specs.Int.{w32}
 use Rattle.xdr.specs.Grammar.{number}
 use Rattle.xdr.specs.Forms.{elements}
 use Rattle.model.specs.declared.acl.Cred.{Cred}
-use Rattle.model.specs.Rpc.{opaque_auth}
-use Rattle.model.specs.Operation.{operation_of}
-use Rattle.model.specs.OperationNumber.{OP_SEQUENCE}
+use Rattle.model.specs.Wire.Rpc.{opaque_auth}
+use Rattle.model.specs.Operations.Operation.{operation_of}
+use Rattle.model.specs.Operations.OperationNumber.{OP_SEQUENCE}
 use Rattle.wire.specs.declared.argument.Argument.{Argument}
 use Rattle.client.specs.declared.sent.Session.{Session}
 use Rattle.wire.specs.ArgumentView.{argument_view}

@@ -2,8 +2,8 @@
 use Rattle.std.specs.Prelude.{⊤, ◌≡◌, ◌⊎◌, ℕ, ◌+◌, ◌<◌, ◌≤◌, Bool, true, List, [], ◌++◌, length, take, drop, Option, None, Some, Result, Ok, Err}
 use Rattle.std.specs.Int.{w32, from_be_bytes}
 use Rattle.std.specs.Io.KnownBytes.{Appends, Consumes}
-use Rattle.model.specs.Record as spec
-use Rattle.model.specs.Record.{Gathered, Front, Partial, Refused, Whole, front, fragment, framed}
+use Rattle.model.specs.Wire.Record as spec
+use Rattle.model.specs.Wire.Record.{Gathered, Front, Partial, Refused, Whole, front, fragment, framed}
 use Rattle.rpc.specs.Assembly.{record_limits, Finds}
 use Rattle.rpc.specs.declared.fragment.Fragment.TheVariants as found
 use Rattle.rpc.specs.declared.fragment.TheConstants.{MAX_RECORD_BYTES}

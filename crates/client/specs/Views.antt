@@ -7,9 +7,9 @@ use Rattle.xdr.specs.declared.refusal.Refusal.TheVariants.{Memory}
 use Rattle.xdr.specs.Forms.{each_at}
 use Rattle.model.specs.declared.status.Status.{Status}
 use Rattle.model.specs.declared.status.Status.TheVariants as status
-use Rattle.model.specs.Answer as answers
-use Rattle.model.specs.RpcGrammar as rpc
-use Rattle.model.specs.WireAnswers.{outcome}
+use Rattle.model.specs.Operations.Answer as answers
+use Rattle.model.specs.Wire.RpcGrammar as rpc
+use Rattle.model.specs.Wire.WireAnswers.{outcome}
 use Rattle.wire.specs.declared.outcome.Outcome.{Outcome}
 use Rattle.wire.specs.OutcomeView.{outcome_view}
 use Rattle.client.specs.declared.sent.Session.{Session}

@@ -4,14 +4,14 @@ use Rattle.std.specs.Prelude.{◌≡◌, ◌<◌, ◌^◌, ⊤, ℕ, List, [], �
 use Rattle.std.specs.List.{AllByRecursion}
 use Rattle.model.specs.declared.acl.Cred.{Cred}
 use Rattle.model.specs.declared.status.Status.{Status}
-use Rattle.model.specs.Answer.{Outcome}
-use Rattle.model.specs.Keyed.{at}
-use Rattle.model.specs.Operation.{Argument}
-use Rattle.model.specs.RuledOut.{IsOutcome, request_at}
-use Rattle.model.specs.Runs.{Event, Arrives, Turns, HangsUp, Connects, Takes, effect_of}
-use Rattle.model.specs.WireAnswers.{outcome}
-use Rattle.model.specs.WireArguments.{argument}
-use Rattle.model.specs.World.{World, InProgress, Quiet, Busy, Replied, next_operation, one, arrives}
+use Rattle.model.specs.Operations.Answer.{Outcome}
+use Rattle.model.specs.Trees.Keyed.{at}
+use Rattle.model.specs.Operations.Operation.{Argument}
+use Rattle.model.specs.Server.RuledOut.{IsOutcome, request_at}
+use Rattle.model.specs.Server.Runs.{Event, Arrives, Turns, HangsUp, Connects, Takes, effect_of}
+use Rattle.model.specs.Wire.WireAnswers.{outcome}
+use Rattle.model.specs.Wire.WireArguments.{argument}
+use Rattle.model.specs.Server.World.{World, InProgress, Quiet, Busy, Replied, next_operation, one, arrives}
 use Rattle.client.specs.Client.{Client}
 use Rattle.client.specs.Replies.{Gives, reply_to}
 use Rattle.client.specs.Requests.{credential_text, call_text, record_text, new_record}

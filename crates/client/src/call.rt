@@ -7,9 +7,9 @@ ghost use Rattle.xdr.specs.Clauses.{Wrote};
 ghost use Rattle.xdr.specs.Grammar.{number};
 ghost use Rattle.xdr.specs.Forms.{elements};
 ghost use Rattle.xdr.specs.declared.refusal.Refusal.TheVariants.{Memory};
-ghost use Rattle.model.specs.Record.{framed};
-ghost use Rattle.model.specs.Rpc.{opaque_auth, compound_head};
-ghost use Rattle.model.specs.RpcGrammar.{call_head};
+ghost use Rattle.model.specs.Wire.Record.{framed};
+ghost use Rattle.model.specs.Wire.Rpc.{opaque_auth, compound_head};
+ghost use Rattle.model.specs.Wire.RpcGrammar.{call_head};
 ghost use Rattle.wire.specs.ArgumentView.{argument_view};
 ghost use Rattle.wire_client.specs.ArgumentFits.{ArgumentFits};
 ghost use Rattle.client.specs.Requests.{credential_text, compound_call, head_text, operations_text};
@@ -157,7 +157,7 @@ pub(crate) fn write_operations(w: &mut Writer, operations: &[Argument<'_>]) -> R
 }
 
 /// The record as it is sent: one fragment.
-#[tactic(auto, unfolding(model::specs::Record::framed, xdr::specs::Grammar::number))]
+#[tactic(auto, unfolding(model::specs::Wire::Record::framed, xdr::specs::Grammar::number))]
 pub(crate) fn frame(alloc: Global, call: &[u8]) -> Result<Vec<u8>, Refusal>
     ensures ok { IfOk result (λ bytes. bytes.items ≡ framed call.now) }
     ensures err { IfErr result (λ e. e ≡ Memory) }

@@ -3,7 +3,7 @@
 ghost use Rattle.std.specs.Prelude.{◌≡◌, None};
 ghost use Rattle.std.specs.Option.{option_map};
 ghost use Rattle.xdr.specs.Clauses.{Scans};
-ghost use Rattle.model.specs.RpcGrammar.{acceptance, accepted, denial, verdict, reply_head, read_reply};
+ghost use Rattle.model.specs.Wire.RpcGrammar.{acceptance, accepted, denial, verdict, reply_head, read_reply};
 ghost use Rattle.client.specs.Replies.{message_of, told_by};
 ghost use Rattle.client.specs.Views.{acceptance_view, denial_view, verdict_view, head_view, message_view, told_result};
 
@@ -67,7 +67,7 @@ pub(crate) fn message_of(bytes: &[u8]) -> Option<&[u8]>
 }
 
 /// The reply that a message is.
-#[tactic(auto, unfolding(model::specs::RpcGrammar::read_reply))]
+#[tactic(auto, unfolding(model::specs::Wire::RpcGrammar::read_reply))]
 pub(crate) fn read_message(message: &[u8]) -> Option<Message<'_>>
     ensures { told_by (read_reply message.now) ≡ option_map message_view result }
 {

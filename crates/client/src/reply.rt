@@ -2,7 +2,7 @@
 
 ghost use Rattle.std.specs.Prelude.{◌≡◌, ◌≢◌, ◌<◌, length, map, IfOk, IfErr};
 ghost use Rattle.model.specs.declared.status.Status.TheVariants as status;
-ghost use Rattle.model.specs.Results.{compound_result};
+ghost use Rattle.model.specs.Wire.Results.{compound_result};
 ghost use Rattle.wire.specs.OutcomeView.{outcome_view};
 ghost use Rattle.xdr.specs.declared.refusal.Refusal.TheVariants.{Memory};
 ghost use Rattle.client.specs.Replies.{reply_read, result_by};

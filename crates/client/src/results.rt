@@ -3,8 +3,8 @@
 ghost use Rattle.std.specs.Prelude.{◌≡◌, ◌||◌, not, map, Some, None, if◌then◌else◌};
 ghost use Rattle.xdr.specs.Clauses.{Reads};
 ghost use Rattle.xdr.specs.Forms.{array};
-ghost use Rattle.model.specs.Results.{compound_result};
-ghost use Rattle.model.specs.WireAnswers.{outcome};
+ghost use Rattle.model.specs.Wire.Results.{compound_result};
+ghost use Rattle.model.specs.Wire.WireAnswers.{outcome};
 ghost use Rattle.wire.specs.OutcomeView.{outcome_view};
 ghost use Rattle.client.specs.Replies.{ending, number_of, status_of, is_ok};
 ghost use Rattle.client.specs.Views.{result_view, ReadsOutcomes};

@@ -2,8 +2,8 @@
 
 ghost use Rattle.std.specs.Prelude.{◌≡◌, ◌≤◌, ◌<◌, ◌++◌, length, map, All, IfOk};
 ghost use Rattle.xdr.specs.Clauses.{Wrote};
-ghost use Rattle.model.specs.WireArguments.{argument};
-ghost use Rattle.model.specs.World.{stands_alone};
+ghost use Rattle.model.specs.Wire.WireArguments.{argument};
+ghost use Rattle.model.specs.Server.World.{stands_alone};
 ghost use Rattle.wire.specs.Numbers.{number_of};
 ghost use Rattle.wire.specs.ArgumentView.{argument_view};
 ghost use Rattle.wire_client.specs.ArgumentFits.{ArgumentFits};

@@ -2,13 +2,13 @@
 use Rattle.std.proofs.Common.{◌≡◌, ℕ, false, List, [], Option, None, Some, Result, Ok, Err, IfOk, refl, sym, ap, ◌∙◌}
 use Rattle.volume.specs.Changes.{Done}
 use Rattle.fs.specs.Changes.{Changes}
-use Rattle.model.specs.Answer as model
-use Rattle.model.specs.Session.{Table}
-use Rattle.model.specs.World as turns
-use Rattle.model.specs.World.{World, InProgress, HasRun, Entry, Turned, Next, Refuses, Reads, behind, closes, further, has_run, is_last, is_to_hold, kept_by, next_operation, operates, result_of, with_connection, with_result}
+use Rattle.model.specs.Operations.Answer as model
+use Rattle.model.specs.Sessions.Session.{Table}
+use Rattle.model.specs.Server.World as turns
+use Rattle.model.specs.Server.World.{World, InProgress, HasRun, Entry, Turned, Next, Refuses, Reads, behind, closes, further, has_run, is_last, is_to_hold, kept_by, next_operation, operates, result_of, with_connection, with_result}
 use Rattle.model.specs.declared.status.Status.{Status}
 use Rattle.model.specs.declared.status.Status.TheVariants as status
-use Rattle.model.proofs.TableCalls.{either}
+use Rattle.model.proofs.Sessions.TableCalls.{either}
 use Rattle.rpc.specs.Assembly.{record_limits}
 use Rattle.session.specs.Limits.{served}
 use Rattle.compound.specs.Operates.{run_in_room, world_by}

@@ -1,12 +1,12 @@
 -- An operation on a world is that on its file system and what is open beside it.
 use Rattle.std.proofs.Common.{◌≡◌, ℕ, List}
 use Rattle.fs.specs.FileSystem.{FileSystem}
-use Rattle.model.specs.Answer.{Refused}
-use Rattle.model.specs.Opens.{Opens}
-use Rattle.model.specs.Operation.{Argument, operation_of}
-use Rattle.model.specs.Session.{Table}
-use Rattle.model.specs.Step.{State, does, refused}
-use Rattle.model.specs.World.{World, InProgress, run, stepped, state_of}
+use Rattle.model.specs.Operations.Answer.{Refused}
+use Rattle.model.specs.Sessions.Opens.{Opens}
+use Rattle.model.specs.Operations.Operation.{Argument, operation_of}
+use Rattle.model.specs.Sessions.Session.{Table}
+use Rattle.model.specs.Operations.Step.{State, does, refused}
+use Rattle.model.specs.Server.World.{World, InProgress, run, stepped, state_of}
 use Rattle.model.specs.declared.status.Status.{Status}
 use Rattle.compound.specs.Beside.{IsBeside}
 use Rattle.compound.specs.Operates.{GivesIn}

@@ -2,20 +2,20 @@
 use Rattle.std.proofs.Common.{◌≡◌, ◌∷◌, [], ◌++◌, ◌+◌, ℕ, List, length, arith, length-append, Bool, true, false, not, ◌&&◌, ◌==◌, ◌||◌, if◌then◌else◌, Option, Some, None, Result, Ok, Err, IfErr, nat_lt, refl, ap, subst, ◌∙◌}
 use Rattle.fs.specs.FileSystem.{FileSystem}
 use Rattle.fs.specs.Operations.{current_refusal}
-use Rattle.model.specs.Context.{Context, has_current, current_number, without_stateid}
-use Rattle.model.specs.Keyed.{is_key}
-use Rattle.model.specs.Open.{closed_by}
-use Rattle.model.specs.Opens.{Open, Opens}
-use Rattle.model.specs.Operation.{Argument, CloseArguments, StateId}
-use Rattle.model.specs.Refusal.{Refusals, first_refusal, refused_or}
-use Rattle.model.specs.StateIds.{Found, Anonymous, Refused, Names, found, by_meaning, by_open, by_seqid, is_anonymous, meant, open_named, close_refusals, closed_state, without_open}
-use Rattle.model.specs.Status.{code_of}
-use Rattle.model.specs.Step.{State, Stepped, does, effect, answered, refused, refusals, unless_refused, current}
+use Rattle.model.specs.Operations.Context.{Context, has_current, current_number, without_stateid}
+use Rattle.model.specs.Trees.Keyed.{is_key}
+use Rattle.model.specs.Operations.Open.{closed_by}
+use Rattle.model.specs.Sessions.Opens.{Open, Opens}
+use Rattle.model.specs.Operations.Operation.{Argument, CloseArguments, StateId}
+use Rattle.model.specs.Operations.Refusal.{Refusals, first_refusal, refused_or}
+use Rattle.model.specs.Sessions.StateIds.{Found, Anonymous, Refused, Names, found, by_meaning, by_open, by_seqid, is_anonymous, meant, open_named, close_refusals, closed_state, without_open}
+use Rattle.model.specs.Operations.Status.{code_of}
+use Rattle.model.specs.Operations.Step.{State, Stepped, does, effect, answered, refused, refusals, unless_refused, current}
 use Rattle.xdr.specs.Forms as forms
 use Rattle.xdr.specs.Forms.{fixed_opaque}
 use Rattle.xdr.proofs.Numbers.{length-number_32}
-use Rattle.model.specs.Answer.{Answer, Done}
-use Rattle.model.specs.World.{World, InProgress, run, stepped, state_of, outcome_text}
+use Rattle.model.specs.Operations.Answer.{Answer, Done}
+use Rattle.model.specs.Server.World.{World, InProgress, run, stepped, state_of, outcome_text}
 use Rattle.model.specs.declared.limits.Limits.{Limits}
 use Rattle.model.specs.declared.status.Status.{Status}
 use Rattle.model.specs.declared.status.Status.TheVariants as status

@@ -7,16 +7,16 @@ use Rattle.xdr.proofs.Numbers.{length-number_32, length-number_64}
 use Rattle.fs.specs.FileSystem.{FileSystem}
 use Rattle.fs.specs.Operations.{created, new_directory}
 use Rattle.fs.specs.declared.created.Created.{Created}
-use Rattle.model.specs.Answer.{Done, Refused}
-use Rattle.model.specs.Attribute.{trimmed}
-use Rattle.model.specs.Context.{at_node}
-use Rattle.model.specs.Opens.{Opens}
-use Rattle.model.specs.Operation.{Attributes}
-use Rattle.model.specs.Refusal.{first_refusal}
-use Rattle.model.specs.Runs.{is_done}
-use Rattle.model.specs.Session.{Table}
-use Rattle.model.specs.Step.{State, does, effect, refused, refusals, change_refusals, unless_refused}
-use Rattle.model.specs.World.{World, InProgress, Gives, run, stepped, state_of, in_room, has_room, refuses, reply_with, outcome_text}
+use Rattle.model.specs.Operations.Answer.{Done, Refused}
+use Rattle.model.specs.Attributes.Attribute.{trimmed}
+use Rattle.model.specs.Operations.Context.{at_node}
+use Rattle.model.specs.Sessions.Opens.{Opens}
+use Rattle.model.specs.Operations.Operation.{Attributes}
+use Rattle.model.specs.Operations.Refusal.{first_refusal}
+use Rattle.model.specs.Server.Runs.{is_done}
+use Rattle.model.specs.Sessions.Session.{Table}
+use Rattle.model.specs.Operations.Step.{State, does, effect, refused, refusals, change_refusals, unless_refused}
+use Rattle.model.specs.Server.World.{World, InProgress, Gives, run, stepped, state_of, in_room, has_room, refuses, reply_with, outcome_text}
 use Rattle.model.specs.declared.limits.Limits.{Limits}
 use Rattle.model.specs.declared.status.Status.{Status}
 use Rattle.model.specs.declared.status.Status.TheVariants as status

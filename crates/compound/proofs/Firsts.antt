@@ -1,8 +1,8 @@
 -- An operation that comes only first in a COMPOUND is read as no later one, and each that is read is served.
 use Rattle.std.proofs.Common.{◌≡◌, ℕ, true, List, refl, sym, ◌∙◌}
-use Rattle.model.specs.Operation.{Argument, operation_of}
-use Rattle.model.specs.World.{InProgress, Reads, next_operation}
-use Rattle.model.proofs.ReadOperations.{is_first, first_read}
+use Rattle.model.specs.Operations.Operation.{Argument, operation_of}
+use Rattle.model.specs.Server.World.{InProgress, Reads, next_operation}
+use Rattle.model.proofs.Operations.ReadOperations.{is_first, first_read}
 use Rattle.compound.specs.Operates.{comes_first}
 
 first_is : (argument : Argument) → comes_first argument ≡ is_first (operation_of argument)

@@ -5,7 +5,7 @@ use Rattle.std.specs.Prelude.{map}
 use Rattle.std.proofs.lemmas.List.Elements.{All-from_recursion}
 use Rattle.fs.specs.Listing.{PageFits}
 use Rattle.fs.specs.declared.listing.Page.{Page}
-use Rattle.model.specs.WireAnswers.{entry}
+use Rattle.model.specs.Wire.WireAnswers.{entry}
 use Rattle.wire_attributes.specs.Listed.{EntryFits, entry_view}
 use Rattle.wire_attributes.specs.declared.listed.ListedEntry.{ListedEntry}
 use Rattle.xdr.specs.Forms.{links}

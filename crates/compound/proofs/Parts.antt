@@ -2,7 +2,7 @@
 use Rattle.std.proofs.Common.{◌≡◌, ◌≤◌, ◌<◌, ◌+◌, ◌-◌, ◌^◌, ℕ, Bool, List, ◌++◌, length, take, drop, min, replicate, ap, ◌∙◌, append_assoc, length-append, arith}
 use Rattle.std.specs.Int.{w32}
 use Rattle.std.proofs.Math.Seq.{take-append_seam, drop-append_seam}
-use Rattle.model.specs.WireAnswers.{read_answer}
+use Rattle.model.specs.Wire.WireAnswers.{read_answer}
 use Rattle.xdr.specs.Forms.{code_of, counted, padded, padding}
 use Rattle.xdr.specs.Grammar.{number}
 

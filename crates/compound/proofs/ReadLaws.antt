@@ -8,19 +8,19 @@ use Rattle.fs.specs.Reading.{IsNotRead, reading_ending}
 use Rattle.fs.specs.declared.fault.FsFault.{FsFault}
 use Rattle.fs.specs.declared.fault.FsFault.TheVariants as fault
 use Rattle.fs.proofs.ChangeLaws.{changes_by}
-use Rattle.model.specs.Answer.{Answer, Done, Refused}
-use Rattle.model.specs.Context.{has_current}
-use Rattle.model.specs.Need.{permitted, need_first, need_then}
-use Rattle.model.specs.Opens.{Opens}
-use Rattle.model.specs.Operation.{Argument, ReadArguments}
-use Rattle.model.specs.Session.{Table}
-use Rattle.model.specs.StateIds.{state_refusals, read_access}
-use Rattle.model.specs.Step.{State, answered, does, effect, refused, refusals, unless_refused, without_rights, late}
-use Rattle.model.specs.World.{World, InProgress, Gives, run, stepped, state_of, in_room, refuses}
+use Rattle.model.specs.Operations.Answer.{Answer, Done, Refused}
+use Rattle.model.specs.Operations.Context.{has_current}
+use Rattle.model.specs.Rights.Need.{permitted, need_first, need_then}
+use Rattle.model.specs.Sessions.Opens.{Opens}
+use Rattle.model.specs.Operations.Operation.{Argument, ReadArguments}
+use Rattle.model.specs.Sessions.Session.{Table}
+use Rattle.model.specs.Sessions.StateIds.{state_refusals, read_access}
+use Rattle.model.specs.Operations.Step.{State, answered, does, effect, refused, refusals, unless_refused, without_rights, late}
+use Rattle.model.specs.Server.World.{World, InProgress, Gives, run, stepped, state_of, in_room, refuses}
 use Rattle.model.specs.declared.limits.Limits.{Limits}
 use Rattle.model.specs.declared.status.Status.{Status}
 use Rattle.model.specs.declared.status.Status.TheVariants as status
-use Rattle.model.proofs.BooleanLaws.{never_both}
+use Rattle.model.proofs.Facts.BooleanLaws.{never_both}
 use Rattle.volume.specs.Changes as ended
 use Rattle.volume.specs.VolumeState.{with_tree}
 use Rattle.volume.specs.Changes.{IsTree, Nothing, Broken}

@@ -7,14 +7,14 @@ use Rattle.fs.specs.Operations.{IsOn, IsNotDone, MakesTree, does_on}
 use Rattle.fs.specs.Removing.{removed}
 use Rattle.fs.specs.declared.fault.FsFault.{FsFault}
 use Rattle.fs.specs.declared.removing.Removed.{Removed}
-use Rattle.model.specs.Answer.{Done}
-use Rattle.model.specs.Context.{Context, has_current, current_number}
-use Rattle.model.specs.Opens.{Opens}
-use Rattle.model.specs.Operation.{Argument}
-use Rattle.model.specs.Session.{Table}
-use Rattle.model.specs.StateIds.{without_number}
-use Rattle.model.specs.Step.{State, does, effect, answered}
-use Rattle.model.specs.World.{World, InProgress, run, stepped, state_of, reply_with, outcome_text}
+use Rattle.model.specs.Operations.Answer.{Done}
+use Rattle.model.specs.Operations.Context.{Context, has_current, current_number}
+use Rattle.model.specs.Sessions.Opens.{Opens}
+use Rattle.model.specs.Operations.Operation.{Argument}
+use Rattle.model.specs.Sessions.Session.{Table}
+use Rattle.model.specs.Sessions.StateIds.{without_number}
+use Rattle.model.specs.Operations.Step.{State, does, effect, answered}
+use Rattle.model.specs.Server.World.{World, InProgress, run, stepped, state_of, reply_with, outcome_text}
 use Rattle.compound.specs.Runs.{with_rest}
 use Rattle.compound.specs.States.{shared}
 use Rattle.compound.specs.Trees.{IsHere, IsUp, removed_answer}

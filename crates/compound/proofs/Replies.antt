@@ -5,12 +5,12 @@ use Rattle.xdr.specs.Forms.{counted}
 use Rattle.xdr.specs.Grammar.{number}
 use Rattle.xdr.proofs.Sizes.{counted_length}
 use Rattle.xdr.proofs.Numbers.{length-number_32}
-use Rattle.model.specs.Answer.{Outcome, Done, Refused}
-use Rattle.model.specs.Record.{framed}
-use Rattle.model.specs.Rpc.{Success, reply_text, compound_text}
-use Rattle.model.specs.World.{InProgress, outcome_text, reply_with, result_of, status_of}
+use Rattle.model.specs.Operations.Answer.{Outcome, Done, Refused}
+use Rattle.model.specs.Wire.Record.{framed}
+use Rattle.model.specs.Wire.Rpc.{Success, reply_text, compound_text}
+use Rattle.model.specs.Server.World.{InProgress, outcome_text, reply_with, result_of, status_of}
 use Rattle.model.specs.declared.status.Status.{Status}
-use Rattle.model.proofs.KeptLaws.{refused_length}
+use Rattle.model.proofs.Sessions.KeptLaws.{refused_length}
 use Rattle.compound.specs.Operates.{IsSpelled}
 
 pub reply_length : (xid : ℕ) (status : Status) (tag : List ℕ) (count : ℕ) (results more : List ℕ)

@@ -3,10 +3,10 @@ use Rattle.std.proofs.Common.{◌≡◌, ℕ, Bool, true, false, not, ◌&&◌, 
 use Rattle.std.proofs.lemmas.List.{take-append-drop, drop_at}
 use Rattle.xdr.specs.declared.refusal.Refusal.{Refusal}
 use Rattle.model.specs.declared.status.Status.TheVariants as status
-use Rattle.model.specs.Operation.{Argument}
-use Rattle.model.specs.Rpc.{is_empty}
-use Rattle.model.specs.Served.{looks_no_further}
-use Rattle.model.specs.World.{InProgress, is_last, by_arguments, Reads, Refuses}
+use Rattle.model.specs.Operations.Operation.{Argument}
+use Rattle.model.specs.Wire.Rpc.{is_empty}
+use Rattle.model.specs.Server.Served.{looks_no_further}
+use Rattle.model.specs.Server.World.{InProgress, is_last, by_arguments, Reads, Refuses}
 
 pub rest_short : (bytes : List ℕ) (p : ℕ) (front rest : List ℕ) → drop p bytes ≡ front ++ rest → length rest ≤ length bytes
 rest_short bytes p front rest e = omega (arith, ap length e, length-drop p bytes, length-append front rest)

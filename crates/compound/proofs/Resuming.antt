@@ -6,9 +6,9 @@ use Rattle.compound.specs.Views.{Asked, IsBegin, resumed, size_so_far, goes_on, 
 use Rattle.compound.proofs.Replies.{tag_brief}
 use Rattle.compound.specs.declared.progress.Progress.{Progress}
 use Rattle.compound.specs.declared.step.Stepped.TheVariants as stepped
-use Rattle.model.specs.Answer.{Answer, Done}
-use Rattle.model.specs.Session.{Table}
-use Rattle.model.specs.World.{InProgress, with_result, is_last}
+use Rattle.model.specs.Operations.Answer.{Answer, Done}
+use Rattle.model.specs.Sessions.Session.{Table}
+use Rattle.model.specs.Server.World.{InProgress, with_result, is_last}
 use Rattle.model.specs.declared.status.Status.{Status}
 use Rattle.xdr.specs.Forms.{counted}
 

@@ -1,8 +1,8 @@
 -- Which results have room in a reply, and what an operation comes to then.
 use Rattle.std.proofs.Common.{◌≡◌, ◌≤◌, ℕ, Bool, true, false, if◌then◌else◌, [], length, nat_le, refl, sym, ap, ◌∙◌, arith, rules, tests}
-use Rattle.model.specs.Answer.{Answer, Outcome, Done, Refused}
-use Rattle.model.specs.Operation.{Argument, operation_of}
-use Rattle.model.specs.World.{World, InProgress, Gives, refuses, in_room, has_room, reply_with, outcome_text}
+use Rattle.model.specs.Operations.Answer.{Answer, Outcome, Done, Refused}
+use Rattle.model.specs.Operations.Operation.{Argument, operation_of}
+use Rattle.model.specs.Server.World.{World, InProgress, Gives, refuses, in_room, has_room, reply_with, outcome_text}
 use Rattle.model.specs.declared.status.Status.{Status}
 use Rattle.model.specs.declared.status.Status.TheVariants as status
 use Rattle.compound.specs.Operates.{RunsTo, GivesIn}

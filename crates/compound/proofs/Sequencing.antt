@@ -1,12 +1,12 @@
 -- SEQUENCE and RECLAIM_COMPLETE on a world are those on its table.
 use Rattle.std.proofs.Common.{◌≡◌, ℕ, Bool, true, Option, Some, None, false, if◌then◌else◌, ap, sym, ◌∙◌}
 use Rattle.std.specs.List.{find}
-use Rattle.model.specs.Answer.{Answer, Outcome, SequenceAnswer}
-use Rattle.model.specs.Opens.{Opens}
-use Rattle.model.specs.Operation.{Argument, SequenceArguments}
-use Rattle.model.specs.Session as sessions
-use Rattle.model.specs.Session.{Table, Session, Client, is_client, reclaim_by, is_session, started, sequence_answer}
-use Rattle.model.specs.World.{World, InProgress, Gives, run, begun, started_in, tabled, gives, with_table, of_session}
+use Rattle.model.specs.Operations.Answer.{Answer, Outcome, SequenceAnswer}
+use Rattle.model.specs.Sessions.Opens.{Opens}
+use Rattle.model.specs.Operations.Operation.{Argument, SequenceArguments}
+use Rattle.model.specs.Sessions.Session as sessions
+use Rattle.model.specs.Sessions.Session.{Table, Session, Client, is_client, reclaim_by, is_session, started, sequence_answer}
+use Rattle.model.specs.Server.World.{World, InProgress, Gives, run, begun, started_in, tabled, gives, with_table, of_session}
 use Rattle.model.specs.declared.status.Status.{Status}
 use Rattle.fs.specs.FileSystem.{FileSystem}
 use Rattle.compound.specs.States.{HasState, shared}

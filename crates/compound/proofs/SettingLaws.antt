@@ -6,19 +6,19 @@ use Rattle.fs.specs.Operations.{IsNotDone, does_on}
 use Rattle.fs.specs.Setting.{IsSetting, SetsTree, after_setting}
 use Rattle.fs.specs.declared.fault.FsFault.{FsFault}
 use Rattle.fs.specs.declared.setting.Setting.{Setting}
-use Rattle.model.specs.Answer.{Done}
-use Rattle.model.specs.Attribute.{attribute_refusals, settable_at_setattr, values_of}
-use Rattle.model.specs.Context.{Context, has_current, current_number}
-use Rattle.model.specs.Need.{need_first, need_then}
-use Rattle.model.specs.Opens.{Opens}
-use Rattle.model.specs.Operation.{Argument, Attributes, SetAttrArguments}
-use Rattle.model.specs.Session.{Table}
-use Rattle.model.specs.SetAttr.{kind_at, set_attributes, sets, sets_size, size_refusals, was_set}
-use Rattle.model.specs.StateIds.{state_refusals, write_access}
-use Rattle.model.specs.Step.{State, alters, does, effect, refused, refusals, without_rights, answered, current, current_refusals}
-use Rattle.model.specs.Tree.{is_directory_at}
-use Rattle.model.specs.World as turns
-use Rattle.model.specs.World.{World, InProgress, HasRun, run, stepped, state_of, reply_with}
+use Rattle.model.specs.Operations.Answer.{Done}
+use Rattle.model.specs.Attributes.Attribute.{attribute_refusals, settable_at_setattr, values_of}
+use Rattle.model.specs.Operations.Context.{Context, has_current, current_number}
+use Rattle.model.specs.Rights.Need.{need_first, need_then}
+use Rattle.model.specs.Sessions.Opens.{Opens}
+use Rattle.model.specs.Operations.Operation.{Argument, Attributes, SetAttrArguments}
+use Rattle.model.specs.Sessions.Session.{Table}
+use Rattle.model.specs.Operations.SetAttr.{kind_at, set_attributes, sets, sets_size, size_refusals, was_set}
+use Rattle.model.specs.Sessions.StateIds.{state_refusals, write_access}
+use Rattle.model.specs.Operations.Step.{State, alters, does, effect, refused, refusals, without_rights, answered, current, current_refusals}
+use Rattle.model.specs.Trees.Tree.{is_directory_at}
+use Rattle.model.specs.Server.World as turns
+use Rattle.model.specs.Server.World.{World, InProgress, HasRun, run, stepped, state_of, reply_with}
 use Rattle.model.specs.declared.limits.Limits.{Limits}
 use Rattle.model.specs.declared.node.NodeKind.{NodeKind}
 use Rattle.model.specs.declared.status.Status.{Status}

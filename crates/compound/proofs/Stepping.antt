@@ -1,11 +1,11 @@
 -- A step of a request is the turn of the definition.
 use Rattle.std.proofs.Common.{◌≡◌, ◌+◌, ℕ, List, refl, sym, ap, ap₂, subst, ◌∙◌}
-use Rattle.model.specs.Answer as model
-use Rattle.model.specs.Record.{framed}
-use Rattle.model.specs.Rpc.{Success, reply_text}
-use Rattle.model.specs.Session.{Table}
-use Rattle.model.specs.World as world
-use Rattle.model.specs.World.{World, InProgress, Turned, Replied, with_connection}
+use Rattle.model.specs.Operations.Answer as model
+use Rattle.model.specs.Wire.Record.{framed}
+use Rattle.model.specs.Wire.Rpc.{Success, reply_text}
+use Rattle.model.specs.Sessions.Session.{Table}
+use Rattle.model.specs.Server.World as world
+use Rattle.model.specs.Server.World.{World, InProgress, Turned, Replied, with_connection}
 use Rattle.compound.specs.Operates.{left_by}
 use Rattle.compound.specs.Runs.{with_rest}
 use Rattle.compound.specs.Views.{Asked}

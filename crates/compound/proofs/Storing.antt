@@ -6,17 +6,17 @@ use Rattle.volume.specs.Changes.{Ending, Done, IsSeats}
 use Rattle.fs.specs.Changes.{Changes}
 use Rattle.fs.specs.FileSystem.{FileSystem}
 use Rattle.fs.proofs.ChangeLaws.{changes_by}
-use Rattle.model.specs.Answer as model
-use Rattle.model.specs.Opens.{Opens}
-use Rattle.model.specs.Operation.{Argument}
-use Rattle.model.specs.Record.{framed}
-use Rattle.model.specs.Rpc.{Success, reply_text}
-use Rattle.model.specs.SeatEdits.{SeatEdit, stays, all_stay, edited_all}
-use Rattle.model.specs.SeatEdits as edit
-use Rattle.model.specs.Seats.{Seats}
-use Rattle.model.specs.Session.{Table, is_session, finish, held_by}
-use Rattle.model.specs.Tree.{Tree}
-use Rattle.model.specs.World.{World, InProgress, HasRun, Turned, Replied, ends, further, kept_by, result_of, with_connection, with_table}
+use Rattle.model.specs.Operations.Answer as model
+use Rattle.model.specs.Sessions.Opens.{Opens}
+use Rattle.model.specs.Operations.Operation.{Argument}
+use Rattle.model.specs.Wire.Record.{framed}
+use Rattle.model.specs.Wire.Rpc.{Success, reply_text}
+use Rattle.model.specs.Sessions.SeatEdits.{SeatEdit, stays, all_stay, edited_all}
+use Rattle.model.specs.Sessions.SeatEdits as edit
+use Rattle.model.specs.Sessions.Seats.{Seats}
+use Rattle.model.specs.Sessions.Session.{Table, is_session, finish, held_by}
+use Rattle.model.specs.Trees.Tree.{Tree}
+use Rattle.model.specs.Server.World.{World, InProgress, HasRun, Turned, Replied, ends, further, kept_by, result_of, with_connection, with_table}
 use Rattle.model.specs.declared.status.Status.{Status}
 use Rattle.compound.specs.Operates.{GivesIn, run_in_room, world_by}
 use Rattle.compound.specs.Runs.{with_rest}

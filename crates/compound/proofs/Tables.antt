@@ -1,16 +1,16 @@
 -- The operations on a world are those on its table.
 use Rattle.std.proofs.Common.{◌≡◌, ℕ, Bool, true, false, ◌==◌, if◌then◌else◌, ◌||◌, List, [], ◌∷◌, map, filter, Option, Some, None, Result, Ok, Err, refl, ap, ap₂, sym, ◌∙◌}
-use Rattle.model.specs.Answer.{Answer, Outcome, ExchangeIdAnswer, CreateSessionAnswer}
-use Rattle.model.specs.Operation.{Argument, ExchangeIdArguments, CreateSessionArguments}
-use Rattle.model.specs.Opens.{Open, Opens}
-use Rattle.model.specs.Session as sessions
+use Rattle.model.specs.Operations.Answer.{Answer, Outcome, ExchangeIdAnswer, CreateSessionAnswer}
+use Rattle.model.specs.Operations.Operation.{Argument, ExchangeIdArguments, CreateSessionArguments}
+use Rattle.model.specs.Sessions.Opens.{Open, Opens}
+use Rattle.model.specs.Sessions.Session as sessions
 use Rattle.std.specs.List.{find, list_any}
 use Rattle.std.proofs.Math.Path.{fun_ext}
-use Rattle.model.specs.Refusal.{first_refusal}
-use Rattle.model.specs.Session.{Table, SessionLimits, CreateSessionOutcome, Client, create_refused, create_unless, create_again, create_by, create_refusals, next_number, is_client}
-use Rattle.model.specs.StateIds.{has_opens, without_clients}
-use Rattle.model.specs.Tree.{Tree}
-use Rattle.model.specs.World.{World, InProgress, Gives, run, exchanged, session_created, created_by, tabled, gives, with_table}
+use Rattle.model.specs.Operations.Refusal.{first_refusal}
+use Rattle.model.specs.Sessions.Session.{Table, SessionLimits, CreateSessionOutcome, Client, create_refused, create_unless, create_again, create_by, create_refusals, next_number, is_client}
+use Rattle.model.specs.Sessions.StateIds.{has_opens, without_clients}
+use Rattle.model.specs.Trees.Tree.{Tree}
+use Rattle.model.specs.Server.World.{World, InProgress, Gives, run, exchanged, session_created, created_by, tabled, gives, with_table}
 use Rattle.model.specs.declared.status.Status.{Status}
 use Rattle.session.specs.Limits.{served}
 use Rattle.session.specs.Views.{among}

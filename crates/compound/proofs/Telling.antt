@@ -4,15 +4,15 @@ use Rattle.fs.specs.FileSystem.{FileSystem}
 use Rattle.fs.specs.Operations.{does_on, IsRefused}
 use Rattle.fs.specs.declared.fault.FsFault.{FsFault}
 use Rattle.fs.specs.declared.fault.FsFault.TheVariants as fault
-use Rattle.model.specs.Answer.{Answer, Done, Refused}
+use Rattle.model.specs.Operations.Answer.{Answer, Done, Refused}
 use Rattle.model.specs.declared.limits.Limits.{Limits}
-use Rattle.model.specs.Opens.{Opens}
-use Rattle.model.specs.Operation.{Argument, operation_of}
-use Rattle.model.specs.Session.{Table}
-use Rattle.model.specs.Step.{State, answered, does, refused, refusals, effect}
-use Rattle.model.specs.World.{World, InProgress, run, stepped, state_of}
+use Rattle.model.specs.Sessions.Opens.{Opens}
+use Rattle.model.specs.Operations.Operation.{Argument, operation_of}
+use Rattle.model.specs.Sessions.Session.{Table}
+use Rattle.model.specs.Operations.Step.{State, answered, does, refused, refusals, effect}
+use Rattle.model.specs.Server.World.{World, InProgress, run, stepped, state_of}
 use Rattle.model.specs.declared.status.Status.{Status}
-use Rattle.model.proofs.BooleanLaws.{never_both}
+use Rattle.model.proofs.Facts.BooleanLaws.{never_both}
 use Rattle.wire.specs.Short.{IsRefusal}
 use Rattle.compound.specs.Operates.{RunsTo}
 use Rattle.compound.specs.Runs.{with_rest}

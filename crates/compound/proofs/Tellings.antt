@@ -6,13 +6,13 @@ use Rattle.xdr.specs.Forms.{counted}
 use Rattle.xdr.specs.Grammar.{number}
 use Rattle.xdr.proofs.Numbers.{length-number_32}
 use Rattle.wire.specs.Numbers.{number_of}
-use Rattle.model.specs.Answer.{Answer, Outcome, Done, Refused}
-use Rattle.model.specs.Record.{framed}
-use Rattle.model.specs.Rpc.{Success, reply_text}
-use Rattle.model.specs.Runs.{is_done}
-use Rattle.model.specs.Session.{Table}
-use Rattle.model.specs.WireAnswers as answers
-use Rattle.model.specs.World.{World, InProgress, Entry, Turned, Busy, Replied, behind, closes, ends, goes_on, is_to_hold, is_last, kept_by, outcome_text, reply_with, result_of, status_of, with_connection, with_result, with_table}
+use Rattle.model.specs.Operations.Answer.{Answer, Outcome, Done, Refused}
+use Rattle.model.specs.Wire.Record.{framed}
+use Rattle.model.specs.Wire.Rpc.{Success, reply_text}
+use Rattle.model.specs.Server.Runs.{is_done}
+use Rattle.model.specs.Sessions.Session.{Table}
+use Rattle.model.specs.Wire.WireAnswers as answers
+use Rattle.model.specs.Server.World.{World, InProgress, Entry, Turned, Busy, Replied, behind, closes, ends, goes_on, is_to_hold, is_last, kept_by, outcome_text, reply_with, result_of, status_of, with_connection, with_result, with_table}
 use Rattle.model.specs.declared.status.Status.{Status}
 use Rattle.model.specs.declared.status.Status.TheVariants as status
 use Rattle.wire.specs.OutcomeView.{outcome_view}

@@ -1,12 +1,12 @@
 -- A turn of a request, by what its next operation gave.
 use Rattle.std.proofs.Common.{◌≡◌, ℕ, false, List, Option, Some, None, refl, sym, ap, ◌∙◌}
 use Rattle.layout.specs.Stands.{Kept}
-use Rattle.model.specs.Answer as model
-use Rattle.model.specs.Operation.{Argument}
-use Rattle.model.specs.Seats.{Seats}
-use Rattle.model.specs.Session.{Table}
-use Rattle.model.specs.World as turns
-use Rattle.model.specs.World.{World, InProgress, HasRun, Entry, Turned, Refuses, Reads, next_operation, operates, further, has_run, behind, closes, is_to_hold, kept_by, result_of, with_result, is_last, executed_entry}
+use Rattle.model.specs.Operations.Answer as model
+use Rattle.model.specs.Operations.Operation.{Argument}
+use Rattle.model.specs.Sessions.Seats.{Seats}
+use Rattle.model.specs.Sessions.Session.{Table}
+use Rattle.model.specs.Server.World as turns
+use Rattle.model.specs.Server.World.{World, InProgress, HasRun, Entry, Turned, Refuses, Reads, next_operation, operates, further, has_run, behind, closes, is_to_hold, kept_by, result_of, with_result, is_last, executed_entry}
 use Rattle.model.specs.declared.status.Status.{Status}
 use Rattle.model.specs.declared.status.Status.TheVariants as status
 use Rattle.wire.specs.OutcomeView.{outcome_view}
@@ -18,8 +18,8 @@ use Rattle.compound.specs.Turns.{Turns, TurnsTo}
 use Rattle.compound.specs.Volumes.{kept_in}
 use Rattle.compound.specs.declared.executed.Executed.{Executed}
 use Rattle.compound.specs.declared.executed.Executed.TheVariants as execution
-use Rattle.model.proofs.SeatTables.{same_seats}
-use Rattle.model.proofs.TableCalls.{either}
+use Rattle.model.proofs.Sessions.SeatTables.{same_seats}
+use Rattle.model.proofs.Sessions.TableCalls.{either}
 use Rattle.compound.proofs.Rooms.{state_same}
 
 -- a request that has not ended goes on with its next operation

@@ -1,9 +1,9 @@
 -- What a stateid means refuses, where it refuses.
 use Rattle.std.proofs.Common.{◌≡◌, ℕ, ◌==◌, ◌&&◌, ◌||◌, Bool, true, false, if◌then◌else◌, nat_lt, Option, Some, None, refl}
-use Rattle.model.specs.Context.{Context, current_number}
-use Rattle.model.specs.Operation.{StateId}
-use Rattle.model.specs.Opens.{Open, Opens}
-use Rattle.model.specs.StateIds.{Found, found, access_refusals, by_meaning, by_open, by_seqid, is_anonymous, meant, open_named, state_refusals}
+use Rattle.model.specs.Operations.Context.{Context, current_number}
+use Rattle.model.specs.Operations.Operation.{StateId}
+use Rattle.model.specs.Sessions.Opens.{Open, Opens}
+use Rattle.model.specs.Sessions.StateIds.{Found, found, access_refusals, by_meaning, by_open, by_seqid, is_anonymous, meant, open_named, state_refusals}
 use Rattle.compound.proofs.Trees.{all_bad}
 
 module _ (access : ℕ) where

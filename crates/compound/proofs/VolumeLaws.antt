@@ -6,18 +6,18 @@ use Rattle.volume.specs.Changes.{Given, Ending, Done}
 use Rattle.volume.specs.VolumeState.{with_tree}
 use Rattle.fs.specs.Changes.{Changes}
 use Rattle.fs.specs.FileSystem.{FileSystem}
-use Rattle.model.specs.Answer as model
-use Rattle.model.specs.Attribute.{trimmed}
-use Rattle.model.specs.Context.{has_current, current_number}
-use Rattle.model.specs.Opens.{Opens}
-use Rattle.model.specs.Operation.{Argument, Attributes, OtherType}
-use Rattle.model.specs.Seats.{Seats}
-use Rattle.model.specs.Session.{Table}
-use Rattle.model.specs.Runs.{is_durable, is_commit}
-use Rattle.model.specs.Step.{State, alters, does, effect, refused, unless_refused}
-use Rattle.model.specs.Tree.{Tree}
-use Rattle.model.specs.World as turns
-use Rattle.model.specs.World.{World, InProgress, HasRun, Entry, Turned, Reads, Refuses, next_operation, operates, has_run, behind, closes, is_to_hold, with_result, is_last, executed_entry, run, in_room, stepped, state_of, reply_with}
+use Rattle.model.specs.Operations.Answer as model
+use Rattle.model.specs.Attributes.Attribute.{trimmed}
+use Rattle.model.specs.Operations.Context.{has_current, current_number}
+use Rattle.model.specs.Sessions.Opens.{Opens}
+use Rattle.model.specs.Operations.Operation.{Argument, Attributes, OtherType}
+use Rattle.model.specs.Sessions.Seats.{Seats}
+use Rattle.model.specs.Sessions.Session.{Table}
+use Rattle.model.specs.Server.Runs.{is_durable, is_commit}
+use Rattle.model.specs.Operations.Step.{State, alters, does, effect, refused, unless_refused}
+use Rattle.model.specs.Trees.Tree.{Tree}
+use Rattle.model.specs.Server.World as turns
+use Rattle.model.specs.Server.World.{World, InProgress, HasRun, Entry, Turned, Reads, Refuses, next_operation, operates, has_run, behind, closes, is_to_hold, with_result, is_last, executed_entry, run, in_room, stepped, state_of, reply_with}
 use Rattle.model.specs.declared.status.Status.{Status}
 use Rattle.model.specs.declared.status.Status.TheVariants as status
 use Rattle.fs.specs.Operations.{MakesTree, new_directory}
@@ -30,7 +30,7 @@ use Rattle.compound.specs.declared.fault.Fault.{Fault}
 use Rattle.compound.specs.declared.fault.Fault.TheVariants as fault
 use Rattle.compound.specs.Trees.{made_answer}
 use Rattle.compound.proofs.Creating.{tree_made}
-use Rattle.model.proofs.TableCalls.{either}
+use Rattle.model.proofs.Sessions.TableCalls.{either}
 use Rattle.compound.proofs.QuietLaws.{leaves_all, answers_quietly, changes_when}
 use Rattle.compound.proofs.TablesGo.{leaves_seats, seats_after}
 use Rattle.compound.proofs.Trees.{here, is_on}

@@ -12,18 +12,18 @@ use Rattle.fs.specs.Writing.{Commits, IsWriting, WritesTree, after_write}
 use Rattle.fs.specs.declared.fault.FsFault.{FsFault}
 use Rattle.fs.specs.declared.fault.FsFault.TheVariants as fault
 use Rattle.fs.specs.declared.writing.Writing.{Writing}
-use Rattle.model.specs.Answer.{Done, Refused}
-use Rattle.model.specs.Context.{Context, has_current, current_number}
-use Rattle.model.specs.Files.{are_bytes, commit, file_refusals, has_bytes, write, write_refusals}
-use Rattle.model.specs.Need.{need_first, need_then}
-use Rattle.model.specs.Opens.{Opens}
-use Rattle.model.specs.Operation.{Argument, CommitArguments, WriteArguments}
-use Rattle.model.specs.Refusal.{Refusals}
-use Rattle.model.specs.Session.{Table}
-use Rattle.model.specs.StateIds.{state_refusals, write_access}
-use Rattle.model.specs.Step.{State, does, effect, refused, refusals, without_rights, answered, current_refusals, unless_refused}
-use Rattle.model.specs.World as turns
-use Rattle.model.specs.World.{World, InProgress, HasRun, run, stepped, state_of, reply_with, outcome_text}
+use Rattle.model.specs.Operations.Answer.{Done, Refused}
+use Rattle.model.specs.Operations.Context.{Context, has_current, current_number}
+use Rattle.model.specs.Operations.Files.{are_bytes, commit, file_refusals, has_bytes, write, write_refusals}
+use Rattle.model.specs.Rights.Need.{need_first, need_then}
+use Rattle.model.specs.Sessions.Opens.{Opens}
+use Rattle.model.specs.Operations.Operation.{Argument, CommitArguments, WriteArguments}
+use Rattle.model.specs.Operations.Refusal.{Refusals}
+use Rattle.model.specs.Sessions.Session.{Table}
+use Rattle.model.specs.Sessions.StateIds.{state_refusals, write_access}
+use Rattle.model.specs.Operations.Step.{State, does, effect, refused, refusals, without_rights, answered, current_refusals, unless_refused}
+use Rattle.model.specs.Server.World as turns
+use Rattle.model.specs.Server.World.{World, InProgress, HasRun, run, stepped, state_of, reply_with, outcome_text}
 use Rattle.model.specs.declared.limits.Limits.{Limits}
 use Rattle.model.specs.declared.status.Status.{Status}
 use Rattle.model.specs.declared.status.Status.TheVariants as status

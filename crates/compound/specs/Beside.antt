@@ -6,16 +6,16 @@ use Rattle.fs.specs.declared.opening.OpenEffect.{OpenEffect}
 use Rattle.fs.specs.declared.opening.Opening.{Opening}
 use Rattle.fs.specs.declared.opening.OpenRoom.{OpenRoom}
 use Rattle.fs.specs.Operations.{does_on}
-use Rattle.model.specs.Answer.{Answer, Done}
-use Rattle.model.specs.Context.{current_number, has_current, without_stateid}
-use Rattle.model.specs.Opens.{Open, Opens}
-use Rattle.model.specs.Open.{at_opened, given_by, no_change_info}
-use Rattle.model.specs.Operation.{Argument, ByName, ChangeInfo, CloseArguments, OpenArguments, OpenType, StateId}
-use Rattle.model.specs.Operation as operations
-use Rattle.model.specs.Refusal.{first_refusal}
-use Rattle.model.specs.Step.{State, answered, refused}
-use Rattle.model.specs.StateIds.{Found, Names, close_refusals, closed_state, opened, without_open}
-use Rattle.model.specs.World.{InProgress, reply_with}
+use Rattle.model.specs.Operations.Answer.{Answer, Done}
+use Rattle.model.specs.Operations.Context.{current_number, has_current, without_stateid}
+use Rattle.model.specs.Sessions.Opens.{Open, Opens}
+use Rattle.model.specs.Operations.Open.{at_opened, given_by, no_change_info}
+use Rattle.model.specs.Operations.Operation.{Argument, ByName, ChangeInfo, CloseArguments, OpenArguments, OpenType, StateId}
+use Rattle.model.specs.Operations.Operation as operations
+use Rattle.model.specs.Operations.Refusal.{first_refusal}
+use Rattle.model.specs.Operations.Step.{State, answered, refused}
+use Rattle.model.specs.Sessions.StateIds.{Found, Names, close_refusals, closed_state, opened, without_open}
+use Rattle.model.specs.Server.World.{InProgress, reply_with}
 use Rattle.model.specs.declared.status.Status.{Status}
 use Rattle.opens.specs.Views.{named_by}
 use Rattle.compound.specs.Operates.{RunsTo}

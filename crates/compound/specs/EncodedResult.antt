@@ -1,9 +1,9 @@
 -- A result on its way into the reply.
 use Rattle.std.specs.Prelude.{◌≡◌, ◌+◌, Bool, true, List, ℕ, ◌++◌, Some, ⊤}
-use Rattle.model.specs.Answer as model
-use Rattle.model.specs.Runs.{is_done}
-use Rattle.model.specs.WireAnswers as answers
-use Rattle.model.specs.World.{InProgress, outcome_text, status_of}
+use Rattle.model.specs.Operations.Answer as model
+use Rattle.model.specs.Server.Runs.{is_done}
+use Rattle.model.specs.Wire.WireAnswers as answers
+use Rattle.model.specs.Server.World.{InProgress, outcome_text, status_of}
 use Rattle.model.specs.declared.status.Status.{Status}
 use Rattle.model.specs.declared.status.Status.TheVariants as status
 use Rattle.wire.specs.Numbers.{number_of}

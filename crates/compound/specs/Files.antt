@@ -1,8 +1,8 @@
 -- What the operations on a file's bytes answer.
 use Rattle.std.specs.Prelude.{ℕ}
 use Rattle.std.specs.Int.{w64, to_be_bytes}
-use Rattle.model.specs.Answer.{Answer}
-use Rattle.model.specs.Files.{committed_as}
+use Rattle.model.specs.Operations.Answer.{Answer}
+use Rattle.model.specs.Operations.Files.{committed_as}
 
 -- WRITE, in this run of the server: so many bytes were taken
 abbrev pub written_answer : (run stable count : ℕ) → Answer

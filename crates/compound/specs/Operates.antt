@@ -2,16 +2,16 @@
 use Rattle.std.specs.Prelude.{◌≡◌, ℕ, ◌+◌, ◌≤◌, ◌<◌, ◌^◌, Bool, true, false, List, ◌++◌, length, Some, ⊤}
 use Rattle.std.specs.Int.{w32}
 use Rattle.fs.specs.FileSystem.{FileSystem}
-use Rattle.model.specs.Answer as model
-use Rattle.model.specs.Context.{at_node, saving, restored, without_stateid}
-use Rattle.model.specs.Open.{at_opened}
-use Rattle.model.specs.Opens.{Opens}
-use Rattle.model.specs.Operation.{Argument, operation_of}
-use Rattle.model.specs.Session.{Table}
-use Rattle.model.specs.Tree.{Tree}
-use Rattle.model.specs.WireAnswers as answers
-use Rattle.model.specs.World as turns
-use Rattle.model.specs.World.{World, InProgress, HasRun, run, in_room, outcome_text, reply_with}
+use Rattle.model.specs.Operations.Answer as model
+use Rattle.model.specs.Operations.Context.{at_node, saving, restored, without_stateid}
+use Rattle.model.specs.Operations.Open.{at_opened}
+use Rattle.model.specs.Sessions.Opens.{Opens}
+use Rattle.model.specs.Operations.Operation.{Argument, operation_of}
+use Rattle.model.specs.Sessions.Session.{Table}
+use Rattle.model.specs.Trees.Tree.{Tree}
+use Rattle.model.specs.Wire.WireAnswers as answers
+use Rattle.model.specs.Server.World as turns
+use Rattle.model.specs.Server.World.{World, InProgress, HasRun, run, in_room, outcome_text, reply_with}
 use Rattle.session.specs.Views.{reply_kept}
 use Rattle.wire.specs.Numbers.{number_of}
 use Rattle.wire.specs.OutcomeView.{outcome_view}

@@ -2,7 +2,7 @@
 use Rattle.std.specs.Prelude.{ℕ, List, ◌++◌}
 use Rattle.std.specs.Int.{w32}
 use Rattle.std.specs.List.{flat_map}
-use Rattle.model.specs.WireAnswers.{entry}
+use Rattle.model.specs.Wire.WireAnswers.{entry}
 use Rattle.wire_attributes.specs.Listed.{entry_view}
 use Rattle.wire_attributes.specs.declared.listed.ListedEntry.{ListedEntry}
 use Rattle.xdr.specs.Grammar.{number}

@@ -4,9 +4,9 @@ use Rattle.std.specs.Prelude.{ℕ, ◌≡◌}
 use Rattle.fs.specs.FileSystem.{FileSystem}
 use Rattle.fs.specs.Views.{fs_of}
 use Rattle.fs.specs.declared.fs.Fs.{Fs}
-use Rattle.model.specs.Opens.{Opens}
-use Rattle.model.specs.Session.{Table}
-use Rattle.model.specs.World.{World}
+use Rattle.model.specs.Sessions.Opens.{Opens}
+use Rattle.model.specs.Sessions.Session.{Table}
+use Rattle.model.specs.Server.World.{World}
 use Rattle.session.specs.Limits.{served}
 use Rattle.session.specs.Views.{table_of}
 use Rattle.session.specs.declared.table.Table as code

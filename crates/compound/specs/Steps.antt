@@ -2,8 +2,8 @@
 -- reply, which a seat holds first.
 use Rattle.std.specs.Prelude.{◌≡◌, ◌+◌, ℕ, Bool, true, false, None}
 use Rattle.fs.specs.FileSystem.{FileSystem}
-use Rattle.model.specs.World as world
-use Rattle.model.specs.World.{World, Connection, Busy, Replied, Turn, Turned, InProgress, further, with_connection}
+use Rattle.model.specs.Server.World as world
+use Rattle.model.specs.Server.World.{World, Connection, Busy, Replied, Turn, Turned, InProgress, further, with_connection}
 use Rattle.compound.specs.States.{SharedState, HasState, with_state}
 use Rattle.compound.specs.Views.{Asked, resumed, fits}
 use Rattle.compound.specs.declared.step.Stepped.{Stepped}

@@ -2,16 +2,16 @@
 use Rattle.std.specs.Prelude.{◌≡◌, ℕ, true, List, Result, Ok, Err}
 use Rattle.std.specs.Result.{result_err}
 use Rattle.fs.specs.FileSystem.{FileSystem}
-use Rattle.model.specs.Answer.{Answer}
+use Rattle.model.specs.Operations.Answer.{Answer}
 use Rattle.fs.specs.Operations.{current_refusal, does_on}
 use Rattle.fs.specs.Renaming.{info_of}
 use Rattle.fs.specs.declared.fault.FsFault.{FsFault}
 use Rattle.fs.specs.declared.fault.FsFault.TheVariants as fault
 use Rattle.fs.specs.declared.renaming.Change.{Change}
-use Rattle.model.specs.Context.{Context, has_current, current_number, has_saved, saved_number}
-use Rattle.model.specs.Operation.{Argument, ChangeInfo, RenameArguments}
-use Rattle.model.specs.Step.{State, refused}
-use Rattle.model.specs.World.{InProgress}
+use Rattle.model.specs.Operations.Context.{Context, has_current, current_number, has_saved, saved_number}
+use Rattle.model.specs.Operations.Operation.{Argument, ChangeInfo, RenameArguments}
+use Rattle.model.specs.Operations.Step.{State, refused}
+use Rattle.model.specs.Server.World.{InProgress}
 use Rattle.model.specs.declared.status.Status.{Status}
 use Rattle.model.specs.declared.status.Status.TheVariants as status
 use Rattle.wire.specs.Short.{IsRefusal}

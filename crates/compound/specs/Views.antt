@@ -1,10 +1,10 @@
 -- What the code's values stand for.
 use Rattle.std.specs.Prelude.{◌≡◌, ℕ, ◌+◌, ◌≤◌, ◌<◌, nat_lt, nat_le, Bool, true, ◌&&◌, List, length, drop, Option, None, Some}
 use Rattle.std.specs.Option.{option_map}
-use Rattle.model.specs.Context.{Context, Place}
-use Rattle.model.specs.Rpc.{Compound}
-use Rattle.model.specs.World as world
-use Rattle.model.specs.World.{World, InProgress, in_progress}
+use Rattle.model.specs.Operations.Context.{Context, Place}
+use Rattle.model.specs.Wire.Rpc.{Compound}
+use Rattle.model.specs.Server.World as world
+use Rattle.model.specs.Server.World.{World, InProgress, in_progress}
 use Rattle.model.specs.declared.acl.Cred.{Cred}
 use Rattle.rpc.specs.Views.{compound_view}
 use Rattle.xdr.specs.Forms.{counted}

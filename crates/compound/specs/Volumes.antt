@@ -2,11 +2,11 @@
 use Rattle.std.specs.Prelude.{ℕ, Bool, false, List, Option, Some, None, Result, Ok, Err, ◌≡◌}
 use Rattle.fs.specs.FileSystem.{FileSystem}
 use Rattle.layout.specs.Stands.{Kept}
-use Rattle.model.specs.Operation.{Argument}
-use Rattle.model.specs.Runs.{is_durable}
-use Rattle.model.specs.Seats.{Seats}
-use Rattle.model.specs.World as turns
-use Rattle.model.specs.World.{World, InProgress, HasRun, Entry, Turned, executed_entry}
+use Rattle.model.specs.Operations.Operation.{Argument}
+use Rattle.model.specs.Server.Runs.{is_durable}
+use Rattle.model.specs.Sessions.Seats.{Seats}
+use Rattle.model.specs.Server.World as turns
+use Rattle.model.specs.Server.World.{World, InProgress, HasRun, Entry, Turned, executed_entry}
 use Rattle.volume.specs.Changes.{Given, Ending, Done, Nothing, Broken}
 use Rattle.compound.specs.Operates.{run_in_room, tree_by, world_by}
 use Rattle.compound.specs.Runs.{with_rest}

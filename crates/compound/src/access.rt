@@ -10,7 +10,7 @@ use wire::{AccessAnswer, Answer, Operation};
 impl Running<'_> {
     ghost use Rattle.std.specs.Prelude.{◌≡◌, false};
     ghost use Rattle.fs.specs.Views.{fs_of};
-    ghost use Rattle.model.specs.Operation as operations;
+    ghost use Rattle.model.specs.Operations.Operation as operations;
     ghost use Rattle.compound.specs.Operates.{OnlyReads, IsAnswered};
     ghost use Rattle.compound.specs.Views.{in_progress_of};
 

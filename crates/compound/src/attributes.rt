@@ -14,7 +14,7 @@ use xdr::Writer;
 impl Running<'_> {
     ghost use Rattle.std.specs.Prelude.{◌≡◌, false, IfOk, IfErr};
     ghost use Rattle.fs.specs.Views.{fs_of};
-    ghost use Rattle.model.specs.Operation as operations;
+    ghost use Rattle.model.specs.Operations.Operation as operations;
     ghost use Rattle.compound.specs.Operates.{OnlyReads, IsAnswered};
     ghost use Rattle.compound.specs.Views.{in_progress_of};
     ghost use Rattle.compound.specs.declared.fault.Fault.TheVariants.{Memory};
@@ -47,7 +47,7 @@ impl Running<'_> {
 }
 
 ghost use Rattle.std.specs.Prelude.{◌≡◌, IfOk, IfErr};
-ghost use Rattle.model.specs.WireAnswers.{answered_attributes};
+ghost use Rattle.model.specs.Wire.WireAnswers.{answered_attributes};
 ghost use Rattle.wire_attributes.specs.NodeValues.{HasFewEntries, answer_view};
 ghost use Rattle.compound.specs.declared.fault.Fault.TheVariants.{Memory};
 

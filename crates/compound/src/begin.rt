@@ -54,7 +54,7 @@ fn take_memory(alloc: Global, spare: &mut Writer) -> Result<Writer, Fault>
 
 impl<'a> Running<'a> {
     ghost use Rattle.std.specs.Prelude.{◌≡◌, true, IfOk, IfErr};
-    ghost use Rattle.model.specs.World.{World, in_progress};
+    ghost use Rattle.model.specs.Server.World.{World, in_progress};
     ghost use Rattle.rpc.specs.Views.{compound_view};
     ghost use Rattle.compound.specs.Views.{in_progress_of, asks, asked_of, resumed, fits};
     ghost use Rattle.compound.specs.declared.fault.Fault.TheVariants.{Memory};

@@ -17,8 +17,8 @@ use wire::{Answer, CreateSessionArguments, ExchangeIdArguments, Operation};
 impl Running<'_> {
     ghost use Rattle.std.specs.Prelude.{◌≡◌, ℕ, false, IfOk, IfErr, OnErr};
     ghost use Rattle.fs.specs.Views.{fs_of, Alters};
-    ghost use Rattle.model.specs.Opens.{Opens as Known};
-    ghost use Rattle.model.specs.Operation as operations;
+    ghost use Rattle.model.specs.Sessions.Opens.{Opens as Known};
+    ghost use Rattle.model.specs.Operations.Operation as operations;
     ghost use Rattle.session.specs.Views.{table_of};
     ghost use Rattle.wire.specs.ArgumentViews.{exchange_id_view, create_session_view};
     ghost use Rattle.opens.specs.Views.{opens_of};

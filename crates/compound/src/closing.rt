@@ -1,9 +1,9 @@
 //! CLOSE (RFC 8881, section 18.2).
 
 ghost use Rattle.std.specs.Prelude.{◌≡◌, ◌<◌, ◌^◌, length};
-ghost use Rattle.model.specs.Answer.{Done};
-ghost use Rattle.model.specs.World.{outcome_text};
-ghost use Rattle.model.specs.WireAnswers as answers;
+ghost use Rattle.model.specs.Operations.Answer.{Done};
+ghost use Rattle.model.specs.Server.World.{outcome_text};
+ghost use Rattle.model.specs.Wire.WireAnswers as answers;
 ghost use Rattle.wire.specs.OutcomeView.{outcome_view};
 ghost use Rattle.compound.specs.Beside.{closed_answer};
 
@@ -25,10 +25,10 @@ pub(crate) const CLOSED: StateId = StateId {
 impl Running<'_> {
     ghost use Rattle.std.specs.Prelude.{◌≡◌, ℕ, false, nat_le, length, IfErr};
     ghost use Rattle.fs.specs.Views.{fs_of};
-    ghost use Rattle.model.specs.Answer.{Done};
-    ghost use Rattle.model.specs.Operation as operations;
-    ghost use Rattle.model.specs.StateIds.{found};
-    ghost use Rattle.model.specs.World.{reply_with};
+    ghost use Rattle.model.specs.Operations.Answer.{Done};
+    ghost use Rattle.model.specs.Operations.Operation as operations;
+    ghost use Rattle.model.specs.Sessions.StateIds.{found};
+    ghost use Rattle.model.specs.Server.World.{reply_with};
     ghost use Rattle.opens.specs.Views.{opens_of};
     ghost use Rattle.wire.specs.ArgumentViews.{close_view};
     ghost use Rattle.wire.specs.Short.{IsRefusal};

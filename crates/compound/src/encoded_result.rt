@@ -56,14 +56,14 @@ ghost use Rattle.std.specs.Prelude.{◌≡◌, ◌+◌, ◌≤◌, ◌++◌, len
 ghost use Rattle.std.specs.Int.{w32};
 ghost use Rattle.xdr.specs.Clauses.{Wrote};
 ghost use Rattle.xdr.specs.Grammar.{number};
-ghost use Rattle.model.specs.WireAnswers as answers;
-ghost use Rattle.model.specs.World.{outcome_text};
+ghost use Rattle.model.specs.Wire.WireAnswers as answers;
+ghost use Rattle.model.specs.Server.World.{outcome_text};
 ghost use Rattle.wire.specs.Numbers.{number_of};
 ghost use Rattle.wire.specs.OutcomeView.{outcome_view};
 ghost use Rattle.compound.specs.Operates.{spelled_text};
 
 /// The results, and one more.
-#[tactic(auto, unfolding(model::specs::World::outcome_text))]
+#[tactic(auto, unfolding(model::specs::Server::World::outcome_text))]
 fn write_outcome(results: Writer, outcome: &Outcome<'_>) -> Writer
     requires fits { answers.outcome.Fits (outcome_view outcome.now) }
     requires room { length results.bytes + length (outcome_text (outcome_view outcome.now))

@@ -3,9 +3,9 @@
 
 ghost use Rattle.std.specs.Prelude.{◌≡◌, ◌≤◌, Some, length};
 ghost use Rattle.std.specs.Option.{option_map};
-ghost use Rattle.model.specs.Rpc.{compound_text};
-ghost use Rattle.model.specs.Session.{finish};
-ghost use Rattle.model.specs.World.{kept_by};
+ghost use Rattle.model.specs.Wire.Rpc.{compound_text};
+ghost use Rattle.model.specs.Sessions.Session.{finish};
+ghost use Rattle.model.specs.Server.World.{kept_by};
 ghost use Rattle.rpc.specs.Views.{result_text};
 ghost use Rattle.session.specs.Views.{table_of};
 ghost use Rattle.compound.specs.Turns.{AreOfReply};
@@ -30,9 +30,9 @@ const BEFORE_RESULT: usize = 28;
 impl Running<'_> {
     ghost use Rattle.std.specs.Prelude.{◌≡◌, ℕ, List, false, Some, IfOk, IfErr, OnOk};
     ghost use Rattle.fs.specs.Views.{fs_of, Alters};
-    ghost use Rattle.model.specs.Record.{framed};
-    ghost use Rattle.model.specs.Rpc.{Success, reply_text};
-    ghost use Rattle.model.specs.World.{kept_by, result_of};
+    ghost use Rattle.model.specs.Wire.Record.{framed};
+    ghost use Rattle.model.specs.Wire.Rpc.{Success, reply_text};
+    ghost use Rattle.model.specs.Server.World.{kept_by, result_of};
     ghost use Rattle.session.specs.Views.{table_of, reply_kept};
     ghost use Rattle.compound.specs.States.{Agrees};
     ghost use Rattle.compound.specs.Turns.{AreOfReply};
@@ -183,7 +183,7 @@ fn keep_by(
 
 /// The slot keeps the bytes of a result, in this memory, and these edits are made of the seats where
 /// one holds it. The memory of the reply before comes back.
-#[tactic(auto, unfolding(model::specs::Session::finish))]
+#[tactic(auto, unfolding(model::specs::Sessions::Session::finish))]
 fn keep(
     table: &mut Table,
     id: &SlotId,

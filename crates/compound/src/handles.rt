@@ -14,15 +14,15 @@ use std::alloc::Global;
 use wire::{Answer, Operation};
 use xdr::Writer;
 
-#[tactic(auto, unfolding(crate::specs::Views::in_progress_of, model::specs::World::outcome_text))]
+#[tactic(auto, unfolding(crate::specs::Views::in_progress_of, model::specs::Server::World::outcome_text))]
 impl Running<'_> {
     ghost use Rattle.std.specs.Prelude.{◌≡◌, ◌<◌, true, false, IfOk, IfErr};
     ghost use Rattle.fs.specs.FileSystem.{FileSystem};
     ghost use Rattle.fs.specs.Views.{fs_of};
-    ghost use Rattle.model.specs.Answer.{GetFh};
-    ghost use Rattle.model.specs.Context.{has_current, current_number, has_saved, saved_number};
-    ghost use Rattle.model.specs.Operation as operations;
-    ghost use Rattle.model.specs.World.{outcome_text};
+    ghost use Rattle.model.specs.Operations.Answer.{GetFh};
+    ghost use Rattle.model.specs.Operations.Context.{has_current, current_number, has_saved, saved_number};
+    ghost use Rattle.model.specs.Operations.Operation as operations;
+    ghost use Rattle.model.specs.Server.World.{outcome_text};
     ghost use Rattle.model.specs.declared.status.Status.TheVariants as status;
     ghost use Rattle.compound.specs.Operates.{OnlyReads, IsAnswered};
     ghost use Rattle.compound.specs.Views.{in_progress_of};

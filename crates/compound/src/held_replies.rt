@@ -2,7 +2,7 @@
 
 ghost use Rattle.std.specs.Prelude.{◌≡◌, false, OnOk};
 ghost use Rattle.fs.specs.Views.{fs_of, Alters};
-ghost use Rattle.model.specs.SeatEdits.{AreEdits, edited_all, edits_view};
+ghost use Rattle.model.specs.Sessions.SeatEdits.{AreEdits, edited_all, edits_view};
 ghost use Rattle.compound.specs.Volumes.{IsSeated, HasSameTree, ending};
 
 use crate::fault::Fault;

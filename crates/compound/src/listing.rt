@@ -2,7 +2,7 @@
 
 ghost use Rattle.std.specs.Prelude.{◌≡◌, All, IfOk, IfErr};
 ghost use Rattle.fs.specs.Listing.{PageFits, list_arguments, page_view};
-ghost use Rattle.model.specs.WireAnswers.{read_dir_answer};
+ghost use Rattle.model.specs.Wire.WireAnswers.{read_dir_answer};
 ghost use Rattle.wire.specs.ArgumentViews.{read_dir_view};
 ghost use Rattle.wire_attributes.specs.Listed.{EntryFits};
 ghost use Rattle.xdr.specs.Clauses.{Wrote};
@@ -25,7 +25,7 @@ const PAGE_BYTES: usize = 8_192;
 impl Running<'_> {
     ghost use Rattle.std.specs.Prelude.{◌≡◌, false, IfOk, IfErr};
     ghost use Rattle.fs.specs.Views.{fs_of};
-    ghost use Rattle.model.specs.Operation as operations;
+    ghost use Rattle.model.specs.Operations.Operation as operations;
     ghost use Rattle.wire.specs.ArgumentViews.{read_dir_view};
     ghost use Rattle.compound.specs.Operates.{OnlyReads, IsAnswered};
     ghost use Rattle.compound.specs.Views.{in_progress_of};

@@ -2,9 +2,9 @@
 
 ghost use Rattle.std.specs.Prelude.{◌≡◌, ◌==◌};
 ghost use Rattle.std.specs.List.{list_any};
-ghost use Rattle.model.specs.Served.{is_served, looks_no_further, opens_no_further};
-ghost use Rattle.model.specs.World as world;
-ghost use Rattle.model.specs.World.{first_or, first_tests, later_tests};
+ghost use Rattle.model.specs.Server.Served.{is_served, looks_no_further, opens_no_further};
+ghost use Rattle.model.specs.Server.World as world;
+ghost use Rattle.model.specs.Server.World.{first_or, first_tests, later_tests};
 ghost use Rattle.wire.specs.ArgumentView.{argument_view};
 ghost use Rattle.wire.specs.Numbers.{number_of};
 ghost use Rattle.wire.specs.ArgumentViews.{opening_view};
@@ -68,14 +68,14 @@ pub(crate) enum Next<'a> {
 
 impl Running<'_> {
     ghost use Rattle.std.specs.Prelude.{◌≡◌, ◌≤◌, ℕ, ◌&&◌, not, List, length, drop, Ok, IfOk, IfErr};
-    ghost use Rattle.model.specs.Rpc.{is_empty};
-    ghost use Rattle.model.specs.Served.{looks_no_further};
+    ghost use Rattle.model.specs.Wire.Rpc.{is_empty};
+    ghost use Rattle.model.specs.Server.Served.{looks_no_further};
     ghost use Rattle.wire.specs.ArgumentView.{argument_view};
     ghost use Rattle.std.specs.Int.{w32};
     ghost use Rattle.xdr.specs.Grammar.{number_at};
-    ghost use Rattle.model.specs.World as world;
-    ghost use Rattle.model.specs.World.{next_operation, by_arguments, first_or, tests_of, is_last};
-    ghost use Rattle.model.specs.WireArguments.{arguments_at};
+    ghost use Rattle.model.specs.Server.World as world;
+    ghost use Rattle.model.specs.Server.World.{next_operation, by_arguments, first_or, tests_of, is_last};
+    ghost use Rattle.model.specs.Wire.WireArguments.{arguments_at};
     ghost use Rattle.compound.specs.Views.{in_progress_of, asked_of, next_view, refused_or, IsWithin};
     ghost use Rattle.compound.specs.declared.fault.Fault.TheVariants.{Memory};
 
@@ -85,7 +85,7 @@ impl Running<'_> {
     /// 3 to 58 OP_ILLEGAL, both under result number 10044; as the first operation OP_NOT_IN_SESSION
     /// and NOT_ONLY_OP, as a later one NOTSUPP and SEQUENCE_POS; arguments that cannot be read, and
     /// bytes after the last operation, BADXDR.
-    #[tactic(auto, unfolding(crate::specs::Views::in_progress_of, model::specs::World::next_operation))]
+    #[tactic(auto, unfolding(crate::specs::Views::in_progress_of, model::specs::Server::World::next_operation))]
     pub(crate) fn next_operation(&self, alloc: Global) -> Result<Next<'_>, Fault>
         ensures ok { IfOk result (λ next.
             next_operation (in_progress_of self.now)

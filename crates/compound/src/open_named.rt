@@ -2,7 +2,7 @@
 
 ghost use Rattle.std.specs.Prelude.{◌≡◌, ◌≤◌, ◌<◌, ◌^◌, IsTrue, length};
 ghost use Rattle.fs.specs.Opening.{set_by, type_of};
-ghost use Rattle.model.specs.Open.{given_by, size_alone};
+ghost use Rattle.model.specs.Operations.Open.{given_by, size_alone};
 ghost use Rattle.set_attributes.specs.Given.{given_of};
 ghost use Rattle.wire.specs.ArgumentViews.{open_type_view};
 ghost use Rattle.wire.specs.SmallViews.{attributes_view};
@@ -27,8 +27,8 @@ impl Running<'_> {
     ghost use Rattle.std.specs.Prelude.{◌≡◌, ◌≤◌, ◌^◌, ℕ, false, IfOk, OnErr};
     ghost use Rattle.fs.specs.Opening.{IsFileToOpen};
     ghost use Rattle.fs.specs.Views.{fs_of, Alters};
-    ghost use Rattle.model.specs.Operation as operations;
-    ghost use Rattle.model.specs.Session.{Table};
+    ghost use Rattle.model.specs.Operations.Operation as operations;
+    ghost use Rattle.model.specs.Sessions.Session.{Table};
     ghost use Rattle.opens.specs.Views.{opens_of};
     ghost use Rattle.wire.specs.ArgumentViews.{open_type_view, open_view, opening_view};
     ghost use Rattle.compound.specs.Beside.{AsksFor, HasOpenRoom};

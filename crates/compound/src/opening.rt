@@ -2,10 +2,10 @@
 
 ghost use Rattle.std.specs.Prelude.{◌≡◌, ◌<◌, ◌^◌, IsTrue, length};
 ghost use Rattle.xdr.specs.Forms.{is_trimmed};
-ghost use Rattle.model.specs.Answer.{Done};
-ghost use Rattle.model.specs.Open.{creates};
-ghost use Rattle.model.specs.World.{outcome_text};
-ghost use Rattle.model.specs.WireAnswers as answers;
+ghost use Rattle.model.specs.Operations.Answer.{Done};
+ghost use Rattle.model.specs.Operations.Open.{creates};
+ghost use Rattle.model.specs.Server.World.{outcome_text};
+ghost use Rattle.model.specs.Wire.WireAnswers as answers;
 ghost use Rattle.wire.specs.ArgumentViews.{open_type_view};
 ghost use Rattle.wire.specs.OutcomeView.{outcome_view};
 ghost use Rattle.wire.specs.SmallViews.{change_view, state_view};
@@ -30,11 +30,11 @@ use wire::{
 impl Running<'_> {
     ghost use Rattle.std.specs.Prelude.{◌≡◌, Some, true, false, IsTrue, IfOk, IfErr, OnErr};
     ghost use Rattle.fs.specs.Views.{fs_of, Alters};
-    ghost use Rattle.model.specs.Open.{opening_refusals};
-    ghost use Rattle.model.specs.Operation as operations;
-    ghost use Rattle.model.specs.Refusal.{first_refusal};
-    ghost use Rattle.model.specs.Session.{Table};
-    ghost use Rattle.model.specs.StateIds.{new_open, opened};
+    ghost use Rattle.model.specs.Operations.Open.{opening_refusals};
+    ghost use Rattle.model.specs.Operations.Operation as operations;
+    ghost use Rattle.model.specs.Operations.Refusal.{first_refusal};
+    ghost use Rattle.model.specs.Sessions.Session.{Table};
+    ghost use Rattle.model.specs.Sessions.StateIds.{new_open, opened};
     ghost use Rattle.model.specs.declared.status.Status.TheVariants.{NotSupp};
     ghost use Rattle.opens.specs.Views.{opens_of, open_of, CanOpen, HasMemory};
     ghost use Rattle.wire.specs.ArgumentViews.{open_view, opening_view};
@@ -225,7 +225,7 @@ fn creates(how: &OpenType<'_>) -> bool
 }
 
 /// The result of an OPEN: its stateid, its directory's change, and which attributes were set.
-#[tactic(auto, unfolding(model::specs::World::outcome_text))]
+#[tactic(auto, unfolding(model::specs::Server::World::outcome_text))]
 fn opened(state: StateId, change: ChangeInfo, was_set: Bitmap) -> Outcome<'static>
     requires { IsTrue (is_trimmed was_set) }
     ensures is { outcome_view result

@@ -2,7 +2,7 @@
 
 ghost use Rattle.std.specs.Prelude.{◌≡◌, ◌≤◌, ◌<◌, ◌^◌, ◌++◌, List, ℕ, length, drop, replicate, IfOk, IfErr, OnOk};
 ghost use Rattle.std.specs.Int.{w32};
-ghost use Rattle.model.specs.WireAnswers.{read_answer};
+ghost use Rattle.model.specs.Wire.WireAnswers.{read_answer};
 ghost use Rattle.xdr.specs.Forms.{code_of, padding};
 ghost use Rattle.xdr.specs.Grammar.{number};
 ghost use Rattle.compound.specs.declared.fault.Fault.TheVariants.{Memory};
@@ -29,8 +29,8 @@ const MAX_PAD: usize = 3;
 impl Running<'_> {
     ghost use Rattle.std.specs.Prelude.{◌≡◌, ℕ, false, IfOk};
     ghost use Rattle.fs.specs.Views.{fs_of, Alters};
-    ghost use Rattle.model.specs.Operation as operations;
-    ghost use Rattle.model.specs.Session.{Table};
+    ghost use Rattle.model.specs.Operations.Operation as operations;
+    ghost use Rattle.model.specs.Sessions.Session.{Table};
     ghost use Rattle.opens.specs.Views.{opens_of};
     ghost use Rattle.wire.specs.ArgumentViews.{read_view};
     ghost use Rattle.compound.specs.Operates.{ChangesTreeAndOpens, IsAnswered, IsKept};

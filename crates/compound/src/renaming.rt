@@ -1,9 +1,9 @@
 //! RENAME (RFC 8881, section 18.26).
 
 ghost use Rattle.std.specs.Prelude.{◌≡◌, ◌<◌, ◌^◌, length};
-ghost use Rattle.model.specs.Answer.{Done};
-ghost use Rattle.model.specs.World.{outcome_text};
-ghost use Rattle.model.specs.WireAnswers as answers;
+ghost use Rattle.model.specs.Operations.Answer.{Done};
+ghost use Rattle.model.specs.Server.World.{outcome_text};
+ghost use Rattle.model.specs.Wire.WireAnswers as answers;
 ghost use Rattle.wire.specs.OutcomeView.{outcome_view};
 ghost use Rattle.fs.specs.Renaming.{arguments_of, is_itself, opens_after};
 ghost use Rattle.opens.specs.Views.{opens_of};
@@ -29,10 +29,10 @@ const NO_CHANGE: Change = Change {
 impl Running<'_> {
     ghost use Rattle.std.specs.Prelude.{◌≡◌, false, nat_le, length, IfOk, IfErr, OnErr};
     ghost use Rattle.fs.specs.Views.{fs_of, Alters};
-    ghost use Rattle.model.specs.Answer.{Done};
-    ghost use Rattle.model.specs.Operation as operations;
-    ghost use Rattle.model.specs.Session.{Table};
-    ghost use Rattle.model.specs.World.{reply_with};
+    ghost use Rattle.model.specs.Operations.Answer.{Done};
+    ghost use Rattle.model.specs.Operations.Operation as operations;
+    ghost use Rattle.model.specs.Sessions.Session.{Table};
+    ghost use Rattle.model.specs.Server.World.{reply_with};
     ghost use Rattle.wire.specs.ArgumentViews.{rename_view};
     ghost use Rattle.wire.specs.Short.{IsRefusal};
     ghost use Rattle.compound.specs.Operates.{ChangesTreeAndOpens, IsAnswered, IsKept};

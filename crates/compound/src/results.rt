@@ -25,15 +25,15 @@ const MAX_REFUSAL_BYTES: usize = 12;
 /// The bytes of a result before its values: its number and its status.
 const RESULT_FRONT: usize = 8;
 
-#[tactic(auto, unfolding(model::specs::World::outcome_text))]
+#[tactic(auto, unfolding(model::specs::Server::World::outcome_text))]
 impl Running<'_> {
     ghost use Rattle.std.specs.Prelude.{◌≡◌, ◌+◌, ◌<◌, ◌≤◌, ◌^◌, ℕ, nat_le, length};
     ghost use Rattle.xdr.specs.Forms.{counted};
-    ghost use Rattle.model.specs.Answer.{Answer as Answered, Done, Refused};
-    ghost use Rattle.model.specs.Operation.{Argument as Kind, operation_of};
-    ghost use Rattle.model.specs.Session.{Table as Sessions};
-    ghost use Rattle.model.specs.World.{reply_with, outcome_text};
-    ghost use Rattle.model.specs.WireAnswers as answers;
+    ghost use Rattle.model.specs.Operations.Answer.{Answer as Answered, Done, Refused};
+    ghost use Rattle.model.specs.Operations.Operation.{Argument as Kind, operation_of};
+    ghost use Rattle.model.specs.Sessions.Session.{Table as Sessions};
+    ghost use Rattle.model.specs.Server.World.{reply_with, outcome_text};
+    ghost use Rattle.model.specs.Wire.WireAnswers as answers;
     ghost use Rattle.wire.specs.OutcomeView.{answer_view, outcome_view};
     ghost use Rattle.wire.specs.Numbers.{number_of};
     ghost use Rattle.wire.specs.Short.{IsRefusal, IsShortAnswer};
@@ -45,7 +45,7 @@ impl Running<'_> {
     ghost use Rattle.compound.specs.declared.executed.Executed.TheVariants as execution;
 
     /// Whether the reply has room for this result, if it were the last one.
-    #[tactic(auto, unfolding(crate::specs::Views::in_progress_of, model::specs::World::outcome_text), using(crate::proofs::Replies::reply_length))]
+    #[tactic(auto, unfolding(crate::specs::Views::in_progress_of, model::specs::Server::World::outcome_text), using(crate::proofs::Replies::reply_length))]
     pub(crate) fn has_room(&self, outcome: &Outcome<'_>) -> bool
         requires fits { answers.outcome.Fits (outcome_view outcome.now) }
         requires small { length (outcome_text (outcome_view outcome.now)) < 2 ^ 63 }

@@ -12,16 +12,16 @@ use model::status::Status;
 use session::{Begun, Table};
 use wire::{Answer, Operation, Outcome, SequenceArguments};
 
-#[tactic(auto, unfolding(crate::specs::Views::in_progress_of, model::specs::World::outcome_text))]
+#[tactic(auto, unfolding(crate::specs::Views::in_progress_of, model::specs::Server::World::outcome_text))]
 impl Running<'_> {
     ghost use Rattle.std.specs.Prelude.{◌≡◌, ◌<◌, ◌^◌, ℕ, true, false, nat_le, length, None};
     ghost use Rattle.fs.specs.Views.{fs_of};
-    ghost use Rattle.model.specs.Opens.{Opens};
-    ghost use Rattle.model.specs.Operation as operations;
-    ghost use Rattle.model.specs.Answer.{Done, ReclaimComplete as Reclaimed};
-    ghost use Rattle.model.specs.Session.{reclaim_complete};
-    ghost use Rattle.model.specs.WireAnswers as answers;
-    ghost use Rattle.model.specs.World.{reply_with, outcome_text};
+    ghost use Rattle.model.specs.Sessions.Opens.{Opens};
+    ghost use Rattle.model.specs.Operations.Operation as operations;
+    ghost use Rattle.model.specs.Operations.Answer.{Done, ReclaimComplete as Reclaimed};
+    ghost use Rattle.model.specs.Sessions.Session.{reclaim_complete};
+    ghost use Rattle.model.specs.Wire.WireAnswers as answers;
+    ghost use Rattle.model.specs.Server.World.{reply_with, outcome_text};
     ghost use Rattle.session.specs.Views.{table_of};
     ghost use Rattle.wire.specs.ArgumentViews.{sequence_view};
     ghost use Rattle.compound.specs.Operates.{Operates, OnlyReads, ChangesTable, IsAnswered};

@@ -2,10 +2,10 @@
 
 ghost use Rattle.std.specs.Prelude.{◌≡◌, ◌<◌, ◌^◌, IsTrue, length};
 ghost use Rattle.xdr.specs.Forms.{is_trimmed};
-ghost use Rattle.model.specs.Answer.{Answer as Answered, Done};
-ghost use Rattle.model.specs.Attribute.{trimmed};
-ghost use Rattle.model.specs.World.{outcome_text};
-ghost use Rattle.model.specs.WireAnswers as answers;
+ghost use Rattle.model.specs.Operations.Answer.{Answer as Answered, Done};
+ghost use Rattle.model.specs.Attributes.Attribute.{trimmed};
+ghost use Rattle.model.specs.Server.World.{outcome_text};
+ghost use Rattle.model.specs.Wire.WireAnswers as answers;
 ghost use Rattle.wire.specs.OutcomeView.{outcome_view};
 
 use crate::executed::{Effect, Executed};
@@ -22,11 +22,11 @@ use wire::{Answer, Bitmap, CreateAnswer, Operation, Outcome, SetAttrArguments};
 impl Running<'_> {
     ghost use Rattle.std.specs.Prelude.{◌≡◌, false, nat_le, length, IfOk};
     ghost use Rattle.fs.specs.Views.{fs_of, Alters};
-    ghost use Rattle.model.specs.Answer.{Answer as Answered, Done};
-    ghost use Rattle.model.specs.Attribute.{trimmed};
-    ghost use Rattle.model.specs.Operation as operations;
-    ghost use Rattle.model.specs.Session.{Table};
-    ghost use Rattle.model.specs.World.{reply_with};
+    ghost use Rattle.model.specs.Operations.Answer.{Answer as Answered, Done};
+    ghost use Rattle.model.specs.Attributes.Attribute.{trimmed};
+    ghost use Rattle.model.specs.Operations.Operation as operations;
+    ghost use Rattle.model.specs.Sessions.Session.{Table};
+    ghost use Rattle.model.specs.Server.World.{reply_with};
     ghost use Rattle.opens.specs.Views.{opens_of};
     ghost use Rattle.wire.specs.ArgumentViews.{set_attr_view};
     ghost use Rattle.compound.specs.Operates.{ChangesTreeAndOpens, IsAnswered, IsKept};

@@ -10,7 +10,7 @@ impl Running<'_> {
     ghost use Rattle.std.specs.Prelude.{◌≡◌};
     ghost use Rattle.fs.specs.Files.{IsVerdict};
     ghost use Rattle.fs.specs.Verdicts.{IsPossible};
-    ghost use Rattle.model.specs.Step.{State};
+    ghost use Rattle.model.specs.Operations.Step.{State};
     ghost use Rattle.opens.specs.Views.{opens_of, StandsAt};
     ghost use Rattle.wire.specs.SmallViews.{state_view};
     ghost use Rattle.compound.specs.Views.{in_progress_of};

@@ -44,9 +44,9 @@ impl Running<'_> {
     ghost use Rattle.fs.specs.Views.{fs_of, Alters};
     ghost use Rattle.opens.specs.Views.{opens_of};
     ghost use Rattle.session.specs.Views.{table_of};
-    ghost use Rattle.model.specs.Answer as model;
-    ghost use Rattle.model.specs.Opens.{Opens as Known};
-    ghost use Rattle.model.specs.World.{is_to_hold};
+    ghost use Rattle.model.specs.Operations.Answer as model;
+    ghost use Rattle.model.specs.Sessions.Opens.{Opens as Known};
+    ghost use Rattle.model.specs.Server.World.{is_to_hold};
     ghost use Rattle.compound.specs.Operates.{IsAnswered, IsKept, left_by};
     ghost use Rattle.compound.specs.States.{Agrees, shared, shared_of};
     ghost use Rattle.compound.specs.Steps.{CanRun, Steps, GoesOn, stepped_on};

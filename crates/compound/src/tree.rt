@@ -18,12 +18,12 @@ impl Running<'_> {
     ghost use Rattle.std.specs.Prelude.{◌≡◌, true, false, nat_le, length, IfOk, IfErr};
     ghost use Rattle.fs.specs.Views.{fs_of, Alters};
     ghost use Rattle.fs.specs.Operations.{new_directory};
-    ghost use Rattle.model.specs.Opens.{Opens};
-    ghost use Rattle.model.specs.Operation as operations;
-    ghost use Rattle.model.specs.Session.{Table};
-    ghost use Rattle.model.specs.Answer.{Done};
-    ghost use Rattle.model.specs.Attribute.{trimmed};
-    ghost use Rattle.model.specs.World.{reply_with};
+    ghost use Rattle.model.specs.Sessions.Opens.{Opens};
+    ghost use Rattle.model.specs.Operations.Operation as operations;
+    ghost use Rattle.model.specs.Sessions.Session.{Table};
+    ghost use Rattle.model.specs.Operations.Answer.{Done};
+    ghost use Rattle.model.specs.Attributes.Attribute.{trimmed};
+    ghost use Rattle.model.specs.Server.World.{reply_with};
     ghost use Rattle.wire.specs.ArgumentViews.{create_view};
     ghost use Rattle.wire.specs.SmallViews.{attributes_view};
     ghost use Rattle.wire.specs.Short.{IsRefusal};
@@ -192,10 +192,10 @@ impl Running<'_> {
 }
 
 ghost use Rattle.std.specs.Prelude.{◌<◌, ◌^◌, true, length};
-ghost use Rattle.model.specs.Answer.{Done};
-ghost use Rattle.model.specs.Attribute.{trimmed};
-ghost use Rattle.model.specs.World.{outcome_text};
-ghost use Rattle.model.specs.WireAnswers as answers;
+ghost use Rattle.model.specs.Operations.Answer.{Done};
+ghost use Rattle.model.specs.Attributes.Attribute.{trimmed};
+ghost use Rattle.model.specs.Server.World.{outcome_text};
+ghost use Rattle.model.specs.Wire.WireAnswers as answers;
 ghost use Rattle.wire.specs.OutcomeView.{outcome_view};
 ghost use Rattle.compound.specs.Trees.{IsStatus, made_answer};
 ghost use Rattle.fs.specs.declared.fault.FsFault.TheVariants as faults;

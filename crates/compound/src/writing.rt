@@ -1,10 +1,10 @@
 //! WRITE (RFC 8881, section 18.32).
 
 ghost use Rattle.std.specs.Prelude.{◌≡◌, ◌==◌, ◌<◌, ◌^◌, true, not, length};
-ghost use Rattle.model.specs.Files.{are_bytes, committed_as};
-ghost use Rattle.model.specs.Answer.{Done};
-ghost use Rattle.model.specs.World.{outcome_text};
-ghost use Rattle.model.specs.WireAnswers as answers;
+ghost use Rattle.model.specs.Operations.Files.{are_bytes, committed_as};
+ghost use Rattle.model.specs.Operations.Answer.{Done};
+ghost use Rattle.model.specs.Server.World.{outcome_text};
+ghost use Rattle.model.specs.Wire.WireAnswers as answers;
 ghost use Rattle.wire.specs.ArgumentViews.{stable_number};
 ghost use Rattle.wire.specs.OutcomeView.{outcome_view};
 ghost use Rattle.compound.specs.Files.{committed_answer, written_answer};
@@ -21,10 +21,10 @@ use wire::{Answer, Operation, Outcome, StableHow, WriteAnswer, WriteArguments};
 impl Running<'_> {
     ghost use Rattle.std.specs.Prelude.{◌≡◌, false, nat_le, length, IfOk};
     ghost use Rattle.fs.specs.Views.{fs_of, Alters};
-    ghost use Rattle.model.specs.Answer.{Done};
-    ghost use Rattle.model.specs.Operation as operations;
-    ghost use Rattle.model.specs.Session.{Table};
-    ghost use Rattle.model.specs.World.{reply_with};
+    ghost use Rattle.model.specs.Operations.Answer.{Done};
+    ghost use Rattle.model.specs.Operations.Operation as operations;
+    ghost use Rattle.model.specs.Sessions.Session.{Table};
+    ghost use Rattle.model.specs.Server.World.{reply_with};
     ghost use Rattle.opens.specs.Views.{opens_of};
     ghost use Rattle.wire.specs.ArgumentViews.{write_view};
     ghost use Rattle.compound.specs.Files.{committed_answer, written_answer};

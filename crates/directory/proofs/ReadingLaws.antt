@@ -4,18 +4,18 @@ use Rattle.std.proofs.lemmas.Bool.{cases_eq, eqb-true}
 use Rattle.std.proofs.lemmas.List.{append-nil, map-append, get_or-map, length-map}
 use Rattle.std.proofs.lemmas.Option.{same_Some}
 use Rattle.std.specs.List.{AllByRecursion}
-use Rattle.model.specs.Answer.{Answer, Outcome, Entry, ReadDirAnswer}
-use Rattle.model.specs.Keyed.{Keyed, at, with, here_or, without, worth_at, total, IsAbove}
-use Rattle.model.specs.Operation.{Argument}
-use Rattle.model.specs.ReadDir.{all_entries, listed_entry, page}
-use Rattle.model.specs.Step.{Stepped, current, effect}
-use Rattle.model.specs.Tree.{DirEntry}
-use Rattle.model.specs.WellFormed.{one_if, AreNames, IsWellFormed}
-use Rattle.model.proofs.ChangeLaws.{names_in}
-use Rattle.model.proofs.EditLaws.{forest_of}
-use Rattle.model.proofs.KeyedLaws.{some≢none, at-first, at-rest, at-above, at-without_other, IsAbove-without, total-without}
-use Rattle.model.proofs.PageLaws.{every_page}
-use Rattle.model.proofs.StepCases.{does_cases}
+use Rattle.model.specs.Operations.Answer.{Answer, Outcome, Entry, ReadDirAnswer}
+use Rattle.model.specs.Trees.Keyed.{Keyed, at, with, here_or, without, worth_at, total, IsAbove}
+use Rattle.model.specs.Operations.Operation.{Argument}
+use Rattle.model.specs.Operations.ReadDir.{all_entries, listed_entry, page}
+use Rattle.model.specs.Operations.Step.{Stepped, current, effect}
+use Rattle.model.specs.Trees.Tree.{DirEntry}
+use Rattle.model.specs.Trees.WellFormed.{one_if, AreNames, IsWellFormed}
+use Rattle.model.proofs.Trees.ChangeLaws.{names_in}
+use Rattle.model.proofs.Trees.EditLaws.{forest_of}
+use Rattle.model.proofs.Trees.KeyedLaws.{some≢none, at-first, at-rest, at-above, at-without_other, IsAbove-without, total-without}
+use Rattle.model.proofs.Operations.PageLaws.{every_page}
+use Rattle.model.proofs.Operations.StepCases.{does_cases}
 use Rattle.directory.specs.Records.{Record, record_from}
 use Rattle.directory.specs.Listing.{by_stamp, after, behind, IsListing, last_cookie, all_shown}
 use Rattle.directory.specs.Readings.{Reading, names_found, number_shown, record_shown, page_of, last_answered, AreReadings, all_answered, cookie_and_name, stamp_and_name, cookies_of, StandsUnder, AnswersWhatStands, AreWellFormed, EveryReading}

@@ -1,7 +1,7 @@
 -- A listing worked out by hand: of "a", "b" and "c" the first READDIR has room for one entry. Then
 -- "b" is removed and "d" is made, and the second goes on.
 use Rattle.std.specs.Prelude.{List, [], ◌∷◌, ◌≡◌, map}
-use Rattle.model.specs.FileExamples.{three, three_others, shown}
+use Rattle.model.specs.Examples.FileExamples.{three, three_others, shown}
 use Rattle.directory.specs.Readings.{Reading, AreWellFormed, AreReadings, all_answered}
 
 pub record ReadingExample : Type 0 where

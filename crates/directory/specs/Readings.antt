@@ -3,13 +3,13 @@
 -- Between the calls anything may change, so each has the state that it found.
 use Rattle.std.specs.Prelude.{ℕ, true, false, List, [], ◌∷◌, Option, Some, None, ◌≡◌, ◌≢◌, ◌<◌, bytes_eq, length, map, filter, slice_index_or}
 use Rattle.std.specs.List.{flat_map, AllByRecursion}
-use Rattle.model.specs.Answer.{Answer, Outcome, Entry, ReadDirAnswer}
-use Rattle.model.specs.Keyed.{Keyed, at, IsAbove}
+use Rattle.model.specs.Operations.Answer.{Answer, Outcome, Entry, ReadDirAnswer}
+use Rattle.model.specs.Trees.Keyed.{Keyed, at, IsAbove}
 use Rattle.model.specs.declared.limits.Limits.{Limits}
-use Rattle.model.specs.Operation.{Argument, ReadDirArguments}
-use Rattle.model.specs.Step.{State, current, does}
-use Rattle.model.specs.Tree.{DirEntry, names_at}
-use Rattle.model.specs.WellFormed.{IsWellFormed}
+use Rattle.model.specs.Operations.Operation.{Argument, ReadDirArguments}
+use Rattle.model.specs.Operations.Step.{State, current, does}
+use Rattle.model.specs.Trees.Tree.{DirEntry, names_at}
+use Rattle.model.specs.Trees.WellFormed.{IsWellFormed}
 use Rattle.directory.specs.Listing.{Page, IsListing, ShowsEachOnce, all_shown}
 use Rattle.directory.specs.Records.{Record, record_from}
 

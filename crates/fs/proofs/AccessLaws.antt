@@ -5,8 +5,8 @@ use Rattle.layout.specs.CachedNodes.{CachedNode}
 use Rattle.model.specs.declared.acl.Cred.{Cred}
 use Rattle.model.specs.declared.node.NodeKind.{NodeKind}
 use Rattle.model.specs.declared.node.NodeKind.TheVariants as kind
-use Rattle.model.specs.Access.{access_of}
-use Rattle.model.specs.Tree.{Tree, kind_of}
+use Rattle.model.specs.Operations.Access.{access_of}
+use Rattle.model.specs.Trees.Tree.{Tree, kind_of}
 use Rattle.fs.specs.AccessRights.{access_on}
 use Rattle.volume.specs.Nodes.{IsNodeOf, ShowsContent}
 

@@ -2,7 +2,7 @@
 use Rattle.std.proofs.Common.{◌≡◌, ◌<◌, ◌&&◌, ℕ, suc, Bool, true, List, [], ◌∷◌, length, refl, ap₂, arith}
 use Rattle.std.proofs.lemmas.Bool.{lt-ltb}
 use Rattle.std.specs.Prelude.{slice_index}
-use Rattle.model.specs.Files.{are_bytes}
+use Rattle.model.specs.Operations.Files.{are_bytes}
 
 pub bytes_by : (bytes : List ℕ) → ((i : ℕ) → slice_index bytes i < 256) → are_bytes bytes ≡ true
 bytes_by [] each = refl

@@ -9,12 +9,12 @@ use Rattle.layout.specs.Known.{IsCard, HasContent}
 use Rattle.model.specs.declared.acl.Cred.{Cred}
 use Rattle.model.specs.declared.node.NodeKind.{NodeKind}
 use Rattle.model.specs.declared.node.NodeKind.TheVariants as kind
-use Rattle.model.specs.Acl.{granted, delete, delete_child}
-use Rattle.model.specs.Keyed.{Keyed, at, with, in_place_of, before_or_behind}
-use Rattle.model.specs.Directory.{number_named}
-use Rattle.model.specs.Need.{granted_on}
-use Rattle.model.specs.Rename.{has_names}
-use Rattle.model.specs.Tree.{Tree, Node, Content, Directory, is_directory, is_directory_node, is_directory_at, names_of, names_at, names_of_node, entry_of}
+use Rattle.model.specs.Rights.Acl.{granted, delete, delete_child}
+use Rattle.model.specs.Trees.Keyed.{Keyed, at, with, in_place_of, before_or_behind}
+use Rattle.model.specs.Operations.Directory.{number_named}
+use Rattle.model.specs.Rights.Need.{granted_on}
+use Rattle.model.specs.Operations.Rename.{has_names}
+use Rattle.model.specs.Trees.Tree.{Tree, Node, Content, Directory, is_directory, is_directory_node, is_directory_at, names_of, names_at, names_of_node, entry_of}
 use Rattle.fs.specs.Removing.{may_remove}
 use Rattle.volume.specs.Nodes.{IsNodeOf, ShowsContent}
 

@@ -5,8 +5,8 @@ use Rattle.disk.proofs.MomentLemmas.{AddsOnly-same}
 use Rattle.layout.specs.Stands.{Kept}
 use Rattle.model.specs.declared.not_done.NotDone.{NotDone}
 use Rattle.model.specs.declared.not_done.NotDone.TheVariants as refusal
-use Rattle.model.specs.Operation.{Argument}
-use Rattle.model.specs.Step.{State}
+use Rattle.model.specs.Operations.Operation.{Argument}
+use Rattle.model.specs.Operations.Step.{State}
 use Rattle.fs.specs.declared.fault.FsFault.{FsFault}
 use Rattle.fs.specs.declared.fault.FsFault.TheVariants as fault
 use Rattle.fs.specs.Changes.{Changes, fs_ending}

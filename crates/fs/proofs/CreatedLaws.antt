@@ -13,25 +13,25 @@ use Rattle.model.specs.declared.node.NodeKind.{NodeKind}
 use Rattle.model.specs.declared.node.NodeKind.TheVariants as kind
 use Rattle.model.specs.declared.status.Status.{Status}
 use Rattle.model.specs.declared.status.Status.TheVariants as status
-use Rattle.model.specs.Acl.{is_list_for}
-use Rattle.model.specs.Answer.{Answer}
-use Rattle.model.specs.Attribute.{attribute_refusals, settable_at_creation, is_empty, mode_given, trimmed}
-use Rattle.model.specs.Charge.{fits}
-use Rattle.model.specs.Context.{at_node}
-use Rattle.model.specs.Directory.{change_of, new_directory}
-use Rattle.model.specs.Edit.{Shown}
-use Rattle.model.specs.Inherit.{created_list}
-use Rattle.model.specs.Keyed.{at}
-use Rattle.model.specs.Limits.{limits_of}
-use Rattle.model.specs.Name.{name_refusals}
-use Rattle.model.specs.Operation.{Attributes}
-use Rattle.model.specs.Refusal.{first_refusal, refused_or}
-use Rattle.model.specs.Stamp.{next_stamp, is_stamp_left}
-use Rattle.model.specs.Step.{State, made, answered, refused, current, stamp_of}
-use Rattle.model.specs.Tree.{Tree, Node, kind_of, names_at, entry_of}
-use Rattle.model.specs.WellFormed.{IsNode}
-use Rattle.model.proofs.RefusalLaws.{none_in_front, none_in_both}
-use Rattle.model.proofs.OptionLaws.{none_by_test}
+use Rattle.model.specs.Rights.Acl.{is_list_for}
+use Rattle.model.specs.Operations.Answer.{Answer}
+use Rattle.model.specs.Attributes.Attribute.{attribute_refusals, settable_at_creation, is_empty, mode_given, trimmed}
+use Rattle.model.specs.Trees.Charge.{fits}
+use Rattle.model.specs.Operations.Context.{at_node}
+use Rattle.model.specs.Operations.Directory.{change_of, new_directory}
+use Rattle.model.specs.Trees.Edit.{Shown}
+use Rattle.model.specs.Rights.Inherit.{created_list}
+use Rattle.model.specs.Trees.Keyed.{at}
+use Rattle.model.specs.Trees.Limits.{limits_of}
+use Rattle.model.specs.Attributes.Name.{name_refusals}
+use Rattle.model.specs.Operations.Operation.{Attributes}
+use Rattle.model.specs.Operations.Refusal.{first_refusal, refused_or}
+use Rattle.model.specs.Trees.Stamp.{next_stamp, is_stamp_left}
+use Rattle.model.specs.Operations.Step.{State, made, answered, refused, current, stamp_of}
+use Rattle.model.specs.Trees.Tree.{Tree, Node, kind_of, names_at, entry_of}
+use Rattle.model.specs.Trees.WellFormed.{IsNode}
+use Rattle.model.proofs.Operations.RefusalLaws.{none_in_front, none_in_both}
+use Rattle.model.proofs.Facts.OptionLaws.{none_by_test}
 use Rattle.set_attributes.specs.declared.said.Settings.{Settings}
 use Rattle.set_attributes.specs.Given.{AreSettings, AreWithin}
 use Rattle.fs.specs.OnTree.{new_directory_refusals}

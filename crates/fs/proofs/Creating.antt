@@ -6,20 +6,20 @@ use Rattle.model.specs.declared.limits.Limits.{Limits}
 use Rattle.model.specs.declared.node.NodeKind.TheVariants as kind
 use Rattle.model.specs.declared.status.Status.{Status}
 use Rattle.model.specs.declared.status.Status.TheVariants as status
-use Rattle.model.specs.Acl.{append_data}
-use Rattle.model.specs.Attribute.{attribute_refusals, settable_at_creation}
-use Rattle.model.specs.Charge.{fits}
-use Rattle.model.specs.Context.{has_current}
-use Rattle.model.specs.Keyed.{at, is_key}
-use Rattle.model.specs.Name.{name_refusals}
-use Rattle.model.specs.Need.{granted_on, need_first, need_then}
-use Rattle.model.specs.Operation.{Argument, Attributes, NewDirectory}
-use Rattle.model.specs.Refusal.{Refusals, first_refusal, refused_or}
-use Rattle.model.specs.Stamp.{is_stamp_left}
-use Rattle.model.specs.Step.{State, current, late, without_rights, refusals, change_refusals, effect, does, refused, made, create, unless_refused}
-use Rattle.model.specs.Tree.{Tree, Node, is_directory, is_directory_at, names_of, names_at, entry_of}
-use Rattle.model.proofs.RefusalLaws.{first-append, or_else}
-use Rattle.model.proofs.BooleanLaws.{alone}
+use Rattle.model.specs.Rights.Acl.{append_data}
+use Rattle.model.specs.Attributes.Attribute.{attribute_refusals, settable_at_creation}
+use Rattle.model.specs.Trees.Charge.{fits}
+use Rattle.model.specs.Operations.Context.{has_current}
+use Rattle.model.specs.Trees.Keyed.{at, is_key}
+use Rattle.model.specs.Attributes.Name.{name_refusals}
+use Rattle.model.specs.Rights.Need.{granted_on, need_first, need_then}
+use Rattle.model.specs.Operations.Operation.{Argument, Attributes, NewDirectory}
+use Rattle.model.specs.Operations.Refusal.{Refusals, first_refusal, refused_or}
+use Rattle.model.specs.Trees.Stamp.{is_stamp_left}
+use Rattle.model.specs.Operations.Step.{State, current, late, without_rights, refusals, change_refusals, effect, does, refused, made, create, unless_refused}
+use Rattle.model.specs.Trees.Tree.{Tree, Node, is_directory, is_directory_at, names_of, names_at, entry_of}
+use Rattle.model.proofs.Operations.RefusalLaws.{first-append, or_else}
+use Rattle.model.proofs.Facts.BooleanLaws.{alone}
 use Rattle.fs.specs.OnTree.{IsState, new_directory_refusals}
 
 module _ (limits : Limits) (tree : Tree) (cred : Cred) (number : ℕ) (name : List ℕ) (given : Attributes) (node : Node)

@@ -4,13 +4,13 @@ use Rattle.model.specs.declared.acl.Cred.{Cred}
 use Rattle.model.specs.declared.limits.Limits.{Limits}
 use Rattle.model.specs.declared.status.Status.{Status}
 use Rattle.model.specs.declared.status.Status.TheVariants as status
-use Rattle.model.specs.Open.{asked_open, late_at_open}
-use Rattle.model.specs.Operation.{Argument, OpenArguments, NoCreate, Opening, Opens as Opening_of, ByHandle}
-use Rattle.model.specs.Refusal.{first_refusal, refused_or}
-use Rattle.model.specs.StateIds.{is_table_full}
-use Rattle.model.specs.Step.{State, current, does, refused}
-use Rattle.model.specs.Tree.{Tree}
-use Rattle.model.proofs.RefusalLaws.{or_else}
+use Rattle.model.specs.Operations.Open.{asked_open, late_at_open}
+use Rattle.model.specs.Operations.Operation.{Argument, OpenArguments, NoCreate, Opening, Opens as Opening_of, ByHandle}
+use Rattle.model.specs.Operations.Refusal.{first_refusal, refused_or}
+use Rattle.model.specs.Sessions.StateIds.{is_table_full}
+use Rattle.model.specs.Operations.Step.{State, current, does, refused}
+use Rattle.model.specs.Trees.Tree.{Tree}
+use Rattle.model.proofs.Operations.RefusalLaws.{or_else}
 use Rattle.fs.specs.declared.opening.Share.{Share}
 use Rattle.fs.specs.FileSystem.{FileSystem}
 use Rattle.fs.specs.Opening.{IsOpeningCurrent, after_open, current_opened, handle_tests}

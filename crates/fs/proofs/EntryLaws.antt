@@ -15,12 +15,12 @@ use Rattle.model.specs.declared.acl.Who.TheVariants as who
 use Rattle.model.specs.declared.limits.Limits.{Limits}
 use Rattle.model.specs.declared.node.NodeKind.{NodeKind}
 use Rattle.model.specs.declared.node.NodeKind.TheVariants as kind
-use Rattle.model.specs.Acl.{is_within, every_right, inheritance, are_flags_for, has_width, is_entry_for, is_list_for}
-use Rattle.model.specs.Inherit.{created_list}
-use Rattle.model.specs.Limits.{limits_of}
-use Rattle.model.specs.SetAttr.{list_set}
-use Rattle.model.proofs.FileStepLaws.{list_given, list_is_set}
-use Rattle.model.proofs.LimitLaws.{modes_keep_limits, inheritance_keeps_limits}
+use Rattle.model.specs.Rights.Acl.{is_within, every_right, inheritance, are_flags_for, has_width, is_entry_for, is_list_for}
+use Rattle.model.specs.Rights.Inherit.{created_list}
+use Rattle.model.specs.Trees.Limits.{limits_of}
+use Rattle.model.specs.Operations.SetAttr.{list_set}
+use Rattle.model.proofs.Operations.FileStepLaws.{list_given, list_is_set}
+use Rattle.model.proofs.Rights.LimitLaws.{modes_keep_limits, inheritance_keeps_limits}
 use Rattle.set_attributes.specs.declared.said.Settings.{Settings}
 use Rattle.set_attributes.specs.Given.{AreWithin}
 use Rattle.fs.specs.FileSystem.{FileSystem}

@@ -4,8 +4,8 @@ use Rattle.std.specs.Prelude.{if◌then◌else◌, nat_le}
 use Rattle.std.specs.List.{AllByRecursion}
 use Rattle.std.proofs.lemmas.Bool.{eq-eqb, le-leb, lt-leb}
 use Rattle.std.proofs.lemmas.List.{length-map, map-append}
-use Rattle.model.specs.Answer.{Entry, ReadDirAnswer}
-use Rattle.model.specs.ReadDir.{entry_size, fitting}
+use Rattle.model.specs.Operations.Answer.{Entry, ReadDirAnswer}
+use Rattle.model.specs.Operations.ReadDir.{entry_size, fitting}
 use Rattle.wire_attributes.specs.Listed.{EntryFits, entry_view}
 use Rattle.wire_attributes.specs.declared.listed.ListedEntry.{ListedEntry}
 use Rattle.fs.specs.Listing.{page_of}

@@ -9,20 +9,20 @@ use Rattle.model.specs.declared.acl.Ace.{Ace}
 use Rattle.model.specs.declared.acl.Cred.{Cred}
 use Rattle.model.specs.declared.limits.Limits.{Limits}
 use Rattle.model.specs.declared.node.NodeKind.TheVariants as kind
-use Rattle.model.specs.Attribute.{is_empty, mode_given, size_given}
-use Rattle.model.specs.Directory.{acl_of, is_named}
-use Rattle.model.specs.Edit.{Shown}
-use Rattle.model.specs.Inherit.{created_list}
-use Rattle.model.specs.Keyed.{at}
-use Rattle.model.specs.Limits.{limits_of}
-use Rattle.model.specs.Name.{name_refusals}
-use Rattle.model.specs.Open.{new_file}
-use Rattle.model.specs.Operation.{Attributes}
-use Rattle.model.specs.Refusal.{first_refusal}
-use Rattle.model.specs.Stamp.{next_stamp}
-use Rattle.model.specs.Tree.{Node, entry_of, names_at}
-use Rattle.model.specs.WellFormed.{IsNode}
-use Rattle.model.proofs.OptionLaws.{none_by_test}
+use Rattle.model.specs.Attributes.Attribute.{is_empty, mode_given, size_given}
+use Rattle.model.specs.Operations.Directory.{acl_of, is_named}
+use Rattle.model.specs.Trees.Edit.{Shown}
+use Rattle.model.specs.Rights.Inherit.{created_list}
+use Rattle.model.specs.Trees.Keyed.{at}
+use Rattle.model.specs.Trees.Limits.{limits_of}
+use Rattle.model.specs.Attributes.Name.{name_refusals}
+use Rattle.model.specs.Operations.Open.{new_file}
+use Rattle.model.specs.Operations.Operation.{Attributes}
+use Rattle.model.specs.Operations.Refusal.{first_refusal}
+use Rattle.model.specs.Trees.Stamp.{next_stamp}
+use Rattle.model.specs.Trees.Tree.{Node, entry_of, names_at}
+use Rattle.model.specs.Trees.WellFormed.{IsNode}
+use Rattle.model.proofs.Facts.OptionLaws.{none_by_test}
 use Rattle.set_attributes.specs.declared.said.Settings.{Settings}
 use Rattle.set_attributes.specs.Given.{AreSettings, AreWithin}
 use Rattle.fs.specs.FileSystem.{FileSystem}

@@ -9,14 +9,14 @@ use Rattle.tree_edits.proofs.BlankLaws.{length-zeros}
 use Rattle.tree_edits.proofs.FitLaws.{fits-without_data}
 use Rattle.model.specs.declared.limits.Limits.{Limits}
 use Rattle.model.specs.declared.node.NodeKind.TheVariants as kind
-use Rattle.model.specs.Charge.{fits}
-use Rattle.model.specs.Edit.{Edit, SetSize, Show, Shown, edited, done, showing, with_content, resized}
-use Rattle.model.specs.Keyed.{at, with}
-use Rattle.model.specs.Stamp.{next_stamp}
-use Rattle.model.specs.Tree.{Tree, Node, Content, File, Directory, bytes_of, names_of, is_directory}
-use Rattle.model.specs.WellFormed.{IsWellFormed, IsBefore, IsContent, IsNode}
-use Rattle.model.proofs.ChangeLaws.{IsChanged}
-use Rattle.model.proofs.NodeChangeLaws.{altered-twice, length-resized, resized_bytes, replacement_keeps}
+use Rattle.model.specs.Trees.Charge.{fits}
+use Rattle.model.specs.Trees.Edit.{Edit, SetSize, Show, Shown, edited, done, showing, with_content, resized}
+use Rattle.model.specs.Trees.Keyed.{at, with}
+use Rattle.model.specs.Trees.Stamp.{next_stamp}
+use Rattle.model.specs.Trees.Tree.{Tree, Node, Content, File, Directory, bytes_of, names_of, is_directory}
+use Rattle.model.specs.Trees.WellFormed.{IsWellFormed, IsBefore, IsContent, IsNode}
+use Rattle.model.proofs.Trees.ChangeLaws.{IsChanged}
+use Rattle.model.proofs.Trees.NodeChangeLaws.{altered-twice, length-resized, resized_bytes, replacement_keeps}
 use Rattle.fs.specs.FileSystem.{FileSystem}
 use Rattle.fs.specs.Planned.{IsList}
 use Rattle.fs.specs.Ready.{MayStand}

@@ -12,24 +12,24 @@ use Rattle.model.specs.declared.acl.Cred.{Cred}
 use Rattle.model.specs.declared.limits.Limits.{Limits}
 use Rattle.model.specs.declared.status.Status.{Status}
 use Rattle.model.specs.declared.status.Status.TheVariants as status
-use Rattle.model.specs.Acl.{write_data}
-use Rattle.model.specs.Changes.{touched}
-use Rattle.model.specs.Charge.{fits}
-use Rattle.model.specs.Edit.{Edit, PutBytes, Show, Shown, edited, done, showing, with_content, overwritten, resized}
-use Rattle.model.specs.Files.{are_bytes, taken_bytes, write}
-use Rattle.model.specs.Keyed.{at, with, is_key}
-use Rattle.model.specs.Limits.{limits_of}
-use Rattle.model.specs.Need.{granted_on}
-use Rattle.model.specs.Opens.{no_opens}
-use Rattle.model.specs.Operation.{Argument, StateId, WriteArguments}
-use Rattle.model.specs.Refusal.{first_refusal}
-use Rattle.model.specs.Stamp.{next_stamp, is_stamp_left}
-use Rattle.model.specs.StateIds.{found, state_refusals, write_access}
-use Rattle.model.specs.Step.{State, does}
-use Rattle.model.specs.Tree.{Tree, Node, Content, File, Directory, bytes_of, is_directory_at}
-use Rattle.model.specs.WellFormed.{IsWellFormed, IsContent}
-use Rattle.model.proofs.NodeChangeLaws.{altered-twice}
-use Rattle.model.proofs.RefusalLaws.{none_in_front, none_in_both}
+use Rattle.model.specs.Rights.Acl.{write_data}
+use Rattle.model.specs.Trees.Changes.{touched}
+use Rattle.model.specs.Trees.Charge.{fits}
+use Rattle.model.specs.Trees.Edit.{Edit, PutBytes, Show, Shown, edited, done, showing, with_content, overwritten, resized}
+use Rattle.model.specs.Operations.Files.{are_bytes, taken_bytes, write}
+use Rattle.model.specs.Trees.Keyed.{at, with, is_key}
+use Rattle.model.specs.Trees.Limits.{limits_of}
+use Rattle.model.specs.Rights.Need.{granted_on}
+use Rattle.model.specs.Sessions.Opens.{no_opens}
+use Rattle.model.specs.Operations.Operation.{Argument, StateId, WriteArguments}
+use Rattle.model.specs.Operations.Refusal.{first_refusal}
+use Rattle.model.specs.Trees.Stamp.{next_stamp, is_stamp_left}
+use Rattle.model.specs.Sessions.StateIds.{found, state_refusals, write_access}
+use Rattle.model.specs.Operations.Step.{State, does}
+use Rattle.model.specs.Trees.Tree.{Tree, Node, Content, File, Directory, bytes_of, is_directory_at}
+use Rattle.model.specs.Trees.WellFormed.{IsWellFormed, IsContent}
+use Rattle.model.proofs.Trees.NodeChangeLaws.{altered-twice}
+use Rattle.model.proofs.Operations.RefusalLaws.{none_in_front, none_in_both}
 use Rattle.fs.specs.FileSystem.{FileSystem}
 use Rattle.fs.specs.Files.{permit_refusals, verdict_refusals}
 use Rattle.fs.specs.Ready.{MayStand}

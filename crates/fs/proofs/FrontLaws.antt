@@ -4,12 +4,12 @@ use Rattle.std.specs.Prelude.{IsTrue}
 use Rattle.std.proofs.lemmas.Bool.{cases_eq, le-leb}
 use Rattle.tree_edits.proofs.NamedLaws.{few-at}
 use Rattle.model.specs.declared.limits.Limits.{Limits}
-use Rattle.model.specs.Charge.{charge, fits}
-use Rattle.model.specs.Edit.{Edit, Shown, PutNode, PutName, Show, edited, showing, name_put, altered, altered_at}
-use Rattle.model.specs.Keyed.{at, with, total, worth_at, IsAbove}
-use Rattle.model.specs.Tree.{Tree, Node, Content, Directory, DirEntry, names_of, names_at, names_of_node}
-use Rattle.model.proofs.KeyedLaws.{at-with_same, at-with_other, IsAbove-with, total-with}
-use Rattle.model.proofs.OpensLaws.{total-ones}
+use Rattle.model.specs.Trees.Charge.{charge, fits}
+use Rattle.model.specs.Trees.Edit.{Edit, Shown, PutNode, PutName, Show, edited, showing, name_put, altered, altered_at}
+use Rattle.model.specs.Trees.Keyed.{at, with, total, worth_at, IsAbove}
+use Rattle.model.specs.Trees.Tree.{Tree, Node, Content, Directory, DirEntry, names_of, names_at, names_of_node}
+use Rattle.model.proofs.Trees.KeyedLaws.{at-with_same, at-with_other, IsAbove-with, total-with}
+use Rattle.model.proofs.Sessions.OpensLaws.{total-ones}
 use Rattle.tree_check.proofs.FitLaws.{few-from}
 use Rattle.volume.proofs.EditLaws.{DoesFit, fit_parts}
 

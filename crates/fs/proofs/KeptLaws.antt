@@ -9,17 +9,17 @@ use Rattle.tree_edits.specs.Doing.{made_by, updates_of_all}
 use Rattle.tree_edits.specs.Edits.{AreDoable}
 use Rattle.tree_edits.specs.Outlines.{without_data}
 use Rattle.model.specs.declared.limits.Limits.{Limits}
-use Rattle.model.specs.Charge.{fits}
-use Rattle.model.specs.Limits.{limits_of}
-use Rattle.model.specs.Operation.{Argument}
-use Rattle.model.specs.Stamp.{next_stamp, stamp}
-use Rattle.model.specs.State.{State, Stepped, stamp_of}
-use Rattle.model.specs.Step.{does}
-use Rattle.model.specs.StepLaws.{IsSound, IsLawful}
-use Rattle.model.specs.Tree.{Tree}
-use Rattle.model.specs.WellFormed.{IsWellFormed, IsBefore}
-use Rattle.model.proofs.LimitLaws.{modes_keep_limits, inheritance_keeps_limits}
-use Rattle.model.proofs.StepProofs.{every_step, before_later}
+use Rattle.model.specs.Trees.Charge.{fits}
+use Rattle.model.specs.Trees.Limits.{limits_of}
+use Rattle.model.specs.Operations.Operation.{Argument}
+use Rattle.model.specs.Trees.Stamp.{next_stamp, stamp}
+use Rattle.model.specs.Operations.State.{State, Stepped, stamp_of}
+use Rattle.model.specs.Operations.Step.{does}
+use Rattle.model.specs.Operations.StepLaws.{IsSound, IsLawful}
+use Rattle.model.specs.Trees.Tree.{Tree}
+use Rattle.model.specs.Trees.WellFormed.{IsWellFormed, IsBefore}
+use Rattle.model.proofs.Rights.LimitLaws.{modes_keep_limits, inheritance_keeps_limits}
+use Rattle.model.proofs.Operations.StepProofs.{every_step, before_later}
 use Rattle.fs.specs.FileSystem.{FileSystem}
 use Rattle.fs.specs.Planned.{IsPlanned}
 use Rattle.fs.specs.Ready.{MayStand}

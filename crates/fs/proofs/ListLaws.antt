@@ -7,22 +7,22 @@ use Rattle.model.specs.declared.acl.Cred.{Cred}
 use Rattle.model.specs.declared.limits.Limits.{Limits}
 use Rattle.model.specs.declared.status.Status.{Status}
 use Rattle.model.specs.declared.status.Status.TheVariants as status
-use Rattle.model.specs.Acl.{read_acl, read_data}
-use Rattle.model.specs.Answer.{Answer, Entry, ReadDirAnswer}
-use Rattle.model.specs.Context.{Context}
+use Rattle.model.specs.Rights.Acl.{read_acl, read_data}
+use Rattle.model.specs.Operations.Answer.{Answer, Entry, ReadDirAnswer}
+use Rattle.model.specs.Operations.Context.{Context}
 use Rattle.directory.specs.Listing.{after, by_stamp}
 use Rattle.directory.specs.Records.{Record}
-use Rattle.model.specs.Keyed.{Keyed, at, is_key, with, in_place_of, before_or_behind}
-use Rattle.model.specs.Need.{Right, granted_on, is_granted, are_granted, here, listing_rights}
-use Rattle.model.specs.NodeAttributes.{unreadable}
-use Rattle.model.specs.Operation.{Argument, Attributes, ReadDirArguments}
-use Rattle.model.specs.ReadDir.{asks_lists, asks_errors, may_read_list, listed_entry, names_after, all_entries, page, page_bytes, page_room, page_refusals}
-use Rattle.model.specs.Refusal.{first_refusal, refused_or}
-use Rattle.model.specs.SetAttr.{attributes_at}
-use Rattle.model.specs.Step.{State, current, refusals, change_refusals, without_rights, effect, does, answered, refused, unless_refused}
-use Rattle.model.specs.Tree.{Tree, Node, DirEntry, is_directory_at, names_at}
-use Rattle.model.proofs.BooleanLaws.{and_false, alone}
-use Rattle.model.proofs.RefusalLaws.{or_else}
+use Rattle.model.specs.Trees.Keyed.{Keyed, at, is_key, with, in_place_of, before_or_behind}
+use Rattle.model.specs.Rights.Need.{Right, granted_on, is_granted, are_granted, here, listing_rights}
+use Rattle.model.specs.Attributes.NodeAttributes.{unreadable}
+use Rattle.model.specs.Operations.Operation.{Argument, Attributes, ReadDirArguments}
+use Rattle.model.specs.Operations.ReadDir.{asks_lists, asks_errors, may_read_list, listed_entry, names_after, all_entries, page, page_bytes, page_room, page_refusals}
+use Rattle.model.specs.Operations.Refusal.{first_refusal, refused_or}
+use Rattle.model.specs.Operations.SetAttr.{attributes_at}
+use Rattle.model.specs.Operations.Step.{State, current, refusals, change_refusals, without_rights, effect, does, answered, refused, unless_refused}
+use Rattle.model.specs.Trees.Tree.{Tree, Node, DirEntry, is_directory_at, names_at}
+use Rattle.model.proofs.Facts.BooleanLaws.{and_false, alone}
+use Rattle.model.proofs.Operations.RefusalLaws.{or_else}
 use Rattle.fs.specs.OnTree.{IsState}
 use Rattle.fs.specs.Listing.{list_refusals, may_read_lists, page_of, shown_attributes, shown_entry}
 use Rattle.fs.proofs.FileSteps.{or_none, does_by}

@@ -4,20 +4,20 @@ use Rattle.std.specs.Prelude.{Option, Some, None}
 use Rattle.model.specs.declared.acl.Cred.{Cred}
 use Rattle.model.specs.declared.status.Status.{Status}
 use Rattle.model.specs.declared.status.Status.TheVariants as status
-use Rattle.model.specs.Acl.{execute}
-use Rattle.model.specs.Answer.{Answer}
-use Rattle.model.specs.Context.{has_current}
-use Rattle.model.specs.Directory.{number_of_entry}
-use Rattle.model.specs.Keyed.{at, is_key}
+use Rattle.model.specs.Rights.Acl.{execute}
+use Rattle.model.specs.Operations.Answer.{Answer}
+use Rattle.model.specs.Operations.Context.{has_current}
+use Rattle.model.specs.Operations.Directory.{number_of_entry}
+use Rattle.model.specs.Trees.Keyed.{at, is_key}
 use Rattle.model.specs.declared.limits.Limits.{Limits}
-use Rattle.model.specs.Name.{name_refusals}
-use Rattle.model.specs.Need.{permitted, granted_on}
-use Rattle.model.specs.Operation.{Argument}
-use Rattle.model.specs.Refusal.{Refusals, first_refusal, refused_or}
-use Rattle.model.specs.Step.{State, current, is_name_there, refusals, change_refusals, effect, does, refused, answered, moved_to, unless_refused}
-use Rattle.model.specs.Tree.{Tree, Node, DirEntry, is_directory_at, is_directory_node, is_directory, names_of, names_of_node, entry_of}
-use Rattle.model.proofs.RefusalLaws.{first-append, or_else}
-use Rattle.model.proofs.BooleanLaws.{alone}
+use Rattle.model.specs.Attributes.Name.{name_refusals}
+use Rattle.model.specs.Rights.Need.{permitted, granted_on}
+use Rattle.model.specs.Operations.Operation.{Argument}
+use Rattle.model.specs.Operations.Refusal.{Refusals, first_refusal, refused_or}
+use Rattle.model.specs.Operations.Step.{State, current, is_name_there, refusals, change_refusals, effect, does, refused, answered, moved_to, unless_refused}
+use Rattle.model.specs.Trees.Tree.{Tree, Node, DirEntry, is_directory_at, is_directory_node, is_directory, names_of, names_of_node, entry_of}
+use Rattle.model.proofs.Operations.RefusalLaws.{first-append, or_else}
+use Rattle.model.proofs.Facts.BooleanLaws.{alone}
 use Rattle.fs.specs.OnTree.{IsState}
 
 -- LOOKUP's tests

@@ -11,17 +11,17 @@ use Rattle.tree_edits.proofs.BlankLaws.{at-without_data, without_data-with, with
 use Rattle.model.specs.declared.limits.Limits.{Limits}
 use Rattle.model.specs.declared.node.NodeKind.{NodeKind}
 use Rattle.model.specs.declared.node.NodeKind.TheVariants as kind
-use Rattle.model.specs.Changes.{touched}
-use Rattle.model.specs.Charge.{charge, charge_of_blocks, blocks, fits}
-use Rattle.model.specs.Edit.{Edit, Shown, Show, done, edited, altered_at, with_content, name_put, showing}
-use Rattle.model.specs.Keyed.{Keyed, at, with, is_key, worth_at, IsAbove}
-use Rattle.model.specs.Stamp.{next_stamp}
-use Rattle.model.specs.Tree.{Tree, Node, Content, File, Directory, DirEntry, names_of, names_at, is_directory, is_directory_node, is_directory_at, entry_of}
-use Rattle.model.specs.WellFormed.{IsWellFormed, IsBefore, IsContent}
-use Rattle.model.proofs.ChangeLaws.{IsChanged, creation_keeps}
-use Rattle.model.proofs.KeyedLaws.{at-with_same, at-with_other, with-with_same, at-above, total-with, IsAbove-with}
-use Rattle.model.proofs.OptionLaws.{none_unless}
-use Rattle.model.proofs.OpensLaws.{total-ones}
+use Rattle.model.specs.Trees.Changes.{touched}
+use Rattle.model.specs.Trees.Charge.{charge, charge_of_blocks, blocks, fits}
+use Rattle.model.specs.Trees.Edit.{Edit, Shown, Show, done, edited, altered_at, with_content, name_put, showing}
+use Rattle.model.specs.Trees.Keyed.{Keyed, at, with, is_key, worth_at, IsAbove}
+use Rattle.model.specs.Trees.Stamp.{next_stamp}
+use Rattle.model.specs.Trees.Tree.{Tree, Node, Content, File, Directory, DirEntry, names_of, names_at, is_directory, is_directory_node, is_directory_at, entry_of}
+use Rattle.model.specs.Trees.WellFormed.{IsWellFormed, IsBefore, IsContent}
+use Rattle.model.proofs.Trees.ChangeLaws.{IsChanged, creation_keeps}
+use Rattle.model.proofs.Trees.KeyedLaws.{at-with_same, at-with_other, with-with_same, at-above, total-with, IsAbove-with}
+use Rattle.model.proofs.Facts.OptionLaws.{none_unless}
+use Rattle.model.proofs.Sessions.OpensLaws.{total-ones}
 use Rattle.fs.specs.FileSystem.{FileSystem}
 use Rattle.fs.specs.Making.{first_node, tree_with, MayBeMade}
 use Rattle.fs.specs.Ready.{MayStand}

@@ -17,21 +17,21 @@ use Rattle.tree_edits.proofs.BlankLaws.{edits_blanked}
 use Rattle.model.specs.declared.limits.Limits.{Limits}
 use Rattle.model.specs.declared.node.NodeKind.{NodeKind}
 use Rattle.model.specs.declared.node.NodeKind.TheVariants as kind
-use Rattle.model.specs.Changes.{touched}
-use Rattle.model.specs.Charge.{fits}
-use Rattle.model.specs.Edit.{PutNode, PutName, Show, SetSize, done, edited, name_put, with_content, resized}
-use Rattle.model.specs.Edit as model
-use Rattle.model.specs.Keyed.{Keyed, at, with, is_key}
-use Rattle.model.specs.Limits.{limits_of}
-use Rattle.model.specs.Name.{name_refusals}
-use Rattle.model.specs.Refusal.{first_refusal}
+use Rattle.model.specs.Trees.Changes.{touched}
+use Rattle.model.specs.Trees.Charge.{fits}
+use Rattle.model.specs.Trees.Edit.{PutNode, PutName, Show, SetSize, done, edited, name_put, with_content, resized}
+use Rattle.model.specs.Trees.Edit as model
+use Rattle.model.specs.Trees.Keyed.{Keyed, at, with, is_key}
+use Rattle.model.specs.Trees.Limits.{limits_of}
+use Rattle.model.specs.Attributes.Name.{name_refusals}
+use Rattle.model.specs.Operations.Refusal.{first_refusal}
 use Rattle.model.specs.declared.status.Status.TheVariants as status
-use Rattle.model.specs.Stamp.{next_stamp}
-use Rattle.model.specs.Tree.{Tree, Node, File, Directory, DirEntry, bytes_of, names_at, names_of, names_of_node, is_directory, is_directory_node, entry_of}
-use Rattle.model.specs.WellFormed.{IsWellFormed}
-use Rattle.model.proofs.KeyedLaws.{at-with_same, with-with_same}
-use Rattle.model.proofs.NodeChangeLaws.{altered-once}
-use Rattle.model.proofs.RefusalLaws.{none_in_front}
+use Rattle.model.specs.Trees.Stamp.{next_stamp}
+use Rattle.model.specs.Trees.Tree.{Tree, Node, File, Directory, DirEntry, bytes_of, names_at, names_of, names_of_node, is_directory, is_directory_node, entry_of}
+use Rattle.model.specs.Trees.WellFormed.{IsWellFormed}
+use Rattle.model.proofs.Trees.KeyedLaws.{at-with_same, with-with_same}
+use Rattle.model.proofs.Trees.NodeChangeLaws.{altered-once}
+use Rattle.model.proofs.Operations.RefusalLaws.{none_in_front}
 use Rattle.fs.specs.FileSystem.{FileSystem}
 use Rattle.fs.specs.Making.{first_node, sizing, tree_with, IsSizeOf, MayBeMade}
 use Rattle.fs.specs.Planned.{IsPlanned}

@@ -4,17 +4,17 @@ use Rattle.model.specs.declared.acl.Cred.{Cred}
 use Rattle.model.specs.declared.limits.Limits.{Limits}
 use Rattle.model.specs.declared.status.Status.{Status}
 use Rattle.model.specs.declared.status.Status.TheVariants as status
-use Rattle.model.specs.Charge.{fits}
-use Rattle.model.specs.Directory.{acl_of, change_of, is_named, number_named}
-use Rattle.model.specs.Keyed.{at}
-use Rattle.model.specs.Open.{asked_open, cuts, given_by, late_at_open, new_file, open_file}
-use Rattle.model.specs.Operation.{Argument, OpenArguments, OpenType, Opening, Opens as Opening_of, ByName}
-use Rattle.model.specs.Refusal.{first_refusal, refused_or}
-use Rattle.model.specs.Stamp.{next_stamp, is_stamp_left}
-use Rattle.model.specs.StateIds.{is_table_full}
-use Rattle.model.specs.Step.{State, Stepped, alters, change_refusals, current, does, is_name_there, refused, unless_refused}
-use Rattle.model.specs.Tree.{Tree, Node}
-use Rattle.model.proofs.RefusalLaws.{or_else}
+use Rattle.model.specs.Trees.Charge.{fits}
+use Rattle.model.specs.Operations.Directory.{acl_of, change_of, is_named, number_named}
+use Rattle.model.specs.Trees.Keyed.{at}
+use Rattle.model.specs.Operations.Open.{asked_open, cuts, given_by, late_at_open, new_file, open_file}
+use Rattle.model.specs.Operations.Operation.{Argument, OpenArguments, OpenType, Opening, Opens as Opening_of, ByName}
+use Rattle.model.specs.Operations.Refusal.{first_refusal, refused_or}
+use Rattle.model.specs.Trees.Stamp.{next_stamp, is_stamp_left}
+use Rattle.model.specs.Sessions.StateIds.{is_table_full}
+use Rattle.model.specs.Operations.Step.{State, Stepped, alters, change_refusals, current, does, is_name_there, refused, unless_refused}
+use Rattle.model.specs.Trees.Tree.{Tree, Node}
+use Rattle.model.proofs.Operations.RefusalLaws.{or_else}
 use Rattle.fs.specs.declared.opening.OpenEffect.{OpenEffect}
 use Rattle.fs.specs.declared.opening.OpenEffect.TheVariants as effect
 use Rattle.fs.specs.declared.opening.Opened.{Opened}

@@ -13,14 +13,14 @@ use Rattle.tree_edits.specs.Making.{IsMaking, first_content}
 use Rattle.layout.specs.CachedNodes.{CachedNode}
 use Rattle.model.specs.declared.node.NodeKind.{NodeKind}
 use Rattle.model.specs.declared.status.Status.TheVariants as status
-use Rattle.model.specs.Changes.{made_edits, touched}
-use Rattle.model.specs.Charge.{fits}
-use Rattle.model.specs.Keyed.{at}
-use Rattle.model.specs.Limits.{limits_of}
-use Rattle.model.specs.Refusal.{first_refusal, refused_or}
-use Rattle.model.specs.Stamp.{next_stamp, is_stamp_left}
-use Rattle.model.specs.Tree.{Tree, Node, Directory, is_directory, is_directory_at, is_directory_node, names_of_node}
-use Rattle.model.proofs.RefusalLaws.{none_in_front}
+use Rattle.model.specs.Trees.Changes.{made_edits, touched}
+use Rattle.model.specs.Trees.Charge.{fits}
+use Rattle.model.specs.Trees.Keyed.{at}
+use Rattle.model.specs.Trees.Limits.{limits_of}
+use Rattle.model.specs.Operations.Refusal.{first_refusal, refused_or}
+use Rattle.model.specs.Trees.Stamp.{next_stamp, is_stamp_left}
+use Rattle.model.specs.Trees.Tree.{Tree, Node, Directory, is_directory, is_directory_at, is_directory_node, names_of_node}
+use Rattle.model.proofs.Operations.RefusalLaws.{none_in_front}
 use Rattle.fs.specs.FileSystem.{FileSystem}
 use Rattle.fs.specs.Making.{first_node, room_tests, sizing, tree_with, IsDirectoryOf, IsSizeOf, MayBeMade}
 use Rattle.fs.specs.Planned.{IsPlanned, shown_by}

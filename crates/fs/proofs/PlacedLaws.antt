@@ -6,16 +6,16 @@ use Rattle.tree_transaction.specs.declared.nodes.Shown.{Shown}
 use Rattle.tree_transaction.specs.Nodes.{shown_of}
 use Rattle.tree_edits.specs.Edits.{AreEntries, AreDoable, edits_of}
 use Rattle.model.specs.declared.limits.Limits.{Limits}
-use Rattle.model.specs.Edit.{DropName, DropNode, PutName, Show, done, edited, name_put, name_dropped, showing, altered_at}
-use Rattle.model.specs.Edit as model
-use Rattle.model.specs.Keyed.{Keyed, at, is_key, with, without, kept_or_not, worth_at}
-use Rattle.model.specs.Tree.{Tree, Node, DirEntry, names_of, names_of_node, names_at, is_directory_node, is_directory_at, entry_of, found_or}
-use Rattle.model.specs.WellFormed.{one_if, is_stamped, times_named, AreNames, IsWellFormed, IsBefore}
-use Rattle.model.proofs.ChangeLaws.{entry_found, names_in, led_to, never_named, directory_key}
-use Rattle.model.proofs.EditLaws.{IsForest, forest_of, directory_at}
-use Rattle.model.proofs.EditViews.{entry_before, NameDropped, name_is_dropped, NodeDropped, node_is_dropped}
-use Rattle.model.proofs.KeyedLaws.{at-above, at-with_same, at-with_other, at-without_same, at-without_other, total-without, IsAbove-without}
-use Rattle.model.proofs.OptionLaws.{none_unless, some≢none}
+use Rattle.model.specs.Trees.Edit.{DropName, DropNode, PutName, Show, done, edited, name_put, name_dropped, showing, altered_at}
+use Rattle.model.specs.Trees.Edit as model
+use Rattle.model.specs.Trees.Keyed.{Keyed, at, is_key, with, without, kept_or_not, worth_at}
+use Rattle.model.specs.Trees.Tree.{Tree, Node, DirEntry, names_of, names_of_node, names_at, is_directory_node, is_directory_at, entry_of, found_or}
+use Rattle.model.specs.Trees.WellFormed.{one_if, is_stamped, times_named, AreNames, IsWellFormed, IsBefore}
+use Rattle.model.proofs.Trees.ChangeLaws.{entry_found, names_in, led_to, never_named, directory_key}
+use Rattle.model.proofs.Trees.EditLaws.{IsForest, forest_of, directory_at}
+use Rattle.model.proofs.Trees.EditViews.{entry_before, NameDropped, name_is_dropped, NodeDropped, node_is_dropped}
+use Rattle.model.proofs.Trees.KeyedLaws.{at-above, at-with_same, at-with_other, at-without_same, at-without_other, total-without, IsAbove-without}
+use Rattle.model.proofs.Facts.OptionLaws.{none_unless, some≢none}
 use Rattle.fs.specs.declared.renaming.Renaming.{Renaming}
 use Rattle.fs.specs.RenameTests.{moving_edits}
 use Rattle.fs.proofs.FlatLaws.{key-altered}

@@ -4,17 +4,17 @@ use Rattle.std.specs.Prelude.{Option, Some, None}
 use Rattle.model.specs.declared.acl.Cred.{Cred}
 use Rattle.model.specs.declared.limits.Limits.{Limits}
 use Rattle.model.specs.declared.status.Status.TheVariants as status
-use Rattle.model.specs.Access.{access_of}
-use Rattle.model.specs.Acl.{execute, read_acl}
-use Rattle.model.specs.Ancestors.{parent_of}
-use Rattle.model.specs.Answer.{Answer}
-use Rattle.model.specs.Keyed.{at}
-use Rattle.model.specs.Need.{granted_on}
-use Rattle.model.specs.NodeAttributes.{node_attributes}
-use Rattle.model.specs.Operation.{Argument}
-use Rattle.model.specs.ReadDir.{asks_lists}
-use Rattle.model.specs.Step.{State, current, refusals, effect, does, refused, answered, moved_to}
-use Rattle.model.specs.Tree.{Tree, Node, is_directory, root}
+use Rattle.model.specs.Operations.Access.{access_of}
+use Rattle.model.specs.Rights.Acl.{execute, read_acl}
+use Rattle.model.specs.Trees.Ancestors.{parent_of}
+use Rattle.model.specs.Operations.Answer.{Answer}
+use Rattle.model.specs.Trees.Keyed.{at}
+use Rattle.model.specs.Rights.Need.{granted_on}
+use Rattle.model.specs.Attributes.NodeAttributes.{node_attributes}
+use Rattle.model.specs.Operations.Operation.{Argument}
+use Rattle.model.specs.Operations.ReadDir.{asks_lists}
+use Rattle.model.specs.Operations.Step.{State, current, refusals, effect, does, refused, answered, moved_to}
+use Rattle.model.specs.Trees.Tree.{Tree, Node, is_directory, root}
 use Rattle.fs.specs.OnTree.{IsState}
 
 module _ (limits : Limits) (tree : Tree) (cred : Cred) (number : ℕ) (state : State) (now : ℕ)

@@ -14,18 +14,18 @@ use Rattle.layout.specs.Known.{IsCard}
 use Rattle.model.specs.declared.acl.Ace.{Ace}
 use Rattle.model.specs.declared.acl.Cred.{Cred}
 use Rattle.model.specs.declared.status.Status.TheVariants as status
-use Rattle.model.specs.Changes.{touched}
-use Rattle.model.specs.Charge.{fits}
-use Rattle.model.specs.Directory.{change_of}
-use Rattle.model.specs.Edit.{DropName, DropNode, Show, edited}
-use Rattle.model.specs.Edit as model
-use Rattle.model.specs.Keyed.{at}
-use Rattle.model.specs.Limits.{limits_of}
-use Rattle.model.specs.Operation.{Argument}
-use Rattle.model.specs.Refusal.{first_refusal}
-use Rattle.model.specs.Stamp.{next_stamp, is_stamp_left}
-use Rattle.model.specs.Step.{State, does, refused}
-use Rattle.model.specs.Tree.{Tree, Node, names_at, entry_of}
+use Rattle.model.specs.Trees.Changes.{touched}
+use Rattle.model.specs.Trees.Charge.{fits}
+use Rattle.model.specs.Operations.Directory.{change_of}
+use Rattle.model.specs.Trees.Edit.{DropName, DropNode, Show, edited}
+use Rattle.model.specs.Trees.Edit as model
+use Rattle.model.specs.Trees.Keyed.{at}
+use Rattle.model.specs.Trees.Limits.{limits_of}
+use Rattle.model.specs.Operations.Operation.{Argument}
+use Rattle.model.specs.Operations.Refusal.{first_refusal}
+use Rattle.model.specs.Trees.Stamp.{next_stamp, is_stamp_left}
+use Rattle.model.specs.Operations.Step.{State, does, refused}
+use Rattle.model.specs.Trees.Tree.{Tree, Node, names_at, entry_of}
 use Rattle.fs.specs.FileSystem.{FileSystem}
 use Rattle.fs.specs.Operations.{IsOn}
 use Rattle.fs.specs.Planned.{IsPlanned, shown_by}

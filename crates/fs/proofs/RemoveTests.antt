@@ -5,20 +5,20 @@ use Rattle.model.specs.declared.acl.Cred.{Cred}
 use Rattle.model.specs.declared.limits.Limits.{Limits}
 use Rattle.model.specs.declared.status.Status.{Status}
 use Rattle.model.specs.declared.status.Status.TheVariants as status
-use Rattle.model.specs.Charge.{fits}
-use Rattle.model.specs.Context.{has_current}
-use Rattle.model.specs.Directory.{is_named, number_named}
-use Rattle.model.specs.Keyed.{at, is_key}
-use Rattle.model.specs.Name.{name_refusals}
-use Rattle.model.specs.Need.{need_first, need_then}
-use Rattle.model.specs.Operation.{Argument}
-use Rattle.model.specs.Refusal.{Refusals, first_refusal, refused_or}
-use Rattle.model.specs.Rename.{has_names, remove}
-use Rattle.model.specs.Stamp.{is_stamp_left}
-use Rattle.model.specs.Step.{State, current, late, without_rights, refusals, change_refusals, effect, does, refused, unless_refused}
-use Rattle.model.specs.Tree.{Tree, Node, is_directory, is_directory_node, is_directory_at}
-use Rattle.model.proofs.RefusalLaws.{first-append, or_else}
-use Rattle.model.proofs.BooleanLaws.{and_true}
+use Rattle.model.specs.Trees.Charge.{fits}
+use Rattle.model.specs.Operations.Context.{has_current}
+use Rattle.model.specs.Operations.Directory.{is_named, number_named}
+use Rattle.model.specs.Trees.Keyed.{at, is_key}
+use Rattle.model.specs.Attributes.Name.{name_refusals}
+use Rattle.model.specs.Rights.Need.{need_first, need_then}
+use Rattle.model.specs.Operations.Operation.{Argument}
+use Rattle.model.specs.Operations.Refusal.{Refusals, first_refusal, refused_or}
+use Rattle.model.specs.Operations.Rename.{has_names, remove}
+use Rattle.model.specs.Trees.Stamp.{is_stamp_left}
+use Rattle.model.specs.Operations.Step.{State, current, late, without_rights, refusals, change_refusals, effect, does, refused, unless_refused}
+use Rattle.model.specs.Trees.Tree.{Tree, Node, is_directory, is_directory_node, is_directory_at}
+use Rattle.model.proofs.Operations.RefusalLaws.{first-append, or_else}
+use Rattle.model.proofs.Facts.BooleanLaws.{and_true}
 use Rattle.fs.specs.Removing.{may_remove, removal_refusals}
 
 module _ (limits : Limits) (tree : Tree) (cred : Cred) (number : ℕ) (name : List ℕ) where

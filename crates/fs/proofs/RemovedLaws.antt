@@ -10,27 +10,27 @@ use Rattle.model.specs.declared.acl.Cred.{Cred}
 use Rattle.model.specs.declared.limits.Limits.{Limits}
 use Rattle.model.specs.declared.status.Status.{Status}
 use Rattle.model.specs.declared.status.Status.TheVariants as status
-use Rattle.model.specs.Answer.{Answer}
-use Rattle.model.specs.Changes.{touched, removal, removed_edits}
-use Rattle.model.specs.Charge.{fits}
-use Rattle.model.specs.Directory.{is_named, number_named, number_of_entry, change_of}
-use Rattle.model.specs.Edit.{Edit, Shown, DropName, DropNode, Show, done, edited, name_dropped}
-use Rattle.model.specs.Keyed.{Keyed, at, is_key}
-use Rattle.model.specs.Limits.{limits_of}
-use Rattle.model.specs.Name.{name_refusals}
-use Rattle.model.specs.Operation.{Argument}
-use Rattle.model.specs.Opens.{no_opens}
-use Rattle.model.specs.Refusal.{Refusals, first_refusal}
-use Rattle.model.specs.Rename.{has_names, remove}
-use Rattle.model.specs.Stamp.{next_stamp, is_stamp_left}
-use Rattle.model.specs.StateIds.{without_number}
-use Rattle.model.specs.Step.{State, Stepped, does, answered, refused, current, stamp_of}
-use Rattle.model.specs.Tree.{Tree, Node, DirEntry, is_directory_node, is_directory_at, names_at, entry_of}
-use Rattle.model.specs.WellFormed.{IsWellFormed}
-use Rattle.model.proofs.ChangeLaws.{entry_found, names_in, led_to}
-use Rattle.model.proofs.EditLaws.{forest_of}
-use Rattle.model.proofs.RefusalLaws.{none_in_front, none_in_both}
-use Rattle.model.proofs.OptionLaws.{some≢none}
+use Rattle.model.specs.Operations.Answer.{Answer}
+use Rattle.model.specs.Trees.Changes.{touched, removal, removed_edits}
+use Rattle.model.specs.Trees.Charge.{fits}
+use Rattle.model.specs.Operations.Directory.{is_named, number_named, number_of_entry, change_of}
+use Rattle.model.specs.Trees.Edit.{Edit, Shown, DropName, DropNode, Show, done, edited, name_dropped}
+use Rattle.model.specs.Trees.Keyed.{Keyed, at, is_key}
+use Rattle.model.specs.Trees.Limits.{limits_of}
+use Rattle.model.specs.Attributes.Name.{name_refusals}
+use Rattle.model.specs.Operations.Operation.{Argument}
+use Rattle.model.specs.Sessions.Opens.{no_opens}
+use Rattle.model.specs.Operations.Refusal.{Refusals, first_refusal}
+use Rattle.model.specs.Operations.Rename.{has_names, remove}
+use Rattle.model.specs.Trees.Stamp.{next_stamp, is_stamp_left}
+use Rattle.model.specs.Sessions.StateIds.{without_number}
+use Rattle.model.specs.Operations.Step.{State, Stepped, does, answered, refused, current, stamp_of}
+use Rattle.model.specs.Trees.Tree.{Tree, Node, DirEntry, is_directory_node, is_directory_at, names_at, entry_of}
+use Rattle.model.specs.Trees.WellFormed.{IsWellFormed}
+use Rattle.model.proofs.Trees.ChangeLaws.{entry_found, names_in, led_to}
+use Rattle.model.proofs.Trees.EditLaws.{forest_of}
+use Rattle.model.proofs.Operations.RefusalLaws.{none_in_front, none_in_both}
+use Rattle.model.proofs.Facts.OptionLaws.{some≢none}
 use Rattle.volume.specs.Formed.{IsFormed}
 use Rattle.volume.proofs.EditLaws.{fits_alike}
 use Rattle.fs.specs.FileSystem.{FileSystem}

@@ -18,19 +18,19 @@ use Rattle.tree_edits.proofs.DoableLaws.{doable_alike}
 use Rattle.model.specs.declared.acl.Cred.{Cred}
 use Rattle.model.specs.declared.limits.Limits.{Limits}
 use Rattle.model.specs.declared.status.Status.TheVariants as status
-use Rattle.model.specs.Charge.{fits}
-use Rattle.model.specs.Edit.{DropName, PutName, Show, done, edited, name_dropped, name_put, showing}
-use Rattle.model.specs.Edit as model
-use Rattle.model.specs.Keyed.{at, is_key, IsAbove}
-use Rattle.model.specs.Limits.{limits_of}
-use Rattle.model.specs.Refusal.{first_refusal}
-use Rattle.model.specs.Stamp.{next_stamp}
-use Rattle.model.specs.Step.{does}
-use Rattle.model.specs.Tree.{Tree, DirEntry, entry_of, names_at, is_directory_at}
-use Rattle.model.specs.WellFormed.{IsWellFormed}
-use Rattle.model.proofs.ChangeLaws.{names_in}
-use Rattle.model.proofs.EditLaws.{forest_of}
-use Rattle.model.proofs.KeyedLaws.{IsAbove-without}
+use Rattle.model.specs.Trees.Charge.{fits}
+use Rattle.model.specs.Trees.Edit.{DropName, PutName, Show, done, edited, name_dropped, name_put, showing}
+use Rattle.model.specs.Trees.Edit as model
+use Rattle.model.specs.Trees.Keyed.{at, is_key, IsAbove}
+use Rattle.model.specs.Trees.Limits.{limits_of}
+use Rattle.model.specs.Operations.Refusal.{first_refusal}
+use Rattle.model.specs.Trees.Stamp.{next_stamp}
+use Rattle.model.specs.Operations.Step.{does}
+use Rattle.model.specs.Trees.Tree.{Tree, DirEntry, entry_of, names_at, is_directory_at}
+use Rattle.model.specs.Trees.WellFormed.{IsWellFormed}
+use Rattle.model.proofs.Trees.ChangeLaws.{names_in}
+use Rattle.model.proofs.Trees.EditLaws.{forest_of}
+use Rattle.model.proofs.Trees.KeyedLaws.{IsAbove-without}
 use Rattle.fs.specs.declared.renaming.Renaming.{Renaming}
 use Rattle.fs.specs.FileSystem.{FileSystem}
 use Rattle.fs.specs.Ready.{MayStand}

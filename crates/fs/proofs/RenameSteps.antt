@@ -7,19 +7,19 @@ use Rattle.model.specs.declared.not_done.NotDone.{NotDone}
 use Rattle.model.specs.declared.limits.Limits.{Limits}
 use Rattle.model.specs.declared.status.Status.{Status}
 use Rattle.model.specs.declared.status.Status.TheVariants as status
-use Rattle.model.specs.Charge.{fits}
-use Rattle.model.specs.Context.{has_current, has_saved, is_same_name}
-use Rattle.model.specs.Directory.{is_named}
-use Rattle.model.specs.Keyed.{is_key}
-use Rattle.model.specs.Name.{name_refusals}
-use Rattle.model.specs.Need.{rename_rights, need_first, need_then}
-use Rattle.model.specs.Operation.{Argument, RenameArguments}
-use Rattle.model.specs.Refusal.{Refusals, first_refusal, refused_or}
-use Rattle.model.specs.Rename.{late_at_rename, rename}
-use Rattle.model.specs.Stamp.{is_stamp_left}
-use Rattle.model.specs.Step.{State, current, saved, late, without_rights, refusals, effect, does, refused, unless_refused}
-use Rattle.model.specs.Tree.{Tree, is_directory_at}
-use Rattle.model.proofs.RefusalLaws.{first-append, or_else}
+use Rattle.model.specs.Trees.Charge.{fits}
+use Rattle.model.specs.Operations.Context.{has_current, has_saved, is_same_name}
+use Rattle.model.specs.Operations.Directory.{is_named}
+use Rattle.model.specs.Trees.Keyed.{is_key}
+use Rattle.model.specs.Attributes.Name.{name_refusals}
+use Rattle.model.specs.Rights.Need.{rename_rights, need_first, need_then}
+use Rattle.model.specs.Operations.Operation.{Argument, RenameArguments}
+use Rattle.model.specs.Operations.Refusal.{Refusals, first_refusal, refused_or}
+use Rattle.model.specs.Operations.Rename.{late_at_rename, rename}
+use Rattle.model.specs.Trees.Stamp.{is_stamp_left}
+use Rattle.model.specs.Operations.Step.{State, current, saved, late, without_rights, refusals, effect, does, refused, unless_refused}
+use Rattle.model.specs.Trees.Tree.{Tree, is_directory_at}
+use Rattle.model.proofs.Operations.RefusalLaws.{first-append, or_else}
 use Rattle.fs.specs.declared.renaming.Planned.{Planned}
 use Rattle.fs.specs.RenameTests.{directory_refusals, moving_refusals, placing_refusals}
 

@@ -13,27 +13,27 @@ use Rattle.model.specs.declared.acl.Cred.{Cred}
 use Rattle.model.specs.declared.limits.Limits.{Limits}
 use Rattle.model.specs.declared.status.Status.{Status}
 use Rattle.model.specs.declared.status.Status.TheVariants as status
-use Rattle.model.specs.Changes.{touched, removal, moving, renamed_edits}
-use Rattle.model.specs.Charge.{fits}
-use Rattle.model.specs.Directory.{is_named, number_of_entry, change_of}
-use Rattle.model.specs.Edit.{Edit, Shown, DropName, DropNode, PutName, Show, done, edited, name_put}
-use Rattle.model.specs.Keyed.{at, IsAbove}
-use Rattle.model.specs.Limits.{limits_of}
-use Rattle.model.specs.Name.{name_refusals}
-use Rattle.model.specs.Operation.{Argument, RenameArguments}
-use Rattle.model.specs.Opens.{Opens, no_opens}
-use Rattle.model.specs.Refusal.{first_refusal}
-use Rattle.model.specs.Rename.{has_names, target_number, rename}
-use Rattle.model.specs.Stamp.{next_stamp, is_stamp_left}
-use Rattle.model.specs.Context.{is_same_name}
-use Rattle.model.specs.Answer.{Answer}
-use Rattle.model.specs.StateIds.{without_number}
-use Rattle.model.specs.Step.{State, Stepped, does, answered, refused, current, saved, stamp_of}
-use Rattle.model.specs.Tree.{Tree, DirEntry, is_directory_at, names_at, entry_of}
-use Rattle.model.specs.WellFormed.{IsWellFormed}
-use Rattle.model.proofs.BooleanLaws.{second_of_neither, second_false}
-use Rattle.model.proofs.RefusalLaws.{none_in_front, none_in_both}
-use Rattle.model.proofs.StepProofs.{other_way}
+use Rattle.model.specs.Trees.Changes.{touched, removal, moving, renamed_edits}
+use Rattle.model.specs.Trees.Charge.{fits}
+use Rattle.model.specs.Operations.Directory.{is_named, number_of_entry, change_of}
+use Rattle.model.specs.Trees.Edit.{Edit, Shown, DropName, DropNode, PutName, Show, done, edited, name_put}
+use Rattle.model.specs.Trees.Keyed.{at, IsAbove}
+use Rattle.model.specs.Trees.Limits.{limits_of}
+use Rattle.model.specs.Attributes.Name.{name_refusals}
+use Rattle.model.specs.Operations.Operation.{Argument, RenameArguments}
+use Rattle.model.specs.Sessions.Opens.{Opens, no_opens}
+use Rattle.model.specs.Operations.Refusal.{first_refusal}
+use Rattle.model.specs.Operations.Rename.{has_names, target_number, rename}
+use Rattle.model.specs.Trees.Stamp.{next_stamp, is_stamp_left}
+use Rattle.model.specs.Operations.Context.{is_same_name}
+use Rattle.model.specs.Operations.Answer.{Answer}
+use Rattle.model.specs.Sessions.StateIds.{without_number}
+use Rattle.model.specs.Operations.Step.{State, Stepped, does, answered, refused, current, saved, stamp_of}
+use Rattle.model.specs.Trees.Tree.{Tree, DirEntry, is_directory_at, names_at, entry_of}
+use Rattle.model.specs.Trees.WellFormed.{IsWellFormed}
+use Rattle.model.proofs.Facts.BooleanLaws.{second_of_neither, second_false}
+use Rattle.model.proofs.Operations.RefusalLaws.{none_in_front, none_in_both}
+use Rattle.model.proofs.Operations.StepProofs.{other_way}
 use Rattle.volume.specs.Formed.{IsFormed}
 use Rattle.volume.proofs.EditLaws.{fits_alike}
 use Rattle.fs.specs.declared.renaming.Renaming.{Renaming}

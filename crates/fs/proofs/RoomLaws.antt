@@ -5,12 +5,12 @@ use Rattle.std.proofs.lemmas.Bool.{cases_eq, le-leb}
 use Rattle.std.proofs.lemmas.Option.{same_Some}
 use Rattle.tree_edits.proofs.NamedLaws.{few-at}
 use Rattle.model.specs.declared.limits.Limits.{Limits}
-use Rattle.model.specs.Charge.{blocks, charge, charge_of_blocks, fits}
-use Rattle.model.specs.Edit.{Shown, Show, DropName, DropNode, done, name_dropped, showing, altered, altered_at}
-use Rattle.model.specs.Keyed.{Keyed, at, with, without, kept_or_not, total, worth_at, IsAbove}
-use Rattle.model.specs.Tree.{Tree, Node, Content, File, Directory, names_of}
-use Rattle.model.proofs.KeyedLaws.{at-with_same, at-with_other, at-without_same, at-without_other, at-above, some≢none, IsAbove-with, IsAbove-without, total-with, total-without}
-use Rattle.model.proofs.OpensLaws.{total-ones}
+use Rattle.model.specs.Trees.Charge.{blocks, charge, charge_of_blocks, fits}
+use Rattle.model.specs.Trees.Edit.{Shown, Show, DropName, DropNode, done, name_dropped, showing, altered, altered_at}
+use Rattle.model.specs.Trees.Keyed.{Keyed, at, with, without, kept_or_not, total, worth_at, IsAbove}
+use Rattle.model.specs.Trees.Tree.{Tree, Node, Content, File, Directory, names_of}
+use Rattle.model.proofs.Trees.KeyedLaws.{at-with_same, at-with_other, at-without_same, at-without_other, at-above, some≢none, IsAbove-with, IsAbove-without, total-with, total-without}
+use Rattle.model.proofs.Sessions.OpensLaws.{total-ones}
 use Rattle.tree_check.proofs.FitLaws.{few-from}
 use Rattle.volume.proofs.EditLaws.{DoesFit, fit_parts}
 

@@ -21,23 +21,23 @@ use Rattle.model.specs.declared.node.NodeKind.{NodeKind}
 use Rattle.model.specs.declared.node.NodeKind.TheVariants as kind
 use Rattle.model.specs.declared.status.Status.{Status}
 use Rattle.model.specs.declared.status.Status.TheVariants as status
-use Rattle.model.specs.Attribute.{attribute_refusals, attributes_of, is_empty, settable_at_setattr, size_given}
-use Rattle.model.specs.Charge.{fits}
-use Rattle.model.specs.Edit.{Show, SetSize, done, edited, with_content, resized}
-use Rattle.model.specs.Edit as model
-use Rattle.model.specs.Keyed.{at, is_key}
-use Rattle.model.specs.Limits.{limits_of}
-use Rattle.model.specs.Need.{granted_on}
-use Rattle.model.specs.Operation.{Argument, Attributes, SetAttrArguments}
-use Rattle.model.specs.Refusal.{first_refusal}
-use Rattle.model.specs.SetAttr.{kind_at, sets_size, shown_set, size_edits}
-use Rattle.model.specs.Stamp.{next_stamp, is_stamp_left}
-use Rattle.model.specs.Step.{State, refused}
-use Rattle.model.specs.Tree.{Tree, Node, Content, File, Directory, bytes_of, kind_of, is_directory_at}
-use Rattle.model.specs.WellFormed.{IsContent}
-use Rattle.model.proofs.KeyedLaws.{at-with_same}
-use Rattle.model.proofs.NodeChangeLaws.{altered-once}
-use Rattle.model.proofs.RefusalLaws.{none_in_front, none_in_both}
+use Rattle.model.specs.Attributes.Attribute.{attribute_refusals, attributes_of, is_empty, settable_at_setattr, size_given}
+use Rattle.model.specs.Trees.Charge.{fits}
+use Rattle.model.specs.Trees.Edit.{Show, SetSize, done, edited, with_content, resized}
+use Rattle.model.specs.Trees.Edit as model
+use Rattle.model.specs.Trees.Keyed.{at, is_key}
+use Rattle.model.specs.Trees.Limits.{limits_of}
+use Rattle.model.specs.Rights.Need.{granted_on}
+use Rattle.model.specs.Operations.Operation.{Argument, Attributes, SetAttrArguments}
+use Rattle.model.specs.Operations.Refusal.{first_refusal}
+use Rattle.model.specs.Operations.SetAttr.{kind_at, sets_size, shown_set, size_edits}
+use Rattle.model.specs.Trees.Stamp.{next_stamp, is_stamp_left}
+use Rattle.model.specs.Operations.Step.{State, refused}
+use Rattle.model.specs.Trees.Tree.{Tree, Node, Content, File, Directory, bytes_of, kind_of, is_directory_at}
+use Rattle.model.specs.Trees.WellFormed.{IsContent}
+use Rattle.model.proofs.Trees.KeyedLaws.{at-with_same}
+use Rattle.model.proofs.Trees.NodeChangeLaws.{altered-once}
+use Rattle.model.proofs.Operations.RefusalLaws.{none_in_front, none_in_both}
 use Rattle.set_attributes.specs.declared.said.Settings.{Settings}
 use Rattle.set_attributes.specs.Given.{AreSettings, AreWithin, given_of}
 use Rattle.fs.specs.declared.setting.Setting.{Setting}

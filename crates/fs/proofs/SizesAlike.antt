@@ -8,11 +8,11 @@ use Rattle.tree_edits.specs.Sizes.{charge_of_size, names_in, number_of, resized_
 use Rattle.tree_edits.specs.Sizes.{size_there}
 use Rattle.tree_edits.proofs.SizeLaws.{IsRising, behind, still_rising, charge_there, names_there}
 use Rattle.model.specs.declared.limits.Limits.{Limits}
-use Rattle.model.specs.Charge.{charge, few_names, fits}
-use Rattle.model.specs.Edit.{done, edited}
-use Rattle.model.specs.Keyed.{total, IsAbove}
-use Rattle.model.specs.Tree.{Tree, Node}
-use Rattle.model.proofs.KeyedLaws.{at-below, at-first, at-rest}
+use Rattle.model.specs.Trees.Charge.{charge, few_names, fits}
+use Rattle.model.specs.Trees.Edit.{done, edited}
+use Rattle.model.specs.Trees.Keyed.{total, IsAbove}
+use Rattle.model.specs.Trees.Tree.{Tree, Node}
+use Rattle.model.proofs.Trees.KeyedLaws.{at-below, at-first, at-rest}
 
 -- Trees whose nodes have as much
 

@@ -20,22 +20,22 @@ use Rattle.model.specs.declared.node.NodeKind.{NodeKind}
 use Rattle.model.specs.declared.node.NodeKind.TheVariants as kind
 use Rattle.model.specs.declared.status.Status.{Status}
 use Rattle.model.specs.declared.status.Status.TheVariants as status
-use Rattle.model.specs.Acl.{write_data}
-use Rattle.model.specs.Changes.{touched}
-use Rattle.model.specs.Charge.{fits}
-use Rattle.model.specs.Edit.{PutBytes, Show, done, edited, with_content, overwritten}
-use Rattle.model.specs.Edit as model
-use Rattle.model.specs.Files.{are_bytes, has_bytes, taken_bytes, write}
-use Rattle.model.specs.Keyed.{at, is_key}
-use Rattle.model.specs.Limits.{limits_of}
-use Rattle.model.specs.Operation.{Argument, WriteArguments}
-use Rattle.model.specs.Refusal.{first_refusal}
-use Rattle.model.specs.Stamp.{next_stamp, is_stamp_left}
-use Rattle.model.specs.Runs.{is_done}
-use Rattle.model.specs.Step.{State, Stepped, current, refused}
-use Rattle.model.specs.Tree.{Tree, Node, Content, File, bytes_of, is_directory, is_directory_node, is_directory_at}
-use Rattle.model.proofs.KeyedLaws.{at-with_same}
-use Rattle.model.proofs.NodeChangeLaws.{altered-once}
+use Rattle.model.specs.Rights.Acl.{write_data}
+use Rattle.model.specs.Trees.Changes.{touched}
+use Rattle.model.specs.Trees.Charge.{fits}
+use Rattle.model.specs.Trees.Edit.{PutBytes, Show, done, edited, with_content, overwritten}
+use Rattle.model.specs.Trees.Edit as model
+use Rattle.model.specs.Operations.Files.{are_bytes, has_bytes, taken_bytes, write}
+use Rattle.model.specs.Trees.Keyed.{at, is_key}
+use Rattle.model.specs.Trees.Limits.{limits_of}
+use Rattle.model.specs.Operations.Operation.{Argument, WriteArguments}
+use Rattle.model.specs.Operations.Refusal.{first_refusal}
+use Rattle.model.specs.Trees.Stamp.{next_stamp, is_stamp_left}
+use Rattle.model.specs.Server.Runs.{is_done}
+use Rattle.model.specs.Operations.Step.{State, Stepped, current, refused}
+use Rattle.model.specs.Trees.Tree.{Tree, Node, Content, File, bytes_of, is_directory, is_directory_node, is_directory_at}
+use Rattle.model.proofs.Trees.KeyedLaws.{at-with_same}
+use Rattle.model.proofs.Trees.NodeChangeLaws.{altered-once}
 use Rattle.fs.specs.declared.writing.Writing.{Writing}
 use Rattle.fs.specs.FileSystem.{FileSystem}
 use Rattle.fs.specs.Files.{permit_refusals}

@@ -2,10 +2,10 @@
 use Rattle.std.specs.Prelude.{ℕ, Result, Ok, Err, ◌≡◌}
 use Rattle.layout.specs.CachedNodes.{CachedNode}
 use Rattle.model.specs.declared.acl.Cred.{Cred}
-use Rattle.model.specs.Access.{access_masks, asked_bits, granted_bits}
-use Rattle.model.specs.Answer.{Answer, AccessAnswer}
-use Rattle.model.specs.Operation.{Argument}
-use Rattle.model.specs.Step.{State, answered}
+use Rattle.model.specs.Operations.Access.{access_masks, asked_bits, granted_bits}
+use Rattle.model.specs.Operations.Answer.{Answer, AccessAnswer}
+use Rattle.model.specs.Operations.Operation.{Argument}
+use Rattle.model.specs.Operations.Step.{State, answered}
 use Rattle.fs.specs.declared.access.Access.{Access}
 use Rattle.fs.specs.declared.fault.FsFault.{FsFault}
 use Rattle.fs.specs.FileSystem.{FileSystem}

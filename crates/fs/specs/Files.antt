@@ -3,13 +3,13 @@ use Rattle.std.specs.Prelude.{ℕ, [], ◌∷◌, ◌++◌, true, not, Result, O
 use Rattle.model.specs.declared.acl.Cred.{Cred}
 use Rattle.model.specs.declared.status.Status.{Status}
 use Rattle.model.specs.declared.status.Status.TheVariants as status
-use Rattle.model.specs.Keyed.{at, is_key}
-use Rattle.model.specs.Need.{granted_on}
-use Rattle.model.specs.Operation.{StateId}
-use Rattle.model.specs.Refusal.{Refusals}
-use Rattle.model.specs.State.{State}
-use Rattle.model.specs.StateIds.{state_refusals}
-use Rattle.model.specs.Tree.{Tree, is_directory_at}
+use Rattle.model.specs.Trees.Keyed.{at, is_key}
+use Rattle.model.specs.Rights.Need.{granted_on}
+use Rattle.model.specs.Operations.Operation.{StateId}
+use Rattle.model.specs.Operations.Refusal.{Refusals}
+use Rattle.model.specs.Operations.State.{State}
+use Rattle.model.specs.Sessions.StateIds.{state_refusals}
+use Rattle.model.specs.Trees.Tree.{Tree, is_directory_at}
 use Rattle.set_attributes.specs.Given.{IsChecked}
 
 -- The verdict on a stateid

@@ -9,14 +9,14 @@ use Rattle.model.specs.declared.node.NodeKind.{NodeKind}
 use Rattle.model.specs.declared.node.NodeKind.TheVariants as kind
 use Rattle.model.specs.declared.status.Status.{Status}
 use Rattle.model.specs.declared.status.Status.TheVariants as status
-use Rattle.model.specs.Changes.{made_edits}
-use Rattle.model.specs.Charge.{fits}
-use Rattle.model.specs.Edit.{Shown, edited}
-use Rattle.model.specs.Name.{name_refusals}
-use Rattle.model.specs.Refusal.{Refusals, first_refusal}
-use Rattle.model.specs.Stamp.{next_stamp, is_stamp_left}
-use Rattle.model.specs.Tree.{Tree, Node, entry_of, names_at}
-use Rattle.model.specs.WellFormed.{IsNode}
+use Rattle.model.specs.Trees.Changes.{made_edits}
+use Rattle.model.specs.Trees.Charge.{fits}
+use Rattle.model.specs.Trees.Edit.{Shown, edited}
+use Rattle.model.specs.Attributes.Name.{name_refusals}
+use Rattle.model.specs.Operations.Refusal.{Refusals, first_refusal}
+use Rattle.model.specs.Trees.Stamp.{next_stamp, is_stamp_left}
+use Rattle.model.specs.Trees.Tree.{Tree, Node, entry_of, names_at}
+use Rattle.model.specs.Trees.WellFormed.{IsNode}
 use Rattle.volume.specs.Nodes.{IsNodeOf}
 use Rattle.fs.specs.FileSystem.{FileSystem}
 

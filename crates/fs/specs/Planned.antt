@@ -6,11 +6,11 @@ use Rattle.model.specs.declared.acl.Ace.{Ace}
 use Rattle.model.specs.declared.acl.Cred.{Cred}
 use Rattle.model.specs.declared.limits.Limits.{Limits}
 use Rattle.model.specs.declared.node.NodeKind.{NodeKind}
-use Rattle.model.specs.Acl.{is_list_for}
-use Rattle.model.specs.Charge.{fits}
-use Rattle.model.specs.Edit.{Shown}
-use Rattle.model.specs.Inherit.{created_list}
-use Rattle.model.specs.Stamp.{next_stamp}
+use Rattle.model.specs.Rights.Acl.{is_list_for}
+use Rattle.model.specs.Trees.Charge.{fits}
+use Rattle.model.specs.Trees.Edit.{Shown}
+use Rattle.model.specs.Rights.Inherit.{created_list}
+use Rattle.model.specs.Trees.Stamp.{next_stamp}
 use Rattle.set_attributes.specs.declared.said.Settings.{Settings}
 use Rattle.fs.specs.FileSystem.{FileSystem}
 use Rattle.volume.specs.Edits.{IsChange, edited_by}

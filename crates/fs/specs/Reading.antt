@@ -1,10 +1,10 @@
 -- READ, as a call on a file system.
 use Rattle.std.specs.Prelude.{◌≡◌, ℕ, Bool, true, List, Result, Ok, Err, take, drop, min}
-use Rattle.model.specs.Answer.{Answer}
-use Rattle.model.specs.Files.{bytes_at}
-use Rattle.model.specs.Operation.{Argument, StateId}
-use Rattle.model.specs.Runs.{is_done}
-use Rattle.model.specs.Step.{State, answered, refused}
+use Rattle.model.specs.Operations.Answer.{Answer}
+use Rattle.model.specs.Operations.Files.{bytes_at}
+use Rattle.model.specs.Operations.Operation.{Argument, StateId}
+use Rattle.model.specs.Server.Runs.{is_done}
+use Rattle.model.specs.Operations.Step.{State, answered, refused}
 use Rattle.fs.specs.declared.fault.FsFault.{FsFault}
 use Rattle.fs.specs.declared.fault.FsFault.TheVariants as fault
 use Rattle.fs.specs.FileSystem.{FileSystem}

@@ -5,17 +5,17 @@ use Rattle.tree_edits.specs.declared.edit.Edit.{Edit}
 use Rattle.model.specs.declared.acl.Cred.{Cred}
 use Rattle.model.specs.declared.limits.Limits.{Limits}
 use Rattle.model.specs.declared.status.Status.TheVariants as status
-use Rattle.model.specs.Answer.{Answer}
-use Rattle.model.specs.Directory.{is_named, number_named}
-use Rattle.model.specs.Keyed.{is_key}
-use Rattle.model.specs.Name.{name_refusals}
-use Rattle.model.specs.Need.{is_granted, removable}
-use Rattle.model.specs.Operation.{Argument}
-use Rattle.model.specs.Refusal.{Refusals}
-use Rattle.model.specs.Rename.{has_names}
-use Rattle.model.specs.State.{State, Stepped, answered}
-use Rattle.model.specs.StateIds.{without_number}
-use Rattle.model.specs.Tree.{Tree, is_directory_at}
+use Rattle.model.specs.Operations.Answer.{Answer}
+use Rattle.model.specs.Operations.Directory.{is_named, number_named}
+use Rattle.model.specs.Trees.Keyed.{is_key}
+use Rattle.model.specs.Attributes.Name.{name_refusals}
+use Rattle.model.specs.Rights.Need.{is_granted, removable}
+use Rattle.model.specs.Operations.Operation.{Argument}
+use Rattle.model.specs.Operations.Refusal.{Refusals}
+use Rattle.model.specs.Operations.Rename.{has_names}
+use Rattle.model.specs.Operations.State.{State, Stepped, answered}
+use Rattle.model.specs.Sessions.StateIds.{without_number}
+use Rattle.model.specs.Trees.Tree.{Tree, is_directory_at}
 use Rattle.fs.specs.declared.fault.FsFault.{FsFault}
 use Rattle.fs.specs.declared.removing.Removed.{Removed}
 use Rattle.fs.specs.FileSystem.{FileSystem}

@@ -12,16 +12,16 @@ use Rattle.layout.specs.Known.{IsCard}
 use Rattle.model.specs.declared.acl.Cred.{Cred}
 use Rattle.model.specs.declared.limits.Limits.{Limits}
 use Rattle.model.specs.declared.status.Status.TheVariants as status
-use Rattle.model.specs.Acl.{granted, delete, delete_child}
-use Rattle.model.specs.Ancestors.{is_below}
-use Rattle.model.specs.Directory.{is_named, number_named}
-use Rattle.model.specs.Keyed.{at, is_key}
-use Rattle.model.specs.Name.{name_refusals}
-use Rattle.model.specs.Need.{is_granted, granted_on, rename_rights}
-use Rattle.model.specs.Operation.{RenameArguments}
-use Rattle.model.specs.Refusal.{Refusals}
-use Rattle.model.specs.Rename.{is_other, has_names}
-use Rattle.model.specs.Tree.{Tree, DirEntry, entry_of, is_directory_at, names_at}
+use Rattle.model.specs.Rights.Acl.{granted, delete, delete_child}
+use Rattle.model.specs.Trees.Ancestors.{is_below}
+use Rattle.model.specs.Operations.Directory.{is_named, number_named}
+use Rattle.model.specs.Trees.Keyed.{at, is_key}
+use Rattle.model.specs.Attributes.Name.{name_refusals}
+use Rattle.model.specs.Rights.Need.{is_granted, granted_on, rename_rights}
+use Rattle.model.specs.Operations.Operation.{RenameArguments}
+use Rattle.model.specs.Operations.Refusal.{Refusals}
+use Rattle.model.specs.Operations.Rename.{is_other, has_names}
+use Rattle.model.specs.Trees.Tree.{Tree, DirEntry, entry_of, is_directory_at, names_at}
 use Rattle.volume.specs.Nodes.{IsNodeOf}
 use Rattle.fs.specs.declared.renaming.Moving.{Moving}
 use Rattle.fs.specs.declared.renaming.Renaming.{Renaming}

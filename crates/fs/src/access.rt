@@ -3,8 +3,8 @@
 ghost use Rattle.std.specs.Prelude.{◌≡◌, ◌≤◌, ◌&&◌, if◌then◌else◌};
 ghost use Rattle.fs.specs.AccessRights.{access_answer, access_on};
 ghost use Rattle.fs.specs.Outline.{node_shown};
-ghost use Rattle.model.specs.Access.{access_masks, asked_bits, granted_bits};
-ghost use Rattle.model.specs.Acl.{granted, meets};
+ghost use Rattle.model.specs.Operations.Access.{access_masks, asked_bits, granted_bits};
+ghost use Rattle.model.specs.Rights.Acl.{granted, meets};
 
 use crate::fault::FsFault;
 use crate::fs::Fs;
@@ -113,7 +113,7 @@ fn access_on(card: &CachedNode, cred: &Cred, asked: u32) -> Access
 #[tactic(auto, unfolding(crate::specs::Views::fs_of))]
 impl<D: Device> Fs<D> {
     ghost use Rattle.std.specs.Prelude.{◌≡◌, true, ℕ, IsErrOf};
-    ghost use Rattle.model.specs.Step.{State};
+    ghost use Rattle.model.specs.Operations.Step.{State};
     ghost use Rattle.fs.specs.AccessRights.{TellsAccess};
     ghost use Rattle.fs.specs.Views.{fs_of};
     ghost use Rattle.fs.specs.Operations.{IsOn};

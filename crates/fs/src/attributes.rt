@@ -13,7 +13,7 @@ use wire_attributes::{Attribute, AttributesAnswer, NodeAttributes, is_asked};
 impl<D: Device> Fs<D> {
     ghost use Rattle.std.specs.Prelude.{◌≡◌, ◌≤◌, true, ℕ, length, IfOk, IsErrOf};
     ghost use Rattle.layout.specs.Known.{IsCard};
-    ghost use Rattle.model.specs.Step.{State};
+    ghost use Rattle.model.specs.Operations.Step.{State};
     ghost use Rattle.fs.specs.Attributes.{AreAttributes, GetsAttributes, ShowsCard};
     ghost use Rattle.fs.specs.Views.{fs_of};
     ghost use Rattle.fs.specs.Operations.{IsOn};

@@ -157,7 +157,7 @@ impl<D: Device> Fs<D> {
     ghost use Rattle.tree_edits.specs.Edits.{AreDoable};
     ghost use Rattle.fs.specs.Making.{last_refusal};
     ghost use Rattle.fs.specs.Planned.{IsPlanned};
-    ghost use Rattle.model.specs.Stamp.{next_stamp, is_stamp_left};
+    ghost use Rattle.model.specs.Trees.Stamp.{next_stamp, is_stamp_left};
     ghost use Rattle.volume.specs.Changes.{IsTree};
     ghost use Rattle.volume.specs.Edits.{IsEdited, edited_by};
     ghost use Rattle.volume.specs.Formed.{Shows};

@@ -36,8 +36,8 @@ impl<D: Device> Fs<D> {
     ghost use Rattle.fs.specs.Views.{fs_of, fs_failures, Alters};
     ghost use Rattle.fs.specs.Formatting.{Formats};
     ghost use Rattle.volume.specs.Checks.{Checks};
-    ghost use Rattle.model.specs.SeatEdits.{AreEdits, edited_all, edits_view};
-    ghost use Rattle.model.specs.SeatViews.{seats_view};
+    ghost use Rattle.model.specs.Sessions.SeatEdits.{AreEdits, edited_all, edits_view};
+    ghost use Rattle.model.specs.Sessions.SeatViews.{seats_view};
     ghost use Rattle.volume.specs.Changes.{IsSeats, Stays};
     ghost use Rattle.volume.specs.Formed.{Shows};
     ghost use Rattle.volume.specs.VolumeState.{KeepsRecent};

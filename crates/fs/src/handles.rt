@@ -1,7 +1,7 @@
 //! Operations that move the current filehandle or answer it.
 
 ghost use Rattle.std.specs.Prelude.{◌≡◌, MatchResult, IsTrue, IsFalse};
-ghost use Rattle.model.specs.Stamp.{filehandle_of, is_filehandle, number_of};
+ghost use Rattle.model.specs.Trees.Stamp.{filehandle_of, is_filehandle, number_of};
 
 use crate::fault::FsFault;
 use crate::fs::Fs;
@@ -31,7 +31,7 @@ fn number_of(handle: &[u8]) -> Result<u64, Status>
 impl<D: Device> Fs<D> {
     ghost use Rattle.std.specs.Prelude.{◌≡◌, true, ℕ, IsErrOf};
     ghost use Rattle.model.specs.declared.acl.Cred.{Cred};
-    ghost use Rattle.model.specs.Step.{State};
+    ghost use Rattle.model.specs.Operations.Step.{State};
     ghost use Rattle.fs.specs.Views.{fs_of};
     ghost use Rattle.fs.specs.Operations.{IsOn, PutsHandle, GetsHandle, TestsCurrent};
 

@@ -1,7 +1,7 @@
 //! READDIR.
 
 ghost use Rattle.std.specs.Prelude.{◌≡◌, ◌==◌, ◌&&◌, bytes_eq, not, replicate};
-ghost use Rattle.model.specs.ReadDir.{asks_errors, asks_lists};
+ghost use Rattle.model.specs.Operations.ReadDir.{asks_errors, asks_lists};
 
 use crate::fault::FsFault;
 use crate::fs::Fs;
@@ -85,10 +85,10 @@ impl<D: Device> Fs<D> {
     ghost use Rattle.fs.specs.Listing.{Lists, PageFits, list_arguments, list_refusals, page_of, page_view};
     ghost use Rattle.fs.specs.Listing.{shown_attributes, shown_entry};
     ghost use Rattle.fs.specs.Operations.{IsOn};
-    ghost use Rattle.model.specs.Keyed.{at};
-    ghost use Rattle.model.specs.ReadDir.{may_read_list};
-    ghost use Rattle.model.specs.Step.{State};
-    ghost use Rattle.model.specs.Tree.{names_at};
+    ghost use Rattle.model.specs.Trees.Keyed.{at};
+    ghost use Rattle.model.specs.Operations.ReadDir.{may_read_list};
+    ghost use Rattle.model.specs.Operations.Step.{State};
+    ghost use Rattle.model.specs.Trees.Tree.{names_at};
     ghost use Rattle.set_attributes.specs.Given.{IsChecked};
     ghost use Rattle.wire_attributes.specs.Listed.{EntryFits, ListedFits, entry_view, listed_view};
 

@@ -2,8 +2,8 @@
 
 ghost use Rattle.std.specs.Prelude.{◌≡◌, ◌≤◌, IfOk};
 ghost use Rattle.std.specs.Option.{ForSome};
-ghost use Rattle.model.specs.Inherit.{created_list};
-ghost use Rattle.model.specs.SetAttr.{list_set};
+ghost use Rattle.model.specs.Rights.Inherit.{created_list};
+ghost use Rattle.model.specs.Operations.SetAttr.{list_set};
 
 use acl_eval::{Ace, Acl, NodeKind};
 use acl_set::{Given, MAX_MODE, at_creation, with_mode};

@@ -12,7 +12,7 @@ use names::check_name;
 #[tactic(auto, unfolding(crate::specs::Views::fs_of))]
 impl<D: Device> Fs<D> {
     ghost use Rattle.std.specs.Prelude.{◌≡◌, true, ℕ, IsErrOf};
-    ghost use Rattle.model.specs.Step.{State};
+    ghost use Rattle.model.specs.Operations.Step.{State};
     ghost use Rattle.fs.specs.OnTree.{LooksUpIn};
     ghost use Rattle.fs.specs.Views.{fs_of};
     ghost use Rattle.fs.specs.Operations.{IsOn, LooksUp};

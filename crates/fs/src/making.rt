@@ -43,10 +43,10 @@ impl<D: Device> Fs<D> {
     ghost use Rattle.tree_edits.specs.Edits.{AreEntries};
     ghost use Rattle.tree_edits.specs.Making.{first_content};
     ghost use Rattle.layout.specs.Known.{IsCard};
-    ghost use Rattle.model.specs.Refusal.{first_refusal};
-    ghost use Rattle.model.specs.Stamp.{next_stamp};
-    ghost use Rattle.model.specs.Step.{State};
-    ghost use Rattle.model.specs.Tree.{Node};
+    ghost use Rattle.model.specs.Operations.Refusal.{first_refusal};
+    ghost use Rattle.model.specs.Trees.Stamp.{next_stamp};
+    ghost use Rattle.model.specs.Operations.Step.{State};
+    ghost use Rattle.model.specs.Trees.Tree.{Node};
     ghost use Rattle.set_attributes.specs.Given.{given_of, AreSettings, AreWithin, IsChecked, IsCheckedInMemory};
     ghost use Rattle.fs.specs.OnTree.{new_directory_refusals};
     ghost use Rattle.fs.specs.Changes.{fs_ending};

@@ -2,8 +2,8 @@
 
 ghost use Rattle.std.specs.Prelude.{◌≡◌};
 ghost use Rattle.fs.specs.Opening.{has_room_for, may_use};
-ghost use Rattle.model.specs.Open.{share_refusals};
-ghost use Rattle.model.specs.Operation.{OpenArguments};
+ghost use Rattle.model.specs.Operations.Open.{share_refusals};
+ghost use Rattle.model.specs.Operations.Operation.{OpenArguments};
 ghost use Rattle.set_attributes.specs.Given.{IsChecked};
 
 use crate::fault::FsFault;
@@ -128,9 +128,9 @@ pub(crate) fn may_open(card: &CachedNode, cred: &Cred, access: u32, is_cut: bool
 #[tactic(auto, unfolding(crate::specs::Views::fs_of))]
 impl<D: Device> Fs<D> {
     ghost use Rattle.std.specs.Prelude.{◌≡◌, ℕ, true, false, MatchOption, IsErrOf, OnOk, ◌≤◌, ◌^◌};
-    ghost use Rattle.model.specs.Open.{creates};
-    ghost use Rattle.model.specs.Operation.{OpenType};
-    ghost use Rattle.model.specs.Step.{State};
+    ghost use Rattle.model.specs.Operations.Open.{creates};
+    ghost use Rattle.model.specs.Operations.Operation.{OpenType};
+    ghost use Rattle.model.specs.Operations.Step.{State};
     ghost use Rattle.fs.specs.OnTree.{IsState};
     ghost use Rattle.fs.specs.Views.{fs_of};
     ghost use Rattle.fs.specs.Opening.{IsFileToOpen, IsOpeningCurrent, OpensCurrent, handle_tests};

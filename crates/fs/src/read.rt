@@ -18,11 +18,11 @@ struct Part {
 #[tactic(auto, unfolding(crate::specs::Views::fs_of, crate::specs::Views::fs_failures))]
 impl<D: Device> Fs<D> {
     ghost use Rattle.std.specs.Prelude.{◌≡◌, ◌+◌, ◌<◌, ◌++◌, ◌⊎◌, true, ℕ, nat_le, length, OnOk, OnErr, IfOk, IsErrOf};
-    ghost use Rattle.model.specs.Acl.{read_data};
-    ghost use Rattle.model.specs.Files.{bytes_at};
-    ghost use Rattle.model.specs.Operation.{StateId};
-    ghost use Rattle.model.specs.StateIds.{read_access};
-    ghost use Rattle.model.specs.Step.{State};
+    ghost use Rattle.model.specs.Rights.Acl.{read_data};
+    ghost use Rattle.model.specs.Operations.Files.{bytes_at};
+    ghost use Rattle.model.specs.Operations.Operation.{StateId};
+    ghost use Rattle.model.specs.Sessions.StateIds.{read_access};
+    ghost use Rattle.model.specs.Operations.Step.{State};
     ghost use Rattle.set_attributes.specs.Given.{IsChecked};
     ghost use Rattle.fs.specs.Files.{IsVerdict, permit_refusals};
     ghost use Rattle.fs.specs.Views.{fs_of, Alters};

@@ -134,10 +134,10 @@ fn renamed_edits<'a>(
 impl<D: Device> Fs<D> {
     ghost use Rattle.std.specs.Prelude.{◌≡◌, true, false, None, OnOk, IfOk, IfErr, IsErrOf};
     ghost use Rattle.std.specs.Prelude.{MatchOption};
-    ghost use Rattle.model.specs.Operation.{Argument};
-    ghost use Rattle.model.specs.Refusal.{first_refusal};
-    ghost use Rattle.model.specs.Step.{State};
-    ghost use Rattle.model.specs.Tree.{is_directory_at};
+    ghost use Rattle.model.specs.Operations.Operation.{Argument};
+    ghost use Rattle.model.specs.Operations.Refusal.{first_refusal};
+    ghost use Rattle.model.specs.Operations.Step.{State};
+    ghost use Rattle.model.specs.Trees.Tree.{is_directory_at};
     ghost use Rattle.set_attributes.specs.Given.{IsChecked};
     ghost use Rattle.fs.specs.Changes.{fs_ending};
     ghost use Rattle.fs.specs.Views.{fs_of, Alters};

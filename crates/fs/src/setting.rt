@@ -1,7 +1,7 @@
 //! SETATTR.
 
 ghost use Rattle.std.specs.Prelude.{◌≡◌};
-ghost use Rattle.model.specs.Acl.{granted};
+ghost use Rattle.model.specs.Rights.Acl.{granted};
 ghost use Rattle.set_attributes.specs.Given.{IsChecked};
 ghost use Rattle.fs.specs.Setting.{may_set, sized_refusals};
 
@@ -72,9 +72,9 @@ impl<D: Device> Fs<D> {
     ghost use Rattle.tree_transaction.specs.Nodes.{shown_of};
     ghost use Rattle.tree_edits.specs.Edits.{AreEntries};
     ghost use Rattle.layout.specs.Known.{IsCard};
-    ghost use Rattle.model.specs.Attribute.{is_empty};
-    ghost use Rattle.model.specs.Operation.{Argument, SetAttrArguments};
-    ghost use Rattle.model.specs.Step.{State};
+    ghost use Rattle.model.specs.Attributes.Attribute.{is_empty};
+    ghost use Rattle.model.specs.Operations.Operation.{Argument, SetAttrArguments};
+    ghost use Rattle.model.specs.Operations.Step.{State};
     ghost use Rattle.set_attributes.specs.Given.{given_of, AreSettings, AreWithin};
     ghost use Rattle.set_attributes.specs.Given.{IsCheckedInMemory};
     ghost use Rattle.fs.specs.Changes.{fs_ending};

@@ -22,10 +22,10 @@ pub struct Writing<'a> {
 #[tactic(auto, unfolding(crate::specs::Views::fs_of, crate::specs::Views::fs_failures))]
 impl<D: Device> Fs<D> {
     ghost use Rattle.std.specs.Prelude.{◌≡◌, ◌+◌, ◌<◌, ◌≤◌, ◌⊎◌, true, false, ℕ, length, take, OnOk, IfOk, IfErr, IfSome, IfNone, IsErrOf, IsTrue};
-    ghost use Rattle.model.specs.Files.{are_bytes};
-    ghost use Rattle.model.specs.Operation.{Argument, CommitArguments, WriteArguments};
-    ghost use Rattle.model.specs.Stamp.{is_stamp_left};
-    ghost use Rattle.model.specs.Step.{State};
+    ghost use Rattle.model.specs.Operations.Files.{are_bytes};
+    ghost use Rattle.model.specs.Operations.Operation.{Argument, CommitArguments, WriteArguments};
+    ghost use Rattle.model.specs.Trees.Stamp.{is_stamp_left};
+    ghost use Rattle.model.specs.Operations.Step.{State};
     ghost use Rattle.fs.specs.Changes.{fs_ending};
     ghost use Rattle.fs.specs.Views.{fs_of, Alters};
     ghost use Rattle.fs.specs.Operations.{IsOn, IsNotDone};

@@ -5,10 +5,10 @@ use Rattle.std.proofs.lemmas.List.FromFn.{length-map-range_with_len}
 use Rattle.disk.specs.Moments.{Image}
 use Rattle.model.specs.declared.node.NodeKind.{NodeKind}
 use Rattle.model.specs.declared.node.NodeKind.TheVariants as kind
-use Rattle.model.specs.Charge.{charge, blocks, blocks_of, charge_of_blocks, divided_up}
-use Rattle.model.specs.Keyed.{Keyed, at, with, total, worth_at, IsAbove}
-use Rattle.model.proofs.KeyedLaws.{total-with, IsAbove-with}
-use Rattle.model.proofs.OpensLaws.{total-ones}
+use Rattle.model.specs.Trees.Charge.{charge, blocks, blocks_of, charge_of_blocks, divided_up}
+use Rattle.model.specs.Trees.Keyed.{Keyed, at, with, total, worth_at, IsAbove}
+use Rattle.model.proofs.Trees.KeyedLaws.{total-with, IsAbove-with}
+use Rattle.model.proofs.Sessions.OpensLaws.{total-ones}
 use Rattle.directory.proofs.ByStamp.{at-by_stamp}
 use Rattle.extents.specs.declared.run.Run.{Run}
 use Rattle.extents.specs.Runs.{AreRising}

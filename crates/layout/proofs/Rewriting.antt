@@ -5,11 +5,11 @@ use Rattle.disk.specs.Moments.{Image}
 use Rattle.disk.specs.Calls.{zero_sector}
 use Rattle.model.specs.declared.node.NodeKind.{NodeKind}
 use Rattle.model.specs.declared.node.NodeKind.TheVariants as kind
-use Rattle.model.specs.Keyed.{with}
-use Rattle.model.specs.Seats.{no_seats}
-use Rattle.model.specs.Stamp.{stamp}
-use Rattle.model.specs.Tree.{Tree, Node}
-use Rattle.model.specs.WellFormed.{IsBefore}
+use Rattle.model.specs.Trees.Keyed.{with}
+use Rattle.model.specs.Sessions.Seats.{no_seats}
+use Rattle.model.specs.Trees.Stamp.{stamp}
+use Rattle.model.specs.Trees.Tree.{Tree, Node}
+use Rattle.model.specs.Trees.WellFormed.{IsBefore}
 use Rattle.inode.specs.declared.node.Form.{Form}
 use Rattle.inode.specs.declared.node.Form.TheVariants.{One, Two}
 use Rattle.inode.specs.Fields.{Fields, IsInode, most_entries}

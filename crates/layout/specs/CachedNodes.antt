@@ -6,9 +6,9 @@ use Rattle.std.specs.List.{range_with_len}
 use Rattle.disk.specs.Moments.{Image}
 use Rattle.model.specs.declared.node.NodeKind.{NodeKind}
 use Rattle.model.specs.declared.node.NodeKind.TheVariants as kind
-use Rattle.model.specs.Charge.{blocks_of}
-use Rattle.model.specs.Keyed.{with}
-use Rattle.model.specs.Tree.{Tree, Node, Content, File, Directory}
+use Rattle.model.specs.Trees.Charge.{blocks_of}
+use Rattle.model.specs.Trees.Keyed.{with}
+use Rattle.model.specs.Trees.Tree.{Tree, Node, Content, File, Directory}
 use Rattle.inode.specs.declared.node.Form.{Form}
 use Rattle.inode.specs.Fields.{Fields}
 use Rattle.inode.specs.Reading.{fields_in, form_in}

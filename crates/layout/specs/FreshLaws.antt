@@ -5,8 +5,8 @@ use Rattle.disk.specs.Calls.{zero_sector}
 use Rattle.inode.specs.Fields.{Fields}
 use Rattle.inode.specs.Spelling.{inode_sector}
 use Rattle.model.specs.declared.node.NodeKind.TheVariants as kind
-use Rattle.model.specs.Fresh.{fresh_tree, fresh_root}
-use Rattle.model.specs.Tree.{root}
+use Rattle.model.specs.Trees.Fresh.{fresh_tree, fresh_root}
+use Rattle.model.specs.Trees.Tree.{root}
 use Rattle.layout.specs.CachedNodes.{node_sector}
 use Rattle.layout.specs.Stands.{Version, Stands}
 use Rattle.layout.specs.Superblock.{superblock, is_size}

@@ -5,7 +5,7 @@ use Rattle.std.specs.Coded.{Unit-prop}
 use Rattle.disk.specs.Moments.{Image}
 use Rattle.model.specs.declared.node.NodeKind.{NodeKind}
 use Rattle.model.specs.declared.node.NodeKind.TheVariants as kind
-use Rattle.model.specs.Tree.{Tree}
+use Rattle.model.specs.Trees.Tree.{Tree}
 use Rattle.inode.specs.declared.node.Form.{Form}
 use Rattle.inode.specs.Fields.{Fields, IsInode}
 use Rattle.extents.specs.declared.run.Run.{Run}

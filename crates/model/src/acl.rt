@@ -120,7 +120,7 @@ pub enum Who {
 }
 
 impl Who {
-    ghost use Rattle.model.specs.Acl.{is_special, matches};
+    ghost use Rattle.model.specs.Rights.Acl.{is_special, matches};
 
     /// Whether this is `OWNER@`, `GROUP@` or `EVERYONE@`.
     pub fn is_special(self) -> bool
@@ -153,7 +153,7 @@ pub struct Ace {
 }
 
 impl Ace {
-    ghost use Rattle.model.specs.Acl.{counts};
+    ghost use Rattle.model.specs.Rights.Acl.{counts};
 
     /// Whether the entry says something about its own node: one with `INHERIT_ONLY` does not.
     pub fn counts(&self) -> bool
@@ -176,7 +176,7 @@ pub struct Acl {
 
 impl Model for Acl {
     ghost use Rattle.std.specs.Prelude.{List};
-    ghost use Rattle.model.specs.AclEntries.{entries_in};
+    ghost use Rattle.model.specs.Rights.AclEntries.{entries_in};
     ghost use Rattle.model.specs.declared.acl.Ace.{Ace};
 
     ghost Value = { List Ace };
@@ -323,7 +323,7 @@ pub struct Cred {
 }
 
 impl Cred {
-    ghost use Rattle.model.specs.Acl.{is_member};
+    ghost use Rattle.model.specs.Rights.Acl.{is_member};
 
     /// Whether the group is the caller's first one or among its others.
     pub fn is_member(&self, gid: u32) -> bool

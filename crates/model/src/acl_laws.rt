@@ -1,7 +1,7 @@
 //! What holds of every access control list that a mode or inheritance gives: each function's
 //! contract is a law.
 
-ghost use Rattle.model.specs.AclLaws.{CreationKeepsLimits, InheritanceKeepsLimits, ModesKeepLimits, ModesReadBack, NumbersStayWithinTheGroup, SetListsAreWithinLimits};
+ghost use Rattle.model.specs.Rights.AclLaws.{CreationKeepsLimits, InheritanceKeepsLimits, ModesKeepLimits, ModesReadBack, NumbersStayWithinTheGroup, SetListsAreWithinLimits};
 
 /// The list of a mode has that mode, whatever the list was before.
 pub fn modes_read_back()

@@ -2,14 +2,14 @@
 
 ghost use Rattle.std.specs.Prelude.{ℕ, List};
 ghost use Rattle.xdr.specs.Laws.{Exact, OneSpelling};
-ghost use Rattle.model.specs.AclText.{ReadsEntries, ReadsNames, ReadsNumbers, WritesEntries};
-ghost use Rattle.model.specs.Attribute.{GivenListsFit};
-ghost use Rattle.model.specs.AttributeValue.{ReadsWhole, values};
-ghost use Rattle.model.specs.NodeAttributes.{AnswersAsked, AnswersSupported};
+ghost use Rattle.model.specs.Attributes.AclText.{ReadsEntries, ReadsNames, ReadsNumbers, WritesEntries};
+ghost use Rattle.model.specs.Attributes.Attribute.{GivenListsFit};
+ghost use Rattle.model.specs.Attributes.AttributeValue.{ReadsWhole, values};
+ghost use Rattle.model.specs.Attributes.NodeAttributes.{AnswersAsked, AnswersSupported};
 
 /// The values of any attributes are exact: so they have one spelling, and no spelling begins
 /// another.
-#[tactic(auto, using(crate::proofs::AttributeExact::values_exact, crate::proofs::AttributeExact::one_values))]
+#[tactic(auto, using(crate::proofs::Wire::AttributeExact::values_exact, crate::proofs::Wire::AttributeExact::one_values))]
 pub fn values_are_exact()
     ensures exact { (attributes : List ℕ) → Exact (values attributes) }
     ensures one { (attributes : List ℕ) → OneSpelling (values attributes) }

@@ -23,7 +23,7 @@ pub struct Limits {
 }
 
 impl Limits {
-    ghost use Rattle.model.specs.Limits.{limits_of};
+    ghost use Rattle.model.specs.Trees.Limits.{limits_of};
 
     /// The limits of a volume of so many sectors and nodes.
     pub fn of_volume(sectors: usize, nodes: usize) -> Limits

@@ -1,7 +1,7 @@
 //! The laws of two changes of a map: each is the contract of a function that does nothing.
 
-ghost use Rattle.model.specs.KeyedChanges.{ChangesMeet};
-ghost use Rattle.model.specs.Tree.{Node, DirEntry};
+ghost use Rattle.model.specs.Trees.KeyedChanges.{ChangesMeet};
+ghost use Rattle.model.specs.Trees.Tree.{Node, DirEntry};
 
 /// Of two changes of a map at one key the second stands, and at two keys they change places.
 pub fn two_changes()

@@ -1,10 +1,10 @@
 //! Records and calls on a stream (RFC 5531): their laws.
 
 ghost use Rattle.xdr.specs.Laws.{Exact, OneSpelling};
-ghost use Rattle.model.specs.Feeding.{EveryFeeding};
-ghost use Rattle.model.specs.Record.{EveryCut, EveryFragmenting, OnlySent, SentIsRead};
-ghost use Rattle.model.specs.Results.{EveryRequestHasResults, SpellsResults, compound_result};
-ghost use Rattle.model.specs.RpcGrammar.{ReadsCalls, ReadsCredentials, ReadsReplies, call_head, reply_head};
+ghost use Rattle.model.specs.Wire.Feeding.{EveryFeeding};
+ghost use Rattle.model.specs.Wire.Record.{EveryCut, EveryFragmenting, OnlySent, SentIsRead};
+ghost use Rattle.model.specs.Wire.Results.{EveryRequestHasResults, SpellsResults, compound_result};
+ghost use Rattle.model.specs.Wire.RpcGrammar.{ReadsCalls, ReadsCredentials, ReadsReplies, call_head, reply_head};
 
 /// The records of a stream are the same however it was cut into pieces (RFC 5531, section 11).
 pub fn every_cut()

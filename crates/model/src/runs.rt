@@ -1,10 +1,10 @@
 //! The headline: what users of the server can rely on when it crashes.
 
-ghost use Rattle.model.specs.RuledOut.{NoSkip, NoEarlyReply, NoTakingBack, NoSecondRun, NoForgetting, NoGap, OneATurn, EndsByHolding, HangsUpLast, HangUpIsEvents, EachEventHappens};
-ghost use Rattle.model.specs.Runs.{EveryRun, EveryStamp};
-ghost use Rattle.model.specs.SeatRuns.{EveryReplyIsHeld, EverySeatStays, EveryRunCanFollow, EveryDeadSession, EveryNumberOnce, EveryReplyStaysHeld, EveryReplyIsStored, EverySessionSits, EveryFreeingIsAsked};
-ghost use Rattle.model.specs.ServedOnce.{EveryServedSlot};
-ghost use Rattle.model.specs.StateIdRuns.{EveryOtherRunRefuses, EveryStateIdGoesOn, JoinsAreCounted};
+ghost use Rattle.model.specs.Server.RuledOut.{NoSkip, NoEarlyReply, NoTakingBack, NoSecondRun, NoForgetting, NoGap, OneATurn, EndsByHolding, HangsUpLast, HangUpIsEvents, EachEventHappens};
+ghost use Rattle.model.specs.Server.Runs.{EveryRun, EveryStamp};
+ghost use Rattle.model.specs.Sessions.SeatRuns.{EveryReplyIsHeld, EverySeatStays, EveryRunCanFollow, EveryDeadSession, EveryNumberOnce, EveryReplyStaysHeld, EveryReplyIsStored, EverySessionSits, EveryFreeingIsAsked};
+ghost use Rattle.model.specs.Server.ServedOnce.{EveryServedSlot};
+ghost use Rattle.model.specs.Sessions.StateIdRuns.{EveryOtherRunRefuses, EveryStateIdGoesOn, JoinsAreCounted};
 
 /// Whatever bytes arrive on whatever connections, and wherever the server crashes: the tree that
 /// a crash may leave is the one that a prefix of the executed operations gives. None of them is

@@ -1,10 +1,10 @@
 //! Client records, sessions and slots (RFC 8881, section 2.10): their law over whole runs.
 
-ghost use Rattle.model.specs.KeptReplies.{KeepsShort};
-ghost use Rattle.model.specs.OpenClients.{EveryOpenHasClient};
-ghost use Rattle.model.specs.SessionRuns.{EverySlot};
-ghost use Rattle.model.specs.SessionTables.{EveryCallGivesNew, EveryTable};
-ghost use Rattle.model.specs.SlotsHeld.{EveryRunningSlot};
+ghost use Rattle.model.specs.Sessions.KeptReplies.{KeepsShort};
+ghost use Rattle.model.specs.Sessions.OpenClients.{EveryOpenHasClient};
+ghost use Rattle.model.specs.Sessions.SessionRuns.{EverySlot};
+ghost use Rattle.model.specs.Sessions.SessionTables.{EveryCallGivesNew, EveryTable};
+ghost use Rattle.model.specs.Sessions.SlotsHeld.{EveryRunningSlot};
 
 /// A slot runs its numbers in their order from 1 on, whatever calls are made in one run of the
 /// server; so a number runs again only after the 2^32 - 1 others (RFC 8881, section 2.10.6.1).

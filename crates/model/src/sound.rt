@@ -1,10 +1,10 @@
 //! That the tree stays well formed and nobody is answered what he may not have, whatever happens.
 
-ghost use Rattle.model.specs.AnswerRuns.{EveryAnswerIsPermitted};
-ghost use Rattle.model.specs.OpensLaws.{EveryRunKeepsOpens};
-ghost use Rattle.model.specs.SoundRuns.{EveryTreeIsSound};
-ghost use Rattle.model.specs.StampRuns.{EveryStampIsGiven};
-ghost use Rattle.model.specs.World.{ServerLimits};
+ghost use Rattle.model.specs.Server.AnswerRuns.{EveryAnswerIsPermitted};
+ghost use Rattle.model.specs.Sessions.OpensLaws.{EveryRunKeepsOpens};
+ghost use Rattle.model.specs.Server.SoundRuns.{EveryTreeIsSound};
+ghost use Rattle.model.specs.Server.StampRuns.{EveryStampIsGiven};
+ghost use Rattle.model.specs.Server.World.{ServerLimits};
 
 /// Whatever bytes arrive on whatever connections, and wherever the server crashes: the tree that
 /// a crash may leave is well formed, and no later run gives one of its stamps again.

@@ -1,7 +1,7 @@
 //! What an operation answers (RFC 8881, section 15.1).
 
 ghost use Rattle.std.specs.Prelude.{◌≡◌};
-ghost use Rattle.model.specs.Status.{code_of};
+ghost use Rattle.model.specs.Operations.Status.{code_of};
 
 /// The statuses that this server answers, with their numbers on the wire.
 #[derive(Clone, Copy, Debug, PartialEq, Eq)]

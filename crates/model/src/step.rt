@@ -1,12 +1,12 @@
 //! The laws of one operation: each is the contract of a function that does nothing.
 
-ghost use Rattle.model.specs.FileExamples.{FileExamples};
-ghost use Rattle.model.specs.OpensLaws.{EveryStepKeepsOpens};
-ghost use Rattle.model.specs.PageLaws.{EveryPage};
-ghost use Rattle.model.specs.RightsExamples.{RightsExamples};
-ghost use Rattle.model.specs.StateIdLaws.{NewestIsFound, LowerIsOld, JoinedIsOld, NotOwnIsBad, OtherRunIsBad, EndedIsBad, OpenAnswersNewest, EveryOpenGoesOn};
-ghost use Rattle.model.specs.StepExamples.{StepExamples};
-ghost use Rattle.model.specs.StepLaws.{EveryStepIsLawful, RunsBeginSound};
+ghost use Rattle.model.specs.Examples.FileExamples.{FileExamples};
+ghost use Rattle.model.specs.Sessions.OpensLaws.{EveryStepKeepsOpens};
+ghost use Rattle.model.specs.Operations.PageLaws.{EveryPage};
+ghost use Rattle.model.specs.Examples.RightsExamples.{RightsExamples};
+ghost use Rattle.model.specs.Sessions.StateIdLaws.{NewestIsFound, LowerIsOld, JoinedIsOld, NotOwnIsBad, OtherRunIsBad, EndedIsBad, OpenAnswersNewest, EveryOpenGoesOn};
+ghost use Rattle.model.specs.Examples.StepExamples.{StepExamples};
+ghost use Rattle.model.specs.Operations.StepLaws.{EveryStepIsLawful, RunsBeginSound};
 
 /// Operations worked out by hand.
 pub fn examples()

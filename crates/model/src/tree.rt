@@ -1,11 +1,11 @@
 //! The laws of the tree: each is the contract of a function that does nothing.
 
-ghost use Rattle.model.specs.Ancestors.{IsBelowIsReached};
-ghost use Rattle.model.specs.Fresh.{FreshIsWellFormed};
-ghost use Rattle.model.specs.Keyed.{OnlyMap, ReadsBack, KeepsOrder};
-ghost use Rattle.model.specs.Limits.{Limits};
-ghost use Rattle.model.specs.Stamp.{OnlyStamp, StampsRise, ReadsHandle};
-ghost use Rattle.model.specs.Tree.{Node, DirEntry};
+ghost use Rattle.model.specs.Trees.Ancestors.{IsBelowIsReached};
+ghost use Rattle.model.specs.Trees.Fresh.{FreshIsWellFormed};
+ghost use Rattle.model.specs.Trees.Keyed.{OnlyMap, ReadsBack, KeepsOrder};
+ghost use Rattle.model.specs.Trees.Limits.{Limits};
+ghost use Rattle.model.specs.Trees.Stamp.{OnlyStamp, StampsRise, ReadsHandle};
+ghost use Rattle.model.specs.Trees.Tree.{Node, DirEntry};
 
 /// Two maps that hold the same at each key are equal.
 pub fn only_map()

@@ -3,12 +3,12 @@ use Rattle.std.specs.Prelude.{ℕ, ◌≡◌, ◌<◌, List, map, drop, find, le
 use Rattle.std.specs.Int.{w64, from_be_bytes}
 use Rattle.std.specs.Option.{option_map}
 use Rattle.std.specs.Vec.{vec_len, vec_capacity}
-use Rattle.model.specs.Context.{Context, current_number}
-use Rattle.model.specs.Keyed.{at}
-use Rattle.model.specs.Opens as model
-use Rattle.model.specs.Operation.{StateId}
-use Rattle.model.specs.StateIds as states
-use Rattle.model.specs.StateIds.{carried, is_like, is_table_full, open_named, state_of}
+use Rattle.model.specs.Operations.Context.{Context, current_number}
+use Rattle.model.specs.Trees.Keyed.{at}
+use Rattle.model.specs.Sessions.Opens as model
+use Rattle.model.specs.Operations.Operation.{StateId}
+use Rattle.model.specs.Sessions.StateIds as states
+use Rattle.model.specs.Sessions.StateIds.{carried, is_like, is_table_full, open_named, state_of}
 use Rattle.wire.specs.SmallViews.{state_view}
 use Rattle.opens.specs.declared.found.Found.{Found}
 use Rattle.opens.specs.declared.found.Found.TheVariants as found

@@ -2,9 +2,9 @@
 
 ghost use Rattle.std.specs.Prelude.{◌≡◌};
 ghost use Rattle.std.specs.Option.{option_map};
-ghost use Rattle.model.specs.Context.{Context};
-ghost use Rattle.model.specs.Refusal.{first_refusal};
-ghost use Rattle.model.specs.StateIds.{access_refusals, by_seqid, close_refusals, is_anonymous, is_current, meant, state_of};
+ghost use Rattle.model.specs.Operations.Context.{Context};
+ghost use Rattle.model.specs.Operations.Refusal.{first_refusal};
+ghost use Rattle.model.specs.Sessions.StateIds.{access_refusals, by_seqid, close_refusals, is_anonymous, is_current, meant, state_of};
 ghost use Rattle.wire.specs.SmallViews.{state_view};
 ghost use Rattle.opens.specs.Views.{found_of, open_of, serial_in, StandsAt};
 

@@ -30,7 +30,7 @@ pub struct Entry {
 
 impl Open {
     ghost use Rattle.std.specs.Prelude.{◌≡◌, IfOk};
-    ghost use Rattle.model.specs.StateIds.{upgraded, new_open};
+    ghost use Rattle.model.specs.Sessions.StateIds.{upgraded, new_open};
     ghost use Rattle.opens.specs.Views.{open_of};
 
     /// What a client asks for. The owner is copied.
@@ -67,7 +67,7 @@ impl Open {
 
 impl Entry {
     ghost use Rattle.std.specs.Prelude.{◌≡◌, ◌==◌, ◌&&◌};
-    ghost use Rattle.model.specs.StateIds.{is_like};
+    ghost use Rattle.model.specs.Sessions.StateIds.{is_like};
     ghost use Rattle.opens.specs.Views.{entry_of, open_of};
 
     /// Whether it is an open of the same client and owner on the same file.

@@ -19,14 +19,14 @@ pub struct Opens {
     ghost made: { All (λ entry. entry.serial ≤ given) list.items },
 }
 
-#[tactic(auto, unfolding(crate::specs::Views::opens_of, crate::specs::Views::HasMemory, model::specs::StateIds::found, model::specs::StateIds::opened))]
+#[tactic(auto, unfolding(crate::specs::Views::opens_of, crate::specs::Views::HasMemory, model::specs::Sessions::StateIds::found, model::specs::Sessions::StateIds::opened))]
 impl Opens {
     ghost use Rattle.std.specs.Prelude.{◌≡◌, ◌≤◌, ◌-◌, ◌^◌, ◌||◌, nat_le, None, length, map, IfOk, OnOk, IfSome, IfNone};
-    ghost use Rattle.model.specs.Context.{Context};
-    ghost use Rattle.model.specs.Keyed.{at};
-    ghost use Rattle.model.specs.Opens as model;
-    ghost use Rattle.model.specs.Opens.{no_opens};
-    ghost use Rattle.model.specs.StateIds.{found, is_table_full, open_like, open_named, opened, without_clients, without_number, without_open};
+    ghost use Rattle.model.specs.Operations.Context.{Context};
+    ghost use Rattle.model.specs.Trees.Keyed.{at};
+    ghost use Rattle.model.specs.Sessions.Opens as model;
+    ghost use Rattle.model.specs.Sessions.Opens.{no_opens};
+    ghost use Rattle.model.specs.Sessions.StateIds.{found, is_table_full, open_like, open_named, opened, without_clients, without_number, without_open};
     ghost use Rattle.wire.specs.SmallViews.{state_view};
     ghost use Rattle.opens.specs.Views.{found_of, named_by, open_of, opens_of, CanOpen, HasMemory, IsAt, IsLike, IsNamed, StandsAt};
 

@@ -6,7 +6,7 @@ use Rattle.std.proofs.lemmas.Option.{same_Some}
 use Rattle.node_table.specs.Tables.{number_at, HaveOwnPlaces}
 use Rattle.node_table.proofs.TableLaws.{within-numbered}
 use Rattle.layout.specs.CachedNodes.{CachedNode}
-use Rattle.model.specs.Tree.{root}
+use Rattle.model.specs.Trees.Tree.{root}
 use Rattle.tree_check.specs.Trees.{IsOneTree}
 use Rattle.parents.specs.ParentLaws.{MovesName, EachMove, EachKept}
 use Rattle.parents.specs.Parents.{LeadsTo, HasName, AreParents}

@@ -2,7 +2,7 @@
 use Rattle.std.specs.Prelude.{◌≡◌, ◌≢◌, ℕ, List, Option, Some, length, set}
 use Rattle.std.specs.Prelude.{slice_index_or}
 use Rattle.disk.specs.Moments.{Image}
-use Rattle.model.specs.Ancestors.{parent_of}
+use Rattle.model.specs.Trees.Ancestors.{parent_of}
 use Rattle.node_table.specs.Tables.{number_at, HaveOwnPlaces}
 use Rattle.layout.specs.CachedNodes.{CachedNode, tree_of}
 use Rattle.layout.specs.Known.{AreCards}

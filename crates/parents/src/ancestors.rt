@@ -2,7 +2,7 @@
 
 ghost use Rattle.std.specs.Prelude.{◌≡◌, ℕ};
 ghost use Rattle.disk.specs.Moments.{Image};
-ghost use Rattle.model.specs.Ancestors.{parent_of, is_below};
+ghost use Rattle.model.specs.Trees.Ancestors.{parent_of, is_below};
 ghost use Rattle.layout.specs.CachedNodes.{tree_of};
 ghost use Rattle.layout.specs.Known.{AreCards};
 ghost use Rattle.tree_check.specs.Trees.{IsOneTree};

@@ -6,7 +6,7 @@ use Rattle.std.specs.Io.KnownBytes.{Appends, Consumes, Keeps}
 use Rattle.std.specs.declared.io.ErrorKind.{ErrorKind}
 use Rattle.std.specs.declared.io.ErrorKind.TheVariants as kinds
 use Rattle.disk.specs.declared.device.Device.{Ghosts}
-use Rattle.model.specs.Runs.{Arrives, Turns, Takes}
+use Rattle.model.specs.Server.Runs.{Arrives, Turns, Takes}
 use Rattle.server.specs.Refused.{RefusesTurn, connection_at, view}
 use Rattle.server.specs.Seen.{Did, Said, Took}
 use Rattle.server.specs.Views.{gave}

@@ -2,8 +2,8 @@
 use Rattle.std.proofs.Common.{◌≡◌, ◌↔◌, ℕ, List, [], ◌∷◌, ◌++◌, Option, Some, None, Result, Ok, Err, IfOk, IfErr, OnOk, OnErr, IsErrOf, Bool, true, false, inl, inr, refl, ap, sym, subst}
 use Rattle.std.specs.Global.{Vec}
 use Rattle.disk.specs.declared.device.Device.{Ghosts}
-use Rattle.model.specs.Runs.{Event, Arrives, Turns, HangsUp, Takes}
-use Rattle.model.specs.Tree.{Tree}
+use Rattle.model.specs.Server.Runs.{Event, Arrives, Turns, HangsUp, Takes}
+use Rattle.model.specs.Trees.Tree.{Tree}
 use Rattle.server.specs.Connections.{turn_view}
 use Rattle.server.specs.Refused.{IsUntouched, HasTurned, RefusesTurn, RefusesHangUp, connection_at, view}
 use Rattle.server.specs.Seen.{Seen, Said, Call, Did, Done, Took, Turned, Does, IsServed, IsTurned, Stays}

@@ -3,7 +3,7 @@ use Rattle.std.proofs.Common.{◌≡◌, ℕ, ◌+◌, List, [], ◌∷◌, ◌+
 use Rattle.std.specs.Global.{Vec}
 use Rattle.std.specs.Io.KnownBytes.{Appends, Consumes, Keeps}
 use Rattle.disk.specs.declared.device.Device.{Ghosts}
-use Rattle.model.specs.Runs.{Arrives, Turns, Takes}
+use Rattle.model.specs.Server.Runs.{Arrives, Turns, Takes}
 use Rattle.server.specs.Seen.{Call, Did, Said, Took}
 use Rattle.server.specs.Views.{gave}
 use Rattle.server.specs.declared.server.Server.{Server}

@@ -1,9 +1,9 @@
 -- The calls of the server that the loop makes.
 use Rattle.std.specs.Prelude.{ℕ, List, [], ◌∷◌, false, true, ◌≡◌, ◌⊎◌, Option, None, Result, Ok, Err}
 use Rattle.disk.specs.declared.device.Device.{Ghosts}
-use Rattle.model.specs.Runs.{Arrives, Turns, HangsUp}
-use Rattle.model.specs.Tree.{Tree}
-use Rattle.model.specs.World.{Connection}
+use Rattle.model.specs.Server.Runs.{Arrives, Turns, HangsUp}
+use Rattle.model.specs.Trees.Tree.{Tree}
+use Rattle.model.specs.Server.World.{Connection}
 use Rattle.server.specs.Refused.{IsUntouched, connection_at, view}
 use Rattle.server.specs.Seen.{Call, Did, Failed, Took, Done, IsServed}
 use Rattle.server.specs.Views.{seen_with, volume_of}

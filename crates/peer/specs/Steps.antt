@@ -6,8 +6,8 @@ use Rattle.std.specs.Io.KnownBytes.{Appends, Consumes}
 use Rattle.std.specs.declared.io.ErrorKind.{ErrorKind}
 use Rattle.std.specs.declared.io.ErrorKind.TheVariants as kinds
 use Rattle.disk.specs.declared.device.Device.{Ghosts}
-use Rattle.model.specs.Runs.{Arrives, Turns, Takes}
-use Rattle.model.specs.World.{Closed}
+use Rattle.model.specs.Server.Runs.{Arrives, Turns, Takes}
+use Rattle.model.specs.Server.World.{Closed}
 use Rattle.server.specs.Refused.{connection_at, view}
 use Rattle.server.specs.Seen.{Call, Did, Failed, Took, Gave}
 use Rattle.server.specs.Views.{volume_of}

@@ -2,7 +2,7 @@
 //! call and no other, or why it was refused.
 
 ghost use Rattle.std.specs.Prelude.{IfOk, IfErr, OnOk};
-ghost use Rattle.model.specs.Runs.{Arrives, Turns, Takes};
+ghost use Rattle.model.specs.Server.Runs.{Arrives, Turns, Takes};
 ghost use Rattle.server.specs.Connections.{turn_view};
 ghost use Rattle.server.specs.Refused.{RefusesTurn, RefusesHangUp, connection_at, view};
 ghost use Rattle.server.specs.Seen.{Did, Took, Turned};

@@ -4,10 +4,10 @@ use Rattle.std.proofs.lemmas.List.{length-append, length-drop, take-append-le, t
 use Rattle.std.proofs.lemmas.Bool.{cases_lt}
 use Rattle.std.proofs.Math.Seq.{take-append-add}
 use Rattle.xdr.specs.Laws.{IsBytes}
-use Rattle.model.specs.Record.{Partial, Refused, Whole, Front, front, record_text, joined, IsSent}
-use Rattle.model.specs.Rpc.{CallRead, NoCall, read_call, is_call_read}
-use Rattle.model.proofs.RecordLaws.{every_fragmenting}
-use Rattle.model.proofs.RecordOnly.{only_sent}
+use Rattle.model.specs.Wire.Record.{Partial, Refused, Whole, Front, front, record_text, joined, IsSent}
+use Rattle.model.specs.Wire.Rpc.{CallRead, NoCall, read_call, is_call_read}
+use Rattle.model.proofs.Wire.RecordLaws.{every_fragmenting}
+use Rattle.model.proofs.Wire.RecordOnly.{only_sent}
 use Rattle.rpc.specs.declared.call.CallRead as code
 use Rattle.rpc.specs.declared.call.CallRead.TheVariants as reads
 use Rattle.rpc.specs.declared.fault.RecordFault.TheVariants as faults

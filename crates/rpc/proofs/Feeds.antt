@@ -1,8 +1,8 @@
 -- What a piece makes of a connection.
 use Rattle.std.proofs.Common.{◌≡◌, ℕ, ◌≤◌, Bool, true, false, cond, List, [], ◌++◌, length, drop, Some, None, refl, ap, sym, ◌∙◌, arith}
-use Rattle.model.specs.Record.{Front, Partial, Refused, Whole, front, front_from}
-use Rattle.model.specs.Rpc.{read_call, is_call_read}
-use Rattle.model.specs.World.{Waiting, Closed, arrived, arrives_at, taken_of, taken_at}
+use Rattle.model.specs.Wire.Record.{Front, Partial, Refused, Whole, front, front_from}
+use Rattle.model.specs.Wire.Rpc.{read_call, is_call_read}
+use Rattle.model.specs.Server.World.{Waiting, Closed, arrived, arrives_at, taken_of, taken_at}
 use Rattle.rpc.specs.declared.fault.RecordFault.{RecordFault}
 use Rattle.rpc.specs.declared.fault.RecordFault.TheVariants as faults
 use Rattle.rpc.specs.declared.receive.Progress.TheVariants as progress

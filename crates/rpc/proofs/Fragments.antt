@@ -3,7 +3,7 @@ use Rattle.std.proofs.Common.{◌≡◌, ℕ, ◌+◌, ◌%◌, ◌^◌, ◌<◌
 use Rattle.std.proofs.lemmas.List.{length-drop}
 use Rattle.std.proofs.lemmas.Bool.{lt-ltb, le-ltb, le-leb, lt-leb, cond-true, cond-false}
 use Rattle.std.specs.Int.{w32, from_be_bytes}
-use Rattle.model.specs.Record.{RecordTooBig, TooManyFragments, Gathered, Waits, Refuses, Brings, behind_header, fragment}
+use Rattle.model.specs.Wire.Record.{RecordTooBig, TooManyFragments, Gathered, Waits, Refuses, Brings, behind_header, fragment}
 use Rattle.rpc.specs.Assembly.{record_limits}
 
 pub waits : (gathered : Gathered) (bytes : List ℕ) → length bytes < 4 → fragment record_limits gathered bytes ≡ Waits

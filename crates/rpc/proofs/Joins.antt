@@ -3,7 +3,7 @@ use Rattle.std.proofs.Common.{◌≡◌, ℕ, ◌+◌, ◌-◌, ◌<◌, ◌≤�
 use Rattle.std.proofs.lemmas.List.{length-drop, length-take-le, drop-drop, append-nil, take-append-drop}
 use Rattle.std.proofs.lemmas.List.Edits.{length-paste, take-paste, drop-paste}
 use Rattle.std.specs.List.{copy_within}
-use Rattle.model.specs.Record.{RecordTooBig, TooManyFragments, Gathered, nothing_gathered, Partial, Refused, Whole, front, front_from}
+use Rattle.model.specs.Wire.Record.{RecordTooBig, TooManyFragments, Gathered, nothing_gathered, Partial, Refused, Whole, front, front_from}
 use Rattle.rpc.specs.declared.fragment.Place.{Place}
 use Rattle.rpc.specs.declared.fragment.Fragment.{Fragment}
 use Rattle.rpc.specs.declared.fragment.Fragment.TheVariants as fragments

@@ -2,7 +2,7 @@
 use Rattle.std.proofs.Common.{◌≡◌, ℕ, zero, suc, ◌+◌, ◌*◌, ◌-◌, ◌%◌, ◌^◌, ◌<◌, ◌≤◌, Bool, true, false, cond, nat_lt, nat_le, List, ◌++◌, length, take, drop, refl, subst, arith, length-append, length-take, ltb-true, ltb-false, leb-false}
 use Rattle.std.proofs.lemmas.List.{length-drop}
 use Rattle.std.specs.Int.{w32, from_be_bytes}
-use Rattle.model.specs.Record.{Gathered, nothing_gathered, Fragment, Waits, Refuses, Brings, behind_header, fragment, Front, Partial, Refused, Whole, gathered_with, front_from, front, behind_fragment}
+use Rattle.model.specs.Wire.Record.{Gathered, nothing_gathered, Fragment, Waits, Refuses, Brings, behind_header, fragment, Front, Partial, Refused, Whole, gathered_with, front_from, front, behind_fragment}
 use Rattle.rpc.specs.Assembly.{record_limits, max_received}
 
 by_test : (P : Fragment → Type 0) (b : Bool) (x y : Fragment) → (b ≡ true → P x) → (b ≡ false → P y) → P (cond b x y)

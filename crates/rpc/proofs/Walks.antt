@@ -1,7 +1,7 @@
 -- Going from fragment to fragment.
 use Rattle.std.proofs.Common.{◌≡◌, ℕ, zero, suc, ◌+◌, ◌-◌, ◌<◌, ◌≤◌, true, false, List, ◌++◌, length, take, drop, refl, ap, sym, subst, ◌∙◌, arith}
 use Rattle.std.proofs.lemmas.List.{length-append, length-drop, length-take-le, drop-drop}
-use Rattle.model.specs.Record.{RecordFault, Gathered, nothing_gathered, gathered_with, Waits, Refuses, Brings, fragment, Partial, Refused, Whole, behind_fragment, front_from, front}
+use Rattle.model.specs.Wire.Record.{RecordFault, Gathered, nothing_gathered, gathered_with, Waits, Refuses, Brings, fragment, Partial, Refused, Whole, behind_fragment, front_from, front}
 use Rattle.rpc.specs.declared.fragment.Place.{Place}
 use Rattle.rpc.specs.declared.fragment.Fragment.TheVariants as found
 use Rattle.rpc.specs.declared.scan.Scan.TheVariants as scans

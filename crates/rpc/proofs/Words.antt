@@ -3,7 +3,7 @@ use Rattle.std.proofs.Common.{◌≡◌, ℕ, List, [], ◌∷◌, ◌++◌, ref
 use Rattle.std.specs.List.{flat_map}
 use Rattle.std.specs.Int.{w32}
 use Rattle.xdr.specs.Grammar.{number}
-use Rattle.model.specs.Rpc.{words}
+use Rattle.model.specs.Wire.Rpc.{words}
 
 pub each_word : (numbers : List ℕ) → flat_map (λ n. number w32 n) numbers ≡ words numbers
 each_word [] = refl

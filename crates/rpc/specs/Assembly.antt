@@ -1,10 +1,10 @@
 -- What an assembler keeps of a connection's next record (RFC 5531, section 11), and what a piece of
 -- the stream makes of it.
 use Rattle.std.specs.Prelude.{◌≡◌, ℕ, ◌+◌, ◌-◌, ◌≤◌, ◌<◌, Bool, true, false, List, [], ◌++◌, length, take, drop, Option, Some, None, if◌then◌else◌}
-use Rattle.model.specs.Record as spec
-use Rattle.model.specs.Record.{RecordLimits, Gathered, Front, Partial, Refused, Whole, front, fragment}
-use Rattle.model.specs.Rpc.{read_call, is_call_read}
-use Rattle.model.specs.World.{Connection, Quiet, Waiting, Closed, arrives_at, taken_at}
+use Rattle.model.specs.Wire.Record as spec
+use Rattle.model.specs.Wire.Record.{RecordLimits, Gathered, Front, Partial, Refused, Whole, front, fragment}
+use Rattle.model.specs.Wire.Rpc.{read_call, is_call_read}
+use Rattle.model.specs.Server.World.{Connection, Quiet, Waiting, Closed, arrives_at, taken_at}
 use Rattle.rpc.specs.declared.fault.RecordFault.{RecordFault}
 use Rattle.rpc.specs.declared.fault.RecordFault.TheVariants as faults
 use Rattle.rpc.specs.declared.fragment.Fragment.{Fragment}

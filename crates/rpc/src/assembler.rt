@@ -1,9 +1,9 @@
 //! The records of a stream, one at a time (RFC 5531, section 11).
 
 ghost use Rattle.std.specs.Prelude.{⊤, ◌≡◌, ◌↔◌, ℕ, List, [], true, Some, MatchOption, IfOk, IfErr, IsTrue};
-ghost use Rattle.model.specs.Feeding.{let_go};
-ghost use Rattle.model.specs.Rpc.{read_call, is_call_read};
-ghost use Rattle.model.specs.World.{Closed, arrives_at, taken_at};
+ghost use Rattle.model.specs.Wire.Feeding.{let_go};
+ghost use Rattle.model.specs.Wire.Rpc.{read_call, is_call_read};
+ghost use Rattle.model.specs.Server.World.{Closed, arrives_at, taken_at};
 ghost use Rattle.rpc.specs.Assembly.{record_limits, Gathers, Holds, connection_of, released, RefusesPiece};
 
 use crate::fault::RecordFault;

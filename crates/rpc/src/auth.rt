@@ -1,7 +1,7 @@
 //! The caller, as AUTH_SYS tells it (RFC 5531, appendix A).
 
 ghost use Rattle.std.specs.Prelude.{◌≡◌, Some, None, MatchOption};
-ghost use Rattle.model.specs.Rpc.{cred_told, credential_in};
+ghost use Rattle.model.specs.Wire.Rpc.{cred_told, credential_in};
 ghost use Rattle.wire.specs.SmallViews.{credential_view};
 
 use model::acl::Cred;

@@ -2,7 +2,7 @@
 
 ghost use Rattle.std.specs.Prelude.{◌≡◌, MatchResult};
 ghost use Rattle.xdr.specs.Clauses.{Scans};
-ghost use Rattle.model.specs.Rpc.{NoCall, read_call, opaque_auth, call_start, call_header};
+ghost use Rattle.model.specs.Wire.Rpc.{NoCall, read_call, opaque_auth, call_start, call_header};
 ghost use Rattle.rpc.specs.Views.{start_view, auth_view, header_view, call_read_view};
 ghost use Rattle.rpc.specs.declared.fault.RecordFault.TheVariants.{NotACall};
 
@@ -66,7 +66,7 @@ pub struct Header<'a> {
 /// The call that a record's bytes are (RFC 5531, section 9). `NotACall` where it ends within the
 /// call's header, is another message, or has a credential or a verifier that is above 400 bytes or
 /// padded with other bytes than zero.
-#[tactic(auto, unfolding(model::specs::Rpc::read_call))]
+#[tactic(auto, unfolding(model::specs::Wire::Rpc::read_call))]
 pub fn read_call(bytes: &[u8]) -> Result<CallRead<'_>, RecordFault>
     ensures { MatchResult result (λ read. read_call bytes.now ≡ call_read_view read)
         (λ fault. (read_call bytes.now ≡ NoCall) × (fault ≡ NotACall)) }

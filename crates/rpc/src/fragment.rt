@@ -3,7 +3,7 @@
 
 ghost use Rattle.std.specs.Prelude.{◌≡◌, ◌+◌, ◌<◌, ◌≤◌, ◌^◌, ◌++◌, length, take, drop, slice_index};
 ghost use Rattle.std.specs.Int.{w32, from_be_bytes};
-ghost use Rattle.model.specs.Record.{Gathered};
+ghost use Rattle.model.specs.Wire.Record.{Gathered};
 ghost use Rattle.rpc.specs.Assembly.{Finds};
 
 use crate::numbers::LAST_FRAGMENT;

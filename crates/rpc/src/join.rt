@@ -1,7 +1,7 @@
 //! Joining the fragments of a record in place.
 
 ghost use Rattle.std.specs.Prelude.{◌≡◌, ◌≤◌, ◌+◌, [], length, take, drop};
-ghost use Rattle.model.specs.Record.{Whole, front};
+ghost use Rattle.model.specs.Wire.Record.{Whole, front};
 ghost use Rattle.rpc.specs.Assembly.{record_limits, IsWhole};
 
 use crate::fragment::{Fragment, HEADER_BYTES, Place, fragment_at};

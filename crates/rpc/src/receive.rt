@@ -1,7 +1,7 @@
 //! What a piece makes of the bytes before it.
 
 ghost use Rattle.std.specs.Prelude.{◌≡◌, ◌≤◌, ◌+◌, length};
-ghost use Rattle.model.specs.Record.{Partial, front};
+ghost use Rattle.model.specs.Wire.Record.{Partial, front};
 ghost use Rattle.rpc.specs.Assembly.{record_limits, max_received, Receives};
 
 use crate::call::read_call;

@@ -6,8 +6,8 @@
 ghost use Rattle.std.specs.Prelude.{◌≡◌, ℕ, ◌+◌, ◌<◌, ◌^◌, ◌∷◌, ◌++◌, [], length, IfOk, OnErr, IfErr};
 ghost use Rattle.xdr.specs.Clauses.{Wrote};
 ghost use Rattle.xdr.specs.declared.refusal.Refusal.TheVariants.{Memory};
-ghost use Rattle.model.specs.Record.{framed};
-ghost use Rattle.model.specs.Rpc.{words, reply_text};
+ghost use Rattle.model.specs.Wire.Record.{framed};
+ghost use Rattle.model.specs.Wire.Rpc.{words, reply_text};
 ghost use Rattle.rpc.specs.Views.{reply_view, result_text, success_head, compound_front, frame_header, front_of, tail_of};
 
 use crate::numbers::{LAST_FRAGMENT, NFS_VERSION, REPLY, RPC_VERSION};
@@ -68,7 +68,7 @@ const GARBAGE_ARGS: u32 = 4;
 
 impl CompoundResult<'_> {
     /// How many bytes it has.
-    #[tactic(auto, unfolding(model::specs::Rpc::compound_text, xdr::specs::Grammar::number))]
+    #[tactic(auto, unfolding(model::specs::Wire::Rpc::compound_text, xdr::specs::Grammar::number))]
     pub fn size(&self) -> usize
         ensures value { result ≡ length (result_text self.now) }
         ensures bound { result < 2 ^ 63 + 2 ^ 33 }
@@ -91,7 +91,7 @@ impl CompoundResult<'_> {
 
 impl<'a> Reply<'a> {
     /// How many bytes it has.
-    #[tactic(auto, unfolding(model::specs::Rpc::reply_text, xdr::specs::Grammar::number))]
+    #[tactic(auto, unfolding(model::specs::Wire::Rpc::reply_text, xdr::specs::Grammar::number))]
     pub fn size(&self) -> usize
         ensures { (xid : ℕ) → result ≡ length (reply_text xid (reply_view self.now)) }
     {

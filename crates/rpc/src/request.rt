@@ -2,7 +2,7 @@
 
 ghost use Rattle.std.specs.Prelude.{◌≡◌, []};
 ghost use Rattle.xdr.specs.Clauses.{Scans};
-ghost use Rattle.model.specs.Rpc.{request_of, compound_head, compound_request, by_head, Success, compound_text};
+ghost use Rattle.model.specs.Wire.Rpc.{request_of, compound_head, compound_request, by_head, Success, compound_text};
 ghost use Rattle.rpc.specs.Views.{head_view, call_view, reply_view, request_view, tail_of, IsBrief};
 
 use crate::auth::{cred_from, read_auth_sys};
@@ -36,7 +36,7 @@ impl<'a> Call<'a> {
     /// What the call asks for, by the tests in their order: program, version and procedure; the
     /// credential; the head of the COMPOUND, its minor version, and that no bytes follow where no
     /// operation is counted.
-    #[tactic(auto, unfolding(model::specs::Rpc::request_of))]
+    #[tactic(auto, unfolding(model::specs::Wire::Rpc::request_of))]
     pub fn request(self) -> Request<'a>
         ensures request { request_of (call_view self.entry) ≡ request_view result }
         ensures brief { IsBrief result }

@@ -2,7 +2,7 @@
 
 ghost use Rattle.std.specs.Prelude.{◌≡◌, ◌++◌};
 ghost use Rattle.xdr.specs.Laws.{IsBytes};
-ghost use Rattle.model.specs.Record.{front};
+ghost use Rattle.model.specs.Wire.Record.{front};
 ghost use Rattle.rpc.specs.Assembly.{record_limits, scan_of};
 
 use crate::fault::RecordFault;

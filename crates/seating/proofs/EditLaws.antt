@@ -9,8 +9,8 @@ use Rattle.journal.specs.Layout.{targets}
 use Rattle.journal.proofs.Images.{Out, Fit, Out-join, applied_out}
 use Rattle.journal.proofs.Lists.{targets_of-Fit}
 use Rattle.layout.specs.Stands.{HoldSeats}
-use Rattle.model.specs.SeatEdits.{SeatEdit, Stays, Frees, Takes, Holds, CanEditAll, edit_view, edits_view, edited, edited_all}
-use Rattle.model.specs.Seats.{HeldReply, Seat, Seats}
+use Rattle.model.specs.Sessions.SeatEdits.{SeatEdit, Stays, Frees, Takes, Holds, CanEditAll, edit_view, edits_view, edited, edited_all}
+use Rattle.model.specs.Sessions.Seats.{HeldReply, Seat, Seats}
 use Rattle.model.specs.declared.seats.SeatEdit as code_edit
 use Rattle.model.specs.declared.seats.SeatEdits as code
 use Rattle.model.specs.declared.seats.SeatEdit.TheVariants as kinds

@@ -2,8 +2,8 @@
 
 ghost use Rattle.std.specs.Prelude.{◌≡◌, ◌<◌, ◌+◌, ◌*◌, ◌++◌, OnOk};
 ghost use Rattle.std.specs.Option.{option_map};
-ghost use Rattle.model.specs.SeatEdits.{edit_view};
-ghost use Rattle.model.specs.SeatViews.{held_view, seat_view};
+ghost use Rattle.model.specs.Sessions.SeatEdits.{edit_view};
+ghost use Rattle.model.specs.Sessions.SeatViews.{held_view, seat_view};
 ghost use Rattle.seating.specs.Updates.{edit_updates, place_updates, slot_updates};
 ghost use Rattle.seats.specs.Spelling.{seat_sector};
 

@@ -1,7 +1,7 @@
 //! The transaction of edits of all places.
 
 ghost use Rattle.std.specs.Prelude.{◌≡◌, IfOk};
-ghost use Rattle.model.specs.SeatEdits.{edits_view};
+ghost use Rattle.model.specs.Sessions.SeatEdits.{edits_view};
 ghost use Rattle.seating.specs.Edits.{AreUpdates};
 ghost use Rattle.seating.specs.Updates.{updates_from};
 

@@ -3,7 +3,7 @@ use Rattle.std.proofs.Common.{List, [], ◌∷◌, Option, Some, None, map, ◌�
 use Rattle.std.specs.Option.{option_map}
 use Rattle.std.specs.List.{AllByRecursion}
 use Rattle.std.proofs.lemmas.List.{length-map}
-use Rattle.model.specs.SeatViews.{held_view, seat_view, place_view, seats_view}
+use Rattle.model.specs.Sessions.SeatViews.{held_view, seat_view, place_view, seats_view}
 use Rattle.model.specs.declared.seats.HeldReply.{HeldReply}
 use Rattle.model.specs.declared.seats.Seat.{Seat}
 use Rattle.model.specs.declared.seats.Seats.{Seats}

@@ -2,8 +2,8 @@
 
 ghost use Rattle.std.specs.Prelude.{◌≡◌, ◌<◌, ◌+◌, ◌≤◌, ℕ, length, map, vec_len, Option, Some, IfOk, IsErrOf, IsTrue, ◌↔◌};
 ghost use Rattle.std.specs.Option.{option_map};
-ghost use Rattle.model.specs.Seats as kept;
-ghost use Rattle.model.specs.SeatViews.{held_view, seat_view, place_view};
+ghost use Rattle.model.specs.Sessions.Seats as kept;
+ghost use Rattle.model.specs.Sessions.SeatViews.{held_view, seat_view, place_view};
 ghost use Rattle.seats.specs.Spelling.{AreSectorsOf, IsPlace, IsSeat, IsSlot, sector_of, slot_text};
 ghost use Rattle.seats.specs.Reading.{taken_from, text_from, seat_in};
 ghost use Rattle.seats.specs.Reading as total;

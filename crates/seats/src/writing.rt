@@ -2,7 +2,7 @@
 
 ghost use Rattle.std.specs.Prelude.{◌≡◌, ◌≤◌, ◌<◌, ◌-◌, ◌++◌, Some, length, replicate, take};
 ghost use Rattle.std.specs.Option.{option_map};
-ghost use Rattle.model.specs.SeatViews.{held_view, seat_view, place_view};
+ghost use Rattle.model.specs.Sessions.SeatViews.{held_view, seat_view, place_view};
 ghost use Rattle.seats.specs.Padding.{padded};
 ghost use Rattle.seats.specs.Spelling.{head_front, held_front, part_of, slot_at, slot_text};
 ghost use Rattle.seats.specs.Spelling as spelled;

@@ -1,11 +1,11 @@
 -- The turns of a hang-up.
 use Rattle.std.proofs.Common.{◌≡◌, ◌<◌, ◌+◌, ◌-◌, ℕ, true, suc, Option, Some, None, sym, subst, arith}
 use Rattle.slab.specs.Slab.{Slab}
-use Rattle.model.specs.Keyed.{at}
+use Rattle.model.specs.Trees.Keyed.{at}
 use Rattle.model.specs.declared.status.Status.{Status}
-use Rattle.model.specs.Runs.{Turns}
-use Rattle.model.specs.World as world
-use Rattle.model.specs.World.{InProgress, Busy, is_busy}
+use Rattle.model.specs.Server.Runs.{Turns}
+use Rattle.model.specs.Server.World as world
+use Rattle.model.specs.Server.World.{InProgress, Busy, is_busy}
 use Rattle.rpc.specs.Assembly.{Assembly, Gathers, Holds, Refuses}
 use Rattle.server.specs.declared.connection.Connection.{Connection}
 use Rattle.server.specs.declared.stage.Stage.{Stage}

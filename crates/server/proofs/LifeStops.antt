@@ -5,19 +5,19 @@ use Rattle.std.proofs.Math.Logic.{∥∥₁_elim, ∥∥₁_map, ∥∥₁_prop}
 use Rattle.std.proofs.Props.{props}
 use Rattle.disk.specs.Moments.{seen}
 use Rattle.layout.specs.Stands.{Kept}
-use Rattle.model.specs.Runs.{Serving, Stored, MayHold, IsSeatedAfter, IsRun, effect_of, mounted}
-use Rattle.model.specs.SeatRuns.{Stop, AreSeats, HoldsFrom, IsFreed}
-use Rattle.model.specs.Seats.{Seats, AreApart, has_seat, held_at, held_in, run_of}
-use Rattle.model.specs.ServedOnce.{numbers_in}
-use Rattle.model.specs.SessionRuns.{CountsFrom}
-use Rattle.model.specs.World.{ServerLimits}
-use Rattle.model.proofs.SeatLaws.{seat_holds, holds_there}
-use Rattle.model.proofs.SeatLives.{counted, its_own, every_seat_stays, every_run_can_follow}
-use Rattle.model.proofs.SeatReplies.{every_reply_is_stored}
-use Rattle.model.proofs.SeatRunLaws.{every_reply_is_held, every_dead_session}
-use Rattle.model.proofs.SeatsFreed.{every_freeing_is_asked}
-use Rattle.model.proofs.SeatsSit.{every_session_sits}
-use Rattle.model.proofs.SlotLaw.{others_between}
+use Rattle.model.specs.Server.Runs.{Serving, Stored, MayHold, IsSeatedAfter, IsRun, effect_of, mounted}
+use Rattle.model.specs.Sessions.SeatRuns.{Stop, AreSeats, HoldsFrom, IsFreed}
+use Rattle.model.specs.Sessions.Seats.{Seats, AreApart, has_seat, held_at, held_in, run_of}
+use Rattle.model.specs.Server.ServedOnce.{numbers_in}
+use Rattle.model.specs.Sessions.SessionRuns.{CountsFrom}
+use Rattle.model.specs.Server.World.{ServerLimits}
+use Rattle.model.proofs.Sessions.SeatLaws.{seat_holds, holds_there}
+use Rattle.model.proofs.Sessions.SeatLives.{counted, its_own, every_seat_stays, every_run_can_follow}
+use Rattle.model.proofs.Sessions.SeatReplies.{every_reply_is_stored}
+use Rattle.model.proofs.Sessions.SeatRunLaws.{every_reply_is_held, every_dead_session}
+use Rattle.model.proofs.Sessions.SeatsFreed.{every_freeing_is_asked}
+use Rattle.model.proofs.Sessions.SeatsSit.{every_session_sits}
+use Rattle.model.proofs.Sessions.SlotLaw.{others_between}
 use Rattle.volume.proofs.RemountLaws.{seen_left}
 use Rattle.server.specs.Headline.{Stopped, Follows, executed_in}
 use Rattle.server.specs.LifeLaws.{history_in, stored_in, freed_in, Leaves, OnMap, OnMount, WasUp, EveryHeld, EveryStays, EveryFollows, EveryDead, EverySits, EveryStored, EveryAsked, AreRuns, last_of, numbers_over, EveryOnce, WasFreed, table_in, IsGivenAgain, EveryRetried}

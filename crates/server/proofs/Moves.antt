@@ -3,11 +3,11 @@ use Rattle.std.proofs.Common.{◌≡◌, ◌<◌, ◌≤◌, ◌+◌, ◌^◌, �
 use Rattle.std.specs.List.{IsAmong}
 use Rattle.std.proofs.Math.Logic.{∥∥₁_elim, ∥∥₁_map, ∥∥₁_prop}
 use Rattle.model.specs.declared.limits.Limits.{Limits}
-use Rattle.model.specs.Limits.{limits_of}
-use Rattle.model.specs.SoundRuns.{IsStart}
-use Rattle.model.specs.Stamp.{stamp, next_stamp}
-use Rattle.model.specs.WellFormed.{IsWellFormed, IsBefore}
-use Rattle.model.proofs.ChangeLaws.{was_before}
+use Rattle.model.specs.Trees.Limits.{limits_of}
+use Rattle.model.specs.Server.SoundRuns.{IsStart}
+use Rattle.model.specs.Trees.Stamp.{stamp, next_stamp}
+use Rattle.model.specs.Trees.WellFormed.{IsWellFormed, IsBefore}
+use Rattle.model.proofs.Trees.ChangeLaws.{was_before}
 use Rattle.volume.specs.MountAnswers.{FindsSeats}
 use Rattle.volume.specs.Remounts.{IsFound}
 use Rattle.disk.specs.Moments as moments
@@ -18,14 +18,14 @@ use Rattle.fs.specs.FileSystem.{FileSystem}
 use Rattle.layout.specs.Stands.{Kept}
 use Rattle.volume.specs.VolumeState.{VolumeState, IsSameVolume, StandsForOne, LeavesOne, IsRecent, Holds, IsLeft, MayAdd, AddsTrees, kept_of}
 use Rattle.volume.specs.Stands.{StandsFor}
-use Rattle.model.specs.Runs.{Serving, Event, executed_of, effect_of}
-use Rattle.model.specs.Opens.{Opens, no_opens}
-use Rattle.model.specs.SeatRuns.{AreSeats}
-use Rattle.model.specs.Seats.{Seats}
-use Rattle.model.specs.Tree.{Tree}
-use Rattle.model.specs.Keyed.{Keyed}
-use Rattle.model.specs.Session.{Table, loaded_table}
-use Rattle.model.specs.World.{World, Connection, mounted_world}
+use Rattle.model.specs.Server.Runs.{Serving, Event, executed_of, effect_of}
+use Rattle.model.specs.Sessions.Opens.{Opens, no_opens}
+use Rattle.model.specs.Sessions.SeatRuns.{AreSeats}
+use Rattle.model.specs.Sessions.Seats.{Seats}
+use Rattle.model.specs.Trees.Tree.{Tree}
+use Rattle.model.specs.Trees.Keyed.{Keyed}
+use Rattle.model.specs.Sessions.Session.{Table, loaded_table}
+use Rattle.model.specs.Server.World.{World, Connection, mounted_world}
 use Rattle.server.specs.Headline.{IsMounted}
 use Rattle.server.specs.Views.{world_by, server_limits, serving_by}
 use Rattle.server.specs.Seen.{Seen, LeavesNow, MayKeep, Moves, Said, told, Does}

@@ -2,9 +2,9 @@
 use Rattle.std.proofs.Common.{◌≡◌, ℕ, List, refl}
 use Rattle.compound.specs.Steps.{stepped_on}
 use Rattle.model.specs.declared.acl.Cred.{Cred}
-use Rattle.model.specs.Record.{framed}
-use Rattle.model.specs.Rpc.{Call, Calls, OtherVersion, VersionRefused, Reply, Compound, Answers, Runs, read_call, request_of, reply_text}
-use Rattle.model.specs.World.{World, InProgress, called, in_progress}
+use Rattle.model.specs.Wire.Record.{framed}
+use Rattle.model.specs.Wire.Rpc.{Call, Calls, OtherVersion, VersionRefused, Reply, Compound, Answers, Runs, read_call, request_of, reply_text}
+use Rattle.model.specs.Server.World.{World, InProgress, called, in_progress}
 use Rattle.server.specs.Connections.{replied}
 
 pub other_answers : (request : List ℕ) (xid : ℕ) (reply : List ℕ) → read_call request ≡ OtherVersion xid

@@ -2,17 +2,17 @@
 use Rattle.std.proofs.Common.{◌≡◌, ℕ, Bool, List, Option, None, Some, Result, Ok, Err, find, ◌==◌, ◌∙◌, bytes_eq, refl}
 use Rattle.model.specs.declared.status.Status.{Status}
 use Rattle.model.specs.declared.status.Status.TheVariants as status
-use Rattle.model.specs.Answer.{Answer, Outcome, Done, Refused, CreateSessionAnswer, ExchangeIdAnswer}
-use Rattle.model.specs.Operation.{Argument, CreateSessionArguments, ExchangeIdArguments, SequenceArguments, operation_of}
-use Rattle.model.specs.Refusal.{first_refusal}
-use Rattle.model.specs.Seats.{has_seat}
-use Rattle.model.specs.Session as sessions
-use Rattle.model.specs.Session.{SessionLimits, Client, Session, Table, CreateSessionOutcome}
-use Rattle.model.specs.Step.{current_refusals}
-use Rattle.model.specs.StateIds.{has_opens}
-use Rattle.model.specs.World.{World, InProgress, Entry, HasRun, Gives, Replays, Turned, one, run, begun, started_in, exchanged, created_by, tabled, reclaimed, closes, behind, kept_by, result_of, is_last, is_to_hold, with_result, state_of}
-use Rattle.model.proofs.TableCalls.{either}
-use Rattle.model.proofs.TurnCases.{IsTurn, Idles, Says, Closes, Unread, TooBig, Gave, Repeats, turn_is, read_of}
+use Rattle.model.specs.Operations.Answer.{Answer, Outcome, Done, Refused, CreateSessionAnswer, ExchangeIdAnswer}
+use Rattle.model.specs.Operations.Operation.{Argument, CreateSessionArguments, ExchangeIdArguments, SequenceArguments, operation_of}
+use Rattle.model.specs.Operations.Refusal.{first_refusal}
+use Rattle.model.specs.Sessions.Seats.{has_seat}
+use Rattle.model.specs.Sessions.Session as sessions
+use Rattle.model.specs.Sessions.Session.{SessionLimits, Client, Session, Table, CreateSessionOutcome}
+use Rattle.model.specs.Operations.Step.{current_refusals}
+use Rattle.model.specs.Sessions.StateIds.{has_opens}
+use Rattle.model.specs.Server.World.{World, InProgress, Entry, HasRun, Gives, Replays, Turned, one, run, begun, started_in, exchanged, created_by, tabled, reclaimed, closes, behind, kept_by, result_of, is_last, is_to_hold, with_result, state_of}
+use Rattle.model.proofs.Sessions.TableCalls.{either}
+use Rattle.model.proofs.Server.TurnCases.{IsTurn, Idles, Says, Closes, Unread, TooBig, Gave, Repeats, turn_is, read_of}
 
 abbrev Stays : (old new : Table) → Type 0
 Stays old new = new.persistent ≡ old.persistent

@@ -1,8 +1,8 @@
 -- How a connection's refusals are told.
 use Rattle.std.proofs.Common.{◌≡◌, ◌≤◌, ℕ, true, false, Result, Ok, Err, None, inr, ⊎_elim, refl, sym, ap, ◌∙◌}
 use Rattle.disk.specs.Cause.{IsCounted}
-use Rattle.model.specs.Keyed.{at}
-use Rattle.model.specs.World.{World, is_busy}
+use Rattle.model.specs.Trees.Keyed.{at}
+use Rattle.model.specs.Server.World.{World, is_busy}
 use Rattle.std.specs.Result.{IsErrAnd}
 use Rattle.volume.specs.VolumeState.{VolumeState, IsSameVolume}
 use Rattle.volume.proofs.KeepLaws.{counted_later}

@@ -7,8 +7,8 @@ use Rattle.compound.specs.declared.running.Running.{Running}
 use Rattle.compound.specs.declared.step.Stepped.{Stepped}
 use Rattle.compound.specs.declared.step.Stepped.TheVariants as stepped
 use Rattle.compound.proofs.Resuming.{fits_more}
-use Rattle.model.specs.Rpc.{Call, NoCall, OtherVersion, Calls, Compound, Reply, Answers, Runs, read_call, request_of}
-use Rattle.model.specs.World.{InProgress, Busy}
+use Rattle.model.specs.Wire.Rpc.{Call, NoCall, OtherVersion, Calls, Compound, Reply, Answers, Runs, read_call, request_of}
+use Rattle.model.specs.Server.World.{InProgress, Busy}
 use Rattle.model.specs.declared.acl.Cred.{Cred}
 use Rattle.server.specs.Connections.{IsOfRun, HasGoneOn}
 use Rattle.server.specs.Stages.{asked_in, begun, left_by, can_go_on}

@@ -13,14 +13,14 @@ use Rattle.volume.specs.Changes.{Given}
 use Rattle.volume.specs.VolumeState.{VolumeState, IsSameVolume, AddsTrees, StandsForOne, IsRecent}
 use Rattle.volume.specs.VolumeState.{MayAdd}
 use Rattle.model.specs.declared.limits.Limits.{Limits}
-use Rattle.model.specs.Tree.{Tree}
-use Rattle.model.specs.Keyed.{Keyed, at, with}
-use Rattle.model.proofs.KeyedLaws.{at-with_same}
-use Rattle.model.specs.Runs as runs
-use Rattle.model.specs.Runs.{Serving}
-use Rattle.model.specs.Session.{Table}
-use Rattle.model.specs.World as world
-use Rattle.model.specs.World.{World, one, with_connection}
+use Rattle.model.specs.Trees.Tree.{Tree}
+use Rattle.model.specs.Trees.Keyed.{Keyed, at, with}
+use Rattle.model.proofs.Trees.KeyedLaws.{at-with_same}
+use Rattle.model.specs.Server.Runs as runs
+use Rattle.model.specs.Server.Runs.{Serving}
+use Rattle.model.specs.Sessions.Session.{Table}
+use Rattle.model.specs.Server.World as world
+use Rattle.model.specs.Server.World.{World, one, with_connection}
 use Rattle.server.specs.declared.turn.Turn.{Turn}
 use Rattle.server.specs.Connections.{Turns, IsRising, HasGoneOn, turn_view}
 use Rattle.server.specs.Seen.{MayKeep}

@@ -5,20 +5,20 @@ use Rattle.std.proofs.Math.Logic.{∥∥₁_elim, ∥∥₁_map}
 use Rattle.std.proofs.Props.{props}
 use Rattle.disk.specs.Moments.{Image, History, LeftSince, moment, seen}
 use Rattle.layout.specs.Stands.{Kept, bare}
-use Rattle.model.specs.Fresh.{fresh_tree}
+use Rattle.model.specs.Trees.Fresh.{fresh_tree}
 use Rattle.volume.specs.MountAnswers.{NoTree}
 use Rattle.volume.specs.VolumeState.{VolumeState, IsSameVolume, kept_of}
 use Rattle.volume.specs.Stands.{StandsFor, IsBase}
 use Rattle.volume.specs.Superblock.{last_run}
 use Rattle.volume.proofs.FormatLaws.{fresh_stands_for}
 use Rattle.volume.proofs.OneTree.{Kept-set, one_stands}
-use Rattle.model.proofs.Headline.{every_run}
-use Rattle.model.proofs.GivenLaws.{every_stamp_is_given}
-use Rattle.model.proofs.StampLaws.{every_stamp}
-use Rattle.model.specs.StampRuns.{AreGiven}
-use Rattle.model.specs.Runs as runs
-use Rattle.model.specs.Runs.{Serving, Event, Takes, IsRun, AreStamped, history_after, history_failing, effect_of, mounted}
-use Rattle.model.specs.World.{World}
+use Rattle.model.proofs.Server.Headline.{every_run}
+use Rattle.model.proofs.Operations.GivenLaws.{every_stamp_is_given}
+use Rattle.model.proofs.Server.StampLaws.{every_stamp}
+use Rattle.model.specs.Server.StampRuns.{AreGiven}
+use Rattle.model.specs.Server.Runs as runs
+use Rattle.model.specs.Server.Runs.{Serving, Event, Takes, IsRun, AreStamped, history_after, history_failing, effect_of, mounted}
+use Rattle.model.specs.Server.World.{World}
 use Rattle.volume.proofs.RemountLaws.{seen_left, rests_left, lasting, served_good}
 use Rattle.volume.specs.Formats.{IsFresh}
 use Rattle.volume.specs.Remounts.{StandsForGood, LeavesGood}

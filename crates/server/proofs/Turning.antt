@@ -18,12 +18,12 @@ use Rattle.fs.specs.FileSystem.{FileSystem}
 use Rattle.fs.proofs.ChangeLaws.{changes_by}
 use Rattle.compound.proofs.QuietLaws.{answers_quietly}
 use Rattle.compound.proofs.Rooms.{state_same}
-use Rattle.model.proofs.KeyedLaws.{at-below, at-first, at-rest, some≢none}
-use Rattle.model.specs.Keyed.{Keyed, at, with, IsAbove}
-use Rattle.model.specs.Rpc.{read_call}
-use Rattle.model.specs.Session.{Table}
-use Rattle.model.specs.World as world
-use Rattle.model.specs.World.{World, Connection, Turned, Waiting, Busy, Replied, one, called, turned, idle, is_busy, with_connection}
+use Rattle.model.proofs.Trees.KeyedLaws.{at-below, at-first, at-rest, some≢none}
+use Rattle.model.specs.Trees.Keyed.{Keyed, at, with, IsAbove}
+use Rattle.model.specs.Wire.Rpc.{read_call}
+use Rattle.model.specs.Sessions.Session.{Table}
+use Rattle.model.specs.Server.World as world
+use Rattle.model.specs.Server.World.{World, Connection, Turned, Waiting, Busy, Replied, one, called, turned, idle, is_busy, with_connection}
 use Rattle.rpc.specs.Assembly.{Assembly, Gathers, Holds, Refuses, connection_of}
 use Rattle.server.specs.Connections.{IsRising, Leads, Turns, HasGoneOn, turn_view}
 use Rattle.server.specs.Stages.{left_by}

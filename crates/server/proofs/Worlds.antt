@@ -3,22 +3,22 @@ use Rattle.std.proofs.Common.{◌≡◌, ◌+◌, ◌<◌, ◌≤◌, ℕ, zero,
 use Rattle.std.specs.List.{IsAmong}
 use Rattle.std.proofs.lemmas.Bool.{cases_eq}
 use Rattle.layout.specs.Stands.{Kept}
-use Rattle.model.specs.Keyed.{Keyed, at, with, without}
-use Rattle.model.specs.Record.{RecordLimits, Front, Partial, Refused, Whole, front}
-use Rattle.model.specs.Rpc.{is_call_read, read_call}
-use Rattle.model.specs.Runs.{Event, Happens, Fails, StaysDown, MayLeave, MayHold, IsSeatedAfter, effect_of, executed_of, executed_by}
-use Rattle.model.specs.Seats.{Seats}
-use Rattle.model.specs.Tree.{Tree}
-use Rattle.model.specs.World as world
-use Rattle.model.specs.World.{World, Quiet, Closed, arrives, arrives_at, arrived, takes, without_reply, connects, can_connect, connection_changed, with_connection, hangs_up, is_busy}
-use Rattle.model.proofs.KeyedLaws.{at-with_same, at-with_other, at-without_same, at-without_other}
+use Rattle.model.specs.Trees.Keyed.{Keyed, at, with, without}
+use Rattle.model.specs.Wire.Record.{RecordLimits, Front, Partial, Refused, Whole, front}
+use Rattle.model.specs.Wire.Rpc.{is_call_read, read_call}
+use Rattle.model.specs.Server.Runs.{Event, Happens, Fails, StaysDown, MayLeave, MayHold, IsSeatedAfter, effect_of, executed_of, executed_by}
+use Rattle.model.specs.Sessions.Seats.{Seats}
+use Rattle.model.specs.Trees.Tree.{Tree}
+use Rattle.model.specs.Server.World as world
+use Rattle.model.specs.Server.World.{World, Quiet, Closed, arrives, arrives_at, arrived, takes, without_reply, connects, can_connect, connection_changed, with_connection, hangs_up, is_busy}
+use Rattle.model.proofs.Trees.KeyedLaws.{at-with_same, at-with_other, at-without_same, at-without_other}
 use Rattle.compound.specs.States.{SharedState}
 use Rattle.compound.specs.Volumes.{lasts}
 use Rattle.volume.specs.Changes.{Leaves}
 use Rattle.volume.specs.VolumeState.{VolumeState}
 use Rattle.volume.proofs.FrontLaws.{among_more}
-use Rattle.model.proofs.RuledOutLaws.{each_event_happens, dropped}
-use Rattle.model.proofs.RunLaws.{EntryFits, event_fits}
+use Rattle.model.proofs.Server.RuledOutLaws.{each_event_happens, dropped}
+use Rattle.model.proofs.Server.RunLaws.{EntryFits, event_fits}
 use Rattle.rpc.specs.Assembly.{record_limits}
 use Rattle.slab.specs.Slab.{Slab, slab_len, Updates}
 use Rattle.server.specs.declared.connection.Connection.{Connection}

@@ -4,10 +4,10 @@ use Rattle.slab.specs.Slab.{Slab, entries}
 use Rattle.compound.specs.States.{SharedState, HasState, with_state}
 use Rattle.compound.specs.Steps.{stepped_on}
 use Rattle.compound.specs.Views.{in_progress_of, asked_of}
-use Rattle.model.specs.Keyed.{Keyed, at, IsAbove}
-use Rattle.model.specs.Rpc.{read_call}
-use Rattle.model.specs.World as world
-use Rattle.model.specs.World.{World, InProgress, Turned, Answered, Busy, Replied, one, called, with_connection}
+use Rattle.model.specs.Trees.Keyed.{Keyed, at, IsAbove}
+use Rattle.model.specs.Wire.Rpc.{read_call}
+use Rattle.model.specs.Server.World as world
+use Rattle.model.specs.Server.World.{World, InProgress, Turned, Answered, Busy, Replied, one, called, with_connection}
 use Rattle.server.specs.declared.connection.Connection.{Connection}
 use Rattle.server.specs.Stages.{stage_view, asked_in}
 use Rattle.server.specs.declared.request.Opened.{Opened}

@@ -2,13 +2,13 @@
 use Rattle.std.specs.Prelude.{ℕ, Bool, List, [], ◌∷◌, slice_get, Some, ◌≡◌, ◌≢◌, ◌<◌, ◌≤◌, ◌+◌, ◌^◌}
 use Rattle.disk.specs.Moments.{Image, History, LeftSince, at_rest, moment, seen}
 use Rattle.layout.specs.Stands.{Kept, bare}
-use Rattle.model.specs.Fresh.{fresh_tree}
-use Rattle.model.specs.Runs.{Event, MayHold, IsGoodPrefix, AreStamped, mounted, executed, done_with, before, stamp_in}
-use Rattle.model.specs.SeatRuns.{AreSeats}
-use Rattle.model.specs.SoundRuns.{IsStart}
-use Rattle.model.specs.StampRuns.{AreGiven}
-use Rattle.model.specs.Tree.{Tree}
-use Rattle.model.specs.World.{Entry}
+use Rattle.model.specs.Trees.Fresh.{fresh_tree}
+use Rattle.model.specs.Server.Runs.{Event, MayHold, IsGoodPrefix, AreStamped, mounted, executed, done_with, before, stamp_in}
+use Rattle.model.specs.Sessions.SeatRuns.{AreSeats}
+use Rattle.model.specs.Server.SoundRuns.{IsStart}
+use Rattle.model.specs.Server.StampRuns.{AreGiven}
+use Rattle.model.specs.Trees.Tree.{Tree}
+use Rattle.model.specs.Server.World.{Entry}
 use Rattle.volume.specs.Formats.{IsFresh, LeavesFresh}
 use Rattle.volume.specs.VolumeState.{VolumeState, IsRecent, kept_of}
 use Rattle.volume.specs.MountAnswers.{IsMountRefused}

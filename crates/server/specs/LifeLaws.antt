@@ -4,17 +4,17 @@
 use Rattle.std.specs.Prelude.{ℕ, false, true, ◌↔◌, List, [], ◌∷◌, ◌++◌, option_to_list, slice_get, Some, ◌≡◌, ◌<◌, ◌⊎◌}
 use Rattle.disk.specs.Moments.{Image, History}
 use Rattle.layout.specs.Stands.{Kept}
-use Rattle.model.specs.Answer.{CreateSessionAnswer}
-use Rattle.model.specs.Keyed.{at}
-use Rattle.model.specs.Operation.{SequenceArguments}
-use Rattle.model.specs.Runs.{Event, Stored, effect_of, executed_of}
-use Rattle.model.specs.Runs as runs
-use Rattle.model.specs.SeatRuns.{AreSeats, AnswersBySeats, GivesHeld, HoldsFrom, IsFreed, IsFreedBy, Makes, storing, freeing, request_in}
-use Rattle.model.specs.Seats.{Seat, Seats, seat_of, has_seat}
-use Rattle.model.specs.ServedOnce.{numbers_in}
-use Rattle.model.specs.Session.{Table, Replays, begin}
-use Rattle.model.specs.SessionRuns.{CountsFrom, OthersBetween}
-use Rattle.model.specs.World.{one}
+use Rattle.model.specs.Operations.Answer.{CreateSessionAnswer}
+use Rattle.model.specs.Trees.Keyed.{at}
+use Rattle.model.specs.Operations.Operation.{SequenceArguments}
+use Rattle.model.specs.Server.Runs.{Event, Stored, effect_of, executed_of}
+use Rattle.model.specs.Server.Runs as runs
+use Rattle.model.specs.Sessions.SeatRuns.{AreSeats, AnswersBySeats, GivesHeld, HoldsFrom, IsFreed, IsFreedBy, Makes, storing, freeing, request_in}
+use Rattle.model.specs.Sessions.Seats.{Seat, Seats, seat_of, has_seat}
+use Rattle.model.specs.Server.ServedOnce.{numbers_in}
+use Rattle.model.specs.Sessions.Session.{Table, Replays, begin}
+use Rattle.model.specs.Sessions.SessionRuns.{CountsFrom, OthersBetween}
+use Rattle.model.specs.Server.World.{one}
 use Rattle.volume.specs.VolumeState.{VolumeState}
 use Rattle.volume.specs.Remounts.{IsFound}
 use Rattle.volume.specs.Stands.{StandsFor}

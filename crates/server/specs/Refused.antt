@@ -2,8 +2,8 @@
 use Rattle.std.specs.Prelude.{ℕ, true, false, Option, Some, None, ◌≡◌, ◌⊎◌}
 use Rattle.disk.specs.Cause.{IsCounted}
 use Rattle.disk.specs.declared.device.Device.{Ghosts}
-use Rattle.model.specs.Keyed.{at}
-use Rattle.model.specs.World.{World, Connection, Closed, one}
+use Rattle.model.specs.Trees.Keyed.{at}
+use Rattle.model.specs.Server.World.{World, Connection, Closed, one}
 use Rattle.volume.specs.VolumeState.{VolumeState, IsSameVolume}
 use Rattle.server.specs.Connections.{HasGoneOn}
 use Rattle.server.specs.declared.fault.ServerFault.{ServerFault}

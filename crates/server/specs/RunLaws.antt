@@ -1,9 +1,9 @@
 -- What follows of every run.
 use Rattle.std.specs.Prelude.{ℕ, Bool, List, [], Option, Some, ◌≡◌, ◌↔◌}
 use Rattle.layout.specs.Stands.{Kept}
-use Rattle.model.specs.Keyed.{at}
-use Rattle.model.specs.Rpc.{NoCall, read_call}
-use Rattle.model.specs.World.{World, Connection, Waiting, Busy, Idle, one}
+use Rattle.model.specs.Trees.Keyed.{at}
+use Rattle.model.specs.Wire.Rpc.{NoCall, read_call}
+use Rattle.model.specs.Server.World.{World, Connection, Waiting, Busy, Idle, one}
 use Rattle.volume.specs.VolumeState.{IsRecent}
 use Rattle.server.specs.Headline.{IsMounted}
 use Rattle.server.specs.Seen.{Seen, Call, IsServed, IsTurned}

@@ -5,10 +5,10 @@ use Rattle.std.specs.List.{IsAmong}
 use Rattle.disk.specs.Moments.{Image, AddsOnly, Left}
 use Rattle.layout.specs.Stands.{Kept}
 use Rattle.volume.specs.VolumeState.{VolumeState, IsSameVolume, StandsForOne, IsRecent}
-use Rattle.model.specs.Keyed.{at}
-use Rattle.model.specs.Runs.{Serving, Event, Arrives, Turns, HangsUp, Connects, Takes, Happens, Fails, StaysDown, MayLeave, MayHold, History, no_history, history_after, history_failing, effect_of}
-use Rattle.model.specs.World as world
-use Rattle.model.specs.World.{World, Turn, one, taken_at, reply_at, is_busy}
+use Rattle.model.specs.Trees.Keyed.{at}
+use Rattle.model.specs.Server.Runs.{Serving, Event, Arrives, Turns, HangsUp, Connects, Takes, Happens, Fails, StaysDown, MayLeave, MayHold, History, no_history, history_after, history_failing, effect_of}
+use Rattle.model.specs.Server.World as world
+use Rattle.model.specs.Server.World.{World, Turn, one, taken_at, reply_at, is_busy}
 
 pub record Seen : Type 0 where
   pub serving : Serving

@@ -4,8 +4,8 @@ use Rattle.compound.specs.Views.{Asked, resumed, fits}
 use Rattle.compound.specs.declared.progress.Progress.{Progress}
 use Rattle.compound.specs.declared.step.Stepped.{Stepped}
 use Rattle.compound.specs.declared.step.Stepped.TheVariants as stepped
-use Rattle.model.specs.Rpc.{CallRead, NoCall, OtherVersion, Calls, Request, Answers, Runs, read_call, request_of}
-use Rattle.model.specs.World.{Connection, Busy, Replied, Closed}
+use Rattle.model.specs.Wire.Rpc.{CallRead, NoCall, OtherVersion, Calls, Request, Answers, Runs, read_call, request_of}
+use Rattle.model.specs.Server.World.{Connection, Busy, Replied, Closed}
 use Rattle.rpc.specs.Assembly.{Assembly, Gathers, Holds, Refuses, connection_of}
 use Rattle.server.specs.declared.stage.Stage.{Stage}
 use Rattle.server.specs.declared.stage.Stage.TheVariants as stage

@@ -7,11 +7,11 @@ use Rattle.disk.specs.declared.device.Device.{Ghosts}
 use Rattle.fs.specs.FileSystem.{FileSystem}
 use Rattle.fs.specs.Views.{fs_of, fs_failures}
 use Rattle.model.specs.declared.limits.Limits.{Limits}
-use Rattle.model.specs.Runs.{Serving, Event}
-use Rattle.model.specs.Seats.{Seats}
-use Rattle.model.specs.Tree.{Tree}
-use Rattle.model.specs.World as world
-use Rattle.model.specs.World.{World, ServerLimits, mounted_world}
+use Rattle.model.specs.Server.Runs.{Serving, Event}
+use Rattle.model.specs.Sessions.Seats.{Seats}
+use Rattle.model.specs.Trees.Tree.{Tree}
+use Rattle.model.specs.Server.World as world
+use Rattle.model.specs.Server.World.{World, ServerLimits, mounted_world}
 use Rattle.rpc.specs.Assembly.{record_limits}
 use Rattle.session.specs.Limits.{served}
 use Rattle.volume.specs.VolumeState.{VolumeState, IsRecent}

@@ -13,7 +13,7 @@ use xdr::Writer;
 #[tactic(auto, unfolding(crate::specs::Connections::connection_view))]
 impl Connection {
     ghost use Rattle.std.specs.Prelude.{◌≡◌, ◌↔◌, Some, IsTrue};
-    ghost use Rattle.model.specs.World.{Closed, is_busy};
+    ghost use Rattle.model.specs.Server.World.{Closed, is_busy};
     ghost use Rattle.server.specs.Connections.{connection_view};
 
     /// Whether a refused header or record closed it.
@@ -37,7 +37,7 @@ impl Connection {
 #[tactic(auto, unfolding(crate::specs::Connections::connection_view))]
 impl Connection {
     ghost use Rattle.std.specs.Prelude.{◌≡◌, [], Some, option_map, IfOk};
-    ghost use Rattle.model.specs.World.{Quiet, arrives_at, taken_at, reply_in, without_reply};
+    ghost use Rattle.model.specs.Server.World.{Quiet, arrives_at, taken_at, reply_in, without_reply};
     ghost use Rattle.rpc.specs.Assembly.{record_limits};
     ghost use Rattle.server.specs.Connections.{connection_view};
 
@@ -57,7 +57,7 @@ impl Connection {
     /// Takes the front of a piece up to the end of the first whole record, and answers how many
     /// bytes that is: 0 while a whole request or a reply waits, and `None` once the connection is
     /// closed. A refused header closes it, and a whole record that is no call.
-    #[tactic(auto, unfolding(crate::specs::Connections::connection_view, model::specs::World::taken_at))]
+    #[tactic(auto, unfolding(crate::specs::Connections::connection_view, model::specs::Server::World::taken_at))]
     pub fn feed(&mut self, piece: &[u8]) -> Option<usize>
         ensures arrived { connection_view self.new
             ≡ arrives_at record_limits piece.now (connection_view self.old) }

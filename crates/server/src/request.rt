@@ -2,10 +2,10 @@
 
 ghost use Rattle.std.specs.Prelude.{◌≡◌, Some, [], true, false, IfOk, IfErr, OnOk, OnErr};
 ghost use Rattle.fs.specs.Views.{fs_of, Alters};
-ghost use Rattle.model.specs.Record.{framed};
-ghost use Rattle.model.specs.Rpc as rpc;
-ghost use Rattle.model.specs.Rpc.{is_call_read, reply_text};
-ghost use Rattle.model.specs.World.{Busy, called};
+ghost use Rattle.model.specs.Wire.Record.{framed};
+ghost use Rattle.model.specs.Wire.Rpc as rpc;
+ghost use Rattle.model.specs.Wire.Rpc.{is_call_read, reply_text};
+ghost use Rattle.model.specs.Server.World.{Busy, called};
 ghost use Rattle.rpc.specs.Views.{reply_view, tail_of};
 ghost use Rattle.opens.specs.Views.{opens_of};
 ghost use Rattle.session.specs.Views.{table_of};

@@ -17,7 +17,7 @@ use std::mem;
 impl Connection {
     ghost use Rattle.std.specs.Prelude.{◌≡◌, ℕ, List, Some, true, false, OnOk, IfOk, OnErr};
     ghost use Rattle.fs.specs.Views.{fs_of, Alters};
-    ghost use Rattle.model.specs.World.{turned};
+    ghost use Rattle.model.specs.Server.World.{turned};
     ghost use Rattle.opens.specs.Views.{opens_of};
     ghost use Rattle.session.specs.Views.{table_of};
     ghost use Rattle.rpc.specs.Assembly.{Holds};

@@ -1,10 +1,10 @@
 -- EXCHANGE_ID's new record, by what the records answer.
 use Rattle.std.proofs.Common.{◌≡◌, ℕ, Bool, ◌+◌, List, [], ◌∷◌, ◌++◌, Option, Result, Ok, Err, sym, ap, ◌∙◌}
 use Rattle.model.specs.declared.status.Status.{Status}
-use Rattle.model.specs.Operation.{ExchangeIdArguments}
-use Rattle.model.specs.Answer.{ExchangeIdAnswer as Answered}
-use Rattle.model.specs.Seats.{Seats}
-use Rattle.model.specs.Session.{Client, Session, Table, new_record, exchange_answer, use_non_pnfs}
+use Rattle.model.specs.Operations.Operation.{ExchangeIdArguments}
+use Rattle.model.specs.Operations.Answer.{ExchangeIdAnswer as Answered}
+use Rattle.model.specs.Sessions.Seats.{Seats}
+use Rattle.model.specs.Sessions.Session.{Client, Session, Table, new_record, exchange_answer, use_non_pnfs}
 use Rattle.session.specs.Calls.{Exchanged}
 use Rattle.session.specs.Limits.{served}
 use Rattle.session.specs.Rooms.{Adds, records_staying, record_of}

@@ -4,7 +4,7 @@ use Rattle.std.specs.Int.Bits.{bit_and, or_add_and}
 use Rattle.std.specs.Cmp.{both_ways}
 use Rattle.std.proofs.lemmas.Bool.{eqb-true, eq-eqb}
 use Rattle.std.proofs.lemmas.Nat.{and_comm}
-use Rattle.model.specs.Session.{has_only}
+use Rattle.model.specs.Sessions.Session.{has_only}
 
 pub among_allowed : (allowed flags : ℕ) → (bit_and allowed flags == flags) ≡ has_only allowed flags
 among_allowed allowed flags =

@@ -3,9 +3,9 @@ use Rattle.std.proofs.Common.{◌≡◌, ℕ, Bool, true, false, cond, ◌&&◌,
 use Rattle.std.specs.Option.{option_map}
 use Rattle.model.specs.declared.status.Status.{Status}
 use Rattle.model.specs.declared.status.Status.TheVariants as status
-use Rattle.model.specs.Operation.{SequenceArguments}
-use Rattle.model.specs.Seats.{HeldReply, Seat, Seats, held_in}
-use Rattle.model.specs.Session.{Begun, Refuses, Replays, Runs, SlotState, Free, Running, Kept, Slot, Session, begin_by, begin_slot, begin_new, begin_held, begin_dead, slot_at, next_number}
+use Rattle.model.specs.Operations.Operation.{SequenceArguments}
+use Rattle.model.specs.Sessions.Seats.{HeldReply, Seat, Seats, held_in}
+use Rattle.model.specs.Sessions.Session.{Begun, Refuses, Replays, Runs, SlotState, Free, Running, Kept, Slot, Session, begin_by, begin_slot, begin_new, begin_held, begin_dead, slot_at, next_number}
 use Rattle.session.specs.declared.slot.Next.TheVariants as next
 use Rattle.session.specs.Slots.{next_of, refusal_of, kept_reply}
 use Rattle.session.specs.Seating.{reply_held}

@@ -1,10 +1,10 @@
 -- What a planned session makes of a table.
 use Rattle.std.proofs.Common.{◌≡◌, ℕ, ◌+◌, Bool, true, false, if◌then◌else◌, List, [], ◌∷◌, ◌++◌, replicate, Option, None, is_some, refl, sym, ap, ◌∙◌}
-use Rattle.model.specs.Operation.{Channel, CreateSessionArguments}
-use Rattle.model.specs.Answer.{CreateSessionAnswer}
-use Rattle.model.specs.Seats.{Seat, Seats, seated}
-use Rattle.model.specs.SeatEdits.{edited_all}
-use Rattle.model.specs.Session.{Client, Session, Table, session_id, limits_for, fore_channel, create_session_answer, new_session, with_new_session, gives_way, seats_after, seats_staying, persists, replaced_by, is_client, is_replaced_by, is_of_clients, confirmed_with, changed_where, without_where, no_slot}
+use Rattle.model.specs.Operations.Operation.{Channel, CreateSessionArguments}
+use Rattle.model.specs.Operations.Answer.{CreateSessionAnswer}
+use Rattle.model.specs.Sessions.Seats.{Seat, Seats, seated}
+use Rattle.model.specs.Sessions.SeatEdits.{edited_all}
+use Rattle.model.specs.Sessions.Session.{Client, Session, Table, session_id, limits_for, fore_channel, create_session_answer, new_session, with_new_session, gives_way, seats_after, seats_staying, persists, replaced_by, is_client, is_replaced_by, is_of_clients, confirmed_with, changed_where, without_where, no_slot}
 use Rattle.session.specs.Limits.{served}
 use Rattle.session.specs.Seating.{place_for, seat_with, edits_with}
 use Rattle.session.proofs.Taking.{persists_is, seats_are}

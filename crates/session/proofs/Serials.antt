@@ -1,8 +1,8 @@
 -- A session's id tells its serial.
 use Rattle.std.proofs.Common.{◌≡◌, ℕ, ◌<◌, ◌≤◌, ◌^◌, true, List, get_or, sym, ◌∙◌, arith}
 use Rattle.std.proofs.lemmas.Slice.Eq.{bytes_eq-Decides}
-use Rattle.model.specs.Session.{session_id, is_session}
-use Rattle.model.proofs.SlotLaw.{session_id-serial}
+use Rattle.model.specs.Sessions.Session.{session_id, is_session}
+use Rattle.model.proofs.Sessions.SlotLaw.{session_id-serial}
 use Rattle.session.specs.declared.session.Session.{Session}
 use Rattle.session.specs.Views.{session_of}
 use Rattle.session.proofs.Kept.{UpTo}

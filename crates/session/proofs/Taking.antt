@@ -2,10 +2,10 @@
 use Rattle.std.proofs.Common.{◌≡◌, ℕ, zero, suc, ◌+◌, ◌<◌, ◌≤◌, Bool, true, false, cond, ◌&&◌, ◌==◌, ◌%◌, [], ◌∷◌, length, map, get_or, set, position, Option, None, Some, IfSome, is_some, refl, sym, ap, ◌∙◌, subst, arith}
 use Rattle.std.proofs.lemmas.Bool.{true≢false}
 use Rattle.std.proofs.lemmas.List.Quantifiers.{position-Some}
-use Rattle.model.specs.Operation.{CreateSessionArguments}
-use Rattle.model.specs.Seats.{Seat, Seats, run_of, freed, has_free, seated}
-use Rattle.model.specs.SeatEdits.{Stays, Frees, Takes, edited, edited_all, CanEditAll}
-use Rattle.model.specs.Session.{Client, Table, gives_way, seats_staying, persists}
+use Rattle.model.specs.Operations.Operation.{CreateSessionArguments}
+use Rattle.model.specs.Sessions.Seats.{Seat, Seats, run_of, freed, has_free, seated}
+use Rattle.model.specs.Sessions.SeatEdits.{Stays, Frees, Takes, edited, edited_all, CanEditAll}
+use Rattle.model.specs.Sessions.Session.{Client, Table, gives_way, seats_staying, persists}
 use Rattle.session.specs.Seating.{freeing, is_left_free, place_for, edits_with}
 use Rattle.session.specs.Given.{AreGiven, serial_in}
 use Rattle.session.proofs.Giving.{given_freed, given_later, given_seated}

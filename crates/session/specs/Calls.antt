@@ -2,10 +2,10 @@
 use Rattle.std.specs.Prelude.{◌≡◌, ℕ, ◌+◌, List, Some, Result, Ok, Err}
 use Rattle.std.specs.List.{find}
 use Rattle.model.specs.declared.status.Status.{Status}
-use Rattle.model.specs.Answer as answer
-use Rattle.model.specs.Operation.{SequenceArguments}
-use Rattle.model.specs.Session as model
-use Rattle.model.specs.Session.{is_session, begin, started, sequence_answer}
+use Rattle.model.specs.Operations.Answer as answer
+use Rattle.model.specs.Operations.Operation.{SequenceArguments}
+use Rattle.model.specs.Sessions.Session as model
+use Rattle.model.specs.Sessions.Session.{is_session, begin, started, sequence_answer}
 use Rattle.wire.specs.Short.{IsRefusal}
 use Rattle.wire.specs.AnswerViews.{exchange_id_view, sequence_view}
 use Rattle.wire.specs.declared.answers.ExchangeIdAnswer.{ExchangeIdAnswer}

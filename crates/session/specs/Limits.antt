@@ -1,6 +1,6 @@
 -- How many clients, sessions, slots and operations are served: numbers, and not the constants of
 -- the code, so that a constant that is changed is refused.
-use Rattle.model.specs.Session.{SessionLimits}
+use Rattle.model.specs.Sessions.Session.{SessionLimits}
 
 abbrev pub served : SessionLimits
 served = record {

@@ -1,10 +1,10 @@
 -- Which seats change.
 use Rattle.std.specs.Prelude.{◌≡◌, ℕ, ◌%◌, Bool, true, false, ◌&&◌, ◌==◌, if◌then◌else◌, List, map, position, replicate, slice_set, length, nat_lt, Option, None, Some}
 use Rattle.std.specs.Option.{option_map}
-use Rattle.model.specs.Operation.{CreateSessionArguments}
-use Rattle.model.specs.Seats.{Seat, Seats, is_seat_of, held_in}
-use Rattle.model.specs.SeatEdits.{SeatEdit, Stays, Frees, Takes, edited, edited_all, CanEditAll}
-use Rattle.model.specs.Session.{Client, Table, gives_way}
+use Rattle.model.specs.Operations.Operation.{CreateSessionArguments}
+use Rattle.model.specs.Sessions.Seats.{Seat, Seats, is_seat_of, held_in}
+use Rattle.model.specs.Sessions.SeatEdits.{SeatEdit, Stays, Frees, Takes, edited, edited_all, CanEditAll}
+use Rattle.model.specs.Sessions.Session.{Client, Table, gives_way}
 
 -- The seat of one session
 

@@ -23,7 +23,7 @@ pub struct Client {
 
 impl Client {
     ghost use Rattle.std.specs.Prelude.{◌≡◌, ◌==◌, if◌then◌else◌, None};
-    ghost use Rattle.model.specs.Session.{is_confirmed_of, is_unconfirmed_of, is_replaced_by, confirmed_with, next_number};
+    ghost use Rattle.model.specs.Sessions.Session.{is_confirmed_of, is_unconfirmed_of, is_replaced_by, confirmed_with, next_number};
     ghost use Rattle.wire.specs.AnswerViews.{create_session_view};
     ghost use Rattle.session.specs.Rooms.{stays};
     ghost use Rattle.session.specs.Views.{client_of};

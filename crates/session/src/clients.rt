@@ -28,7 +28,7 @@ impl Clients {
     ghost use Rattle.std.specs.Prelude.{◌≡◌, ◌==◌, ◌+◌, ◌≤◌, [], length, IfOk, None, Some};
     ghost use Rattle.std.specs.List.{list_any, find, position};
     ghost use Rattle.std.specs.Option.{option_map, option_copied};
-    ghost use Rattle.model.specs.Session.{Client as Known, is_client, is_confirmed_of, is_unconfirmed_of, is_replaced_by, without_where, changed_where, confirmed_with};
+    ghost use Rattle.model.specs.Sessions.Session.{Client as Known, is_client, is_confirmed_of, is_unconfirmed_of, is_replaced_by, without_where, changed_where, confirmed_with};
     ghost use Rattle.wire.specs.ArgumentViews.{exchange_id_view};
     ghost use Rattle.wire.specs.AnswerViews.{create_session_view};
     ghost use Rattle.session.specs.Views.{client_of, clients_of, roll_of, roll_with};

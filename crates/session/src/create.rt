@@ -2,8 +2,8 @@
 
 ghost use Rattle.std.specs.Prelude.{◌≡◌, ◌≢◌, ◌<◌, ◌+◌, ◌^◌, if◌then◌else◌, None, IfOk, IfErr};
 ghost use Rattle.std.specs.Result.{result_err};
-ghost use Rattle.model.specs.Refusal.{first_refusal};
-ghost use Rattle.model.specs.Session.{CreateSessionOutcome, create_session, create_unless, limits_for, fore_channel, is_too_small, is_full_of_sessions};
+ghost use Rattle.model.specs.Operations.Refusal.{first_refusal};
+ghost use Rattle.model.specs.Sessions.Session.{CreateSessionOutcome, create_session, create_unless, limits_for, fore_channel, is_too_small, is_full_of_sessions};
 ghost use Rattle.wire.specs.ArgumentViews.{create_session_view};
 ghost use Rattle.wire.specs.SmallViews.{channel_view};
 ghost use Rattle.wire.specs.Short.{IsRefusal};

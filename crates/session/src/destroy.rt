@@ -3,9 +3,9 @@
 
 ghost use Rattle.std.specs.Prelude.{◌≡◌, None, IfErr};
 ghost use Rattle.std.specs.Result.{result_err};
-ghost use Rattle.model.specs.SeatEdits.{edited_all, edits_view};
-ghost use Rattle.model.specs.Seats.{is_seat_of, freed};
-ghost use Rattle.model.specs.Session.{destroy_session, destroy_client_id, reclaim_complete};
+ghost use Rattle.model.specs.Sessions.SeatEdits.{edited_all, edits_view};
+ghost use Rattle.model.specs.Sessions.Seats.{is_seat_of, freed};
+ghost use Rattle.model.specs.Sessions.Session.{destroy_session, destroy_client_id, reclaim_complete};
 ghost use Rattle.wire.specs.Short.{IsRefusal};
 ghost use Rattle.session.specs.Calls.{Refuses};
 ghost use Rattle.session.specs.Plans.{PlansEnd};
@@ -17,7 +17,7 @@ use model::not_done::NotDone;
 use model::seats::{SeatEdit, SeatEdits};
 use model::status::Status;
 
-#[tactic(auto, unfolding(crate::specs::Views::table_of, model::specs::Session::destroy_session, model::specs::Session::destroy_client_id, model::specs::Session::reclaim_complete))]
+#[tactic(auto, unfolding(crate::specs::Views::table_of, model::specs::Sessions::Session::destroy_session, model::specs::Sessions::Session::destroy_client_id, model::specs::Sessions::Session::reclaim_complete))]
 impl Table {
     /// What DESTROY_SESSION makes of the seats.
     ///

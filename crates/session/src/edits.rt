@@ -1,9 +1,9 @@
 //! Edits of seats: those that change nothing, and how they are made.
 
 ghost use Rattle.std.specs.Prelude.{◌≡◌, replicate, IfOk};
-ghost use Rattle.model.specs.SeatEdits.{Stays, edited, edited_all, edit_view, edits_view, all_stay};
-ghost use Rattle.model.specs.Seats.{with_held};
-ghost use Rattle.model.specs.SeatViews.{held_view, seat_view, place_view, seats_view};
+ghost use Rattle.model.specs.Sessions.SeatEdits.{Stays, edited, edited_all, edit_view, edits_view, all_stay};
+ghost use Rattle.model.specs.Sessions.Seats.{with_held};
+ghost use Rattle.model.specs.Sessions.SeatViews.{held_view, seat_view, place_view, seats_view};
 
 use model::seats::{HeldReply, SEATS, Seat, SeatEdit, SeatEdits, Seats};
 use std::alloc::{AllocError, Global};

@@ -1,8 +1,8 @@
 //! EXCHANGE_ID (RFC 8881, section 18.35).
 
 ghost use Rattle.std.specs.Prelude.{◌≡◌, IfOk, IfErr};
-ghost use Rattle.model.specs.Answer.{Answer};
-ghost use Rattle.model.specs.Session.{exchange_id, exchange_answer, new_record};
+ghost use Rattle.model.specs.Operations.Answer.{Answer};
+ghost use Rattle.model.specs.Sessions.Session.{exchange_id, exchange_answer, new_record};
 ghost use Rattle.wire.specs.AnswerViews.{exchange_id_view as answer_view};
 ghost use Rattle.wire.specs.ArgumentViews.{exchange_id_view};
 ghost use Rattle.wire.specs.Short.{IsShortAnswer};

@@ -1,7 +1,7 @@
 //! The flags of EXCHANGE_ID and of CREATE_SESSION (RFC 8881, sections 18.35 and 18.36).
 
 ghost use Rattle.std.specs.Prelude.{⊤, ◌≡◌, [], ◌∷◌, codes};
-ghost use Rattle.model.specs.Session.{exchange_flags, has_only, session_flags};
+ghost use Rattle.model.specs.Sessions.Session.{exchange_flags, has_only, session_flags};
 
 use bitflags::{Flag, Flags, bitflag_items};
 

@@ -3,9 +3,9 @@
 ghost use Rattle.std.specs.Prelude.{◌≡◌, ◌≤◌, false, length, IfOk, IfSome};
 ghost use Rattle.std.specs.List.{find};
 ghost use Rattle.std.specs.Option.{option_map};
-ghost use Rattle.model.specs.SeatEdits.{edited_all, edits_view};
-ghost use Rattle.model.specs.Seats.{seat_of, has_seat};
-ghost use Rattle.model.specs.Session.{is_session, held_by, finish};
+ghost use Rattle.model.specs.Sessions.SeatEdits.{edited_all, edits_view};
+ghost use Rattle.model.specs.Sessions.Seats.{seat_of, has_seat};
+ghost use Rattle.model.specs.Sessions.Session.{is_session, held_by, finish};
 ghost use Rattle.session.specs.Plans.{IsHoldPlanned};
 ghost use Rattle.session.specs.Seating.{reply_held, has_held_slot};
 ghost use Rattle.session.specs.Views.{table_of, reply_kept};
@@ -17,7 +17,7 @@ use crate::table::Table;
 use model::seats::{HeldReply, SeatEdit, SeatEdits};
 use std::alloc::AllocError;
 
-#[tactic(auto, unfolding(crate::specs::Views::table_of, crate::specs::Views::reply_kept, model::specs::Session::finish))]
+#[tactic(auto, unfolding(crate::specs::Views::table_of, crate::specs::Views::reply_kept, model::specs::Sessions::Session::finish))]
 impl Table {
     /// The reply, a whole COMPOUND result, that the slot keeps. Of a session of an earlier run it is
     /// the one that the seat holds.

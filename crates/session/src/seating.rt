@@ -4,10 +4,10 @@
 ghost use Rattle.std.specs.Prelude.{◌≡◌, ◌≤◌, ◌<◌, map, position, replicate, None, Some, IfSome, IfOk};
 ghost use Rattle.std.specs.List.{list_any};
 ghost use Rattle.std.specs.Option.{option_map, option_copied};
-ghost use Rattle.model.specs.SeatEdits.{edit_view, edits_view, CanEdit};
-ghost use Rattle.model.specs.Seats.{Seat as KnownSeat, seat_of, has_seat, held_in};
-ghost use Rattle.model.specs.SeatViews.{held_view, seat_view, place_view, seats_view};
-ghost use Rattle.model.specs.Session.{gives_way, is_session, staying};
+ghost use Rattle.model.specs.Sessions.SeatEdits.{edit_view, edits_view, CanEdit};
+ghost use Rattle.model.specs.Sessions.Seats.{Seat as KnownSeat, seat_of, has_seat, held_in};
+ghost use Rattle.model.specs.Sessions.SeatViews.{held_view, seat_view, place_view, seats_view};
+ghost use Rattle.model.specs.Sessions.Session.{gives_way, is_session, staying};
 ghost use Rattle.wire.specs.ArgumentViews.{create_session_view};
 ghost use Rattle.session.specs.Seating.{EditsOne, is_place_of, freeing, is_left_free, place_for, seat_with, edits_with};
 ghost use Rattle.session.specs.Views.{table_of, client_of};

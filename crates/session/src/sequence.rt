@@ -2,8 +2,8 @@
 
 ghost use Rattle.std.specs.Prelude.{◌≡◌, IfErr};
 ghost use Rattle.std.specs.Result.{result_err};
-ghost use Rattle.model.specs.Seats.{seat_of};
-ghost use Rattle.model.specs.Session.{begin_dead};
+ghost use Rattle.model.specs.Sessions.Seats.{seat_of};
+ghost use Rattle.model.specs.Sessions.Session.{begin_dead};
 ghost use Rattle.wire.specs.ArgumentViews.{sequence_view};
 ghost use Rattle.wire.specs.Short.{IsRefusal};
 ghost use Rattle.session.specs.Calls.{Begins};

@@ -2,7 +2,7 @@
 
 ghost use Rattle.std.specs.Prelude.{◌≡◌, ◌≤◌};
 ghost use Rattle.std.specs.Vec.{vec_len};
-ghost use Rattle.model.specs.Session.{session_id};
+ghost use Rattle.model.specs.Sessions.Session.{session_id};
 ghost use Rattle.session.specs.declared.limits.TheConstants.{MAX_SLOTS};
 
 use crate::limits::{MAX_RECORD_BYTES, MAX_SLOTS};
@@ -35,8 +35,8 @@ impl Session {
     ghost use Rattle.std.specs.Prelude.{◌≡◌, ◌≤◌, ◌-◌, Some, IfOk, IfSome, IfErr, length, replicate};
     ghost use Rattle.std.specs.Option.{option_map};
     ghost use Rattle.std.specs.Vec.{vec_len};
-    ghost use Rattle.model.specs.Seats.{no_seats};
-    ghost use Rattle.model.specs.Session.{is_session, is_of_clients, is_running, no_slot, slot_at, begin_by, begin_new, with_slot, finished_slot};
+    ghost use Rattle.model.specs.Sessions.Seats.{no_seats};
+    ghost use Rattle.model.specs.Sessions.Session.{is_session, is_of_clients, is_running, no_slot, slot_at, begin_by, begin_new, with_slot, finished_slot};
     ghost use Rattle.wire.specs.ArgumentViews.{sequence_view};
     ghost use Rattle.wire.specs.Short.{IsRefusal};
     ghost use Rattle.session.specs.Slots.{slot_of, running_slot, next_of};

@@ -22,7 +22,7 @@ impl Sessions {
     ghost use Rattle.std.specs.Prelude.{◌≡◌, ◌≤◌, ◌<◌, ◌++◌, [], ◌∷◌, length, vec_len, vec_capacity, OnOk};
     ghost use Rattle.std.specs.List.{list_any, find, position};
     ghost use Rattle.std.specs.Option.{option_map, option_copied};
-    ghost use Rattle.model.specs.Session.{is_session, is_of_client, is_of_clients, without_where, changed_where, with_slot, finished_slot};
+    ghost use Rattle.model.specs.Sessions.Session.{is_session, is_of_client, is_of_clients, without_where, changed_where, with_slot, finished_slot};
     ghost use Rattle.session.specs.Slots.{running_slot};
     ghost use Rattle.session.specs.Views.{session_of, sessions_of, book_of, book_with};
 

@@ -1,7 +1,7 @@
 //! A slot (RFC 8881, section 2.10.6.1).
 
 ghost use Rattle.std.specs.Prelude.{◌≡◌, IfOk, map, replicate};
-ghost use Rattle.model.specs.Session.{no_slot};
+ghost use Rattle.model.specs.Sessions.Session.{no_slot};
 ghost use Rattle.session.specs.Slots.{slot_of};
 
 use crate::held::KeptReply;
@@ -38,7 +38,7 @@ pub enum Next {
 impl Slot {
     ghost use Rattle.std.specs.Prelude.{◌≡◌, ◌≤◌, length, IfSome};
     ghost use Rattle.std.specs.Option.{option_map};
-    ghost use Rattle.model.specs.Session.{no_slot, is_running_state};
+    ghost use Rattle.model.specs.Sessions.Session.{no_slot, is_running_state};
     ghost use Rattle.session.specs.Slots.{slot_of, running_slot, kept_slot, kept_reply};
 
     /// A slot on which nothing ran.

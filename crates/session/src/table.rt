@@ -1,7 +1,7 @@
 //! What a server knows of its clients in one run, beside the seats of its volume.
 
 ghost use Rattle.std.specs.Prelude.{◌≤◌};
-ghost use Rattle.model.specs.SeatViews.{seats_view};
+ghost use Rattle.model.specs.Sessions.SeatViews.{seats_view};
 ghost use Rattle.session.specs.Given.{AreGiven, AreGiven-prop};
 
 use crate::clients::Clients;
@@ -24,9 +24,9 @@ pub struct Table {
 
 impl Table {
     ghost use Rattle.std.specs.Prelude.{◌≡◌, ◌+◌, ℕ};
-    ghost use Rattle.model.specs.Seats.{AreOfRuns};
-    ghost use Rattle.model.specs.SeatViews.{seats_view};
-    ghost use Rattle.model.specs.Session.{loaded_table, has_state};
+    ghost use Rattle.model.specs.Sessions.Seats.{AreOfRuns};
+    ghost use Rattle.model.specs.Sessions.SeatViews.{seats_view};
+    ghost use Rattle.model.specs.Sessions.Session.{loaded_table, has_state};
     ghost use Rattle.session.specs.Views.{table_of, among};
 
     /// A run begins with the seats that its mount found, and with nothing else. It takes no memory.

@@ -6,13 +6,13 @@ use Rattle.std.specs.Prelude.{unwrap_or}
 use Rattle.model.specs.declared.node.NodeKind.{NodeKind}
 use Rattle.model.specs.declared.limits.Limits.{Limits}
 use Rattle.model.specs.declared.status.Status.TheVariants as status
-use Rattle.model.specs.Attribute.{attribute_refusals, attributes_of, first_said, has_one_outside, mode_given, mode_said, supported, value_refusals, values_of}
-use Rattle.model.specs.AttributeValue.{Value, Mode}
-use Rattle.model.specs.Operation as operation
-use Rattle.model.specs.Refusal.{first_refusal}
-use Rattle.model.proofs.AttributeLaws.{first_passed, given_lists_fit}
-use Rattle.model.proofs.FileStepLaws.{size_within}
-use Rattle.model.proofs.RefusalLaws.{none_in_front}
+use Rattle.model.specs.Attributes.Attribute.{attribute_refusals, attributes_of, first_said, has_one_outside, mode_given, mode_said, supported, value_refusals, values_of}
+use Rattle.model.specs.Attributes.AttributeValue.{Value, Mode}
+use Rattle.model.specs.Operations.Operation as operation
+use Rattle.model.specs.Operations.Refusal.{first_refusal}
+use Rattle.model.proofs.Operations.AttributeLaws.{first_passed, given_lists_fit}
+use Rattle.model.proofs.Operations.FileStepLaws.{size_within}
+use Rattle.model.proofs.Operations.RefusalLaws.{none_in_front}
 use Rattle.set_attributes.specs.declared.said.Settings.{Settings}
 use Rattle.set_attributes.specs.Given.{AreSettings, AreWithin}
 

@@ -5,11 +5,11 @@ use Rattle.std.specs.Option.{ForSome}
 use Rattle.model.specs.declared.limits.Limits.{Limits}
 use Rattle.model.specs.declared.node.NodeKind.{NodeKind}
 use Rattle.model.specs.declared.status.Status.{Status}
-use Rattle.model.specs.Acl.{is_list_for}
-use Rattle.model.specs.Attribute.{first_said, size_said, acl_said, mode_said, owner_said, group_said, is_empty, size_given, acl_given, mode_given, owner_given, group_given}
-use Rattle.model.specs.AttributeValue as value
-use Rattle.model.specs.Operation as operation
-use Rattle.model.specs.Refusal.{Refusals, first_refusal}
+use Rattle.model.specs.Rights.Acl.{is_list_for}
+use Rattle.model.specs.Attributes.Attribute.{first_said, size_said, acl_said, mode_said, owner_said, group_said, is_empty, size_given, acl_given, mode_given, owner_given, group_given}
+use Rattle.model.specs.Attributes.AttributeValue as value
+use Rattle.model.specs.Operations.Operation as operation
+use Rattle.model.specs.Operations.Refusal.{Refusals, first_refusal}
 use Rattle.set_attributes.specs.declared.attributes.GivenAttributes.{GivenAttributes}
 use Rattle.model.specs.declared.not_done.NotDone.{NotDone}
 use Rattle.model.specs.declared.not_done.NotDone.TheVariants as refusal

@@ -2,10 +2,10 @@
 
 ghost use Rattle.std.specs.Prelude.{◌≡◌, ◌≤◌, ◌+◌, not, length, map, IfOk};
 ghost use Rattle.std.specs.List.{flat_map};
-ghost use Rattle.model.specs.Acl.{every_right, inheritance, is_within};
-ghost use Rattle.model.specs.AclText.{identifier_group};
-ghost use Rattle.model.specs.Attribute.{attribute_refusals, entry_refusals, value_refusals};
-ghost use Rattle.model.specs.AttributeValue.{Acl};
+ghost use Rattle.model.specs.Rights.Acl.{every_right, inheritance, is_within};
+ghost use Rattle.model.specs.Attributes.AclText.{identifier_group};
+ghost use Rattle.model.specs.Attributes.Attribute.{attribute_refusals, entry_refusals, value_refusals};
+ghost use Rattle.model.specs.Attributes.AttributeValue.{Acl};
 ghost use Rattle.wire_attributes.specs.Views.{entry_view, value_view};
 ghost use Rattle.set_attributes.specs.Given.{given_of, AreSettings, AreWithin, IsChecked, IsCheckedInMemory};
 
@@ -103,7 +103,7 @@ fn check_values(limits: &Limits, kind: NodeKind, values: &[Value<'_>]) -> Result
 }
 
 /// The tests of attributes that are set on a node of this kind, in their order, and what they set.
-#[tactic(auto, unfolding(model::specs::Attribute::attribute_refusals))]
+#[tactic(auto, unfolding(model::specs::Attributes::Attribute::attribute_refusals))]
 pub fn check_attributes(
     alloc: Global,
     limits: &Limits,

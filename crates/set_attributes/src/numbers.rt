@@ -1,7 +1,7 @@
 //! The numbers of attributes (RFC 8881, sections 5.6 and 5.7), and which may be set where.
 
 ghost use Rattle.std.specs.Prelude.{◌≡◌};
-ghost use Rattle.model.specs.Attribute.{has_one_outside, is_among};
+ghost use Rattle.model.specs.Attributes.Attribute.{has_one_outside, is_among};
 
 /// `size`: the bytes of a file.
 pub const SIZE: u32 = 4;

@@ -1,8 +1,8 @@
 //! What attributes set.
 
 ghost use Rattle.std.specs.Prelude.{◌≡◌, IfOk, map};
-ghost use Rattle.model.specs.AclText.{aces_in};
-ghost use Rattle.model.specs.Attribute.{acl_said, first_said, group_said, mode_said, owner_said, size_said};
+ghost use Rattle.model.specs.Attributes.AclText.{aces_in};
+ghost use Rattle.model.specs.Attributes.Attribute.{acl_said, first_said, group_said, mode_said, owner_said, size_said};
 ghost use Rattle.wire_attributes.specs.Views.{entry_view, value_view};
 ghost use Rattle.set_attributes.specs.Given.{AreSaid};
 

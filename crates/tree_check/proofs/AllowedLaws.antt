@@ -8,10 +8,10 @@ use Rattle.disk.specs.Moments.{Image}
 use Rattle.model.specs.declared.limits.Limits.{Limits}
 use Rattle.model.specs.declared.node.NodeKind.{NodeKind}
 use Rattle.model.specs.declared.node.NodeKind.TheVariants as kind
-use Rattle.model.specs.Acl.{is_list_for}
-use Rattle.model.specs.Keyed.{at, here_or}
-use Rattle.model.specs.Tree.{Tree, DirEntry, root, kind_of, is_directory, is_directory_node, is_directory_at}
-use Rattle.model.specs.WellFormed.{one_if, times_named, AreNames, IsContent, IsNode}
+use Rattle.model.specs.Rights.Acl.{is_list_for}
+use Rattle.model.specs.Trees.Keyed.{at, here_or}
+use Rattle.model.specs.Trees.Tree.{Tree, DirEntry, root, kind_of, is_directory, is_directory_node, is_directory_at}
+use Rattle.model.specs.Trees.WellFormed.{one_if, times_named, AreNames, IsContent, IsNode}
 use Rattle.directory.specs.Listing.{by_stamp}
 use Rattle.directory.specs.Records.{Record, name_of, AreApart, AreStamped}
 use Rattle.directory.proofs.ByStamp.{at-by_stamp}

@@ -7,11 +7,11 @@ use Rattle.disk.specs.Moments.{Image}
 use Rattle.model.specs.declared.limits.Limits.{Limits}
 use Rattle.model.specs.declared.node.NodeKind.{NodeKind}
 use Rattle.model.specs.declared.node.NodeKind.TheVariants as kind
-use Rattle.model.specs.Charge.{fits, few_names}
-use Rattle.model.specs.Keyed.{at, IsAbove}
-use Rattle.model.specs.Tree.{Tree, Node, names_of}
-use Rattle.model.proofs.KeyedLaws.{at-above, at-first, at-rest}
-use Rattle.model.proofs.OpensLaws.{total-ones}
+use Rattle.model.specs.Trees.Charge.{fits, few_names}
+use Rattle.model.specs.Trees.Keyed.{at, IsAbove}
+use Rattle.model.specs.Trees.Tree.{Tree, Node, names_of}
+use Rattle.model.proofs.Trees.KeyedLaws.{at-above, at-first, at-rest}
+use Rattle.model.proofs.Sessions.OpensLaws.{total-ones}
 use Rattle.directory.specs.Listing.{by_stamp}
 use Rattle.layout.specs.CachedNodes.{CachedNode, tree_of, node_of, content_of}
 use Rattle.layout.specs.Known.{HasContent, AreCards}

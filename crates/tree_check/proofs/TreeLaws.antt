@@ -7,9 +7,9 @@ use Rattle.std.proofs.lemmas.Option.{same_Some, none-some}
 use Rattle.disk.specs.Moments.{Image}
 use Rattle.model.specs.declared.node.NodeKind.{NodeKind}
 use Rattle.model.specs.declared.node.NodeKind.TheVariants as kind
-use Rattle.model.specs.Keyed.{at, here_or, is_key}
-use Rattle.model.specs.Tree.{Tree, Node, DirEntry, root, names_of, names_of_node, names_at}
-use Rattle.model.specs.WellFormed.{one_if, is_stamped, stamped_in, IsFrom, Start, Named}
+use Rattle.model.specs.Trees.Keyed.{at, here_or, is_key}
+use Rattle.model.specs.Trees.Tree.{Tree, Node, DirEntry, root, names_of, names_of_node, names_at}
+use Rattle.model.specs.Trees.WellFormed.{one_if, is_stamped, stamped_in, IsFrom, Start, Named}
 use Rattle.directory.specs.Records.{Record, AreStamped}
 use Rattle.directory.proofs.ByStamp.{at-by_stamp}
 use Rattle.node_table.specs.Tables.{number_of, number_at}

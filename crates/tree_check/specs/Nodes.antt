@@ -4,10 +4,10 @@ use Rattle.std.specs.List.{AllByRecursion}
 use Rattle.model.specs.declared.limits.Limits.{Limits}
 use Rattle.model.specs.declared.node.NodeKind.{NodeKind}
 use Rattle.model.specs.declared.node.NodeKind.TheVariants as kind
-use Rattle.model.specs.Acl.{is_list_for}
-use Rattle.model.specs.Name.{name_refusals}
-use Rattle.model.specs.Refusal.{first_refusal}
-use Rattle.model.specs.Tree.{root}
+use Rattle.model.specs.Rights.Acl.{is_list_for}
+use Rattle.model.specs.Attributes.Name.{name_refusals}
+use Rattle.model.specs.Operations.Refusal.{first_refusal}
+use Rattle.model.specs.Trees.Tree.{root}
 use Rattle.directory.specs.Records.{Record, name_of}
 use Rattle.layout.specs.CachedNodes.{CachedNode}
 

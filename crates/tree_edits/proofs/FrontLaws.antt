@@ -18,11 +18,11 @@ use Rattle.layout.proofs.ChargeLaws.{length-by_stamp, above_by_stamp}
 use Rattle.layout.proofs.StepLaws.{length-bytes_in}
 use Rattle.model.specs.declared.node.NodeKind.{NodeKind}
 use Rattle.model.specs.declared.node.NodeKind.TheVariants as kind
-use Rattle.model.specs.Charge.{charge}
-use Rattle.model.specs.Edit.{done, edited}
-use Rattle.model.specs.Keyed.{at, with, total, IsAbove}
-use Rattle.model.specs.Tree.{Tree, Node, names_of, names_at, names_of_node}
-use Rattle.model.proofs.KeyedLaws.{at-with_same, at-with_other}
+use Rattle.model.specs.Trees.Charge.{charge}
+use Rattle.model.specs.Trees.Edit.{done, edited}
+use Rattle.model.specs.Trees.Keyed.{at, with, total, IsAbove}
+use Rattle.model.specs.Trees.Tree.{Tree, Node, names_of, names_at, names_of_node}
+use Rattle.model.proofs.Trees.KeyedLaws.{at-with_same, at-with_other}
 
 -- the tree after so many of the edits
 abbrev pub behind_front : Tree → List Edit → ℕ → Tree

@@ -13,11 +13,11 @@ use Rattle.tree_edits.specs.Outlines.{without_data, tree_without_data}
 use Rattle.tree_edits.proofs.BlankLaws.{edits_blanked, charge-without_data, length-without_data}
 use Rattle.tree_edits.proofs.DoableLaws.{doable_alike, few_alike}
 use Rattle.tree_edits.proofs.DoingLaws.{outline_fixed}
-use Rattle.model.specs.Charge.{charge}
-use Rattle.model.specs.Edit.{done, edited}
-use Rattle.model.specs.Edit as model
-use Rattle.model.specs.Keyed.{total}
-use Rattle.model.specs.Tree.{Tree}
+use Rattle.model.specs.Trees.Charge.{charge}
+use Rattle.model.specs.Trees.Edit.{done, edited}
+use Rattle.model.specs.Trees.Edit as model
+use Rattle.model.specs.Trees.Keyed.{total}
+use Rattle.model.specs.Trees.Tree.{Tree}
 
 -- Numbers of nodes that are made
 

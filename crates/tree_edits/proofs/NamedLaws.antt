@@ -17,11 +17,11 @@ use Rattle.layout.specs.Known.{AreCards, HasContent, HasNames}
 use Rattle.layout.proofs.ChargeLaws.{length-by_stamp, length-with, above_by_stamp}
 use Rattle.model.specs.declared.node.NodeKind.{NodeKind}
 use Rattle.model.specs.declared.node.NodeKind.TheVariants as kind
-use Rattle.model.specs.Charge.{charge, charge_of_blocks, blocks_of, few_names}
-use Rattle.model.specs.Edit.{altered, altered_at, name_put}
-use Rattle.model.specs.Keyed.{Keyed, at, here_or, with, without}
-use Rattle.model.proofs.KeyedLaws.{at-with_same}
-use Rattle.model.specs.Tree.{Tree, Node, DirEntry, entry_of, names_at, names_of, found_or}
+use Rattle.model.specs.Trees.Charge.{charge, charge_of_blocks, blocks_of, few_names}
+use Rattle.model.specs.Trees.Edit.{altered, altered_at, name_put}
+use Rattle.model.specs.Trees.Keyed.{Keyed, at, here_or, with, without}
+use Rattle.model.proofs.Trees.KeyedLaws.{at-with_same}
+use Rattle.model.specs.Trees.Tree.{Tree, Node, DirEntry, entry_of, names_at, names_of, found_or}
 
 -- a name that is not among records stands after the last
 pub place_behind : (name : List ℕ) (names : List Record) → entry_of name names ≡ None → place_of name names ≡ length names

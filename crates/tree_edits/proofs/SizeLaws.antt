@@ -13,13 +13,13 @@ use Rattle.tree_edits.proofs.ChangeLaws.{ChangesOne, change_with, change_without
 use Rattle.layout.proofs.ChargeLaws.{length-with}
 use Rattle.model.specs.declared.node.NodeKind.{NodeKind}
 use Rattle.model.specs.declared.node.NodeKind.TheVariants as kind
-use Rattle.model.specs.Charge.{charge}
-use Rattle.model.specs.Edit.{done, showing, name_put, name_dropped, with_content, overwritten, resized}
-use Rattle.model.specs.Keyed.{Keyed, at, with, without, total, worth_at, IsAbove}
-use Rattle.model.specs.Tree.{Tree, Node, Content, File, Directory, DirEntry, names_of, names_at, names_of_node, bytes_of, is_directory, is_directory_node}
-use Rattle.model.proofs.KeyedLaws.{at-with_same, at-without_same, IsAbove-with, IsAbove-without, total-without}
-use Rattle.model.proofs.NodeChangeLaws.{length-resized}
-use Rattle.model.proofs.OpensLaws.{total-ones}
+use Rattle.model.specs.Trees.Charge.{charge}
+use Rattle.model.specs.Trees.Edit.{done, showing, name_put, name_dropped, with_content, overwritten, resized}
+use Rattle.model.specs.Trees.Keyed.{Keyed, at, with, without, total, worth_at, IsAbove}
+use Rattle.model.specs.Trees.Tree.{Tree, Node, Content, File, Directory, DirEntry, names_of, names_at, names_of_node, bytes_of, is_directory, is_directory_node}
+use Rattle.model.proofs.Trees.KeyedLaws.{at-with_same, at-without_same, IsAbove-with, IsAbove-without, total-without}
+use Rattle.model.proofs.Trees.NodeChangeLaws.{length-resized}
+use Rattle.model.proofs.Sessions.OpensLaws.{total-ones}
 
 -- What a size tells of a node
 

@@ -12,10 +12,10 @@ use Rattle.tree_edits.specs.Edits.{edits_of}
 use Rattle.tree_edits.specs.Outlines.{without_data, tree_without_data}
 use Rattle.layout.specs.CachedNodes.{CachedNode}
 use Rattle.layout.specs.Stands.{HaveCurrentForms}
-use Rattle.model.specs.Charge.{charge}
-use Rattle.model.specs.Edit.{edited}
-use Rattle.model.specs.Keyed.{total}
-use Rattle.model.specs.Tree.{Tree}
+use Rattle.model.specs.Trees.Charge.{charge}
+use Rattle.model.specs.Trees.Edit.{edited}
+use Rattle.model.specs.Trees.Keyed.{total}
+use Rattle.model.specs.Trees.Tree.{Tree}
 
 -- the numbers of nodes that edits make
 abbrev pub made_by : List Edit → List ℕ

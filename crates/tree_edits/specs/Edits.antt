@@ -9,12 +9,12 @@ use Rattle.tree_edits.specs.declared.edit.Edit.{Edit}
 use Rattle.tree_edits.specs.declared.edit.Edit.TheVariants as declared
 use Rattle.model.specs.declared.acl.Ace.{Ace}
 use Rattle.model.specs.declared.node.NodeKind.{NodeKind}
-use Rattle.model.specs.Charge.{few_names}
-use Rattle.model.specs.Edit.{PutNode, DropNode, Show, PutName, DropName, PutBytes, SetSize}
-use Rattle.model.specs.Edit.{Shown, done}
-use Rattle.model.specs.Edit as model
-use Rattle.model.specs.Keyed.{at, is_key}
-use Rattle.model.specs.Tree.{Tree, Node, DirEntry, bytes_of, entry_of, names_at, is_directory_at}
+use Rattle.model.specs.Trees.Charge.{few_names}
+use Rattle.model.specs.Trees.Edit.{PutNode, DropNode, Show, PutName, DropName, PutBytes, SetSize}
+use Rattle.model.specs.Trees.Edit.{Shown, done}
+use Rattle.model.specs.Trees.Edit as model
+use Rattle.model.specs.Trees.Keyed.{at, is_key}
+use Rattle.model.specs.Trees.Tree.{Tree, Node, DirEntry, bytes_of, entry_of, names_at, is_directory_at}
 
 -- An edit of the code as the definition's
 

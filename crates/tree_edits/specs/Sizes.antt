@@ -6,12 +6,12 @@ use Rattle.tree_edits.specs.declared.room.Size.{Size}
 use Rattle.tree_edits.specs.Outlines.{without_data}
 use Rattle.model.specs.declared.node.NodeKind.{NodeKind}
 use Rattle.model.specs.declared.node.NodeKind.TheVariants as kind
-use Rattle.model.specs.Charge.{blocks_of, charge_of_blocks, fits}
-use Rattle.model.specs.Edit.{edited}
-use Rattle.model.specs.Edit as model
-use Rattle.model.specs.Keyed.{at}
+use Rattle.model.specs.Trees.Charge.{blocks_of, charge_of_blocks, fits}
+use Rattle.model.specs.Trees.Edit.{edited}
+use Rattle.model.specs.Trees.Edit as model
+use Rattle.model.specs.Trees.Keyed.{at}
 use Rattle.model.specs.declared.limits.Limits.{Limits}
-use Rattle.model.specs.Tree.{Tree, Node, Content, File, Directory}
+use Rattle.model.specs.Trees.Tree.{Tree, Node, Content, File, Directory}
 
 -- What a node has
 

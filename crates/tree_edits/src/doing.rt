@@ -16,9 +16,9 @@ ghost use Rattle.inode.specs.declared.node.Form.TheVariants.{Two};
 ghost use Rattle.layout.specs.Stands.{HaveCurrentForms};
 ghost use Rattle.layout.specs.CachedNodes.{CachedNode as LaidCard};
 ghost use Rattle.layout.specs.Health.{Reads};
-ghost use Rattle.model.specs.Charge.{few_names};
-ghost use Rattle.model.specs.Edit.{PutName, done};
-ghost use Rattle.model.specs.Keyed.{is_key};
+ghost use Rattle.model.specs.Trees.Charge.{few_names};
+ghost use Rattle.model.specs.Trees.Edit.{PutName, done};
+ghost use Rattle.model.specs.Trees.Keyed.{is_key};
 
 use crate::edit::Edit;
 use directory::Names;

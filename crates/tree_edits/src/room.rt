@@ -7,10 +7,10 @@ ghost use Rattle.tree_edits.specs.Outlines.{tree_without_data};
 ghost use Rattle.tree_edits.specs.Sizes.{size_at, charge_of_size, nodes_in, names_in, IsBelow};
 ghost use Rattle.tree_edits.specs.Sizes.{number_of, resized_by};
 ghost use Rattle.layout.specs.Known.{AreCards};
-ghost use Rattle.model.specs.Charge.{charge, few_names, fits};
-ghost use Rattle.model.specs.Edit.{edited};
-ghost use Rattle.model.specs.Keyed.{total};
-ghost use Rattle.model.specs.Tree.{is_directory_at};
+ghost use Rattle.model.specs.Trees.Charge.{charge, few_names, fits};
+ghost use Rattle.model.specs.Trees.Edit.{edited};
+ghost use Rattle.model.specs.Trees.Keyed.{total};
+ghost use Rattle.model.specs.Trees.Tree.{is_directory_at};
 
 use crate::edit::Edit;
 use directory::Names;

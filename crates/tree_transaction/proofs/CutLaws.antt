@@ -8,8 +8,8 @@ use Rattle.inode.specs.Fields.{Fields}
 use Rattle.sector.specs.Placed.{placed}
 use Rattle.model.specs.declared.node.NodeKind.{NodeKind}
 use Rattle.model.specs.declared.node.NodeKind.TheVariants as kind
-use Rattle.model.specs.Charge.{blocks_of}
-use Rattle.model.specs.Edit.{SetSize, done}
+use Rattle.model.specs.Trees.Charge.{blocks_of}
+use Rattle.model.specs.Trees.Edit.{SetSize, done}
 use Rattle.layout.specs.CachedNodes.{CachedNode, content_at}
 use Rattle.layout.specs.Files.{over, below, CutsBlocks}
 use Rattle.layout.specs.Known.{IsCard}

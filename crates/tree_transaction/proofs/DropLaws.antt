@@ -9,10 +9,10 @@ use Rattle.directory.specs.Records.{Record, record_from, IsDirectory, AreStamped
 use Rattle.directory.specs.Spelling.{directory_sector}
 use Rattle.model.specs.declared.node.NodeKind.{NodeKind}
 use Rattle.model.specs.declared.node.NodeKind.TheVariants as kind
-use Rattle.model.specs.Charge.{blocks_of}
-use Rattle.model.specs.Edit.{DropName}
-use Rattle.model.specs.Keyed.{without}
-use Rattle.model.specs.Tree.{entry_of}
+use Rattle.model.specs.Trees.Charge.{blocks_of}
+use Rattle.model.specs.Trees.Edit.{DropName}
+use Rattle.model.specs.Trees.Keyed.{without}
+use Rattle.model.specs.Trees.Tree.{entry_of}
 use Rattle.layout.specs.CachedNodes.{CachedNode, content_at}
 use Rattle.layout.specs.Directories.{RewritesBlocks, block_of}
 use Rattle.layout.specs.Laid.{HoldsNames, HoldsContent, names_of_block}

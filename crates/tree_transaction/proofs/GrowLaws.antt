@@ -5,8 +5,8 @@ use Rattle.inode.specs.Spelling.{inode_sector}
 use Rattle.extents.proofs.RunLemmas.{AreRising-widen}
 use Rattle.model.specs.declared.node.NodeKind.{NodeKind}
 use Rattle.model.specs.declared.node.NodeKind.TheVariants as kind
-use Rattle.model.specs.Charge.{blocks_of}
-use Rattle.model.specs.Edit.{SetSize, done}
+use Rattle.model.specs.Trees.Charge.{blocks_of}
+use Rattle.model.specs.Trees.Edit.{SetSize, done}
 use Rattle.layout.specs.CachedNodes.{CachedNode}
 use Rattle.layout.specs.Known.{IsCard}
 use Rattle.layout.specs.Marks.{times_set, mark_by}

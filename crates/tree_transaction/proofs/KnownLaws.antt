@@ -5,8 +5,8 @@ use Rattle.inode.specs.declared.node.Form.{Form}
 use Rattle.inode.specs.Fields.{Fields, IsInode}
 use Rattle.model.specs.declared.node.NodeKind.{NodeKind}
 use Rattle.model.specs.declared.node.NodeKind.TheVariants as kind
-use Rattle.model.specs.Edit.{Edit, done}
-use Rattle.model.specs.Charge.{blocks_of, charge_of_blocks}
+use Rattle.model.specs.Trees.Edit.{Edit, done}
+use Rattle.model.specs.Trees.Charge.{blocks_of, charge_of_blocks}
 use Rattle.layout.specs.CachedNodes.{CachedNode}
 use Rattle.layout.specs.CachedNodes as layout
 use Rattle.layout.specs.Known.{IsCard, IsPlace, HasContent, HasNames, AreCards}

@@ -12,10 +12,10 @@ use Rattle.directory.proofs.Places.{with_record-push}
 use Rattle.inode.specs.Fields.{Fields}
 use Rattle.model.specs.declared.node.NodeKind.{NodeKind}
 use Rattle.model.specs.declared.node.NodeKind.TheVariants as kind
-use Rattle.model.specs.Charge.{blocks_of, charge_of_blocks}
-use Rattle.model.specs.Edit.{PutName}
-use Rattle.model.specs.Keyed.{at, with}
-use Rattle.model.specs.Tree.{entry_of}
+use Rattle.model.specs.Trees.Charge.{blocks_of, charge_of_blocks}
+use Rattle.model.specs.Trees.Edit.{PutName}
+use Rattle.model.specs.Trees.Keyed.{at, with}
+use Rattle.model.specs.Trees.Tree.{entry_of}
 use Rattle.layout.specs.CachedNodes.{CachedNode, content_at}
 use Rattle.layout.specs.Directories.{block_put}
 use Rattle.layout.specs.Known.{IsCard, HasNames}

@@ -3,9 +3,9 @@ use Rattle.std.specs.Prelude.{◌≡◌, ◌≤◌, ◌<◌, ◌+◌, ◌^◌}
 use Rattle.std.specs.Prelude.{ℕ, Bool, List, Option, Some, None, length, set, slice_index_or}
 use Rattle.disk.specs.declared.update.Update.{Update}
 use Rattle.disk.specs.Moments.{Image, applied}
-use Rattle.model.specs.Charge.{charge_of_blocks}
-use Rattle.model.specs.Edit.{Edit, done}
-use Rattle.model.specs.Tree.{Tree}
+use Rattle.model.specs.Trees.Charge.{charge_of_blocks}
+use Rattle.model.specs.Trees.Edit.{Edit, done}
+use Rattle.model.specs.Trees.Tree.{Tree}
 use Rattle.layout.specs.CachedNodes.{CachedNode}
 use Rattle.layout.specs.CachedNodes as layout
 use Rattle.layout.specs.Known.{AreCards}

@@ -8,7 +8,7 @@ ghost use Rattle.disk.specs.Moments.{Image, applied};
 ghost use Rattle.freemap.specs.Kept.{free_places};
 ghost use Rattle.inode.specs.Fields.{IsInode};
 ghost use Rattle.inode.specs.Spelling.{inode_sector};
-ghost use Rattle.model.specs.Edit.{PutNode, DropNode, Show, PutName, PutBytes, SetSize};
+ghost use Rattle.model.specs.Trees.Edit.{PutNode, DropNode, Show, PutName, PutBytes, SetSize};
 ghost use Rattle.layout.specs.CachedNodes as layout;
 ghost use Rattle.layout.specs.Health.{Reads};
 ghost use Rattle.tree_transaction.specs.Blocks.{IsPut, set_blocks};

@@ -28,13 +28,13 @@ use Rattle.layout.specs.Marks.{mark_by}
 use Rattle.layout.specs.Stands.{IsLaid, Kept, StandsNow, current, seats_at}
 use Rattle.layout.proofs.CachedNodeLaws.{cards-back, only_cards}
 use Rattle.model.specs.declared.limits.Limits.{Limits}
-use Rattle.model.specs.Charge.{fits}
-use Rattle.model.specs.Edit.{edited}
-use Rattle.model.specs.Limits.{limits_of}
-use Rattle.model.specs.Seats.{Seats}
-use Rattle.model.specs.Stamp.{stamp}
-use Rattle.model.specs.Tree.{Tree}
-use Rattle.model.specs.WellFormed.{IsWellFormed, IsBefore}
+use Rattle.model.specs.Trees.Charge.{fits}
+use Rattle.model.specs.Trees.Edit.{edited}
+use Rattle.model.specs.Trees.Limits.{limits_of}
+use Rattle.model.specs.Sessions.Seats.{Seats}
+use Rattle.model.specs.Trees.Stamp.{stamp}
+use Rattle.model.specs.Trees.Tree.{Tree}
+use Rattle.model.specs.Trees.WellFormed.{IsWellFormed, IsBefore}
 use Rattle.volume.specs.Edits.{IsChange, edited_by, put_by}
 use Rattle.volume.specs.Parents.{PutsParent}
 use Rattle.parents.specs.Parents.{AreParents}

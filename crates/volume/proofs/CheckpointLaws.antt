@@ -11,8 +11,8 @@ use Rattle.journal.proofs.Fronts.{applied_keeps}
 use Rattle.layout.specs.CachedNodes.{CachedNode}
 use Rattle.layout.specs.Stands.{Kept}
 use Rattle.model.specs.declared.limits.Limits.{Limits}
-use Rattle.model.specs.Seats.{Seats}
-use Rattle.model.specs.Tree.{Tree}
+use Rattle.model.specs.Sessions.Seats.{Seats}
+use Rattle.model.specs.Trees.Tree.{Tree}
 use Rattle.volume.specs.Changes.{Done, Stays, Changes}
 use Rattle.volume.specs.VolumeState.{VolumeState, KeepsRecent, fronts_from, with_tree}
 use Rattle.volume.specs.Known.{IsServing}

@@ -21,12 +21,12 @@ use Rattle.layout.specs.Known.{AreCards}
 use Rattle.layout.specs.Laid.{AreNumbered}
 use Rattle.layout.proofs.Answering.{tree-has}
 use Rattle.model.specs.declared.limits.Limits.{Limits}
-use Rattle.model.specs.Charge.{charge, few_names, fits}
-use Rattle.model.specs.Edit.{done, edited}
-use Rattle.model.specs.Edit as model
-use Rattle.model.specs.Keyed.{at, total}
-use Rattle.model.specs.Limits.{limits_of}
-use Rattle.model.specs.Tree.{Tree}
+use Rattle.model.specs.Trees.Charge.{charge, few_names, fits}
+use Rattle.model.specs.Trees.Edit.{done, edited}
+use Rattle.model.specs.Trees.Edit as model
+use Rattle.model.specs.Trees.Keyed.{at, total}
+use Rattle.model.specs.Trees.Limits.{limits_of}
+use Rattle.model.specs.Trees.Tree.{Tree}
 use Rattle.volume.specs.Edits.{edited_by, front_of, named_by, IsChange}
 use Rattle.volume.specs.VolumeState.{VolumeState}
 

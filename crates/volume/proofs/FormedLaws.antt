@@ -10,15 +10,15 @@ use Rattle.journal.specs.Log.{Log}
 use Rattle.layout.specs.CachedNodes.{CachedNode, tree_of}
 use Rattle.layout.specs.Known.{AreCards}
 use Rattle.model.specs.declared.limits.Limits.{Limits}
-use Rattle.model.specs.Limits.{limits_of}
-use Rattle.model.specs.Stamp.{stamp}
-use Rattle.model.specs.Tree.{Tree}
-use Rattle.model.specs.WellFormed.{IsWellFormed, IsBefore}
-use Rattle.model.proofs.ChangeLaws.{was_before}
+use Rattle.model.specs.Trees.Limits.{limits_of}
+use Rattle.model.specs.Trees.Stamp.{stamp}
+use Rattle.model.specs.Trees.Tree.{Tree}
+use Rattle.model.specs.Trees.WellFormed.{IsWellFormed, IsBefore}
+use Rattle.model.proofs.Trees.ChangeLaws.{was_before}
 use Rattle.tree_check.specs.Trees.{IsOneTree}
 use Rattle.tree_check.proofs.WholeLaws.{each_known_tree}
 use Rattle.volume.specs.Formed.{IsFormed, Shows}
-use Rattle.model.specs.Seats.{Seats}
+use Rattle.model.specs.Sessions.Seats.{Seats}
 use Rattle.volume.specs.Loads.{IsLoaded}
 use Rattle.volume.specs.declared.mount.Superblock.{Superblock}
 

@@ -28,11 +28,11 @@ use Rattle.layout.proofs.Rewriting.{known_as_second, laid_as_second, second_at, 
 use Rattle.model.specs.declared.limits.Limits.{Limits}
 use Rattle.model.specs.declared.node.NodeKind.{NodeKind}
 use Rattle.model.specs.declared.node.NodeKind.TheVariants as kind
-use Rattle.model.specs.Charge.{blocks_of}
-use Rattle.model.specs.Limits.{limits_of}
-use Rattle.model.specs.Seats.{Seats, no_seats}
-use Rattle.model.specs.Stamp.{stamp}
-use Rattle.model.specs.WellFormed.{IsWellFormed, IsBefore}
+use Rattle.model.specs.Trees.Charge.{blocks_of}
+use Rattle.model.specs.Trees.Limits.{limits_of}
+use Rattle.model.specs.Sessions.Seats.{Seats, no_seats}
+use Rattle.model.specs.Trees.Stamp.{stamp}
+use Rattle.model.specs.Trees.WellFormed.{IsWellFormed, IsBefore}
 use Rattle.volume_load.specs.Volumes.{AreFew}
 use Rattle.volume_load.specs.declared.fault.ScanFault.{ScanFault}
 use Rattle.volume_load.specs.declared.fault.ScanFault.TheVariants as scans

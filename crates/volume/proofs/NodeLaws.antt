@@ -11,7 +11,7 @@ use Rattle.layout.proofs.Changing.{tree-lacks}
 use Rattle.node_table.specs.Tables.{number_of, number_at, HasNot}
 use Rattle.model.specs.declared.node.NodeKind.{NodeKind}
 use Rattle.model.specs.declared.node.NodeKind.TheVariants as kind
-use Rattle.model.specs.Keyed.{at}
+use Rattle.model.specs.Trees.Keyed.{at}
 use Rattle.volume.specs.Nodes.{ShowsContent, IsNodeOf}
 
 shows : (image : Image) (kind : NodeKind) (card : CachedNode) → ShowsContent kind card (content_of image kind card)

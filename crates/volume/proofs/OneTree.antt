@@ -6,8 +6,8 @@ use Rattle.disk.specs.Moments.{Image}
 use Rattle.journal.proofs.Recovers.{settles_once}
 use Rattle.layout.specs.Stands.{Kept}
 use Rattle.layout.proofs.KeptLaws.{one_kept}
-use Rattle.model.specs.Seats.{Seats}
-use Rattle.model.specs.Tree.{Tree}
+use Rattle.model.specs.Sessions.Seats.{Seats}
+use Rattle.model.specs.Trees.Tree.{Tree}
 use Rattle.volume.specs.Stands.{Stands, IsBase, IsOne, OneStands}
 use Rattle.volume.proofs.StandLaws.{sized, stands_same}
 

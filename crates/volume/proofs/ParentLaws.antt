@@ -20,11 +20,11 @@ use Rattle.layout.specs.Marks.{once_if, times}
 use Rattle.model.specs.declared.limits.Limits.{Limits}
 use Rattle.model.specs.declared.node.NodeKind.{NodeKind}
 use Rattle.model.specs.declared.node.NodeKind.TheVariants as kind
-use Rattle.model.specs.Edit.{altered, altered_at, done, edited, name_put, name_dropped, showing, with_content, overwritten, resized}
-use Rattle.model.specs.Keyed.{Keyed, at, with, without, total, here_or, before_or_behind, in_place_of, kept_or_not}
-use Rattle.model.specs.Tree.{Tree, Node, DirEntry, File, bytes_of, names_of, names_of_node, names_at}
-use Rattle.model.specs.WellFormed.{links_in, links_from, one_if}
-use Rattle.model.proofs.KeyedLaws.{at-with_same, at-with_other, at-without_same, at-without_other}
+use Rattle.model.specs.Trees.Edit.{altered, altered_at, done, edited, name_put, name_dropped, showing, with_content, overwritten, resized}
+use Rattle.model.specs.Trees.Keyed.{Keyed, at, with, without, total, here_or, before_or_behind, in_place_of, kept_or_not}
+use Rattle.model.specs.Trees.Tree.{Tree, Node, DirEntry, File, bytes_of, names_of, names_of_node, names_at}
+use Rattle.model.specs.Trees.WellFormed.{links_in, links_from, one_if}
+use Rattle.model.proofs.Trees.KeyedLaws.{at-with_same, at-with_other, at-without_same, at-without_other}
 use Rattle.parents.specs.ParentLaws.{KeepsNames, MovesName}
 use Rattle.parents.specs.Parents.{HasName, AreParents}
 use Rattle.parents.proofs.ChangeLaws.{each_kept, each_move}

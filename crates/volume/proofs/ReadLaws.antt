@@ -13,9 +13,9 @@ use Rattle.layout.proofs.Frame.{times_set-at}
 use Rattle.layout.proofs.MarkProofs.{each_mark}
 use Rattle.model.specs.declared.node.NodeKind.{NodeKind}
 use Rattle.model.specs.declared.node.NodeKind.TheVariants as kind
-use Rattle.model.specs.Files.{bytes_at, bytes_of_node}
-use Rattle.model.specs.Keyed.{at}
-use Rattle.model.specs.Tree.{Node, kind_of, bytes_of}
+use Rattle.model.specs.Operations.Files.{bytes_at, bytes_of_node}
+use Rattle.model.specs.Trees.Keyed.{at}
+use Rattle.model.specs.Trees.Tree.{Node, kind_of, bytes_of}
 use Rattle.reading.specs.Files.{AreWithin}
 use Rattle.volume.specs.Known.{IsKnown}
 use Rattle.volume.specs.Reading.{HasFile}

@@ -25,9 +25,9 @@ use Rattle.layout.specs.Stands.{HoldSeats, Kept, StandsNow, current, seats_at, s
 use Rattle.layout.proofs.Rewriting.{current_second, form_stays, rewritten_cards, rewritten_stands}
 use Rattle.layout.proofs.SeatLaws.{spare_seats}
 use Rattle.model.specs.declared.limits.Limits.{Limits}
-use Rattle.model.specs.SeatEdits.{SeatEdit, AreEdits, edited_all}
-use Rattle.model.specs.Seats.{Seat, Seats}
-use Rattle.model.specs.Tree.{Tree}
+use Rattle.model.specs.Sessions.SeatEdits.{SeatEdit, AreEdits, edited_all}
+use Rattle.model.specs.Sessions.Seats.{Seat, Seats}
+use Rattle.model.specs.Trees.Tree.{Tree}
 use Rattle.seating.specs.Edits.{AreUpdates}
 use Rattle.seats.specs.Spelling.{ArePlaces, seat_sector, seats_sector}
 use Rattle.volume.specs.Changes.{Done, Broken, IsSeats, Changes, ending_of}

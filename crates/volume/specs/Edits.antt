@@ -6,11 +6,11 @@ use Rattle.tree_edits.specs.declared.edit.Edit.{Edit}
 use Rattle.tree_edits.specs.declared.edit.Edit.TheVariants as edit
 use Rattle.tree_edits.specs.Doing.{made_by, updates_of_all}
 use Rattle.tree_edits.specs.Edits.{AreDoable, edits_of}
-use Rattle.model.specs.Charge.{fits}
-use Rattle.model.specs.Edit.{edited}
-use Rattle.model.specs.Keyed.{at, is_key}
-use Rattle.model.specs.Stamp.{stamp}
-use Rattle.model.specs.Tree.{Tree, names_at}
+use Rattle.model.specs.Trees.Charge.{fits}
+use Rattle.model.specs.Trees.Edit.{edited}
+use Rattle.model.specs.Trees.Keyed.{at, is_key}
+use Rattle.model.specs.Trees.Stamp.{stamp}
+use Rattle.model.specs.Trees.Tree.{Tree, names_at}
 use Rattle.volume.specs.Changes.{Given}
 use Rattle.volume.specs.Formed.{IsFormed}
 use Rattle.volume.specs.VolumeState.{VolumeState, with_tree}

@@ -5,7 +5,7 @@ use Rattle.layout.specs.CachedNodes.{CachedNode}
 use Rattle.layout.specs.KnownProps.{AreCards-prop}
 use Rattle.layout.specs.LaidProps.{HaveForms-prop}
 use Rattle.model.specs.declared.limits.Limits.{Limits}
-use Rattle.model.specs.Tree.{Tree}
+use Rattle.model.specs.Trees.Tree.{Tree}
 use Rattle.volume.specs.Formed.{IsFormed}
 use Rattle.volume.specs.Known.{IsKnown}
 

@@ -6,9 +6,9 @@ use Rattle.layout.specs.CachedNodes.{CachedNode, tree_of, cards_in}
 use Rattle.layout.specs.Health.{Health, Reads}
 use Rattle.layout.specs.Rewriting.{all_second}
 use Rattle.layout.specs.Stands.{AreKept, IsMark, Kept, MayKeep, mark_held}
-use Rattle.model.specs.Seats.{Seats}
-use Rattle.model.specs.Limits.{limits_of}
-use Rattle.model.specs.Stamp.{stamp}
+use Rattle.model.specs.Sessions.Seats.{Seats}
+use Rattle.model.specs.Trees.Limits.{limits_of}
+use Rattle.model.specs.Trees.Stamp.{stamp}
 use Rattle.tree_check.specs.WellFormed.{AreWellFormed}
 use Rattle.volume.specs.Known.{IsKnown}
 use Rattle.volume.specs.Mounts.{StandsIn}

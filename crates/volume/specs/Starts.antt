@@ -11,7 +11,7 @@ use Rattle.layout.specs.Stands.{AreKept, IsMark, Kept, MayKeep, StandsNow, curre
 use Rattle.layout.specs.declared.versions.VersionNumber.{VersionNumber}
 use Rattle.layout.specs.declared.versions.VersionNumber.TheVariants.{One, Two}
 use Rattle.migration.specs.declared.fault.MigrationFault.{MigrationFault}
-use Rattle.model.specs.Seats.{Seats}
+use Rattle.model.specs.Sessions.Seats.{Seats}
 use Rattle.volume.specs.Loads.{read_as}
 use Rattle.volume.specs.Mounts.{IsAtRest, StandsIn}
 use Rattle.volume.specs.Stands.{StandsForIn}

@@ -28,9 +28,9 @@ impl<D: Device> Volume<D> {
     ghost use Rattle.std.specs.Prelude.{◌≡◌, ◌↔◌, true, false, OnOk, OnErr, IsErrOf};
     ghost use Rattle.tree_edits.specs.Edits.{AreDoable};
     ghost use Rattle.tree_edits.specs.Making.{IsMaking};
-    ghost use Rattle.model.specs.Charge.{fits};
-    ghost use Rattle.model.specs.Edit.{edited};
-    ghost use Rattle.model.specs.Tree.{is_directory_at};
+    ghost use Rattle.model.specs.Trees.Charge.{fits};
+    ghost use Rattle.model.specs.Trees.Edit.{edited};
+    ghost use Rattle.model.specs.Trees.Tree.{is_directory_at};
     ghost use Rattle.volume.specs.Changes.{IsTree, ending_of};
     ghost use Rattle.volume.specs.Edits.{IsChange, IsEdited, edited_by};
     ghost use Rattle.volume.specs.Formed.{Shows};

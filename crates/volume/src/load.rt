@@ -4,7 +4,7 @@ ghost use Rattle.std.specs.Prelude.{◌≡◌, ◌⊎◌, IfOk, IfErr, IsErrOf};
 ghost use Rattle.journal.specs.Journal.{log_of, failures_of};
 ghost use Rattle.layout.specs.Rewriting.{all_second, in_second};
 ghost use Rattle.layout.specs.Stands.{Kept};
-ghost use Rattle.model.specs.SeatViews.{seats_view};
+ghost use Rattle.model.specs.Sessions.SeatViews.{seats_view};
 ghost use Rattle.parents.specs.Parents.{AreParents};
 ghost use Rattle.layout.specs.Health.{Reads};
 ghost use Rattle.volume.specs.Loads.{AreLoaded, HoldsBase, HoldsVolume, IsLoaded, Loads};

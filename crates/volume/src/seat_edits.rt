@@ -9,7 +9,7 @@ use seating::updates_of;
 #[tactic(auto, unfolding(crate::specs::Views::volume_state, crate::specs::Views::volume_failures))]
 impl<D: Device> Volume<D> {
     ghost use Rattle.std.specs.Prelude.{◌≡◌, ◌↔◌, ◌⊎◌, true, OnOk, IfErr, IsErrOf};
-    ghost use Rattle.model.specs.SeatEdits.{AreEdits, edited_all, edits_view};
+    ghost use Rattle.model.specs.Sessions.SeatEdits.{AreEdits, edited_all, edits_view};
     ghost use Rattle.volume.specs.Changes.{IsSeats, ending_of};
     ghost use Rattle.volume.specs.Formed.{Shows};
     ghost use Rattle.volume.specs.Views.{volume_state, Alters};

@@ -3,8 +3,8 @@
 ghost use Rattle.std.specs.Prelude.{◌≡◌, ◌<◌, ◌+◌, ◌^◌, false, IsTrue};
 ghost use Rattle.journal.specs.Journal.{log_of};
 ghost use Rattle.layout.specs.Superblock.{is_size};
-ghost use Rattle.model.specs.Limits.{limits_of};
-ghost use Rattle.model.specs.Stamp.{stamp};
+ghost use Rattle.model.specs.Trees.Limits.{limits_of};
+ghost use Rattle.model.specs.Trees.Stamp.{stamp};
 ghost use Rattle.tree_edits.specs.Outlines.{tree_without_data};
 ghost use Rattle.parents.specs.Parents.{AreParents};
 ghost use Rattle.parents.specs.ParentProps.{AreParents-prop};
@@ -73,8 +73,8 @@ impl<D: Device> Volume<D> {
     ghost use Rattle.journal.specs.Journal.{log_of, failures_of};
     ghost use Rattle.layout.specs.Known.{IsCard};
     ghost use Rattle.model.specs.declared.acl.TheConstants.Acl.{MAX_STORED};
-    ghost use Rattle.model.specs.Keyed.{at};
-    ghost use Rattle.model.specs.SeatViews.{seats_view};
+    ghost use Rattle.model.specs.Trees.Keyed.{at};
+    ghost use Rattle.model.specs.Sessions.SeatViews.{seats_view};
     ghost use Rattle.volume.specs.Changes.{IsTree, Stays, ending_of};
     ghost use Rattle.volume.specs.Formed.{Shows};
     ghost use Rattle.volume.specs.VolumeState.{IsNew, KeepsRecent};

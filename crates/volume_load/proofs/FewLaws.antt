@@ -8,10 +8,10 @@ use Rattle.std.proofs.lemmas.Option.{none-some}
 use Rattle.disk.specs.Moments.{Image}
 use Rattle.model.specs.declared.node.NodeKind.{NodeKind}
 use Rattle.model.specs.declared.node.NodeKind.TheVariants as kind
-use Rattle.model.specs.Charge.{blocks_of}
-use Rattle.model.specs.Keyed.{at}
-use Rattle.model.specs.Limits.{limits_of}
-use Rattle.model.specs.WellFormed.{IsContent, IsNode}
+use Rattle.model.specs.Trees.Charge.{blocks_of}
+use Rattle.model.specs.Trees.Keyed.{at}
+use Rattle.model.specs.Trees.Limits.{limits_of}
+use Rattle.model.specs.Trees.WellFormed.{IsContent, IsNode}
 use Rattle.layout.specs.CachedNodes.{CachedNode, cards_in, content_of, node_of}
 use Rattle.layout.specs.Laid.{HoldsPlace, HoldsContent, HoldsCard}
 use Rattle.layout.specs.Marks.{mark_in}

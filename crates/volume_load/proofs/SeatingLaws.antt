@@ -5,9 +5,9 @@ use Rattle.std.proofs.lemmas.List.{ext_get_or, get_or-map, length-map, length-dr
 use Rattle.std.proofs.Math.Seq.{drop-cons}
 use Rattle.disk.specs.Moments.{Image}
 use Rattle.model.specs.declared.seats.Seat as seats
-use Rattle.model.specs.SeatViews.{place_view}
-use Rattle.model.specs.Seats.{Seat, Seats, AreApart, has_seat, is_seat_of, no_seats, seat_of}
-use Rattle.model.proofs.SeatLaws.{bytes_same}
+use Rattle.model.specs.Sessions.SeatViews.{place_view}
+use Rattle.model.specs.Sessions.Seats.{Seat, Seats, AreApart, has_seat, is_seat_of, no_seats, seat_of}
+use Rattle.model.proofs.Sessions.SeatLaws.{bytes_same}
 use Rattle.seats.specs.Reading.{SeatsReadBack}
 use Rattle.seats.specs.Spelling.{ArePlaces, IsPlace, seat_sector}
 use Rattle.directory.proofs.Places.{bytes_eq-true}

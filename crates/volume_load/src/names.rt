@@ -3,7 +3,7 @@
 ghost use Rattle.std.specs.Prelude.{◌≡◌, ◌↔◌, ◌<◌, ◌≤◌, ◌+◌, ◌/◌, List, length, map, IfOk, OnOk};
 ghost use Rattle.std.specs.Prelude.{IsErrOf, IsTrue};
 ghost use Rattle.std.specs.List.{AllByRecursion};
-ghost use Rattle.model.specs.Charge.{blocks_of};
+ghost use Rattle.model.specs.Trees.Charge.{blocks_of};
 ghost use Rattle.model.specs.declared.node.NodeKind.TheVariants as kind;
 ghost use Rattle.directory.specs.Records.{Record, record_of, IsDirectory, AreStamped};
 ghost use Rattle.layout.specs.Health.{Reads};

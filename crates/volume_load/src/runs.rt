@@ -4,7 +4,7 @@ ghost use Rattle.std.specs.Prelude.{◌≡◌, ◌<◌, ◌≤◌, ◌+◌, ◌-
 ghost use Rattle.std.specs.Prelude.{min, IfOk, IfSome, IfNone, IsErrOf};
 ghost use Rattle.extents.specs.declared.run.Run.{Run};
 ghost use Rattle.extents.specs.Runs.{AreRunsOf};
-ghost use Rattle.model.specs.Charge.{blocks_of};
+ghost use Rattle.model.specs.Trees.Charge.{blocks_of};
 ghost use Rattle.volume_load.specs.Runs.{FindsPart, FindsRuns, AreWithin};
 ghost use Rattle.layout.specs.Health.{Reads};
 

@@ -4,9 +4,9 @@ ghost use Rattle.std.specs.Prelude.{◌≡◌, ◌≤◌, ◌<◌, ◌+◌, ◌*
 ghost use Rattle.std.specs.Prelude.{IfOk, IsErrOf, IsTrue, length, map, slice_index_or, []};
 ghost use Rattle.layout.specs.Health.{Reads};
 ghost use Rattle.layout.specs.Stands.{HoldSeats, MayKeep};
-ghost use Rattle.model.specs.Seats as model;
-ghost use Rattle.model.specs.Seats.{AreApart, AreOfRuns, has_seat, no_seats};
-ghost use Rattle.model.specs.SeatViews.{place_view, seats_view};
+ghost use Rattle.model.specs.Sessions.Seats as model;
+ghost use Rattle.model.specs.Sessions.Seats.{AreApart, AreOfRuns, has_seat, no_seats};
+ghost use Rattle.model.specs.Sessions.SeatViews.{place_view, seats_view};
 ghost use Rattle.volume_load.specs.Seating.{AreMade, HoldPlace, IsOfRuns, MayStand};
 ghost use Rattle.seats.specs.Spelling.{ArePlaces, IsPlace};
 

@@ -9,7 +9,7 @@ ghost use Rattle.layout.specs.Health.{Reads};
 ghost use Rattle.layout.specs.Laid.{AreNumbered};
 ghost use Rattle.layout.specs.Marks.{named_by};
 ghost use Rattle.layout.specs.Stands.{version_by};
-ghost use Rattle.model.specs.Seats.{no_seats};
+ghost use Rattle.model.specs.Sessions.Seats.{no_seats};
 ghost use Rattle.volume_load.specs.Names.{AreSetWithin};
 ghost use Rattle.volume_load.specs.Marking.{CanMark, AreMarked};
 ghost use Rattle.volume_load.specs.CachedNodes.{uses, FindsBlocks, FindsRest, FindsPlace, IsFound};

@@ -7,8 +7,8 @@ ghost use Rattle.layout.specs.CachedNodes as layout;
 ghost use Rattle.layout.specs.Health.{Reads};
 ghost use Rattle.layout.specs.Stands.{AreKept, IsLaid, IsMark, MayKeep, version_by};
 ghost use Rattle.layout.specs.Superblock.{is_size};
-ghost use Rattle.model.specs.Seats as model;
-ghost use Rattle.model.specs.SeatViews.{seats_view};
+ghost use Rattle.model.specs.Sessions.Seats as model;
+ghost use Rattle.model.specs.Sessions.SeatViews.{seats_view};
 ghost use Rattle.volume_load.specs.Sectors.{AreBits, AreSpare};
 ghost use Rattle.volume_load.specs.Volumes.{IsRead, AreFew};
 

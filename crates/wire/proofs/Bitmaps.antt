@@ -3,7 +3,7 @@ use Rattle.std.proofs.Common.{◌≡◌, ℕ, ◌-◌, ◌<◌, true, cond, zero
 use Rattle.std.specs.Prelude.{◌≢◌, not}
 use Rattle.std.proofs.lemmas.Bool.{ne_eqb}
 use Rattle.xdr.specs.Forms.{is_trimmed}
-use Rattle.model.specs.Attribute.{trimmed, word_before}
+use Rattle.model.specs.Attributes.Attribute.{trimmed, word_before}
 
 pub trimmed-zero : (words : List ℕ) → trimmed (words ++ 0 ∷ []) ≡ trimmed words
 trimmed-zero [] = refl

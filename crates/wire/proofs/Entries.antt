@@ -6,7 +6,7 @@ use Rattle.std.specs.List.{AllByRecursion}
 use Rattle.std.proofs.lemmas.List.Elements.{All-from_recursion}
 use Rattle.xdr.specs.Grammar.{number}
 use Rattle.xdr.specs.Forms.{links}
-use Rattle.model.specs.WireAnswers.{entry}
+use Rattle.model.specs.Wire.WireAnswers.{entry}
 use Rattle.wire.specs.declared.answers.Entry.{Entry}
 use Rattle.wire.specs.AnswerViews.{entry_view, links_of, chain_of, EntryFits}
 

@@ -14,10 +14,10 @@ use Rattle.xdr.proofs.Sequences.{void_exact, then_exact, of_exact, one_spelling}
 use Rattle.xdr.proofs.Passing.{boolean_exact, below_exact, always_exact}
 use Rattle.xdr.proofs.Arrays.{array_exact, optional_exact, bitmap_exact}
 use Rattle.xdr.proofs.Unions.{TakesBy, AgainBy, on_takes, no_other_takes, any_other_takes, other_below_takes, union_exact, made_again}
-use Rattle.model.specs.Operation.{Attributes, NewDirectory, OtherType, NoCreate, Unchecked, Guarded, Claim, ByName, ByHandle, OtherClaim, Opening, Opens, Exclusive, Argument}
-use Rattle.model.specs.WireTypes.{any_opaque, file_handle, session_id, attributes, implementation, callback_security}
-use Rattle.model.specs.WireArguments.{close_arguments, commit_arguments, create_told, create_choice, create_arguments, claim_told, claim_choice, claim, create_how_told, create_how_choice, create_how, opening_told, opening_choice, opening, open_arguments, read_arguments, read_dir_arguments, rename_arguments, set_attr_arguments, write_arguments, exchange_id_arguments, create_session_arguments, sequence_arguments, argument_told, argument_choice, arguments_at, argument}
-use Rattle.model.proofs.ExactTypes.{any_opaque_exact, file_handle_exact, verifier_exact, session_id_exact, owner_id_exact, state_id_exact, attributes_exact, channel_exact, implementation_exact, callback_security_exact}
+use Rattle.model.specs.Operations.Operation.{Attributes, NewDirectory, OtherType, NoCreate, Unchecked, Guarded, Claim, ByName, ByHandle, OtherClaim, Opening, Opens, Exclusive, Argument}
+use Rattle.model.specs.Wire.WireTypes.{any_opaque, file_handle, session_id, attributes, implementation, callback_security}
+use Rattle.model.specs.Wire.WireArguments.{close_arguments, commit_arguments, create_told, create_choice, create_arguments, claim_told, claim_choice, claim, create_how_told, create_how_choice, create_how, opening_told, opening_choice, opening, open_arguments, read_arguments, read_dir_arguments, rename_arguments, set_attr_arguments, write_arguments, exchange_id_arguments, create_session_arguments, sequence_arguments, argument_told, argument_choice, arguments_at, argument}
+use Rattle.model.proofs.Wire.ExactTypes.{any_opaque_exact, file_handle_exact, verifier_exact, session_id_exact, owner_id_exact, state_id_exact, attributes_exact, channel_exact, implementation_exact, callback_security_exact}
 
 pub close_arguments_exact : Exact close_arguments
 close_arguments_exact = of_exact _ _ _ (λ _. refl) (λ _. refl) (then_exact int_exact state_id_exact)

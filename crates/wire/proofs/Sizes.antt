@@ -8,8 +8,8 @@ use Rattle.xdr.proofs.Sizes.{padded_length}
 use Rattle.xdr.proofs.Numbers.{length-number_32, length-number_64}
 use Rattle.std.proofs.lemmas.Grind.{flat_map-append}
 use Rattle.std.proofs.lemmas.List.{take_more, take-append-drop, append-nil}
-use Rattle.model.specs.WireTypes.{attributes, channel}
-use Rattle.model.specs.WireAnswers.{entry, create_session_answer, behind_refusal}
+use Rattle.model.specs.Wire.WireTypes.{attributes, channel}
+use Rattle.model.specs.Wire.WireAnswers.{entry, create_session_answer, behind_refusal}
 use Rattle.wire.specs.declared.small.Attributes.{Attributes}
 use Rattle.wire.specs.declared.small.Channel.{Channel}
 use Rattle.wire.specs.declared.answers.Entry.{Entry}

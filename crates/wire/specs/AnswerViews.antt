@@ -4,9 +4,9 @@ use Rattle.std.specs.Int.{w32}
 use Rattle.std.specs.List.{flat_map}
 use Rattle.xdr.specs.Grammar.{◌&◌, number, unsigned_int, unsigned_hyper}
 use Rattle.xdr.specs.Forms.{always, trimmed_bitmap}
-use Rattle.model.specs.WireTypes.{any_opaque, channel}
-use Rattle.model.specs.WireAnswers.{entry}
-use Rattle.model.specs.Answer as spec
+use Rattle.model.specs.Wire.WireTypes.{any_opaque, channel}
+use Rattle.model.specs.Wire.WireAnswers.{entry}
+use Rattle.model.specs.Operations.Answer as spec
 use Rattle.wire.specs.declared.answers.AccessAnswer.{AccessAnswer}
 use Rattle.wire.specs.declared.answers.CreateAnswer.{CreateAnswer}
 use Rattle.wire.specs.declared.answers.OpenAnswer.{OpenAnswer}

@@ -1,5 +1,5 @@
 -- An operation with its arguments as the value of the definitions.
-use Rattle.model.specs.Operation as spec
+use Rattle.model.specs.Operations.Operation as spec
 use Rattle.wire.specs.declared.argument.Argument.{Argument}
 use Rattle.wire.specs.declared.argument.Argument.TheVariants as argument
 use Rattle.wire.specs.ArgumentViews.{close_view, commit_view, read_view, write_view, set_attr_view, read_dir_view, rename_view, create_view, open_view, exchange_id_view, create_session_view, sequence_view}

@@ -5,8 +5,8 @@ use Rattle.std.specs.Global.{Vec}
 use Rattle.xdr.specs.declared.refusal.Refusal.{Refusal}
 use Rattle.xdr.specs.declared.refusal.Refusal.TheVariants.{Memory}
 use Rattle.xdr.specs.Forms.{each_at}
-use Rattle.model.specs.Operation as spec
-use Rattle.model.specs.WireTypes.{callback_security}
+use Rattle.model.specs.Operations.Operation as spec
+use Rattle.model.specs.Wire.WireTypes.{callback_security}
 use Rattle.wire.specs.declared.small.CallbackSecurity.{CallbackSecurity}
 use Rattle.wire.specs.declared.file.CloseArguments.{CloseArguments}
 use Rattle.wire.specs.declared.file.CommitArguments.{CommitArguments}

@@ -3,9 +3,9 @@ use Rattle.std.specs.Prelude.{ℕ, List, ◌++◌}
 use Rattle.std.specs.Int.{w32}
 use Rattle.xdr.specs.Grammar.{number}
 use Rattle.model.specs.declared.status.Status.{Status}
-use Rattle.model.specs.Status.{code_of}
-use Rattle.model.specs.Answer as spec
-use Rattle.model.specs.WireAnswers.{answer_told, behind_refusal}
+use Rattle.model.specs.Operations.Status.{code_of}
+use Rattle.model.specs.Operations.Answer as spec
+use Rattle.model.specs.Wire.WireAnswers.{answer_told, behind_refusal}
 use Rattle.wire.specs.declared.outcome.Answer.{Answer}
 use Rattle.wire.specs.declared.outcome.Answer.TheVariants as answer
 use Rattle.wire.specs.declared.outcome.Outcome.{Outcome}

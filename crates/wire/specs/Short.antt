@@ -2,8 +2,8 @@
 use Rattle.std.specs.Prelude.{◌≢◌, ◌≤◌, IsTrue, length}
 use Rattle.xdr.specs.Forms.{is_trimmed}
 use Rattle.model.specs.declared.status.Status.{Status}
-use Rattle.model.specs.Status.{code_of}
-use Rattle.model.specs.Answer as spec
+use Rattle.model.specs.Operations.Status.{code_of}
+use Rattle.model.specs.Operations.Answer as spec
 
 -- a status that refuses
 abbrev pub IsRefusal : Status → Type 0

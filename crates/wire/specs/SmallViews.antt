@@ -2,7 +2,7 @@
 use Rattle.std.specs.Prelude.{ℕ, List}
 use Rattle.xdr.specs.Grammar.{◌&◌, unsigned_int}
 use Rattle.xdr.specs.Forms.{optional}
-use Rattle.model.specs.Operation as spec
+use Rattle.model.specs.Operations.Operation as spec
 use Rattle.wire.specs.declared.small.StateId.{StateId}
 use Rattle.wire.specs.declared.small.Attributes.{Attributes}
 use Rattle.wire.specs.declared.small.ChangeInfo.{ChangeInfo}

@@ -2,7 +2,7 @@
 
 ghost use Rattle.std.specs.Prelude.{◌<◌, ◌^◌, length, All};
 ghost use Rattle.xdr.specs.Clauses.{Wrote};
-ghost use Rattle.model.specs.WireAnswers.{access_answer, create_answer, open_answer, read_answer, entry, read_dir_answer, rename_answer, write_answer, exchange_id_answer, create_session_answer, sequence_answer};
+ghost use Rattle.model.specs.Wire.WireAnswers.{access_answer, create_answer, open_answer, read_answer, entry, read_dir_answer, rename_answer, write_answer, exchange_id_answer, create_session_answer, sequence_answer};
 ghost use Rattle.wire.specs.AnswerViews.{access_view, create_view, open_view, open_rest, read_view, entry_view, link_of, links_of, chain_of, read_dir_view, rename_view, write_view, exchange_id_view, exchange_id_rest, exchange_id_names, create_session_view, create_session_rest, sequence_view, sequence_rest, EntryFits};
 
 use crate::small::{Attributes, Bitmap, ChangeInfo, Channel, StateId};

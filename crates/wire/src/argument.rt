@@ -4,8 +4,8 @@ ghost use Rattle.std.specs.Prelude.{◌≡◌, ◌≢◌, ◌==◌, ℕ, List, E
 ghost use Rattle.xdr.specs.Clauses.{Accepts, Reads};
 ghost use Rattle.xdr.specs.Laws.{IsBytes};
 ghost use Rattle.xdr.specs.declared.refusal.Refusal.TheVariants.{Value};
-ghost use Rattle.model.specs.Operation.{operation_of};
-ghost use Rattle.model.specs.WireArguments.{argument, argument_told, arguments_at};
+ghost use Rattle.model.specs.Operations.Operation.{operation_of};
+ghost use Rattle.model.specs.Wire.WireArguments.{argument, argument_told, arguments_at};
 ghost use Rattle.wire.specs.Numbers.{number_of};
 ghost use Rattle.wire.specs.ArgumentView.{argument_view};
 
@@ -90,7 +90,7 @@ impl Operation {
     }
 
     /// The operation of this number, if it is one of these.
-    #[tactic(auto, unfolding(model::specs::WireArguments::arguments_at))]
+    #[tactic(auto, unfolding(model::specs::Wire::WireArguments::arguments_at))]
     pub fn from_number(number: u32) -> Option<Operation>
         ensures some { IfSome result (λ operation. number_of operation ≡ number) }
         ensures none { IfNone result ((bytes : List ℕ) → arguments_at number bytes ≡ Err Value) }
@@ -176,7 +176,7 @@ impl<'a> Argument<'a> {
     }
 
     /// Reads the arguments after an operation's number.
-    #[tactic(auto, unfolding(model::specs::WireArguments::arguments_at))]
+    #[tactic(auto, unfolding(model::specs::Wire::WireArguments::arguments_at))]
     pub fn read(
         alloc: Global,
         operation: Operation,

@@ -2,7 +2,7 @@
 
 ghost use Rattle.std.specs.Prelude.{◌≡◌, ◌≤◌, IsTrue, length};
 ghost use Rattle.xdr.specs.Forms.{is_trimmed};
-ghost use Rattle.model.specs.Attribute.{trimmed};
+ghost use Rattle.model.specs.Attributes.Attribute.{trimmed};
 ghost use Rattle.wire.specs.AnswerViews.{create_view};
 ghost use Rattle.wire.specs.SmallViews.{change_view};
 

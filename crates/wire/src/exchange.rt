@@ -4,7 +4,7 @@ ghost use Rattle.std.specs.Option.{option_map};
 ghost use Rattle.std.specs.Prelude.{◌≤◌, length};
 ghost use Rattle.xdr.specs.Clauses.{Scans};
 ghost use Rattle.xdr.specs.Forms.{optional};
-ghost use Rattle.model.specs.WireTypes.{implementation};
+ghost use Rattle.model.specs.Wire.WireTypes.{implementation};
 ghost use Rattle.wire.specs.SmallViews.{implementation_view};
 
 use crate::small::{Implementation, MAX_OWNER_BYTES};
@@ -23,7 +23,7 @@ pub struct ExchangeIdArguments<'a> {
 
 impl<'a> ExchangeIdArguments<'a> {
     ghost use Rattle.xdr.specs.Clauses.{Scans};
-    ghost use Rattle.model.specs.WireArguments.{exchange_id_arguments};
+    ghost use Rattle.model.specs.Wire.WireArguments.{exchange_id_arguments};
     ghost use Rattle.wire.specs.ArgumentViews.{exchange_id_view};
 
     /// Reads them.

@@ -3,7 +3,7 @@
 ghost use Rattle.std.specs.Prelude.{◌≡◌};
 ghost use Rattle.xdr.specs.Clauses.{Scans, Wrote};
 ghost use Rattle.xdr.specs.Forms.{below};
-ghost use Rattle.model.specs.WireArguments.{close_arguments, commit_arguments, read_arguments, write_arguments, set_attr_arguments};
+ghost use Rattle.model.specs.Wire.WireArguments.{close_arguments, commit_arguments, read_arguments, write_arguments, set_attr_arguments};
 ghost use Rattle.wire.specs.ArgumentViews.{close_view, commit_view, read_view, stable_number, write_view, set_attr_view};
 
 use crate::small::{ANY_LENGTH, Attributes, StateId};

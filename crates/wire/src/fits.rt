@@ -4,9 +4,9 @@
 ghost use Rattle.std.specs.Prelude.{◌≡◌, ◌<◌, ◌≤◌, ◌^◌, IsTrue, length};
 ghost use Rattle.std.specs.List.{AllByRecursion};
 ghost use Rattle.xdr.specs.Forms.{is_trimmed, trimmed_bitmap};
-ghost use Rattle.model.specs.Answer.{Done, Refused};
-ghost use Rattle.model.specs.WireTypes.{channel, change_info, state_id};
-ghost use Rattle.model.specs.WireAnswers.{access_answer, create_answer, open_answer, rename_answer, write_answer, exchange_id_answer, create_session_answer, sequence_answer, answer_told, outcome};
+ghost use Rattle.model.specs.Operations.Answer.{Done, Refused};
+ghost use Rattle.model.specs.Wire.WireTypes.{channel, change_info, state_id};
+ghost use Rattle.model.specs.Wire.WireAnswers.{access_answer, create_answer, open_answer, rename_answer, write_answer, exchange_id_answer, create_session_answer, sequence_answer, answer_told, outcome};
 ghost use Rattle.wire.specs.Numbers.{number_of};
 ghost use Rattle.wire.specs.Short.{IsRefusal, IsShortAnswer};
 ghost use Rattle.wire.specs.SmallViews.{channel_view, change_view, state_view};

@@ -2,8 +2,8 @@
 //! begins another.
 
 ghost use Rattle.xdr.specs.Laws.{Exact, OneSpelling};
-ghost use Rattle.model.specs.WireArguments.{argument};
-ghost use Rattle.model.specs.WireAnswers.{outcome};
+ghost use Rattle.model.specs.Wire.WireArguments.{argument};
+ghost use Rattle.model.specs.Wire.WireAnswers.{outcome};
 
 /// An operation with its arguments.
 #[tactic(auto, using(crate::proofs::ExactArguments::argument_exact, crate::proofs::ExactArguments::one_argument))]
@@ -13,7 +13,7 @@ pub fn arguments_are_exact()
 {}
 
 /// A result of an operation, whether it ended well or was refused.
-#[tactic(auto, using(model::proofs::ExactAnswers::outcome_exact, model::proofs::ExactAnswers::one_outcome))]
+#[tactic(auto, using(model::proofs::Wire::ExactAnswers::outcome_exact, model::proofs::Wire::ExactAnswers::one_outcome))]
 pub fn outcomes_are_exact()
     ensures exact { Exact outcome }
     ensures one { OneSpelling outcome }

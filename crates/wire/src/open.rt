@@ -2,7 +2,7 @@
 
 ghost use Rattle.std.specs.Prelude.{◌≡◌};
 ghost use Rattle.xdr.specs.Clauses.{Scans};
-ghost use Rattle.model.specs.WireArguments.{claim, create_how, opening, open_arguments};
+ghost use Rattle.model.specs.Wire.WireArguments.{claim, create_how, opening, open_arguments};
 ghost use Rattle.wire.specs.ArgumentViews.{claim_view, exclusive_number, opening_view, open_view};
 
 use crate::small::{ANY_LENGTH, Attributes, MAX_OWNER_BYTES};

@@ -2,7 +2,7 @@
 
 ghost use Rattle.std.specs.Prelude.{◌≡◌, OnErr};
 ghost use Rattle.xdr.specs.Clauses.{Wrote};
-ghost use Rattle.model.specs.WireAnswers.{answer_told, behind_refusal, outcome};
+ghost use Rattle.model.specs.Wire.WireAnswers.{answer_told, behind_refusal, outcome};
 ghost use Rattle.wire.specs.Numbers.{number_of};
 ghost use Rattle.wire.specs.OutcomeView.{answer_view, outcome_view, done_text, refused_text};
 

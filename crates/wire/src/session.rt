@@ -3,8 +3,8 @@
 ghost use Rattle.std.specs.Prelude.{map};
 ghost use Rattle.xdr.specs.Clauses.{Scans, Reads};
 ghost use Rattle.xdr.specs.Forms.{array};
-ghost use Rattle.model.specs.WireTypes.{callback_security};
-ghost use Rattle.model.specs.WireArguments.{create_session_arguments, sequence_arguments};
+ghost use Rattle.model.specs.Wire.WireTypes.{callback_security};
+ghost use Rattle.model.specs.Wire.WireArguments.{create_session_arguments, sequence_arguments};
 ghost use Rattle.wire.specs.SmallViews.{security_view};
 ghost use Rattle.wire.specs.ArgumentViews.{create_session_view, sequence_view, ReadsSecurities};
 

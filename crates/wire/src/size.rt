@@ -1,8 +1,8 @@
 //! How many bytes results take.
 
 ghost use Rattle.std.specs.Prelude.{◌≡◌, ◌+◌, ◌<◌, ◌≤◌, ◌^◌, length, All};
-ghost use Rattle.model.specs.WireTypes.{attributes, channel};
-ghost use Rattle.model.specs.WireAnswers.{answer_told, behind_refusal, entry, outcome};
+ghost use Rattle.model.specs.Wire.WireTypes.{attributes, channel};
+ghost use Rattle.model.specs.Wire.WireAnswers.{answer_told, behind_refusal, entry, outcome};
 ghost use Rattle.wire.specs.SmallViews.{attributes_view, channel_view};
 ghost use Rattle.wire.specs.AnswerViews.{entry_view, chain_of, EntryFits};
 ghost use Rattle.wire.specs.OutcomeView.{answer_view, outcome_view};

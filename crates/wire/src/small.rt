@@ -4,8 +4,8 @@ ghost use Rattle.std.specs.Prelude.{◌≡◌, ◌≤◌, ◌<◌, ◌^◌, leng
 ghost use Rattle.xdr.specs.Clauses.{Scans, Wrote};
 ghost use Rattle.xdr.specs.Grammar.{unsigned_int};
 ghost use Rattle.xdr.specs.Forms.{is_trimmed, optional, trimmed_bitmap};
-ghost use Rattle.model.specs.Attribute.{trimmed};
-ghost use Rattle.model.specs.WireTypes.{state_id, attributes, change_info, channel, implementation, system_credential, callback_security};
+ghost use Rattle.model.specs.Attributes.Attribute.{trimmed};
+ghost use Rattle.model.specs.Wire.WireTypes.{state_id, attributes, change_info, channel, implementation, system_credential, callback_security};
 ghost use Rattle.wire.specs.SmallViews.{channel_rest, state_view, attributes_view, change_view, channel_view, implementation_view, credential_view, security_view};
 
 use model::acl::Gids;

@@ -9,10 +9,10 @@ use Rattle.xdr.specs.Clauses.{Written, Wrote}
 use Rattle.xdr.specs.Grammar.{number}
 use Rattle.xdr.specs.Forms.{counted, elements, padded, padding}
 use Rattle.xdr.proofs.Sizes.{counted_length, elements_length}
-use Rattle.model.specs.Attribute.{attributes_of, is_among, trimmed}
-use Rattle.model.specs.AttributeValue.{attribute_of, value_text}
-use Rattle.model.specs.NodeAttributes.{asked_values, common, supported_bitmap}
-use Rattle.model.specs.WireAnswers.{answered_attributes}
+use Rattle.model.specs.Attributes.Attribute.{attributes_of, is_among, trimmed}
+use Rattle.model.specs.Attributes.AttributeValue.{attribute_of, value_text}
+use Rattle.model.specs.Attributes.NodeAttributes.{asked_values, common, supported_bitmap}
+use Rattle.model.specs.Wire.WireAnswers.{answered_attributes}
 use Rattle.wire_attributes.specs.declared.attribute.Attribute.{Attribute}
 use Rattle.wire_attributes.specs.declared.attribute.Attribute.TheVariants as attribute
 use Rattle.wire_attributes.specs.declared.node.NodeAttributes.{NodeAttributes}

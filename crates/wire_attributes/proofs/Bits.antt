@@ -4,7 +4,7 @@ use Rattle.std.proofs.lemmas.List.{append-nil, append_assoc, map-append}
 use Rattle.std.proofs.lemmas.List.Elements.{filter-append}
 use Rattle.std.specs.List.{range_with_len}
 use Rattle.std.specs.Int.{bit_at}
-use Rattle.model.specs.Attribute.{attributes_of_word, attributes_from}
+use Rattle.model.specs.Attributes.Attribute.{attributes_of_word, attributes_from}
 
 -- the numbers of a range, one more
 range-more : (a n : ℕ) → range_with_len a (n + 1) ≡ range_with_len a n ++ (a + n) ∷ []

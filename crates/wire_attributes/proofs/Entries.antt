@@ -5,7 +5,7 @@ use Rattle.std.specs.Int.{w32}
 use Rattle.std.specs.List.{flat_map}
 use Rattle.xdr.specs.Grammar.{number}
 use Rattle.xdr.specs.Forms.{elements}
-use Rattle.model.specs.AttributeValue.{acl_entry}
+use Rattle.model.specs.Attributes.AttributeValue.{acl_entry}
 use Rattle.wire_attributes.specs.declared.entry.AclEntry.{AclEntry}
 use Rattle.wire_attributes.specs.Views.{entry_view, entry_spelling}
 

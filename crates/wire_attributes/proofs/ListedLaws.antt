@@ -6,9 +6,9 @@ use Rattle.xdr.specs.Grammar.{number}
 use Rattle.xdr.specs.Forms.{counted, elements}
 use Rattle.xdr.proofs.Sizes.{elements_length, counted_length}
 use Rattle.xdr.proofs.Numbers.{length-number_32, length-number_64}
-use Rattle.model.specs.Operation.{Attributes}
-use Rattle.model.specs.NodeAttributes.{unreadable}
-use Rattle.model.specs.WireAnswers.{answered_attributes, entry}
+use Rattle.model.specs.Operations.Operation.{Attributes}
+use Rattle.model.specs.Attributes.NodeAttributes.{unreadable}
+use Rattle.model.specs.Wire.WireAnswers.{answered_attributes, entry}
 use Rattle.wire_attributes.specs.declared.listed.ListedEntry.{ListedEntry}
 use Rattle.wire_attributes.specs.Listed.{entry_view, listed_view}
 

@@ -4,7 +4,7 @@ use Rattle.std.proofs.lemmas.List.{append-nil, drop_more, drop_all}
 use Rattle.xdr.specs.declared.refusal.Refusal.{Refusal}
 use Rattle.xdr.specs.Grammar.{◌>>=◌}
 use Rattle.xdr.proofs.Loops.{with_front}
-use Rattle.model.specs.AttributeValue.{Value, value_at, values_at}
+use Rattle.model.specs.Attributes.AttributeValue.{Value, value_at, values_at}
 
 regroup : (front : List Value) (v : Value) (read : Result (List Value × List ℕ) Refusal) → with_front front (read >>= λ x. Ok (v ∷ x.0, x.1)) ≡ with_front (front ++ v ∷ []) read
 regroup front v (Ok x) = ap (λ (vs : List Value). Ok (vs, x.1)) (simp append_assoc)

@@ -8,8 +8,8 @@ use Rattle.std.proofs.lemmas.Fmt.{decimal_is_IsNumeral, decimal_nonempty, first_
 use Rattle.std.proofs.lemmas.Str.{IsUtf8-from_ascii}
 use Rattle.std.proofs.lemmas.Str.Parse.{IsNumeralModel, numerals_by_value, tells_digits, not_in_digits, without_leading_plus_none}
 use Rattle.model.specs.declared.acl.Who.TheVariants as who
-use Rattle.model.specs.AclText.{number_in, numbered, who_in}
-use Rattle.model.proofs.AclTextLaws.{no_number, written_again}
+use Rattle.model.specs.Attributes.AclText.{number_in, numbered, who_in}
+use Rattle.model.proofs.Wire.AclTextLaws.{no_number, written_again}
 
 digits : IsNumeralModel (AllDigits 10) (digits_value 10)
 digits = numerals_by_value (AllDigits 10) tells_digits

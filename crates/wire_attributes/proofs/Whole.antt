@@ -2,8 +2,8 @@
 use Rattle.std.proofs.Common.{◌≡◌, ◌≢◌, ℕ, List, [], length, Result, Ok, Err, refl, sym, ap, ◌∙◌, eq-eqb, ne_eqb}
 use Rattle.std.specs.Prelude.{Some, None}
 use Rattle.xdr.specs.declared.refusal.Refusal.{Refusal}
-use Rattle.model.specs.AttributeValue.{Value, values, values_at, whole, whole_values}
-use Rattle.model.proofs.AttributeExact.{again}
+use Rattle.model.specs.Attributes.AttributeValue.{Value, values, values_at, whole, whole_values}
+use Rattle.model.proofs.Wire.AttributeExact.{again}
 
 pub no_values : (attributes bytes : List ℕ) (e : Refusal) → values_at attributes bytes ≡ Err e → (vs : List Value) → (values attributes).Fits vs → bytes ≢ (values attributes).spelling vs
 no_values attributes bytes e refused vs fits = λ is.

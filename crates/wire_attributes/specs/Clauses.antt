@@ -4,7 +4,7 @@ use Rattle.std.specs.Global.{Vec}
 use Rattle.xdr.specs.declared.refusal.Refusal.{Refusal}
 use Rattle.xdr.specs.declared.refusal.Refusal.TheVariants.{Memory}
 use Rattle.xdr.specs.Forms.{each_at}
-use Rattle.model.specs.AttributeValue as spec
+use Rattle.model.specs.Attributes.AttributeValue as spec
 use Rattle.wire_attributes.specs.declared.entry.AclEntry.{AclEntry}
 use Rattle.wire_attributes.specs.declared.value.Value.{Value}
 use Rattle.wire_attributes.specs.Views.{entry_view, value_view}

@@ -1,8 +1,8 @@
 -- An entry of a directory, as READDIR answers it.
 use Rattle.std.specs.Prelude.{◌≤◌, [], length}
-use Rattle.model.specs.Answer as answer
-use Rattle.model.specs.NodeAttributes.{unreadable}
-use Rattle.model.specs.Operation as operation
+use Rattle.model.specs.Operations.Answer as answer
+use Rattle.model.specs.Attributes.NodeAttributes.{unreadable}
+use Rattle.model.specs.Operations.Operation as operation
 use Rattle.wire_attributes.specs.declared.listed.ListedAttributes.{ListedAttributes}
 use Rattle.wire_attributes.specs.declared.listed.ListedAttributes.TheVariants as listed
 use Rattle.wire_attributes.specs.declared.listed.ListedEntry.{ListedEntry}

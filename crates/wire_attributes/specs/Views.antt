@@ -1,7 +1,7 @@
 -- The values of the code as those of the definitions.
 use Rattle.std.specs.Prelude.{ℕ, ◌<◌, ◌≤◌, ◌^◌, IsTrue, List, length, map, All}
 use Rattle.xdr.specs.Forms.{is_trimmed}
-use Rattle.model.specs.AttributeValue as spec
+use Rattle.model.specs.Attributes.AttributeValue as spec
 use Rattle.wire_attributes.specs.declared.entry.AclEntry.{AclEntry}
 use Rattle.wire_attributes.specs.declared.value.FileSystemId.{FileSystemId}
 use Rattle.wire_attributes.specs.declared.value.Time.{Time}

@@ -2,9 +2,9 @@
 
 ghost use Rattle.std.specs.Prelude.{◌≡◌, ◌+◌, ◌*◌, ◌%◌, ◌≤◌, ◌^◌, ◌++◌, length};
 ghost use Rattle.std.specs.List.{flat_map};
-ghost use Rattle.model.specs.Attribute.{attributes_of, is_among};
-ghost use Rattle.model.specs.NodeAttributes.{common, supported_bitmap};
-ghost use Rattle.model.specs.WireAnswers.{answered_attributes};
+ghost use Rattle.model.specs.Attributes.Attribute.{attributes_of, is_among};
+ghost use Rattle.model.specs.Attributes.NodeAttributes.{common, supported_bitmap};
+ghost use Rattle.model.specs.Wire.WireAnswers.{answered_attributes};
 ghost use Rattle.wire_attributes.specs.NodeValues.{HasFewEntries, answer_view, asked_text, every_attribute, number_of};
 ghost use Rattle.xdr.specs.Clauses.{Wrote};
 

@@ -1,7 +1,7 @@
 //! The numbers of the attributes that a bitmap names (RFC 8881, section 3.3.7).
 
 ghost use Rattle.std.specs.Prelude.{◌≡◌, ◌<◌, ◌≤◌, ◌++◌, length, IfOk, OnOk};
-ghost use Rattle.model.specs.Attribute.{attributes_of, attributes_of_word, is_among};
+ghost use Rattle.model.specs.Attributes.Attribute.{attributes_of, attributes_of_word, is_among};
 
 use std::alloc::{AllocError, Global};
 

@@ -3,7 +3,7 @@
 ghost use Rattle.std.specs.Prelude.{◌<◌, ◌^◌, length, map, All};
 ghost use Rattle.std.specs.List.{flat_map};
 ghost use Rattle.xdr.specs.Clauses.{Scans, Reads, Wrote};
-ghost use Rattle.model.specs.AttributeValue.{acl_entry, entries};
+ghost use Rattle.model.specs.Attributes.AttributeValue.{acl_entry, entries};
 ghost use Rattle.wire_attributes.specs.Views.{EntryFits, entry_spelling, entry_view};
 ghost use Rattle.wire_attributes.specs.Clauses.{ReadsEntries};
 

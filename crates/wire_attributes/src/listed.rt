@@ -1,8 +1,8 @@
 //! An entry of a directory, as READDIR answers it (RFC 8881, section 18.23).
 
 ghost use Rattle.std.specs.Prelude.{◌≡◌, ◌≤◌, ◌^◌, [], length};
-ghost use Rattle.model.specs.NodeAttributes.{unreadable};
-ghost use Rattle.model.specs.WireAnswers.{answered_attributes, entry};
+ghost use Rattle.model.specs.Attributes.NodeAttributes.{unreadable};
+ghost use Rattle.model.specs.Wire.WireAnswers.{answered_attributes, entry};
 ghost use Rattle.wire_attributes.specs.Listed.{EntryFits, ListedFits, entry_view, listed_view};
 ghost use Rattle.xdr.specs.Clauses.{Wrote};
 

@@ -4,9 +4,9 @@
 ghost use Rattle.std.specs.Prelude.{◌≡◌, ◌%◌, ◌≤◌, length, map};
 ghost use Rattle.std.specs.Int.{w32};
 ghost use Rattle.std.specs.List.{flat_map};
-ghost use Rattle.model.specs.AclText.{entry_text, who_text};
-ghost use Rattle.model.specs.AttributeValue.{acl_entry, file_system_id, node_kind, time};
-ghost use Rattle.model.specs.NodeAttributes.{time_of};
+ghost use Rattle.model.specs.Attributes.AclText.{entry_text, who_text};
+ghost use Rattle.model.specs.Attributes.AttributeValue.{acl_entry, file_system_id, node_kind, time};
+ghost use Rattle.model.specs.Attributes.NodeAttributes.{time_of};
 ghost use Rattle.model.specs.declared.acl.Who.TheVariants as who;
 ghost use Rattle.wire_attributes.specs.NodeValues.{HasFewEntries, value_spelled};
 ghost use Rattle.xdr.specs.Clauses.{Wrote};

@@ -2,7 +2,7 @@
 
 ghost use Rattle.std.specs.Prelude.{◌≡◌, ◌<◌};
 ghost use Rattle.xdr.specs.Clauses.{Scans, Reads, Wrote};
-ghost use Rattle.model.specs.AttributeValue.{attribute_of, file_system_id, node_kind, time, value_at};
+ghost use Rattle.model.specs.Attributes.AttributeValue.{attribute_of, file_system_id, node_kind, time, value_at};
 ghost use Rattle.wire_attributes.specs.Views.{ValueFits, file_system_view, time_view, value_spelling, value_view};
 
 use crate::entry::{AclEntry, read_entries, write_entries};
@@ -159,7 +159,7 @@ impl<'a> Value<'a> {
     }
 
     /// Reads the value of the attribute of this number.
-    #[tactic(auto, unfolding(model::specs::AttributeValue::value_at))]
+    #[tactic(auto, unfolding(model::specs::Attributes::AttributeValue::value_at))]
     pub(crate) fn read(
         alloc: Global,
         attribute: u32,

@@ -4,7 +4,7 @@ ghost use Rattle.std.specs.Prelude.{◌≡◌, OnErr, All};
 ghost use Rattle.std.specs.List.{flat_map};
 ghost use Rattle.xdr.specs.Clauses.{Wrote};
 ghost use Rattle.xdr.specs.Laws.{IsBytes};
-ghost use Rattle.model.specs.Attribute.{attributes_of};
+ghost use Rattle.model.specs.Attributes.Attribute.{attributes_of};
 ghost use Rattle.wire_attributes.specs.Views.{ValueFits, value_spelling};
 ghost use Rattle.wire_attributes.specs.Clauses.{AreRead, AreValues, ReadsValues};
 
@@ -17,7 +17,7 @@ use xdr::{Reader, Refusal, Writer};
 /// The values of the attributes of these numbers, where the bytes are exactly they.
 ///
 /// A refusal is `Short`, `Value` or `Long` where the bytes are no such values, and `Memory`.
-#[tactic(auto, using(model::proofs::AttributeExact::are_values, crate::proofs::Whole::no_values, crate::proofs::Whole::too_many_bytes, crate::proofs::Whole::read_whole, crate::proofs::Whole::no_whole, crate::proofs::Whole::not_whole))]
+#[tactic(auto, using(model::proofs::Wire::AttributeExact::are_values, crate::proofs::Whole::no_values, crate::proofs::Whole::too_many_bytes, crate::proofs::Whole::read_whole, crate::proofs::Whole::no_whole, crate::proofs::Whole::not_whole))]
 pub fn read_values<'a>(
     alloc: Global,
     attributes: &[u32],

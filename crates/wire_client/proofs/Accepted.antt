@@ -6,13 +6,13 @@ use Rattle.xdr.specs.declared.refusal.Refusal.TheVariants.{Value}
 use Rattle.xdr.specs.Laws.{IsBytes}
 use Rattle.xdr.specs.Clauses.{Reads, Accepts}
 use Rattle.xdr.proofs.Accepting.{accepts}
-use Rattle.model.specs.WireAnswers.{outcome}
+use Rattle.model.specs.Wire.WireAnswers.{outcome}
 use Rattle.wire.specs.declared.argument.Operation.{Operation}
 use Rattle.wire.specs.declared.argument.Operation.TheVariants as operation
 use Rattle.wire.specs.declared.outcome.Outcome.{Outcome}
 use Rattle.wire.specs.Numbers.{number_of}
 use Rattle.wire.specs.OutcomeView.{outcome_view}
-use Rattle.model.proofs.ExactAnswers.{outcome_exact}
+use Rattle.model.proofs.Wire.ExactAnswers.{outcome_exact}
 use Rattle.wire_client.specs.Reading.{answers_at}
 
 pub outcome_accepted : (old new : List ℕ) (result : Result Outcome Refusal) → IsBytes old → Reads outcome_view outcome.read old new result → Accepts outcome_view outcome old new result

@@ -5,8 +5,8 @@ use Rattle.std.specs.Option.{option_map}
 use Rattle.std.specs.List.{AllByRecursion}
 use Rattle.std.proofs.lemmas.List.Elements.{All-from_recursion}
 use Rattle.xdr.specs.Forms.{OptionalFits}
-use Rattle.model.specs.WireTypes.{implementation, callback_security}
-use Rattle.model.specs.WireArguments.{argument, claim, create_arguments, opening}
+use Rattle.model.specs.Wire.WireTypes.{implementation, callback_security}
+use Rattle.model.specs.Wire.WireArguments.{argument, claim, create_arguments, opening}
 use Rattle.wire.specs.declared.small.Implementation.{Implementation}
 use Rattle.wire.specs.declared.small.CallbackSecurity.{CallbackSecurity}
 use Rattle.wire.specs.declared.small.CallbackSecurity.TheVariants as security

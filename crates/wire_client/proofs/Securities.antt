@@ -5,7 +5,7 @@ use Rattle.std.specs.Int.{w32}
 use Rattle.std.specs.List.{flat_map}
 use Rattle.xdr.specs.Grammar.{number}
 use Rattle.xdr.specs.Forms.{elements}
-use Rattle.model.specs.WireTypes.{callback_security}
+use Rattle.model.specs.Wire.WireTypes.{callback_security}
 use Rattle.wire.specs.declared.small.CallbackSecurity.{CallbackSecurity}
 use Rattle.wire.specs.SmallViews.{security_view}
 use Rattle.wire_client.specs.Reading.{security_text}

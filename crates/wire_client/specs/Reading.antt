@@ -4,9 +4,9 @@ use Rattle.std.specs.Global.{Vec}
 use Rattle.xdr.specs.declared.refusal.Refusal.{Refusal}
 use Rattle.xdr.specs.declared.refusal.Refusal.TheVariants.{Memory}
 use Rattle.xdr.specs.Forms.{links_at}
-use Rattle.model.specs.Answer.{Answer}
-use Rattle.model.specs.WireTypes.{callback_security}
-use Rattle.model.specs.WireAnswers.{answer_choice, entry}
+use Rattle.model.specs.Operations.Answer.{Answer}
+use Rattle.model.specs.Wire.WireTypes.{callback_security}
+use Rattle.model.specs.Wire.WireAnswers.{answer_choice, entry}
 use Rattle.wire.specs.declared.small.CallbackSecurity.{CallbackSecurity}
 use Rattle.wire.specs.declared.answers.Entry.{Entry}
 use Rattle.wire.specs.SmallViews.{security_view}

@@ -4,8 +4,8 @@ use Rattle.std.specs.Option.{option_map}
 use Rattle.std.specs.Int.{w32}
 use Rattle.xdr.specs.Grammar.{◌&◌, number, unsigned_int, unsigned_hyper}
 use Rattle.xdr.specs.Forms.{always, array, bitmap, boolean, optional}
-use Rattle.model.specs.WireTypes.{attributes, channel, callback_security, implementation, owner_id}
-use Rattle.model.specs.WireArguments.{claim, opening}
+use Rattle.model.specs.Wire.WireTypes.{attributes, channel, callback_security, implementation, owner_id}
+use Rattle.model.specs.Wire.WireArguments.{claim, opening}
 use Rattle.wire.specs.declared.small.Attributes.{Attributes}
 use Rattle.wire.specs.declared.small.SystemCredential.{SystemCredential}
 use Rattle.wire.specs.declared.directory.ReadDirArguments.{ReadDirArguments}

@@ -3,7 +3,7 @@
 ghost use Rattle.std.specs.Prelude.{map};
 ghost use Rattle.xdr.specs.Clauses.{Scans, Reads};
 ghost use Rattle.xdr.specs.Forms.{chain};
-ghost use Rattle.model.specs.WireAnswers.{access_answer, create_answer, open_answer, read_answer, entry, read_dir_answer, rename_answer, write_answer, exchange_id_answer, create_session_answer, sequence_answer};
+ghost use Rattle.model.specs.Wire.WireAnswers.{access_answer, create_answer, open_answer, read_answer, entry, read_dir_answer, rename_answer, write_answer, exchange_id_answer, create_session_answer, sequence_answer};
 ghost use Rattle.wire.specs.AnswerViews.{access_view, create_view, open_view, read_view, entry_view, read_dir_view, rename_view, write_view, exchange_id_view, create_session_view, sequence_view};
 ghost use Rattle.wire_client.specs.Reading.{ReadsEntries};
 

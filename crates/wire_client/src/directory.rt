@@ -1,7 +1,7 @@
 //! Arguments of the operations on directories (RFC 8881, section 18).
 
 ghost use Rattle.xdr.specs.Clauses.{Wrote};
-ghost use Rattle.model.specs.WireArguments.{read_dir_arguments, rename_arguments, create_arguments};
+ghost use Rattle.model.specs.Wire.WireArguments.{read_dir_arguments, rename_arguments, create_arguments};
 ghost use Rattle.wire.specs.ArgumentViews.{read_dir_view, rename_view, create_view};
 ghost use Rattle.wire_client.specs.Rests.{read_dir_rest};
 ghost use Rattle.wire_client.specs.ArgumentFits.{CreateFits, RenameFits};

@@ -1,7 +1,7 @@
 //! Arguments of the operations on files and their attributes (RFC 8881, section 18).
 
 ghost use Rattle.xdr.specs.Clauses.{Wrote};
-ghost use Rattle.model.specs.WireArguments.{close_arguments, commit_arguments, read_arguments, write_arguments, set_attr_arguments};
+ghost use Rattle.model.specs.Wire.WireArguments.{close_arguments, commit_arguments, read_arguments, write_arguments, set_attr_arguments};
 ghost use Rattle.wire.specs.ArgumentViews.{close_view, commit_view, read_view, write_view, set_attr_view};
 ghost use Rattle.wire_client.specs.ArgumentFits.{AttributesFit, WriteFits};
 

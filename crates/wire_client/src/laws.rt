@@ -1,6 +1,6 @@
 //! What can be written.
 
-ghost use Rattle.model.specs.WireArguments.{argument};
+ghost use Rattle.model.specs.Wire.WireArguments.{argument};
 ghost use Rattle.wire.specs.declared.argument.Argument.{Argument};
 ghost use Rattle.wire.specs.ArgumentView.{argument_view};
 ghost use Rattle.wire_client.specs.ArgumentFits.{ArgumentFits};

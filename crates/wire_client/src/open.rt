@@ -1,7 +1,7 @@
 //! Arguments of OPEN (RFC 8881, section 18.16).
 
 ghost use Rattle.xdr.specs.Clauses.{Wrote};
-ghost use Rattle.model.specs.WireArguments.{claim, opening, open_arguments};
+ghost use Rattle.model.specs.Wire.WireArguments.{claim, opening, open_arguments};
 ghost use Rattle.wire.specs.ArgumentViews.{claim_view, opening_view, open_view};
 ghost use Rattle.wire_client.specs.Rests.{open_rest, opens_text, created_text};
 ghost use Rattle.wire_client.specs.ArgumentFits.{AttributesFit, ClaimFits, OpeningFits, OpenTypeFits, OpenFits};

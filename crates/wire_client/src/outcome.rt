@@ -2,7 +2,7 @@
 
 ghost use Rattle.xdr.specs.Clauses.{Accepts, Scans, Reads};
 ghost use Rattle.xdr.specs.Laws.{IsBytes};
-ghost use Rattle.model.specs.WireAnswers.{outcome, refusal_of, refused_by};
+ghost use Rattle.model.specs.Wire.WireAnswers.{outcome, refusal_of, refused_by};
 ghost use Rattle.wire.specs.Numbers.{number_of};
 ghost use Rattle.wire.specs.OutcomeView.{answer_view, outcome_view};
 ghost use Rattle.wire_client.specs.Reading.{answers_at};
@@ -29,7 +29,7 @@ pub fn read_outcome<'a>(alloc: Global, r: &mut Reader<'a>) -> Result<Outcome<'a>
     read_numbered(alloc, r)
 }
 
-#[tactic(auto, unfolding(model::specs::WireAnswers::outcome_at, crate::specs::Reading::answers_at))]
+#[tactic(auto, unfolding(model::specs::Wire::WireAnswers::outcome_at, crate::specs::Reading::answers_at))]
 fn read_numbered<'a>(alloc: Global, r: &mut Reader<'a>) -> Result<Outcome<'a>, Refusal>
     ensures reads { Reads outcome_view (outcome.read) r.old r.new result }
     ensures bytes { IsBytes r.old }

@@ -3,8 +3,8 @@
 ghost use Rattle.std.specs.Option.{option_map};
 ghost use Rattle.xdr.specs.Clauses.{Scans, Wrote};
 ghost use Rattle.xdr.specs.Forms.{optional};
-ghost use Rattle.model.specs.WireTypes.{change_info, implementation, system_credential, callback_security};
-ghost use Rattle.model.specs.WireAnswers.{answered_attributes};
+ghost use Rattle.model.specs.Wire.WireTypes.{change_info, implementation, system_credential, callback_security};
+ghost use Rattle.model.specs.Wire.WireAnswers.{answered_attributes};
 ghost use Rattle.wire.specs.SmallViews.{attributes_view, change_view, implementation_view, credential_view, security_view};
 ghost use Rattle.wire_client.specs.Rests.{credential_rest};
 ghost use Rattle.wire_client.specs.ArgumentFits.{ImplementationFits, MaybeImplementationFits, CredentialFits, SecurityFits};

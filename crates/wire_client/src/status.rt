@@ -1,8 +1,8 @@
 //! The statuses by their numbers (RFC 8881, section 15.1).
 
 ghost use Rattle.std.specs.Prelude.{◌≡◌, ◌==◌, find};
-ghost use Rattle.model.specs.Status.{code_of};
-ghost use Rattle.model.specs.WireAnswers.{refusal_of};
+ghost use Rattle.model.specs.Operations.Status.{code_of};
+ghost use Rattle.model.specs.Wire.WireAnswers.{refusal_of};
 
 use model::status::Status;
 

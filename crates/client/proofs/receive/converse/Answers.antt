@@ -1,7 +1,7 @@
 use Rattle.std.proofs.Common.{◌≡◌, ℕ, ◌+◌, ◌^◌, List, [], ◌++◌, take, drop, inl, inr, refl, sym, ap, ◌∙◌, rules}
 use Rattle.std.specs.Int.{w32, to_be_bytes}
 use Rattle.std.proofs.KnownBytes.{Consumes-nil}
-use Rattle.model.specs.Record.{framed}
+use Rattle.model.specs.Wire.Record.{framed}
 use Rattle.client.proofs.Receiving.{none_yet, lent, put_length, headed}
 use Rattle.client.proofs.receive.converse.Goals as goal
 

@@ -3,7 +3,7 @@ use Rattle.std.proofs.lemmas.Result.{err_from_is_err_and}
 use Rattle.std.proofs.lemmas.List.{map_push}
 use Rattle.xdr.specs.Forms.{each_at}
 use Rattle.xdr.proofs.Loops.{goes_on, ends, is_done}
-use Rattle.model.specs.WireAnswers.{outcome}
+use Rattle.model.specs.Wire.WireAnswers.{outcome}
 use Rattle.wire.specs.OutcomeView.{outcome_view}
 use Rattle.client.proofs.results.each_outcome.Goals as goal
 

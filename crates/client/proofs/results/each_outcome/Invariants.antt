@@ -1,7 +1,7 @@
 use Rattle.std.proofs.Common.{map, ◌≡◌, ◌-◌}
 use Rattle.xdr.specs.Forms.{each_at}
 use Rattle.xdr.proofs.Loops.{with_front}
-use Rattle.model.specs.WireAnswers.{outcome}
+use Rattle.model.specs.Wire.WireAnswers.{outcome}
 use Rattle.wire.specs.OutcomeView.{outcome_view}
 use Rattle.client.proofs.results.each_outcome.Given as goal
 

@@ -1,8 +1,8 @@
 use Rattle.std.proofs.Common.{◌≡◌, ◌++◌, ◌∙◌, ℕ, List, ap, false}
 use Rattle.std.specs.Prelude.{map}
 use Rattle.std.specs.Option.{option_map}
-use Rattle.model.specs.Operation.{operation_of}
-use Rattle.model.specs.Record.{framed}
+use Rattle.model.specs.Operations.Operation.{operation_of}
+use Rattle.model.specs.Wire.Record.{framed}
 use Rattle.wire.specs.ArgumentView.{argument_view}
 use Rattle.client.specs.Client.{Sent}
 use Rattle.client.specs.Requests.{behind, call_text, record_text}

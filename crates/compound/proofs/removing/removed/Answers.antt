@@ -1,5 +1,5 @@
 use Rattle.std.proofs.Common.{arith}
-use Rattle.model.specs.World.{outcome_text}
+use Rattle.model.specs.Server.World.{outcome_text}
 use Rattle.compound.proofs.removing.removed.Goals as goal
 
 pub returns-clause-small : goal.returns-clause-small

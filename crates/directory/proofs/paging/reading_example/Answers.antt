@@ -1,12 +1,12 @@
 use Rattle.std.proofs.Common.{ℕ, true, false, List, [], ◌∷◌, ◌≡◌, replicate, refl, arith}
-use Rattle.model.specs.Answer.{Answer, Outcome, ReadDirAnswer}
-use Rattle.model.specs.FileExamples.{fresh, three, three_others, make, list_from, shown}
-use Rattle.model.specs.Operation.{Argument}
-use Rattle.model.specs.Step.{State, does}
-use Rattle.model.specs.StepExamples.{volume, outcomes, state_after}
-use Rattle.model.specs.StepLaws.{IsSound}
-use Rattle.model.proofs.LimitLaws.{modes_keep_limits, inheritance_keeps_limits}
-use Rattle.model.proofs.StepProofs.{every_step, runs_begin}
+use Rattle.model.specs.Operations.Answer.{Answer, Outcome, ReadDirAnswer}
+use Rattle.model.specs.Examples.FileExamples.{fresh, three, three_others, make, list_from, shown}
+use Rattle.model.specs.Operations.Operation.{Argument}
+use Rattle.model.specs.Operations.Step.{State, does}
+use Rattle.model.specs.Examples.StepExamples.{volume, outcomes, state_after}
+use Rattle.model.specs.Operations.StepLaws.{IsSound}
+use Rattle.model.proofs.Rights.LimitLaws.{modes_keep_limits, inheritance_keeps_limits}
+use Rattle.model.proofs.Operations.StepProofs.{every_step, runs_begin}
 use Rattle.directory.specs.Readings.{Reading}
 use Rattle.directory.proofs.paging.reading_example.Goals as goal
 

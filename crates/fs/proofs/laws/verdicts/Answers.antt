@@ -1,5 +1,5 @@
 use Rattle.std.proofs.Common.{refl}
-use Rattle.model.specs.StateIds.{found, opened}
+use Rattle.model.specs.Sessions.StateIds.{found, opened}
 use Rattle.fs.proofs.VerdictLaws.{each_is_got, each_setting_is_meant, each_write_is_meant, only_possible}
 use Rattle.fs.proofs.laws.verdicts.Goals as goal
 

@@ -1,4 +1,4 @@
-use Rattle.model.proofs.LimitLaws.{creation_keeps_limits}
+use Rattle.model.proofs.Rights.LimitLaws.{creation_keeps_limits}
 use Rattle.model.proofs.acl_laws.creation_keeps_limits.Goals as goal
 
 pub returns : goal.returns

@@ -1,4 +1,4 @@
-use Rattle.model.proofs.LimitLaws.{inheritance_keeps_limits}
+use Rattle.model.proofs.Rights.LimitLaws.{inheritance_keeps_limits}
 use Rattle.model.proofs.acl_laws.inheritance_keeps_limits.Goals as goal
 
 pub returns : goal.returns

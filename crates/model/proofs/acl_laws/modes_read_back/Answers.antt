@@ -1,4 +1,4 @@
-use Rattle.model.proofs.ModeLaws.{modes_read_back}
+use Rattle.model.proofs.Rights.ModeLaws.{modes_read_back}
 use Rattle.model.proofs.acl_laws.modes_read_back.Goals as goal
 
 pub returns : goal.returns

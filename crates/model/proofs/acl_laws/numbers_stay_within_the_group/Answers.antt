@@ -1,4 +1,4 @@
-use Rattle.model.proofs.NumberLaws.{numbers_stay_within_the_group}
+use Rattle.model.proofs.Rights.NumberLaws.{numbers_stay_within_the_group}
 use Rattle.model.proofs.acl_laws.numbers_stay_within_the_group.Goals as goal
 
 pub returns : goal.returns

@@ -1,4 +1,4 @@
-use Rattle.model.proofs.LimitLaws.{set_lists_are_within_limits}
+use Rattle.model.proofs.Rights.LimitLaws.{set_lists_are_within_limits}
 use Rattle.model.proofs.acl_laws.set_lists_are_within_limits.Goals as goal
 
 pub returns : goal.returns

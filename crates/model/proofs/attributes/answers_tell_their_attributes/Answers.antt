@@ -1,4 +1,4 @@
-use Rattle.model.proofs.NodeAttributeLaws.{answers_asked}
+use Rattle.model.proofs.Operations.NodeAttributeLaws.{answers_asked}
 use Rattle.model.proofs.attributes.answers_tell_their_attributes.Goals as goal
 
 pub returns : goal.returns

@@ -1,4 +1,4 @@
-use Rattle.model.proofs.AclTextLaws.{reads_numbers, reads_names, reads_entries, writes_entries}
+use Rattle.model.proofs.Wire.AclTextLaws.{reads_numbers, reads_names, reads_entries, writes_entries}
 use Rattle.model.proofs.attributes.texts_are_exact.Goals as goal
 
 pub returns-clause-numbers : goal.returns-clause-numbers

@@ -1,4 +1,4 @@
-use Rattle.model.proofs.AttributeExact.{values_exact, one_values, reads_whole}
+use Rattle.model.proofs.Wire.AttributeExact.{values_exact, one_values, reads_whole}
 use Rattle.model.proofs.attributes.values_are_exact.Goals as goal
 
 pub returns-clause-exact : goal.returns-clause-exact

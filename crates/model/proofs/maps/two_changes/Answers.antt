@@ -1,5 +1,5 @@
-use Rattle.model.proofs.KeyedChanges.{changes_meet}
-use Rattle.model.specs.Tree.{Node, DirEntry}
+use Rattle.model.proofs.Trees.KeyedChanges.{changes_meet}
+use Rattle.model.specs.Trees.Tree.{Node, DirEntry}
 use Rattle.model.proofs.maps.two_changes.Goals as goal
 
 pub returns-clause-nodes : goal.returns-clause-nodes

@@ -1,4 +1,4 @@
-use Rattle.model.proofs.RpcExact.{call_head_exact, one_call_head, reads_calls, reads_credentials}
+use Rattle.model.proofs.Wire.RpcExact.{call_head_exact, one_call_head, reads_calls, reads_credentials}
 use Rattle.model.proofs.rpc.calls_are_exact.Goals as goal
 
 pub returns-clause-exact : goal.returns-clause-exact

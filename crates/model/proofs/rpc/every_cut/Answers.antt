@@ -1,4 +1,4 @@
-use Rattle.model.proofs.RecordLaws.{every_cut}
+use Rattle.model.proofs.Wire.RecordLaws.{every_cut}
 use Rattle.model.proofs.rpc.every_cut.Goals as goal
 
 pub returns : goal.returns

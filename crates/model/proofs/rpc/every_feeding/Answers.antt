@@ -1,4 +1,4 @@
-use Rattle.model.proofs.FeedingLaws.{every_feeding}
+use Rattle.model.proofs.Wire.FeedingLaws.{every_feeding}
 use Rattle.model.proofs.rpc.every_feeding.Goals as goal
 
 pub returns : goal.returns

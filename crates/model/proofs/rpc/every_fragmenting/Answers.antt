@@ -1,4 +1,4 @@
-use Rattle.model.proofs.RecordLaws.{every_fragmenting}
+use Rattle.model.proofs.Wire.RecordLaws.{every_fragmenting}
 use Rattle.model.proofs.rpc.every_fragmenting.Goals as goal
 
 pub returns : goal.returns

@@ -1,4 +1,4 @@
-use Rattle.model.proofs.RpcExact.{reply_head_exact, one_reply_head, reads_replies}
+use Rattle.model.proofs.Wire.RpcExact.{reply_head_exact, one_reply_head, reads_replies}
 use Rattle.model.proofs.rpc.replies_are_exact.Goals as goal
 
 pub returns-clause-exact : goal.returns-clause-exact

@@ -1,5 +1,5 @@
-use Rattle.model.proofs.ResultLaws.{result_exact, one_result, spells_results}
-use Rattle.model.proofs.ResultRuns.{every_request_has_results}
+use Rattle.model.proofs.Wire.ResultLaws.{result_exact, one_result, spells_results}
+use Rattle.model.proofs.Server.ResultRuns.{every_request_has_results}
 use Rattle.model.proofs.rpc.results_are_exact.Goals as goal
 
 pub returns-clause-exact : goal.returns-clause-exact

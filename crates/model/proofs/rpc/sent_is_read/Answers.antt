@@ -1,4 +1,4 @@
-use Rattle.model.proofs.RecordLaws.{sent_is_read}
+use Rattle.model.proofs.Wire.RecordLaws.{sent_is_read}
 use Rattle.model.proofs.rpc.sent_is_read.Goals as goal
 
 pub returns : goal.returns

@@ -1,8 +1,8 @@
-use Rattle.model.proofs.SeatLives.{every_seat_stays, every_run_can_follow, every_number_once, every_reply_stays_held}
-use Rattle.model.proofs.SeatRunLaws.{every_reply_is_held, every_dead_session}
-use Rattle.model.proofs.SeatReplies.{every_reply_is_stored}
-use Rattle.model.proofs.SeatsFreed.{every_freeing_is_asked}
-use Rattle.model.proofs.SeatsSit.{every_session_sits}
+use Rattle.model.proofs.Sessions.SeatLives.{every_seat_stays, every_run_can_follow, every_number_once, every_reply_stays_held}
+use Rattle.model.proofs.Sessions.SeatRunLaws.{every_reply_is_held, every_dead_session}
+use Rattle.model.proofs.Sessions.SeatReplies.{every_reply_is_stored}
+use Rattle.model.proofs.Sessions.SeatsFreed.{every_freeing_is_asked}
+use Rattle.model.proofs.Sessions.SeatsSit.{every_session_sits}
 use Rattle.model.proofs.runs.every_life.Goals as goal
 
 pub returns-clause-held : goal.returns-clause-held

@@ -1,4 +1,4 @@
-use Rattle.model.proofs.StateIdRuns.{every_state_id_goes_on, joins_counted, every_other_run_refuses}
+use Rattle.model.proofs.Sessions.StateIdRuns.{every_state_id_goes_on, joins_counted, every_other_run_refuses}
 use Rattle.model.proofs.runs.every_stateid_goes_on.Goals as goal
 
 pub returns : goal.returns

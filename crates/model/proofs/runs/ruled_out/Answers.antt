@@ -1,4 +1,4 @@
-use Rattle.model.proofs.RuledOutLaws.{no_skip, no_early_reply, no_taking_back, no_second_run, no_forgetting, no_gap, one_a_turn, ends_by_holding, hangs_up_last, hang_up_is_events}
+use Rattle.model.proofs.Server.RuledOutLaws.{no_skip, no_early_reply, no_taking_back, no_second_run, no_forgetting, no_gap, one_a_turn, ends_by_holding, hangs_up_last, hang_up_is_events}
 use Rattle.model.proofs.runs.ruled_out.Goals as goal
 
 pub returns-clause-skip : goal.returns-clause-skip

@@ -1,4 +1,4 @@
-use Rattle.model.proofs.TableCalls.{every_table}
+use Rattle.model.proofs.Sessions.TableCalls.{every_table}
 use Rattle.model.proofs.session.every_table.Goals as goal
 
 pub returns : goal.returns

@@ -1,4 +1,4 @@
-use Rattle.model.proofs.SoundLaws.{every_run_keeps_opens}
+use Rattle.model.proofs.Server.SoundLaws.{every_run_keeps_opens}
 use Rattle.model.proofs.sound.every_run_keeps_opens.Goals as goal
 
 pub returns : goal.returns

@@ -1,4 +1,4 @@
-use Rattle.model.proofs.GivenLaws.{every_stamp_is_given}
+use Rattle.model.proofs.Operations.GivenLaws.{every_stamp_is_given}
 use Rattle.model.proofs.sound.every_stamp_is_given.Goals as goal
 
 pub returns : goal.returns

@@ -1,4 +1,4 @@
-use Rattle.model.proofs.PageLaws.{every_page}
+use Rattle.model.proofs.Operations.PageLaws.{every_page}
 use Rattle.model.proofs.step.every_page.Goals as goal
 
 pub returns : goal.returns

@@ -1,4 +1,4 @@
-use Rattle.model.proofs.StepProofs.{runs_begin}
+use Rattle.model.proofs.Operations.StepProofs.{runs_begin}
 use Rattle.model.proofs.step.every_run_begins.Goals as goal
 
 pub returns : goal.returns

@@ -1,4 +1,4 @@
-use Rattle.model.proofs.StateIdLaws.{newest, lower, joined_old, not_own, other_run, ended}
+use Rattle.model.proofs.Sessions.StateIdLaws.{newest, lower, joined_old, not_own, other_run, ended}
 use Rattle.model.proofs.step.every_stateid.Goals as goal
 
 pub returns : goal.returns

@@ -1,5 +1,5 @@
-use Rattle.model.proofs.LimitLaws.{modes_keep_limits, inheritance_keeps_limits}
-use Rattle.model.proofs.StepProofs.{every_step}
+use Rattle.model.proofs.Rights.LimitLaws.{modes_keep_limits, inheritance_keeps_limits}
+use Rattle.model.proofs.Operations.StepProofs.{every_step}
 use Rattle.model.proofs.step.every_step.Goals as goal
 
 pub returns : goal.returns

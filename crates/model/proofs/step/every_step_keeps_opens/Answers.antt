@@ -1,5 +1,5 @@
-use Rattle.model.proofs.LimitLaws.{modes_keep_limits, inheritance_keeps_limits}
-use Rattle.model.proofs.OpensSteps.{every_step_keeps}
+use Rattle.model.proofs.Rights.LimitLaws.{modes_keep_limits, inheritance_keeps_limits}
+use Rattle.model.proofs.Sessions.OpensSteps.{every_step_keeps}
 use Rattle.model.proofs.step.every_step_keeps_opens.Goals as goal
 
 pub returns : goal.returns

@@ -1,15 +1,15 @@
 use Rattle.xdr.specs.Forms as X
 use Rattle.std.proofs.Common.{refl}
 use Rattle.xdr.specs.Grammar.{number_at}
-use Rattle.model.specs.Acl.{first_of, granted}
-use Rattle.model.specs.Attribute.{attributes_of, attribute_refusals}
-use Rattle.model.specs.AttributeValue.{value_at, values_at}
-use Rattle.model.specs.Charge.{fits}
-use Rattle.model.specs.Inherit.{inherited}
-use Rattle.model.specs.Mode.{moded}
-use Rattle.model.specs.Name.{name_refusals}
-use Rattle.model.specs.Need.{permitted}
-use Rattle.model.specs.Step.{refusals, effect, does}
+use Rattle.model.specs.Rights.Acl.{first_of, granted}
+use Rattle.model.specs.Attributes.Attribute.{attributes_of, attribute_refusals}
+use Rattle.model.specs.Attributes.AttributeValue.{value_at, values_at}
+use Rattle.model.specs.Trees.Charge.{fits}
+use Rattle.model.specs.Rights.Inherit.{inherited}
+use Rattle.model.specs.Rights.Mode.{moded}
+use Rattle.model.specs.Attributes.Name.{name_refusals}
+use Rattle.model.specs.Rights.Need.{permitted}
+use Rattle.model.specs.Operations.Step.{refusals, effect, does}
 use Rattle.std.specs.Char.{encode_utf8}
 use Rattle.std.specs.Str.{is_utf8, chars}
 use Rattle.model.proofs.step.examples.Goals as goal

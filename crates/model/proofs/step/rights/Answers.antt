@@ -2,19 +2,19 @@ use Rattle.std.proofs.Common.{refl}
 use Rattle.std.specs.Fmt.{digits}
 use Rattle.xdr.specs.Forms.{counted, padded, elements, elements_at, each_at, counted_at, padded_at}
 use Rattle.xdr.specs.Grammar.{number, number_at}
-use Rattle.model.specs.Acl.{first_of, granted}
-use Rattle.model.specs.AclText.{number_in, who_in, ace_in}
-use Rattle.model.specs.Attribute.{attributes_of, attribute_refusals}
-use Rattle.model.specs.AttributeValue.{value_at, values_at}
-use Rattle.model.specs.Charge.{fits}
-use Rattle.model.specs.Inherit.{inherited}
-use Rattle.model.specs.Mode.{moded}
-use Rattle.model.specs.Name.{name_refusals}
-use Rattle.model.specs.Need.{permitted}
-use Rattle.model.specs.NodeAttributes.{node_attributes}
-use Rattle.model.specs.ReadDir.{page}
-use Rattle.model.specs.StateIds.{found, opened}
-use Rattle.model.specs.Step.{refusals, effect, does}
+use Rattle.model.specs.Rights.Acl.{first_of, granted}
+use Rattle.model.specs.Attributes.AclText.{number_in, who_in, ace_in}
+use Rattle.model.specs.Attributes.Attribute.{attributes_of, attribute_refusals}
+use Rattle.model.specs.Attributes.AttributeValue.{value_at, values_at}
+use Rattle.model.specs.Trees.Charge.{fits}
+use Rattle.model.specs.Rights.Inherit.{inherited}
+use Rattle.model.specs.Rights.Mode.{moded}
+use Rattle.model.specs.Attributes.Name.{name_refusals}
+use Rattle.model.specs.Rights.Need.{permitted}
+use Rattle.model.specs.Attributes.NodeAttributes.{node_attributes}
+use Rattle.model.specs.Operations.ReadDir.{page}
+use Rattle.model.specs.Sessions.StateIds.{found, opened}
+use Rattle.model.specs.Operations.Step.{refusals, effect, does}
 use Rattle.std.specs.Char.{encode_utf8}
 use Rattle.std.specs.Str.{is_utf8, chars}
 use Rattle.model.proofs.step.rights.Goals as goal

@@ -1,4 +1,4 @@
-use Rattle.model.proofs.AncestorLaws.{below_is_reached}
+use Rattle.model.proofs.Trees.AncestorLaws.{below_is_reached}
 use Rattle.model.proofs.tree.below.Goals as goal
 
 pub returns : goal.returns

@@ -1,4 +1,4 @@
-use Rattle.model.proofs.FreshTree.{fresh}
+use Rattle.model.proofs.Trees.FreshTree.{fresh}
 use Rattle.model.proofs.tree.fresh.Goals as goal
 
 pub returns : goal.returns

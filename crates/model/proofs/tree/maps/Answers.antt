@@ -1,5 +1,5 @@
-use Rattle.model.proofs.KeyedLaws.{reads_back, keeps_order}
-use Rattle.model.specs.Tree.{Node, DirEntry}
+use Rattle.model.proofs.Trees.KeyedLaws.{reads_back, keeps_order}
+use Rattle.model.specs.Trees.Tree.{Node, DirEntry}
 use Rattle.model.proofs.tree.maps.Goals as goal
 
 pub returns-clause-nodes : goal.returns-clause-nodes

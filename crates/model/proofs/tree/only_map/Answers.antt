@@ -1,4 +1,4 @@
-use Rattle.model.proofs.KeyedLaws.{only_map}
+use Rattle.model.proofs.Trees.KeyedLaws.{only_map}
 use Rattle.model.proofs.tree.only_map.Goals as goal
 
 pub returns-clause-nodes : goal.returns-clause-nodes

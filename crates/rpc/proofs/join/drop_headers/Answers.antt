@@ -1,6 +1,6 @@
 use Rattle.std.proofs.Common.{◌≡◌, ◌++◌, Bool, true, List, ℕ, [], refl, subst, ◌∙◌, arith}
 use Rattle.std.proofs.lemmas.List.{append-nil}
-use Rattle.model.specs.Record.{nothing_gathered}
+use Rattle.model.specs.Wire.Record.{nothing_gathered}
 use Rattle.rpc.specs.declared.fragment.Fragment.TheVariants as fragments
 use Rattle.rpc.specs.Assembly.{Finds}
 use Rattle.rpc.proofs.Joins.{one_fragment}

@@ -1,5 +1,5 @@
 use Rattle.std.proofs.Common.{[], take, refl, ap, sym, ◌∙◌, arith}
-use Rattle.model.specs.Record.{Whole}
+use Rattle.model.specs.Wire.Record.{Whole}
 use Rattle.rpc.proofs.Joins.{begins, room_for, not_other, joins_on, joined}
 use Rattle.rpc.proofs.join.join_fragments.Goals as goal
 

@@ -1,6 +1,6 @@
 use Rattle.std.proofs.Common.{◌≡◌, ◌-◌, ◌++◌, true, List, ℕ, drop, ap, sym, ◌∙◌, arith}
-use Rattle.model.specs.Record.{Whole}
-use Rattle.model.specs.Rpc.{read_call, is_call_read, NoCall}
+use Rattle.model.specs.Wire.Record.{Whole}
+use Rattle.model.specs.Wire.Rpc.{read_call, is_call_read, NoCall}
 use Rattle.rpc.proofs.Ends.{taken_by, partial_by, whole_there, same_request, is_call, no_call, from_place}
 use Rattle.rpc.proofs.Rooms.{room_for_piece, room_for_front}
 use Rattle.rpc.proofs.receive.receive_piece.Goals as goal

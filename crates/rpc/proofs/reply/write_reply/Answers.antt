@@ -1,7 +1,7 @@
 use Rattle.std.proofs.Common.{◌≡◌, ◌+◌, ◌<◌, ◌++◌, List, ℕ, length, ap, subst, length-append, arith}
 use Rattle.std.specs.Prelude.{IfOk}
-use Rattle.model.specs.Record.{framed}
-use Rattle.model.specs.Rpc.{reply_text}
+use Rattle.model.specs.Wire.Record.{framed}
+use Rattle.model.specs.Wire.Rpc.{reply_text}
 use Rattle.rpc.specs.Views.{frame_header, front_of, reply_view}
 use Rattle.rpc.proofs.Replies.{record_parts, reply_short, front_fits, err_more, err_any}
 use Rattle.rpc.proofs.reply.write_reply.Goals as goal

@@ -1,5 +1,5 @@
 use Rattle.std.proofs.Common.{◌++◌, Bool, drop, refl, ap, sym, subst}
-use Rattle.model.specs.Record.{RecordTooBig, TooManyFragments}
+use Rattle.model.specs.Wire.Record.{RecordTooBig, TooManyFragments}
 use Rattle.rpc.specs.declared.fragment.Fragment.TheVariants as found
 use Rattle.rpc.specs.Assembly.{scan_of, Finds}
 use Rattle.rpc.proofs.Walks.{begins, searches_on, ended, waits, refuses}

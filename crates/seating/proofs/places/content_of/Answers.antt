@@ -1,6 +1,6 @@
 use Rattle.std.proofs.Common.{Option, Bor, ap, sym, ◌∙◌}
 use Rattle.std.specs.Option.{option_map}
-use Rattle.model.specs.SeatViews.{seat_view}
+use Rattle.model.specs.Sessions.SeatViews.{seat_view}
 use Rattle.model.specs.declared.seats.Seat.{Seat}
 use Rattle.seats.specs.Spelling.{seat_sector}
 use Rattle.seats.proofs.Parts.{free_sector}

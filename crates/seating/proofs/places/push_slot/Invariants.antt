@@ -1,5 +1,5 @@
 use Rattle.std.proofs.Common.{◌≡◌, ◌++◌, Some}
-use Rattle.model.specs.SeatViews.{held_view}
+use Rattle.model.specs.Sessions.SeatViews.{held_view}
 use Rattle.seats.specs.Spelling.{part_of, slot_text}
 use Rattle.seating.specs.Updates.{row}
 use Rattle.seating.proofs.places.push_slot.Given as goal

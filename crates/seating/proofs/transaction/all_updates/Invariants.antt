@@ -1,5 +1,5 @@
 use Rattle.std.proofs.Common.{◌≡◌, take, map}
-use Rattle.model.specs.SeatEdits.{edit_view}
+use Rattle.model.specs.Sessions.SeatEdits.{edit_view}
 use Rattle.seating.specs.Updates.{updates_from}
 use Rattle.seating.proofs.transaction.all_updates.Given as goal
 

@@ -1,7 +1,7 @@
 use Rattle.std.proofs.Common.{◌≡◌, Vec, Global, sym, subst}
 use Rattle.std.proofs.lemmas.Result.{IfOk-weaker}
 use Rattle.disk.specs.declared.update.Update.{Update}
-use Rattle.model.specs.SeatEdits.{edits_view}
+use Rattle.model.specs.Sessions.SeatEdits.{edits_view}
 use Rattle.seating.specs.Edits.{AreUpdates}
 use Rattle.seating.specs.Updates.{updates_from}
 use Rattle.seating.proofs.EditLaws.{every_transaction}

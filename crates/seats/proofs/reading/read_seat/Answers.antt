@@ -1,6 +1,6 @@
 use Rattle.std.proofs.Common.{◌≡◌, ℕ, List, Option, sym, ap, ◌∙◌}
-use Rattle.model.specs.Seats.{Seat}
-use Rattle.model.specs.SeatViews.{place_view}
+use Rattle.model.specs.Sessions.Seats.{Seat}
+use Rattle.model.specs.Sessions.SeatViews.{place_view}
 use Rattle.seats.specs.Spelling.{sector_of, seat_sector}
 use Rattle.seats.proofs.Every.{every_place}
 use Rattle.seats.proofs.ReadBack.{place-back}

@@ -8,8 +8,8 @@ use Rattle.volume.specs.Changes.{Done}
 use Rattle.fs.specs.Views.{fs_of, fs_failures}
 use Rattle.volume.proofs.ServeLaws.{told_err}
 use Rattle.compound.proofs.QuietLaws.{leaves_all}
-use Rattle.model.specs.Rpc.{read_call}
-use Rattle.model.specs.World.{Turned, called}
+use Rattle.model.specs.Wire.Rpc.{read_call}
+use Rattle.model.specs.Server.World.{Turned, called}
 use Rattle.server.proofs.Turning.{same_changes, idle_changes}
 use Rattle.server.proofs.request.first_turn.Goals as goal
 

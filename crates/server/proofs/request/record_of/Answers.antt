@@ -1,6 +1,6 @@
 use Rattle.std.proofs.Common.{ℕ, List, length, ◌++◌, ap, ◌∙◌, arith}
-use Rattle.model.specs.Record.{framed}
-use Rattle.model.specs.Rpc.{reply_text}
+use Rattle.model.specs.Wire.Record.{framed}
+use Rattle.model.specs.Wire.Rpc.{reply_text}
 use Rattle.rpc.specs.Views.{reply_view}
 use Rattle.server.proofs.request.record_of.Goals as goal
 

@@ -1,7 +1,7 @@
 use Rattle.std.proofs.Common.{◌≡◌, true, Some, Option, ap, sym, subst, ◌∙◌}
 use Rattle.rpc.specs.Views.{call_view, compound_view, reply_view}
 use Rattle.compound.specs.Views.{Asked}
-use Rattle.model.specs.World.{Busy}
+use Rattle.model.specs.Server.World.{Busy}
 use Rattle.server.specs.Stages.{begun, can_go_on}
 use Rattle.server.proofs.Resumptions.{asked_is, none_answered, none_of_another, none_of_no_call, goes_nowhere}
 use Rattle.server.proofs.request.resume.Goals as goal

@@ -1,5 +1,5 @@
 use Rattle.std.proofs.Common.{refl}
-use Rattle.model.specs.Session.{session_id}
+use Rattle.model.specs.Sessions.Session.{session_id}
 use Rattle.session.proofs.session.session_id.Goals as goal
 
 pub returns : goal.returns

@@ -1,5 +1,5 @@
 use Rattle.std.proofs.Common.{◌≡◌, map, replicate}
-use Rattle.model.specs.Session.{no_slot}
+use Rattle.model.specs.Sessions.Session.{no_slot}
 use Rattle.session.specs.Slots.{slot_of}
 use Rattle.session.proofs.slot.free_slots.Given as goal
 

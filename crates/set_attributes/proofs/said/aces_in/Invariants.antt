@@ -1,5 +1,5 @@
 use Rattle.std.proofs.Common.{◌≡◌, ◌++◌, drop, map}
-use Rattle.model.specs.AclText.{aces_in}
+use Rattle.model.specs.Attributes.AclText.{aces_in}
 use Rattle.wire_attributes.specs.Views.{entry_view}
 use Rattle.set_attributes.proofs.said.aces_in.Given as goal
 

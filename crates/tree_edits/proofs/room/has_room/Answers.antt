@@ -12,10 +12,10 @@ use Rattle.tree_edits.proofs.SizeLaws.{IsRising, names_there}
 use Rattle.tree_edits.proofs.room.has_room.Goals as goal
 use Rattle.model.specs.declared.limits.Limits.{Limits}
 use Rattle.model.specs.declared.node.NodeKind.{NodeKind}
-use Rattle.model.specs.Charge.{charge, few_names}
-use Rattle.model.specs.Edit.{Edit, edited}
-use Rattle.model.specs.Keyed.{at, total}
-use Rattle.model.specs.Tree.{Tree, is_directory_at, names_at}
+use Rattle.model.specs.Trees.Charge.{charge, few_names}
+use Rattle.model.specs.Trees.Edit.{Edit, edited}
+use Rattle.model.specs.Trees.Keyed.{at, total}
+use Rattle.model.specs.Trees.Tree.{Tree, is_directory_at, names_at}
 use Rattle.std.specs.Prelude.{IsTrue}
 
 -- the sum that is asked for is that of the tree with the node

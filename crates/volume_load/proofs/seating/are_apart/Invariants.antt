@@ -1,6 +1,6 @@
 use Rattle.std.proofs.Common.{drop, map}
-use Rattle.model.specs.Seats.{AreApart}
-use Rattle.model.specs.SeatViews.{place_view}
+use Rattle.model.specs.Sessions.Seats.{AreApart}
+use Rattle.model.specs.Sessions.SeatViews.{place_view}
 use Rattle.volume_load.proofs.seating.are_apart.Given as goal
 
 abbrev pub invariant-loop-i : goal.invariant-loop-i

@@ -1,5 +1,5 @@
 use Rattle.std.proofs.Common.{◌≡◌}
-use Rattle.model.specs.WireAnswers.{answer_told}
+use Rattle.model.specs.Wire.WireAnswers.{answer_told}
 use Rattle.wire.specs.OutcomeView.{answer_view}
 use Rattle.wire.proofs.Writes.{writes}
 use Rattle.wire.proofs.outcome.write_done.Goals as goal

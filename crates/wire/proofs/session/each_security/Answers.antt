@@ -3,7 +3,7 @@ use Rattle.std.proofs.lemmas.Result.{err_from_is_err_and}
 use Rattle.std.proofs.lemmas.List.{map_push}
 use Rattle.xdr.specs.Forms.{each_at}
 use Rattle.xdr.proofs.Loops.{goes_on, ends, is_done}
-use Rattle.model.specs.WireTypes.{callback_security}
+use Rattle.model.specs.Wire.WireTypes.{callback_security}
 use Rattle.wire.specs.SmallViews.{security_view}
 use Rattle.wire.proofs.session.each_security.Goals as goal
 

@@ -1,7 +1,7 @@
 use Rattle.std.proofs.Common.{map, ◌≡◌, ◌-◌}
 use Rattle.xdr.specs.Forms.{each_at}
 use Rattle.xdr.proofs.Loops.{with_front}
-use Rattle.model.specs.WireTypes.{callback_security}
+use Rattle.model.specs.Wire.WireTypes.{callback_security}
 use Rattle.wire.specs.SmallViews.{security_view}
 use Rattle.wire.proofs.session.each_security.Given as goal
 

@@ -1,5 +1,5 @@
 use Rattle.std.proofs.Common.{◌∙◌, ◌++◌, [], ◌∷◌, sym, ap}
-use Rattle.model.specs.Attribute.{trimmed}
+use Rattle.model.specs.Attributes.Attribute.{trimmed}
 use Rattle.wire.proofs.Bitmaps.{trimmed-zero, trimmed-word}
 use Rattle.wire.proofs.small.+trimmed.Goals as goal
 

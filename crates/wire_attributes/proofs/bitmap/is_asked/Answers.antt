@@ -3,7 +3,7 @@ use Rattle.std.specs.Int.{bit_at}
 use Rattle.std.proofs.lemmas.Bool.{ltb-true, ltb-false}
 use Rattle.std.proofs.lemmas.List.{get_or_past, get_or_default}
 use Rattle.std.proofs.lemmas.Nat.Bits.{bit_at-zero}
-use Rattle.model.proofs.NodeAttributeLaws.{asked_bit}
+use Rattle.model.proofs.Operations.NodeAttributeLaws.{asked_bit}
 use Rattle.wire_attributes.proofs.bitmap.is_asked.Goals as goal
 
 pub returns-in-Some : goal.returns-in-Some

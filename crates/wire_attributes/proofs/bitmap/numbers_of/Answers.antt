@@ -1,6 +1,6 @@
 use Rattle.std.proofs.Common.{◌≡◌, ◌∙◌, ◌+◌, ◌*◌, ◌++◌, sym, ap, length, take, get_or, arith, rules}
 use Rattle.std.proofs.lemmas.List.{take_more, take_all, length-take-le}
-use Rattle.model.specs.Attribute.{attributes_from, attributes_of, attributes_of_word}
+use Rattle.model.specs.Attributes.Attribute.{attributes_from, attributes_of, attributes_of_word}
 use Rattle.wire_attributes.proofs.Bits.{words-more}
 use Rattle.wire_attributes.proofs.bitmap.numbers_of.Goals as goal
 

@@ -1,5 +1,5 @@
 use Rattle.std.proofs.Common.{◌≡◌, ◌*◌, ℕ, List, take}
-use Rattle.model.specs.Attribute.{attributes_from}
+use Rattle.model.specs.Attributes.Attribute.{attributes_from}
 use Rattle.wire_attributes.proofs.bitmap.numbers_of.Given as goal
 
 pub record SoFar (first index : ℕ) (attributes bitmap : List ℕ) : Type 0 where

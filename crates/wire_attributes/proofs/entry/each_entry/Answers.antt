@@ -3,7 +3,7 @@ use Rattle.std.proofs.lemmas.Result.{err_from_is_err_and}
 use Rattle.std.proofs.lemmas.List.{map_push}
 use Rattle.xdr.specs.Forms.{each_at}
 use Rattle.xdr.proofs.Loops.{goes_on, ends, is_done}
-use Rattle.model.specs.AttributeValue.{acl_entry}
+use Rattle.model.specs.Attributes.AttributeValue.{acl_entry}
 use Rattle.wire_attributes.specs.Views.{entry_view}
 use Rattle.wire_attributes.proofs.entry.each_entry.Goals as goal
 

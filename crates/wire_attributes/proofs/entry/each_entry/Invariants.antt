@@ -1,7 +1,7 @@
 use Rattle.std.proofs.Common.{map, ◌≡◌, ◌-◌}
 use Rattle.xdr.specs.Forms.{each_at}
 use Rattle.xdr.proofs.Loops.{with_front}
-use Rattle.model.specs.AttributeValue.{acl_entry}
+use Rattle.model.specs.Attributes.AttributeValue.{acl_entry}
 use Rattle.wire_attributes.specs.Views.{entry_view}
 use Rattle.wire_attributes.proofs.entry.each_entry.Given as goal
 

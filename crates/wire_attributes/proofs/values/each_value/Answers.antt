@@ -1,7 +1,7 @@
 use Rattle.std.proofs.Common.{map, ◌≡◌, ◌++◌, ◌∷◌, [], inl, inr}
 use Rattle.std.proofs.lemmas.Result.{err_from_is_err_and}
 use Rattle.std.proofs.lemmas.List.{map_push}
-use Rattle.model.specs.AttributeValue.{values_at}
+use Rattle.model.specs.Attributes.AttributeValue.{values_at}
 use Rattle.wire_attributes.specs.Views.{value_view}
 use Rattle.wire_attributes.proofs.Loops.{value_on, value_stops, values_done}
 use Rattle.wire_attributes.proofs.values.each_value.Goals as goal

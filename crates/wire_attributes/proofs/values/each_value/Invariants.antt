@@ -1,6 +1,6 @@
 use Rattle.std.proofs.Common.{map, ◌≡◌, drop}
 use Rattle.xdr.proofs.Loops.{with_front}
-use Rattle.model.specs.AttributeValue.{values_at}
+use Rattle.model.specs.Attributes.AttributeValue.{values_at}
 use Rattle.wire_attributes.specs.Views.{value_view}
 use Rattle.wire_attributes.proofs.values.each_value.Given as goal
 

@@ -1,6 +1,6 @@
 use Rattle.std.proofs.Common.{◌≡◌, map, length, rules}
 use Rattle.wire_attributes.specs.Views.{value_view}
-use Rattle.model.proofs.AttributeExact.{are_values}
+use Rattle.model.proofs.Wire.AttributeExact.{are_values}
 use Rattle.wire_attributes.proofs.values.read_values.Goals as goal
 
 pub returns-clause-values : goal.returns-clause-values

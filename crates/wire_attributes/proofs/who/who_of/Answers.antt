@@ -1,5 +1,5 @@
 use Rattle.std.proofs.Common.{rules, ◌≡◌, Some, ap, sym, ◌∙◌}
-use Rattle.model.specs.AclText.{number_in, numbered}
+use Rattle.model.specs.Attributes.AclText.{number_in, numbered}
 use Rattle.wire_attributes.proofs.Naming.{names_owner, names_group, names_everyone, names_number}
 use Rattle.wire_attributes.proofs.who.who_of.Goals as goal
 

@@ -4,7 +4,7 @@ use Rattle.std.proofs.lemmas.Result.{err_from_is_err_and}
 use Rattle.std.proofs.lemmas.List.{map_push}
 use Rattle.xdr.specs.Grammar.{◌>>=◌, number_at}
 use Rattle.xdr.specs.Forms.{links_at, truth_at}
-use Rattle.model.specs.WireAnswers.{entry}
+use Rattle.model.specs.Wire.WireAnswers.{entry}
 use Rattle.wire.specs.AnswerViews.{entry_view}
 use Rattle.wire_client.proofs.Chains.{chain_on, chain_ends, chain_lost, chain_broken, chain_long}
 use Rattle.wire_client.proofs.answers.each_entry.Goals as goal

@@ -1,7 +1,7 @@
 use Rattle.std.proofs.Common.{map, ◌≡◌, ◌-◌, length}
 use Rattle.xdr.specs.Forms.{links_at}
 use Rattle.xdr.proofs.Loops.{with_front}
-use Rattle.model.specs.WireAnswers.{entry}
+use Rattle.model.specs.Wire.WireAnswers.{entry}
 use Rattle.wire.specs.AnswerViews.{entry_view}
 use Rattle.wire_client.proofs.answers.each_entry.Given as goal
 

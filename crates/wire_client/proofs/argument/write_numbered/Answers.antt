@@ -1,5 +1,5 @@
 use Rattle.std.proofs.Common.{◌≡◌}
-use Rattle.model.specs.WireArguments.{argument_told}
+use Rattle.model.specs.Wire.WireArguments.{argument_told}
 use Rattle.wire.specs.ArgumentView.{argument_view}
 use Rattle.wire.proofs.Writes.{writes}
 use Rattle.wire_client.proofs.argument.write_numbered.Goals as goal

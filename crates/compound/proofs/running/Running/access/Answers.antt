@@ -2,9 +2,9 @@ use Rattle.std.proofs.Common.{sym, subst, ap, refl, Err, ◌∙◌}
 use Rattle.fs.specs.AccessRights.{TellsAccess}
 use Rattle.fs.specs.Views.{fs_of}
 use Rattle.fs.specs.declared.fault.FsFault.{FsFault}
-use Rattle.model.specs.Answer.{Answer, Refused, AccessAnswer}
-use Rattle.model.specs.Operation.{Argument}
-use Rattle.model.specs.Step.{answered}
+use Rattle.model.specs.Operations.Answer.{Answer, Refused, AccessAnswer}
+use Rattle.model.specs.Operations.Operation.{Argument}
+use Rattle.model.specs.Operations.Step.{answered}
 use Rattle.model.specs.declared.status.Status.{Status}
 use Rattle.compound.specs.Operates.{GivesIn}
 use Rattle.compound.specs.States.{shared}

@@ -1,9 +1,9 @@
 use Rattle.std.proofs.Common.{◌≡◌, ◌+◌, ◌++◌, ◌&&◌, Bool, true, false, not, Some, ap, ap₂, sym, subst, ◌∙◌, arith}
 use Rattle.std.proofs.lemmas.List.{length-append}
 use Rattle.std.specs.Prelude.{length}
-use Rattle.model.specs.Record.{framed}
-use Rattle.model.specs.Rpc.{Success, reply_text}
-use Rattle.model.specs.World.{InProgress, is_last, is_to_hold, kept_by, result_of}
+use Rattle.model.specs.Wire.Record.{framed}
+use Rattle.model.specs.Wire.Rpc.{Success, reply_text}
+use Rattle.model.specs.Server.World.{InProgress, is_last, is_to_hold, kept_by, result_of}
 use Rattle.model.specs.declared.status.Status.{Status}
 use Rattle.session.specs.Views.{table_of}
 use Rattle.compound.specs.EncodedResult.{is_ok, told_text, told_status}

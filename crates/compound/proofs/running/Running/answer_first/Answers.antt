@@ -1,6 +1,6 @@
 use Rattle.std.proofs.Common.{arith}
-use Rattle.model.specs.Answer.{Done}
-use Rattle.model.specs.World.{outcome_text}
+use Rattle.model.specs.Operations.Answer.{Done}
+use Rattle.model.specs.Server.World.{outcome_text}
 use Rattle.wire.specs.OutcomeView.{answer_view}
 use Rattle.compound.specs.Operates.{left_by}
 use Rattle.compound.specs.Views.{in_progress_of}

@@ -1,6 +1,6 @@
 use Rattle.std.proofs.Common.{◌≡◌, false, sym, subst}
 use Rattle.fs.specs.Views.{fs_of}
-use Rattle.model.specs.Context.{Context, has_saved}
+use Rattle.model.specs.Operations.Context.{Context, has_saved}
 use Rattle.volume.proofs.ServeLaws.{told_err}
 use Rattle.compound.proofs.RenameLaws.{refused_current, refused_saved}
 use Rattle.compound.proofs.running.Running.both_nodes.Goals as goal

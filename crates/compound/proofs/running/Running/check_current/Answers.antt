@@ -1,5 +1,5 @@
 use Rattle.std.proofs.Common.{◌≡◌, false, ap, sym, subst, ◌∙◌, Some, Err}
-use Rattle.model.specs.Context.{Context, has_current}
+use Rattle.model.specs.Operations.Context.{Context, has_current}
 use Rattle.fs.specs.Views.{fs_of}
 use Rattle.fs.specs.Operations.{TestsCurrent}
 use Rattle.fs.specs.declared.fault.FsFault.{FsFault}

@@ -1,10 +1,10 @@
 use Rattle.std.proofs.Common.{sym, subst}
 use Rattle.fs.specs.Views.{fs_of}
-use Rattle.model.specs.Answer.{Outcome}
-use Rattle.model.specs.Context.{without_stateid}
-use Rattle.model.specs.Opens.{Opens}
-use Rattle.model.specs.Operation.{Argument}
-use Rattle.model.specs.StateIds.{without_open}
+use Rattle.model.specs.Operations.Answer.{Outcome}
+use Rattle.model.specs.Operations.Context.{without_stateid}
+use Rattle.model.specs.Sessions.Opens.{Opens}
+use Rattle.model.specs.Operations.Operation.{Argument}
+use Rattle.model.specs.Sessions.StateIds.{without_open}
 use Rattle.opens.specs.Views.{opens_of}
 use Rattle.wire.specs.ArgumentViews.{close_view}
 use Rattle.wire.specs.OutcomeView.{outcome_view}

@@ -2,10 +2,10 @@ use Rattle.std.proofs.Common.{◌≡◌, true, Result, refl, sym, subst, ◌∙�
 use Rattle.fs.proofs.ChangeLaws.{changes_by}
 use Rattle.fs.specs.Changes.{Changes}
 use Rattle.fs.specs.Views.{fs_of, fs_failures}
-use Rattle.model.specs.Answer.{Outcome, Refused}
-use Rattle.model.specs.Operation.{Argument, CommitArguments}
-use Rattle.model.specs.Opens.{no_opens}
-use Rattle.model.specs.Step.{State}
+use Rattle.model.specs.Operations.Answer.{Outcome, Refused}
+use Rattle.model.specs.Operations.Operation.{Argument, CommitArguments}
+use Rattle.model.specs.Sessions.Opens.{no_opens}
+use Rattle.model.specs.Operations.Step.{State}
 use Rattle.model.specs.declared.status.Status.{Status}
 use Rattle.compound.specs.Files.{committed_answer}
 use Rattle.compound.specs.Operates.{GivesIn, HasRoom, ChangesTreeAndOpens, IsAnswered, IsKept}

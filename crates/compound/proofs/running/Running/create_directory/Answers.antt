@@ -2,8 +2,8 @@ use Rattle.std.proofs.Common.{◌≡◌, true, sym, subst, ◌∙◌, refl}
 use Rattle.fs.specs.FileSystem.{FileSystem}
 use Rattle.fs.specs.Views.{fs_of, fs_failures}
 use Rattle.fs.specs.Operations.{new_directory}
-use Rattle.model.specs.Answer.{Outcome, Refused}
-use Rattle.model.specs.Context.{at_node}
+use Rattle.model.specs.Operations.Answer.{Outcome, Refused}
+use Rattle.model.specs.Operations.Context.{at_node}
 use Rattle.model.specs.declared.status.Status.{Status}
 use Rattle.model.specs.declared.status.Status.TheVariants as status
 use Rattle.wire.specs.SmallViews.{attributes_view}

@@ -1,5 +1,5 @@
 use Rattle.fs.specs.Views.{fs_of}
-use Rattle.model.specs.Operation.{Argument, OtherType}
+use Rattle.model.specs.Operations.Operation.{Argument, OtherType}
 use Rattle.model.specs.declared.status.Status.TheVariants as status
 use Rattle.compound.specs.States.{shared}
 use Rattle.compound.specs.Views.{in_progress_of}

@@ -1,11 +1,11 @@
 use Rattle.std.proofs.Common.{[], refl, sym, ap, subst, ◌∙◌}
 use Rattle.fs.specs.Views.{fs_of, fs_failures}
-use Rattle.model.specs.Answer.{Answer, Done, Refused}
-use Rattle.model.specs.Opens.{Opens}
-use Rattle.model.specs.Operation.{Argument}
-use Rattle.model.specs.SeatEdits.{edited_all, edits_view}
-use Rattle.model.specs.Session.{CreateSessionOutcome, Table, create_session}
-use Rattle.model.specs.StateIds.{without_clients}
+use Rattle.model.specs.Operations.Answer.{Answer, Done, Refused}
+use Rattle.model.specs.Sessions.Opens.{Opens}
+use Rattle.model.specs.Operations.Operation.{Argument}
+use Rattle.model.specs.Sessions.SeatEdits.{edited_all, edits_view}
+use Rattle.model.specs.Sessions.Session.{CreateSessionOutcome, Table, create_session}
+use Rattle.model.specs.Sessions.StateIds.{without_clients}
 use Rattle.opens.specs.Views.{opens_of}
 use Rattle.session.specs.Limits.{served}
 use Rattle.session.specs.Plans.{IsPlanned}

@@ -1,6 +1,6 @@
 use Rattle.std.proofs.Common.{◌∙◌}
-use Rattle.model.specs.Answer.{Answer, Done, Refused}
-use Rattle.model.specs.Operation.{Argument}
+use Rattle.model.specs.Operations.Answer.{Answer, Done, Refused}
+use Rattle.model.specs.Operations.Operation.{Argument}
 use Rattle.opens.specs.Views.{opens_of}
 use Rattle.session.specs.Views.{table_of}
 use Rattle.compound.specs.Runs.{with_rest}

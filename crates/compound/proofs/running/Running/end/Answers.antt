@@ -1,9 +1,9 @@
 use Rattle.std.proofs.Common.{◌≡◌, ◌-◌, ◌++◌, List, ℕ, sym, subst, ap, ◌∙◌, arith}
 use Rattle.std.specs.Option.{option_map}
 use Rattle.std.specs.Prelude.{length, take, drop}
-use Rattle.model.specs.Record.{framed}
-use Rattle.model.specs.Rpc.{Success, compound_text, reply_text}
-use Rattle.model.specs.World.{kept_by, result_of}
+use Rattle.model.specs.Wire.Record.{framed}
+use Rattle.model.specs.Wire.Rpc.{Success, compound_text, reply_text}
+use Rattle.model.specs.Server.World.{kept_by, result_of}
 use Rattle.rpc.specs.Views.{result_text}
 use Rattle.session.specs.Views.{table_of}
 use Rattle.compound.specs.Turns.{AreOfReply}

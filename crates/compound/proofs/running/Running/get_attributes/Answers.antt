@@ -2,8 +2,8 @@ use Rattle.std.proofs.Common.{ℕ, List, sym, subst, refl, Ok, Err}
 use Rattle.fs.specs.Attributes.{GetsAttributes}
 use Rattle.fs.specs.Views.{fs_of}
 use Rattle.fs.specs.declared.fault.FsFault.{FsFault}
-use Rattle.model.specs.Answer.{Answer, Refused}
-use Rattle.model.specs.Operation.{Argument}
+use Rattle.model.specs.Operations.Answer.{Answer, Refused}
+use Rattle.model.specs.Operations.Operation.{Argument}
 use Rattle.model.specs.declared.status.Status.{Status}
 use Rattle.wire_attributes.specs.NodeValues.{answer_view}
 use Rattle.compound.specs.Operates.{GivesIn}

@@ -1,10 +1,10 @@
 use Rattle.std.proofs.Common.{◌≡◌, true, length, nat_le, sym, subst}
-use Rattle.model.specs.Answer.{Outcome, Done}
-use Rattle.model.specs.Open.{at_opened}
-use Rattle.model.specs.Opens.{Opens}
-use Rattle.model.specs.Operation.{StateId}
-use Rattle.model.specs.StateIds.{opened}
-use Rattle.model.specs.World.{reply_with}
+use Rattle.model.specs.Operations.Answer.{Outcome, Done}
+use Rattle.model.specs.Operations.Open.{at_opened}
+use Rattle.model.specs.Sessions.Opens.{Opens}
+use Rattle.model.specs.Operations.Operation.{StateId}
+use Rattle.model.specs.Sessions.StateIds.{opened}
+use Rattle.model.specs.Server.World.{reply_with}
 use Rattle.opens.specs.Views.{named_by, open_of, opens_of}
 use Rattle.wire.specs.SmallViews.{change_view, state_view}
 use Rattle.compound.specs.Beside.{opened_answer}

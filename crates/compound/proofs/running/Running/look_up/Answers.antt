@@ -2,8 +2,8 @@ use Rattle.std.proofs.Common.{sym, subst, refl, Err}
 use Rattle.fs.specs.Views.{fs_of}
 use Rattle.fs.specs.Operations.{LooksUp}
 use Rattle.fs.specs.declared.fault.FsFault.{FsFault}
-use Rattle.model.specs.Answer.{Refused}
-use Rattle.model.specs.Operation.{Argument}
+use Rattle.model.specs.Operations.Answer.{Refused}
+use Rattle.model.specs.Operations.Operation.{Argument}
 use Rattle.model.specs.declared.status.Status.{Status}
 use Rattle.compound.specs.Operates.{GivesIn}
 use Rattle.compound.specs.States.{shared}

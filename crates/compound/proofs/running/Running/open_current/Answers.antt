@@ -5,11 +5,11 @@ use Rattle.fs.specs.Operations.{IsRefused}
 use Rattle.fs.specs.Renaming.{info_of}
 use Rattle.fs.specs.declared.fault.FsFault.{FsFault}
 use Rattle.model.specs.declared.limits.Limits.{Limits}
-use Rattle.model.specs.Answer.{Refused}
-use Rattle.model.specs.Open.{at_opened}
-use Rattle.model.specs.Opens.{Open, Opens}
-use Rattle.model.specs.Operation.{Argument, ChangeInfo, NoCreate}
-use Rattle.model.specs.StateIds.{is_table_full, new_open, opened}
+use Rattle.model.specs.Operations.Answer.{Refused}
+use Rattle.model.specs.Operations.Open.{at_opened}
+use Rattle.model.specs.Sessions.Opens.{Open, Opens}
+use Rattle.model.specs.Operations.Operation.{Argument, ChangeInfo, NoCreate}
+use Rattle.model.specs.Sessions.StateIds.{is_table_full, new_open, opened}
 use Rattle.model.specs.declared.status.Status.{Status}
 use Rattle.model.specs.declared.status.Status.TheVariants as status
 use Rattle.opens.specs.Views.{named_by, open_of, opens_of}

@@ -1,9 +1,9 @@
 use Rattle.std.proofs.Common.{ℕ, Result, Ok, Err, IfOk, refl, ap, ◌∙◌}
 use Rattle.fs.specs.Views.{fs_of, fs_failures}
-use Rattle.model.specs.Opens.{Opens}
-use Rattle.model.specs.Operation.{Argument}
-use Rattle.model.specs.Session.{Table}
-use Rattle.model.specs.World.{InProgress}
+use Rattle.model.specs.Sessions.Opens.{Opens}
+use Rattle.model.specs.Operations.Operation.{Argument}
+use Rattle.model.specs.Sessions.Session.{Table}
+use Rattle.model.specs.Server.World.{InProgress}
 use Rattle.opens.specs.Views.{opens_of}
 use Rattle.session.specs.Views.{table_of, reply_kept}
 use Rattle.wire.specs.ArgumentView.{argument_view}

@@ -2,7 +2,7 @@ use Rattle.std.proofs.Common.{subst, refl, Err}
 use Rattle.fs.specs.Views.{fs_of}
 use Rattle.fs.specs.Operations.{PutsHandle}
 use Rattle.fs.specs.declared.fault.FsFault.{FsFault}
-use Rattle.model.specs.Operation.{Argument}
+use Rattle.model.specs.Operations.Operation.{Argument}
 use Rattle.compound.specs.States.{shared}
 use Rattle.compound.specs.Views.{in_progress_of}
 use Rattle.compound.proofs.Rooms.{gives_refusal}

@@ -1,5 +1,5 @@
 use Rattle.std.proofs.Common.{refl}
-use Rattle.model.specs.Operation.{Argument}
+use Rattle.model.specs.Operations.Operation.{Argument}
 use Rattle.compound.specs.States.{shared}
 use Rattle.compound.specs.Views.{in_progress_of}
 use Rattle.compound.proofs.Trees.{root_runs}

@@ -1,10 +1,10 @@
 use Rattle.std.proofs.Common.{◌≡◌, ℕ, ◌-◌, List, Result, true, false, not, ◌&&◌, length, drop, ap, sym, subst, ◌∙◌, arith}
-use Rattle.model.specs.Rpc.{is_empty}
-use Rattle.model.specs.Served.{looks_no_further}
-use Rattle.model.specs.World.{is_last}
+use Rattle.model.specs.Wire.Rpc.{is_empty}
+use Rattle.model.specs.Server.Served.{looks_no_further}
+use Rattle.model.specs.Server.World.{is_last}
 use Rattle.xdr.specs.Grammar.{◌>>=◌}
 use Rattle.xdr.specs.declared.refusal.Refusal.{Refusal}
-use Rattle.model.specs.WireArguments.{arguments_at}
+use Rattle.model.specs.Wire.WireArguments.{arguments_at}
 use Rattle.wire.specs.ArgumentView.{argument_view}
 use Rattle.compound.specs.Views.{in_progress_of, next_view}
 use Rattle.compound.proofs.Rests.{rest_short, drop_rest, by_read, by_much}

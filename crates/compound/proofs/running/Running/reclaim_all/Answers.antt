@@ -1,6 +1,6 @@
 use Rattle.std.proofs.Common.{false, sym}
-use Rattle.model.specs.Answer.{Refused}
-use Rattle.model.specs.Operation.{Argument}
+use Rattle.model.specs.Operations.Answer.{Refused}
+use Rattle.model.specs.Operations.Operation.{Argument}
 use Rattle.session.specs.Views.{table_of}
 use Rattle.compound.specs.Runs.{with_rest}
 use Rattle.compound.specs.States.{shared}

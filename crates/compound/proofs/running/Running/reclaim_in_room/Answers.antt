@@ -1,7 +1,7 @@
 use Rattle.std.proofs.Common.{false, sym, ◌∙◌}
-use Rattle.model.specs.Answer.{Answer, Done}
-use Rattle.model.specs.Operation.{Argument}
-use Rattle.model.specs.Session.{reclaim_complete}
+use Rattle.model.specs.Operations.Answer.{Answer, Done}
+use Rattle.model.specs.Operations.Operation.{Argument}
+use Rattle.model.specs.Sessions.Session.{reclaim_complete}
 use Rattle.session.specs.Views.{table_of}
 use Rattle.compound.specs.Runs.{with_rest}
 use Rattle.compound.specs.States.{shared}

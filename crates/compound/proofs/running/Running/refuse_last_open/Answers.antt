@@ -5,11 +5,11 @@ use Rattle.fs.specs.Views.{fs_of, fs_failures}
 use Rattle.fs.specs.Opening.{IsFileToOpen, IsOpening, effect_of, has_room, set_by, type_of}
 use Rattle.fs.specs.declared.opening.Opening.{Opening as Asked}
 use Rattle.model.specs.declared.limits.Limits.{Limits}
-use Rattle.model.specs.Opens.{Open, Opens}
-use Rattle.model.specs.Operation.{Argument, OpenArguments, OpenType}
-use Rattle.model.specs.StateIds.{is_table_full, new_open}
-use Rattle.model.specs.Step.{State}
-use Rattle.model.specs.World.{InProgress}
+use Rattle.model.specs.Sessions.Opens.{Open, Opens}
+use Rattle.model.specs.Operations.Operation.{Argument, OpenArguments, OpenType}
+use Rattle.model.specs.Sessions.StateIds.{is_table_full, new_open}
+use Rattle.model.specs.Operations.Step.{State}
+use Rattle.model.specs.Server.World.{InProgress}
 use Rattle.opens.specs.Views.{opens_of}
 use Rattle.wire.specs.ArgumentViews.{open_type_view, open_view}
 use Rattle.compound.specs.Beside.{AsksFor, has_opened_room}

@@ -1,10 +1,10 @@
 use Rattle.std.proofs.Common.{true, Result, refl, sym, subst, ◌∙◌, arith, IfOk}
 use Rattle.fs.specs.Views.{fs_of, fs_failures}
 use Rattle.fs.proofs.ChangeLaws.{changes_by}
-use Rattle.model.specs.Answer.{Outcome, Refused}
-use Rattle.model.specs.Opens.{Opens}
-use Rattle.model.specs.Operation.{Argument}
-use Rattle.model.specs.StateIds.{without_number}
+use Rattle.model.specs.Operations.Answer.{Outcome, Refused}
+use Rattle.model.specs.Sessions.Opens.{Opens}
+use Rattle.model.specs.Operations.Operation.{Argument}
+use Rattle.model.specs.Sessions.StateIds.{without_number}
 use Rattle.wire.specs.OutcomeView.{outcome_view}
 use Rattle.model.specs.declared.status.Status.{Status}
 use Rattle.opens.specs.Views.{opens_of}

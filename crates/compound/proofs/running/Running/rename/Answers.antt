@@ -1,8 +1,8 @@
 use Rattle.std.proofs.Common.{true, Result, refl, sym, subst, ◌∙◌, arith, IfOk}
 use Rattle.fs.specs.Views.{fs_of, fs_failures}
 use Rattle.fs.proofs.ChangeLaws.{changes_by}
-use Rattle.model.specs.Answer.{Outcome}
-use Rattle.model.specs.Operation.{Argument}
+use Rattle.model.specs.Operations.Answer.{Outcome}
+use Rattle.model.specs.Operations.Operation.{Argument}
 use Rattle.opens.specs.Views.{opens_of}
 use Rattle.compound.specs.Operates.{GivesIn, HasRoom, ChangesTreeAndOpens, IsAnswered, IsKept}
 use Rattle.compound.specs.States.{shared}
@@ -16,7 +16,7 @@ use Rattle.compound.proofs.Rooms.{gives_in_room}
 use Rattle.wire.specs.ArgumentViews.{rename_view}
 use Rattle.compound.specs.Trees.{no_change, renamed_answer}
 use Rattle.fs.specs.Renaming.{is_itself, opens_after}
-use Rattle.model.specs.Opens.{Opens}
+use Rattle.model.specs.Sessions.Opens.{Opens}
 use Rattle.wire.specs.OutcomeView.{outcome_view}
 use Rattle.compound.proofs.RenameLaws.{same_name, on_tree, sized, does_rename, renamed_room, rename_makes, rename_up, is_on_both}
 use Rattle.compound.proofs.VolumeLaws.{refusal_changes}

@@ -1,6 +1,6 @@
 use Rattle.std.proofs.Common.{sym, subst, refl}
-use Rattle.model.specs.Answer.{Refused}
-use Rattle.model.specs.Operation.{Argument}
+use Rattle.model.specs.Operations.Answer.{Refused}
+use Rattle.model.specs.Operations.Operation.{Argument}
 use Rattle.model.specs.declared.status.Status.{Status}
 use Rattle.compound.specs.Operates.{GivesIn}
 use Rattle.compound.specs.States.{shared}

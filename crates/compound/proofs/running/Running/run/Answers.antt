@@ -1,9 +1,9 @@
 use Rattle.std.proofs.Common.{◌≡◌, ℕ, List, Some, refl, sym, subst, ap, ◌∙◌}
 use Rattle.std.specs.Prelude.{drop}
-use Rattle.model.specs.Answer as model
-use Rattle.model.specs.Record.{framed}
-use Rattle.model.specs.Rpc.{Success, reply_text}
-use Rattle.model.specs.World.{InProgress}
+use Rattle.model.specs.Operations.Answer as model
+use Rattle.model.specs.Wire.Record.{framed}
+use Rattle.model.specs.Wire.Rpc.{Success, reply_text}
+use Rattle.model.specs.Server.World.{InProgress}
 use Rattle.session.specs.Views.{table_of, reply_kept}
 use Rattle.wire.specs.Numbers.{number_of}
 use Rattle.wire.specs.OutcomeView.{outcome_view}

@@ -1,6 +1,6 @@
 use Rattle.std.proofs.Common.{refl}
 use Rattle.fs.specs.Views.{fs_of}
-use Rattle.model.specs.Operation.{Argument}
+use Rattle.model.specs.Operations.Operation.{Argument}
 use Rattle.compound.specs.States.{shared}
 use Rattle.compound.specs.Views.{in_progress_of}
 use Rattle.compound.proofs.Rooms.{gives_refusal}

@@ -1,8 +1,8 @@
 use Rattle.std.proofs.Common.{ap, ◌∙◌}
-use Rattle.model.specs.Answer.{Answer, Done, Refused}
-use Rattle.model.specs.Operation.{Argument}
-use Rattle.model.specs.World.{in_room}
-use Rattle.model.specs.Session.{Table}
+use Rattle.model.specs.Operations.Answer.{Answer, Done, Refused}
+use Rattle.model.specs.Operations.Operation.{Argument}
+use Rattle.model.specs.Server.World.{in_room}
+use Rattle.model.specs.Sessions.Session.{Table}
 use Rattle.session.specs.Views.{table_of}
 use Rattle.wire.specs.AnswerViews as answers
 use Rattle.wire.specs.ArgumentViews.{sequence_view}

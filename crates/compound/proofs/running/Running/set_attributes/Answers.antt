@@ -3,10 +3,10 @@ use Rattle.fs.specs.Changes.{Changes}
 use Rattle.fs.specs.Views.{fs_of, fs_failures}
 use Rattle.fs.specs.Setting.{IsSetting}
 use Rattle.fs.proofs.ChangeLaws.{changes_by}
-use Rattle.model.specs.Answer.{Outcome, Refused}
-use Rattle.model.specs.Operation.{Argument, Attributes}
-use Rattle.model.specs.SetAttr.{was_set}
-use Rattle.model.specs.Step.{State}
+use Rattle.model.specs.Operations.Answer.{Outcome, Refused}
+use Rattle.model.specs.Operations.Operation.{Argument, Attributes}
+use Rattle.model.specs.Operations.SetAttr.{was_set}
+use Rattle.model.specs.Operations.Step.{State}
 use Rattle.model.specs.declared.status.Status.{Status}
 use Rattle.opens.specs.Views.{opens_of}
 use Rattle.wire.specs.ArgumentViews.{set_attr_view}

@@ -1,5 +1,5 @@
 use Rattle.std.proofs.Common.{ℕ, length, sym, subst, ap, ◌∙◌}
-use Rattle.model.specs.Answer.{Refused}
+use Rattle.model.specs.Operations.Answer.{Refused}
 use Rattle.model.specs.declared.status.Status.TheVariants as status
 use Rattle.wire.specs.Numbers.{number_of}
 use Rattle.compound.specs.Operates.{GivesIn}

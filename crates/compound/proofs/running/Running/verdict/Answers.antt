@@ -1,7 +1,7 @@
 use Rattle.std.proofs.Common.{◌≡◌, ◌∙◌, [], Some, Err, sym, ap}
 use Rattle.fs.proofs.VerdictLaws.{only_possible}
-use Rattle.model.specs.Refusal.{first_refusal}
-use Rattle.model.specs.StateIds.{Found, access_refusals, found}
+use Rattle.model.specs.Operations.Refusal.{first_refusal}
+use Rattle.model.specs.Sessions.StateIds.{Found, access_refusals, found}
 use Rattle.opens.specs.Views.{opens_of}
 use Rattle.wire.specs.SmallViews.{state_view}
 use Rattle.compound.specs.Views.{in_progress_of}

@@ -1,5 +1,5 @@
 use Rattle.std.proofs.Common.{◌≡◌, ◌++◌, Some, length, ap, arith, length-append}
-use Rattle.model.specs.World.{InProgress}
+use Rattle.model.specs.Server.World.{InProgress}
 use Rattle.compound.specs.EncodedResult.{told_status, told_text}
 use Rattle.compound.specs.Views.{in_progress_of, asked_of}
 use Rattle.compound.proofs.Tellings.{told_short}

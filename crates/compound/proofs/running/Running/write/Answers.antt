@@ -3,9 +3,9 @@ use Rattle.fs.proofs.ChangeLaws.{changes_by}
 use Rattle.fs.specs.Changes.{Changes}
 use Rattle.fs.specs.Views.{fs_of, fs_failures}
 use Rattle.fs.specs.Writing.{IsWriting}
-use Rattle.model.specs.Answer.{Outcome, Refused}
-use Rattle.model.specs.Operation.{Argument}
-use Rattle.model.specs.Step.{State}
+use Rattle.model.specs.Operations.Answer.{Outcome, Refused}
+use Rattle.model.specs.Operations.Operation.{Argument}
+use Rattle.model.specs.Operations.Step.{State}
 use Rattle.model.specs.declared.status.Status.{Status}
 use Rattle.opens.specs.Views.{opens_of}
 use Rattle.wire.specs.ArgumentViews.{write_view}

@@ -1,6 +1,6 @@
 use Rattle.std.proofs.Common.{◌∙◌, sym, ap}
-use Rattle.model.specs.Answer.{Answer, AccessAnswer}
-use Rattle.model.specs.Step.{answered}
+use Rattle.model.specs.Operations.Answer.{Answer, AccessAnswer}
+use Rattle.model.specs.Operations.Step.{answered}
 use Rattle.fs.specs.Views.{fs_of}
 use Rattle.fs.proofs.AccessLaws.{access_is}
 use Rattle.fs.proofs.ReadingLaws.{access_gone, access_told}

@@ -1,11 +1,11 @@
 use Rattle.std.proofs.Common.{◌≡◌, ◌∙◌, sym, ap}
-use Rattle.model.specs.Acl.{read_acl}
-use Rattle.model.specs.Answer.{Answer}
-use Rattle.model.specs.Attribute.{attributes_of, is_among}
-use Rattle.model.specs.NodeAttributes.{node_attributes}
-use Rattle.model.specs.Operation.{Argument, Attributes}
-use Rattle.model.specs.ReadDir.{asks_lists}
-use Rattle.model.specs.Step.{answered, does}
+use Rattle.model.specs.Rights.Acl.{read_acl}
+use Rattle.model.specs.Operations.Answer.{Answer}
+use Rattle.model.specs.Attributes.Attribute.{attributes_of, is_among}
+use Rattle.model.specs.Attributes.NodeAttributes.{node_attributes}
+use Rattle.model.specs.Operations.Operation.{Argument, Attributes}
+use Rattle.model.specs.Operations.ReadDir.{asks_lists}
+use Rattle.model.specs.Operations.Step.{answered, does}
 use Rattle.fs.specs.Views.{fs_of}
 use Rattle.fs.proofs.AttributeLaws.{attributes_are}
 use Rattle.fs.proofs.CachedNodeViews.{granted_by}

@@ -4,9 +4,9 @@ use Rattle.std.proofs.lemmas.Result.{err_from_is_err_and}
 use Rattle.directory.specs.Records.{record_from}
 use Rattle.layout.specs.CachedNodes.{CachedNode}
 use Rattle.model.specs.declared.limits.Limits.{Limits}
-use Rattle.model.specs.Name.{name_refusals}
-use Rattle.model.specs.Refusal.{first_refusal}
-use Rattle.model.specs.Tree.{names_at, entry_of}
+use Rattle.model.specs.Attributes.Name.{name_refusals}
+use Rattle.model.specs.Operations.Refusal.{first_refusal}
+use Rattle.model.specs.Trees.Tree.{names_at, entry_of}
 use Rattle.fs.specs.Views.{fs_of}
 use Rattle.fs.specs.Renaming.{arguments_of}
 use Rattle.fs.proofs.CachedNodeViews.{entry_at}

@@ -1,7 +1,7 @@
 use Rattle.std.proofs.Common.{sym, ap, ◌∙◌}
-use Rattle.model.specs.Answer.{Answer}
-use Rattle.model.specs.Stamp.{filehandle_of}
-use Rattle.model.specs.Step.{answered}
+use Rattle.model.specs.Operations.Answer.{Answer}
+use Rattle.model.specs.Trees.Stamp.{filehandle_of}
+use Rattle.model.specs.Operations.Step.{answered}
 use Rattle.fs.proofs.HandleLaws.{current_gone, handle_got}
 use Rattle.fs.specs.Views.{fs_of}
 use Rattle.fs.proofs.fs.Fs.handle.Goals as goal

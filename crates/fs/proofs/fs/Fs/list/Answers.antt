@@ -7,9 +7,9 @@ use Rattle.directory.specs.Records.{IsRecord}
 use Rattle.directory.specs.Rest.{rest_of}
 use Rattle.layout.specs.CachedNodes.{CachedNode}
 use Rattle.model.specs.declared.limits.Limits.{Limits}
-use Rattle.model.specs.Keyed.{Keyed}
-use Rattle.model.specs.ReadDir.{names_after, page_bytes, page_room}
-use Rattle.model.specs.Tree.{DirEntry, names_at}
+use Rattle.model.specs.Trees.Keyed.{Keyed}
+use Rattle.model.specs.Operations.ReadDir.{names_after, page_bytes, page_room}
+use Rattle.model.specs.Trees.Tree.{DirEntry, names_at}
 use Rattle.fs.specs.Views.{fs_of}
 use Rattle.fs.specs.Listing.{list_arguments, page_of, page_view, shown_entry}
 use Rattle.fs.specs.declared.fault.FsFault.TheVariants as fault

@@ -1,7 +1,7 @@
 use Rattle.std.proofs.Common.{◌≡◌, ◌∙◌, ◌⊎◌, true, false, inl, inr, sym, ap}
-use Rattle.model.specs.Keyed.{at}
-use Rattle.model.specs.ReadDir.{may_read_list}
-use Rattle.model.specs.SetAttr.{attributes_at}
+use Rattle.model.specs.Trees.Keyed.{at}
+use Rattle.model.specs.Operations.ReadDir.{may_read_list}
+use Rattle.model.specs.Operations.SetAttr.{attributes_at}
 use Rattle.fs.specs.Views.{fs_of}
 use Rattle.fs.proofs.AttributeLaws.{attributes_are}
 use Rattle.fs.proofs.ListLaws.{attributes_shown}

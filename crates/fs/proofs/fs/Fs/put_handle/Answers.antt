@@ -1,6 +1,6 @@
 use Rattle.std.proofs.Common.{sym, ap, ◌∙◌}
-use Rattle.model.specs.Answer.{Answer}
-use Rattle.model.specs.Step.{answered, moved_to}
+use Rattle.model.specs.Operations.Answer.{Answer}
+use Rattle.model.specs.Operations.Step.{answered, moved_to}
 use Rattle.fs.proofs.HandleLaws.{bad_handle, stale_handle, handle_put}
 use Rattle.fs.specs.Views.{fs_of}
 use Rattle.fs.specs.declared.fault.FsFault.TheVariants as fault

@@ -1,5 +1,5 @@
 use Rattle.std.proofs.Common.{ap, ◌∙◌, refl, sym}
-use Rattle.model.specs.Step.{Stepped}
+use Rattle.model.specs.Operations.Step.{Stepped}
 use Rattle.fs.specs.Views.{fs_of, fs_failures}
 use Rattle.fs.proofs.ChangeLaws.{changes_by, left, left_by, never_no_room, never_device, down_no_room, down_no_device, up_not_down, not_known, kept_no_room}
 use Rattle.volume.proofs.ServeLaws.{told_err}

@@ -1,6 +1,6 @@
 use Rattle.std.proofs.Common.{◌≡◌, ap, sym, subst, arith, rules}
 use Rattle.model.specs.declared.limits.Limits.{Limits}
-use Rattle.model.specs.SetAttr.{list_set}
+use Rattle.model.specs.Operations.SetAttr.{list_set}
 use Rattle.fs.specs.Views.{fs_of}
 use Rattle.fs.specs.Planned.{IsList}
 use Rattle.fs.proofs.EntryLaws.{small_list, set_list}

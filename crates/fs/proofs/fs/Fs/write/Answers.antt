@@ -1,8 +1,8 @@
 use Rattle.std.proofs.Common.{◌≡◌, ap, ◌∙◌, length, sym, refl}
 use Rattle.std.specs.Prelude.{Err}
 use Rattle.std.proofs.lemmas.Bool.{eqb-true}
-use Rattle.model.specs.Runs.{is_done}
-use Rattle.model.specs.Step.{Stepped}
+use Rattle.model.specs.Server.Runs.{is_done}
+use Rattle.model.specs.Operations.Step.{Stepped}
 use Rattle.fs.specs.Views.{fs_of, fs_failures}
 use Rattle.fs.specs.Writing.{IsPut, WritesTree}
 use Rattle.fs.specs.declared.fault.FsFault.TheVariants as fault

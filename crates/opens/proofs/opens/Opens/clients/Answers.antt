@@ -1,6 +1,6 @@
 use Rattle.std.proofs.Common.{ℕ, rules}
 use Rattle.std.proofs.lemmas.Simd.{map-map}
-use Rattle.model.specs.Opens as model
+use Rattle.model.specs.Sessions.Opens as model
 use Rattle.opens.specs.Views.{entry_of, opens_of}
 use Rattle.opens.proofs.opens.Opens.clients.Goals as goal
 

@@ -1,5 +1,5 @@
 use Rattle.std.proofs.Common.{◌≡◌, drop, map, find}
-use Rattle.model.specs.StateIds.{is_like}
+use Rattle.model.specs.Sessions.StateIds.{is_like}
 use Rattle.opens.specs.Views.{entry_of, open_of}
 use Rattle.opens.proofs.opens.Opens.position_like.Given as goal
 

@@ -1,7 +1,7 @@
 use Rattle.std.proofs.Common.{ℕ, not, ◌==◌, ◌∙◌, ap, map, rules, tests}
 use Rattle.std.proofs.lemmas.Fn.{filter_same}
 use Rattle.std.specs.List.{list_any}
-use Rattle.model.specs.Opens as model
+use Rattle.model.specs.Sessions.Opens as model
 use Rattle.opens.specs.declared.open.Entry.{Entry}
 use Rattle.opens.specs.Views.{entry_of, opens_of}
 use Rattle.opens.proofs.Known.{keeps, map-filter}

@@ -5,7 +5,7 @@ use Rattle.compound.specs.Views.{in_progress_of}
 use Rattle.compound.specs.Volumes.{ending_of}
 use Rattle.volume.specs.Changes.{Done}
 use Rattle.fs.specs.Views.{fs_of}
-use Rattle.model.specs.World.{Connection, Busy, turned}
+use Rattle.model.specs.Server.World.{Connection, Busy, turned}
 use Rattle.rpc.specs.Assembly.{Assembly}
 use Rattle.server.specs.Connections.{HasGoneOn, connection_view, turn_view}
 use Rattle.server.specs.Stages.{asked_held, begun}

@@ -4,8 +4,8 @@ use Rattle.compound.specs.Steps.{turn_by}
 use Rattle.compound.specs.Volumes.{ending, ending_of}
 use Rattle.volume.specs.Changes.{Done}
 use Rattle.fs.specs.Views.{fs_of, fs_failures}
-use Rattle.model.specs.Rpc.{read_call}
-use Rattle.model.specs.World.{World, Connection, is_busy, Waiting, Replied, Turned, called, idle, turned}
+use Rattle.model.specs.Wire.Rpc.{read_call}
+use Rattle.model.specs.Server.World.{World, Connection, is_busy, Waiting, Replied, Turned, called, idle, turned}
 use Rattle.rpc.specs.Assembly.{Assembly, Gathers, Holds, Refuses, connection_of}
 use Rattle.server.specs.Connections.{connection_view, HasGoneOn, IsOfRun}
 use Rattle.server.specs.Stages.{stage_view, asked_in, asked_held, begun, left_by, is_ready}

@@ -5,7 +5,7 @@ use Rattle.fs.specs.Views.{fs_of}
 use Rattle.server.specs.Connections.{connections_of, connection_view, IsOfRun}
 use Rattle.server.specs.declared.fault.ServerFault.TheVariants as faults
 use Rattle.server.specs.Views.{world_of, volume_of, world_by}
-use Rattle.model.specs.Runs as runs
+use Rattle.model.specs.Server.Runs as runs
 use Rattle.server.proofs.Moves.{does_quietly}
 use Rattle.server.proofs.Refusals.{told_by}
 use Rattle.server.proofs.SlabLaws.{count_of, with_slot, stands_none, grew}

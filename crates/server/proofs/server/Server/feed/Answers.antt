@@ -1,7 +1,7 @@
 use Rattle.std.proofs.Common.{refl, sym, ap, ◌∙◌, subst, arith}
 use Rattle.compound.specs.States.{shared_of}
 use Rattle.fs.specs.Views.{fs_of}
-use Rattle.model.specs.Runs as runs
+use Rattle.model.specs.Server.Runs as runs
 use Rattle.rpc.specs.Assembly.{record_limits}
 use Rattle.server.specs.Connections.{IsOfRun, connections_of, connection_view}
 use Rattle.server.specs.Seen.{Took, taken_on}

@@ -1,5 +1,5 @@
 use Rattle.std.proofs.Common.{sym, ap, ◌∙◌}
-use Rattle.model.specs.World.{is_busy}
+use Rattle.model.specs.Server.World.{is_busy}
 use Rattle.server.specs.Views.{world_of}
 use Rattle.server.proofs.SlabLaws.{stands, stands_none}
 use Rattle.server.proofs.server.Server.is_busy.Goals as goal

@@ -3,8 +3,8 @@ use Rattle.std.proofs.Common.{sym, refl, ap, ◌∙◌, subst, arith}
 use Rattle.compound.specs.States.{shared, shared_of}
 use Rattle.fs.specs.FileSystem.{FileSystem}
 use Rattle.fs.specs.Views.{fs_of}
-use Rattle.model.specs.Runs as runs
-use Rattle.model.specs.World.{reply_in}
+use Rattle.model.specs.Server.Runs as runs
+use Rattle.model.specs.Server.World.{reply_in}
 use Rattle.session.specs.Views.{table_of}
 use Rattle.server.specs.Connections.{connections_of, connection_view, IsOfRun}
 use Rattle.server.specs.Seen.{Gave}

@@ -5,8 +5,8 @@ use Rattle.compound.specs.States.{shared, shared_of}
 use Rattle.compound.specs.Volumes.{kept_in}
 use Rattle.fs.specs.FileSystem.{FileSystem}
 use Rattle.fs.specs.Views.{fs_of}
-use Rattle.model.specs.Runs as runs
-use Rattle.model.specs.World.{Closed}
+use Rattle.model.specs.Server.Runs as runs
+use Rattle.model.specs.Server.World.{Closed}
 use Rattle.session.specs.Views.{table_of}
 use Rattle.server.specs.Connections.{connections_of, connection_view}
 use Rattle.server.specs.Faults.{turn_fault}
@@ -14,8 +14,8 @@ use Rattle.server.specs.declared.fault.ServerFault.TheVariants as faults
 use Rattle.server.specs.Seen.{Turned}
 use Rattle.server.specs.Views.{world_of, volume_of, failures_of, world_by}
 use Rattle.compound.proofs.QuietLaws.{left_all, broken≢done}
-use Rattle.model.proofs.KeyedLaws.{at-with_other}
-use Rattle.model.specs.Keyed.{at}
+use Rattle.model.proofs.Trees.KeyedLaws.{at-with_other}
+use Rattle.model.specs.Trees.Keyed.{at}
 use Rattle.server.proofs.Moves.{broken_leaves, leaves_now}
 use Rattle.server.proofs.Refusals.{told_by, device_told, turn_refused}
 use Rattle.server.proofs.SlabLaws.{stands, stands_none, wrote, wrote_count, rewrote, numbers_rise}

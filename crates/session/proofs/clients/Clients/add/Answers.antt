@@ -2,7 +2,7 @@ use Rattle.std.proofs.Common.{ℕ, ◌+◌, ◌*◌, ◌^◌, ◌<◌, List, [],
 use Rattle.std.proofs.lemmas.Fn.{filter_same}
 use Rattle.session.proofs.Lists.{kept_view, pushed, pushed_view}
 use Rattle.session.proofs.Kept.{rises_filtered, all_filtered, up_to_filtered, rises_pushed, all_pushed, up_to_pushed}
-use Rattle.model.specs.Session.{Client as Known}
+use Rattle.model.specs.Sessions.Session.{Client as Known}
 use Rattle.session.specs.declared.client.Client.{Client}
 use Rattle.session.specs.Views.{client_of, clients_of}
 use Rattle.session.specs.Rooms.{stays, records_staying, record_of}

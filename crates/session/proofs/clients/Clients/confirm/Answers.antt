@@ -2,7 +2,7 @@ use Rattle.std.proofs.Common.{◌*◌, ◌^◌, ◌<◌, not, sym, ap, ◌∙◌
 use Rattle.std.proofs.lemmas.Fn.{filter_same}
 use Rattle.session.proofs.Lists.{changed_at, untouched}
 use Rattle.session.proofs.Kept.{rises_filtered, all_filtered, up_to_filtered}
-use Rattle.model.specs.Session.{is_client, changed_where, confirmed_with}
+use Rattle.model.specs.Sessions.Session.{is_client, changed_where, confirmed_with}
 use Rattle.session.specs.declared.client.Client.{Client}
 use Rattle.session.specs.Views.{client_of, among}
 use Rattle.session.proofs.Ending.{number_of, one_client, ended_out}

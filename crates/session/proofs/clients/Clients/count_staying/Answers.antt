@@ -5,7 +5,7 @@ use Rattle.session.specs.Rooms.{stays}
 use Rattle.std.proofs.lemmas.List.{length-map}
 use Rattle.std.proofs.lemmas.Iterator.{YieldsList-from_slice}
 use Rattle.std.proofs.lemmas.Iterator.Consumers.{YieldsList-from_filter, count_from_yields_List}
-use Rattle.model.proofs.NodeAttributeLaws.{filter-map}
+use Rattle.model.proofs.Operations.NodeAttributeLaws.{filter-map}
 use Rattle.session.proofs.clients.Clients.count_staying.Goals as goal
 
 pub returns : goal.returns

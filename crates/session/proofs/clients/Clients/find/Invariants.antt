@@ -1,5 +1,5 @@
 use Rattle.std.proofs.Common.{◌≡◌, drop, map, find}
-use Rattle.model.specs.Session.{is_client}
+use Rattle.model.specs.Sessions.Session.{is_client}
 use Rattle.session.specs.Views.{client_of, clients_of}
 use Rattle.session.proofs.clients.Clients.find.Given as goal
 

@@ -1,7 +1,7 @@
 use Rattle.std.proofs.Common.{rules, tests, sym, ◌∙◌, ◌&&◌, ◌==◌}
 use Rattle.std.proofs.lemmas.Iterator.{YieldsList-from_slice}
 use Rattle.std.proofs.lemmas.Iterator.Search.{any_from_yields_List}
-use Rattle.model.specs.Session.{is_replaced_by, Client as Known}
+use Rattle.model.specs.Sessions.Session.{is_replaced_by, Client as Known}
 use Rattle.session.specs.declared.client.Client.{Client}
 use Rattle.session.specs.Views.{client_of, clients_of}
 use Rattle.session.proofs.Lists.{list_any-map, any_filtered}

@@ -1,6 +1,6 @@
 use Rattle.std.proofs.Common.{refl, sym, ap, ◌∙◌}
 use Rattle.session.proofs.Lists.{changed_at, untouched}
-use Rattle.model.specs.Session.{is_client}
+use Rattle.model.specs.Sessions.Session.{is_client}
 use Rattle.session.specs.Views.{client_of}
 use Rattle.session.specs.Rooms.{reclaimed}
 use Rattle.session.proofs.Ending.{number_of, one_client}

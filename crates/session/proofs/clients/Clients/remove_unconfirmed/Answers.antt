@@ -2,7 +2,7 @@ use Rattle.std.proofs.Common.{◌*◌, ◌^◌, ◌<◌, not, ap, rules, tests}
 use Rattle.std.proofs.lemmas.Fn.{filter_same}
 use Rattle.session.proofs.Lists.{kept_view}
 use Rattle.session.proofs.Kept.{rises_filtered, all_filtered, up_to_filtered}
-use Rattle.model.specs.Session.{is_unconfirmed_of}
+use Rattle.model.specs.Sessions.Session.{is_unconfirmed_of}
 use Rattle.session.specs.declared.client.Client.{Client}
 use Rattle.session.specs.Views.{client_of}
 use Rattle.session.proofs.Ending.{number_of}

@@ -1,6 +1,6 @@
 use Rattle.std.proofs.Common.{◌≡◌, ◌∙◌, ◌==◌, ap, bit_and}
 use Rattle.bitflags.specs.Sets.{known_from, without}
-use Rattle.model.specs.Session.{exchange_flags, confirmed_flag}
+use Rattle.model.specs.Sessions.Session.{exchange_flags, confirmed_flag}
 use Rattle.session.proofs.Allowed.{among_allowed}
 use Rattle.session.proofs.flags.ExchangeFlags.may_be_asked.Goals as goal
 

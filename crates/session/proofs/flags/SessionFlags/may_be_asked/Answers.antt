@@ -1,6 +1,6 @@
 use Rattle.std.proofs.Common.{◌≡◌, ◌∙◌, ◌==◌, ap, bit_and}
 use Rattle.bitflags.specs.Sets.{known_from}
-use Rattle.model.specs.Session.{session_flags}
+use Rattle.model.specs.Sessions.Session.{session_flags}
 use Rattle.session.proofs.Allowed.{among_allowed}
 use Rattle.session.proofs.flags.SessionFlags.may_be_asked.Goals as goal
 

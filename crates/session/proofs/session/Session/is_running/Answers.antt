@@ -1,7 +1,7 @@
 use Rattle.std.proofs.Common.{rules, tests, sym, ◌∙◌}
 use Rattle.std.proofs.lemmas.Iterator.{YieldsList-from_slice}
 use Rattle.std.proofs.lemmas.Iterator.Search.{any_from_yields_List}
-use Rattle.model.specs.Session.{is_running_state, Slot as Known}
+use Rattle.model.specs.Sessions.Session.{is_running_state, Slot as Known}
 use Rattle.session.specs.declared.slot.Slot.{Slot}
 use Rattle.session.specs.Slots.{slot_of}
 use Rattle.session.proofs.Lists.{list_any-map}

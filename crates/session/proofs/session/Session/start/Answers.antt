@@ -1,5 +1,5 @@
 use Rattle.std.proofs.Common.{List, ap, arith}
-use Rattle.model.specs.Session.{no_slot, Session as Known, Slot as KnownSlot}
+use Rattle.model.specs.Sessions.Session.{no_slot, Session as Known, Slot as KnownSlot}
 use Rattle.session.specs.Slots.{slot_of, running_slot}
 use Rattle.session.specs.Views.{session_of}
 use Rattle.session.proofs.Lists.{mapped_set}

@@ -3,7 +3,7 @@ use Rattle.std.proofs.lemmas.List.{map_push}
 use Rattle.std.proofs.lemmas.Fn.{filter_same}
 use Rattle.session.proofs.Lists.{kept_view, pushed}
 use Rattle.session.proofs.Kept.{rises_filtered, up_to_filtered, rises_pushed, up_to_pushed}
-use Rattle.model.specs.Session.{is_of_clients}
+use Rattle.model.specs.Sessions.Session.{is_of_clients}
 use Rattle.session.specs.declared.session.Session.{Session}
 use Rattle.session.specs.Views.{session_of}
 use Rattle.session.proofs.Serials.{serial_of}

@@ -1,5 +1,5 @@
 use Rattle.std.proofs.Common.{◌≡◌, drop, map, find}
-use Rattle.model.specs.Session.{is_session}
+use Rattle.model.specs.Sessions.Session.{is_session}
 use Rattle.session.specs.Views.{session_of, sessions_of}
 use Rattle.session.proofs.sessions.Sessions.find.Given as goal
 

@@ -1,7 +1,7 @@
 use Rattle.std.proofs.Common.{rules, tests, sym, ◌∙◌}
 use Rattle.std.proofs.lemmas.Iterator.{YieldsList-from_slice}
 use Rattle.std.proofs.lemmas.Iterator.Search.{any_from_yields_List}
-use Rattle.model.specs.Session.{is_session}
+use Rattle.model.specs.Sessions.Session.{is_session}
 use Rattle.session.specs.declared.session.Session.{Session}
 use Rattle.session.specs.Views.{session_of}
 use Rattle.session.proofs.Lists.{list_any-map}

@@ -2,7 +2,7 @@ use Rattle.std.proofs.Common.{not, ap, rules, tests}
 use Rattle.std.proofs.lemmas.Fn.{filter_same}
 use Rattle.session.proofs.Lists.{kept_view}
 use Rattle.session.proofs.Kept.{rises_filtered, up_to_filtered}
-use Rattle.model.specs.Session.{is_session}
+use Rattle.model.specs.Sessions.Session.{is_session}
 use Rattle.session.specs.declared.session.Session.{Session}
 use Rattle.session.specs.Views.{session_of}
 use Rattle.session.proofs.sessions.Sessions.remove.Goals as goal

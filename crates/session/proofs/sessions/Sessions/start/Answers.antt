@@ -1,6 +1,6 @@
 use Rattle.std.proofs.Common.{sym, ap, ◌∙◌}
 use Rattle.session.proofs.Lists.{changed_at, untouched}
-use Rattle.model.specs.Session.{is_session, with_slot}
+use Rattle.model.specs.Sessions.Session.{is_session, with_slot}
 use Rattle.session.specs.Slots.{running_slot}
 use Rattle.session.specs.Views.{session_of}
 use Rattle.session.proofs.Serials.{one_session, serial_of}

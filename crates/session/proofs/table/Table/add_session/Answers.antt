@@ -1,8 +1,8 @@
 use Rattle.std.proofs.Common.{◌≡◌, ◌≤◌, ℕ, List, [], ◌∷◌, ◌++◌, sym, ap, ◌∙◌, subst, arith}
-use Rattle.model.specs.Seats.{Seats}
-use Rattle.model.specs.SeatEdits.{edited_all, edits_view}
-use Rattle.model.specs.SeatViews.{seats_view}
-use Rattle.model.specs.Session.{Client as Known, Session, is_client, is_of_clients, is_replaced_by, confirmed_with, changed_where, without_where}
+use Rattle.model.specs.Sessions.Seats.{Seats}
+use Rattle.model.specs.Sessions.SeatEdits.{edited_all, edits_view}
+use Rattle.model.specs.Sessions.SeatViews.{seats_view}
+use Rattle.model.specs.Sessions.Session.{Client as Known, Session, is_client, is_of_clients, is_replaced_by, confirmed_with, changed_where, without_where}
 use Rattle.wire.specs.AnswerViews.{create_session_view}
 use Rattle.session.specs.Given.{AreGiven}
 use Rattle.session.specs.Views.{table_of, table_by, roll_of, book_of, clients_of, sessions_of, session_of}

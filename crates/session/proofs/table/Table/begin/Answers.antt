@@ -2,9 +2,9 @@ use Rattle.std.proofs.Common.{Some, Ok, refl, sym, ap, ◌∙◌}
 use Rattle.std.specs.Option.{option_map, option_copied}
 use Rattle.std.proofs.lemmas.Result.{err_from_is_err_and}
 use Rattle.std.specs.Result.{result_err}
-use Rattle.model.specs.Seats.{seat_of}
-use Rattle.model.specs.SeatViews.{seats_view}
-use Rattle.model.specs.Session.{begin, begin_by, started, Session as Known}
+use Rattle.model.specs.Sessions.Seats.{seat_of}
+use Rattle.model.specs.Sessions.SeatViews.{seats_view}
+use Rattle.model.specs.Sessions.Session.{begin, begin_by, started, Session as Known}
 use Rattle.wire.specs.ArgumentViews.{sequence_view}
 use Rattle.session.specs.Views.{table_of, table_by, roll_of, seating_of, session_of, reply_kept, reply_in}
 use Rattle.session.proofs.Beginning.{refuses, replays, runs, replays_kept, dead_refuses, dead_replays}

@@ -1,7 +1,7 @@
 use Rattle.std.proofs.Common.{rules, tests, sym, ◌∙◌, ◌&&◌}
 use Rattle.std.proofs.lemmas.Iterator.{YieldsList-from_slice}
 use Rattle.std.proofs.lemmas.Iterator.Search.{any_from_yields_List}
-use Rattle.model.specs.Session.{is_of_clients, is_running, Session as Known}
+use Rattle.model.specs.Sessions.Session.{is_of_clients, is_running, Session as Known}
 use Rattle.session.specs.declared.session.Session.{Session}
 use Rattle.session.specs.Rooms.{ended_by}
 use Rattle.session.specs.Views.{table_of, client_of, clients_of, session_of}

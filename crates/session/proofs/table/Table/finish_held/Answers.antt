@@ -1,6 +1,6 @@
 use Rattle.std.proofs.Common.{ℕ, List, find, ap, ◌∙◌}
-use Rattle.model.specs.SeatViews.{seats_view}
-use Rattle.model.specs.Session.{Session, is_session}
+use Rattle.model.specs.Sessions.SeatViews.{seats_view}
+use Rattle.model.specs.Sessions.Session.{Session, is_session}
 use Rattle.session.specs.Views.{table_of, sessions_of}
 use Rattle.session.proofs.Giving.{given_held, given_moved}
 use Rattle.session.proofs.table.Table.finish_held.Goals as goal

@@ -1,7 +1,7 @@
 use Rattle.std.proofs.Common.{◌≡◌, ◌++◌, drop, map}
-use Rattle.model.specs.SeatEdits.{edit_view}
-use Rattle.model.specs.SeatViews.{place_view, seats_view}
-use Rattle.model.specs.Session.{gives_way}
+use Rattle.model.specs.Sessions.SeatEdits.{edit_view}
+use Rattle.model.specs.Sessions.SeatViews.{place_view, seats_view}
+use Rattle.model.specs.Sessions.Session.{gives_way}
 use Rattle.session.specs.Seating.{freeing}
 use Rattle.session.specs.Views.{table_of, client_of}
 use Rattle.session.proofs.table.Table.free_seats.Given as goal

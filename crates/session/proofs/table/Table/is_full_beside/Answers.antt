@@ -3,8 +3,8 @@ use Rattle.std.proofs.lemmas.Bool.Decides.{nat_tests}
 use Rattle.std.proofs.lemmas.List.{length-map}
 use Rattle.std.proofs.lemmas.Iterator.{YieldsList-from_slice}
 use Rattle.std.proofs.lemmas.Iterator.Consumers.{YieldsList-from_filter, count_from_yields_List}
-use Rattle.model.specs.Session.{is_of_clients, Session as Known}
-use Rattle.model.proofs.NodeAttributeLaws.{filter-map}
+use Rattle.model.specs.Sessions.Session.{is_of_clients, Session as Known}
+use Rattle.model.proofs.Operations.NodeAttributeLaws.{filter-map}
 use Rattle.session.specs.declared.session.Session.{Session}
 use Rattle.session.specs.Rooms.{ended_by}
 use Rattle.session.specs.Views.{table_of, client_of, clients_of, session_of, sessions_of}

@@ -1,7 +1,7 @@
 use Rattle.std.proofs.Common.{not, ◌&&◌, rules, tests, sym, ◌∙◌}
 use Rattle.std.proofs.lemmas.Iterator.{YieldsList-from_slice}
 use Rattle.std.proofs.lemmas.Iterator.Search.{any_from_yields_List}
-use Rattle.model.specs.Session.{is_session, is_of_clients, Session as Known}
+use Rattle.model.specs.Sessions.Session.{is_session, is_of_clients, Session as Known}
 use Rattle.session.specs.declared.session.Session.{Session}
 use Rattle.session.specs.Rooms.{ended_by}
 use Rattle.session.specs.Views.{table_of, client_of, clients_of, session_of, sessions_of}

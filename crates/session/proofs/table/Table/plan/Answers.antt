@@ -2,7 +2,7 @@ use Rattle.std.proofs.Common.{◌≡◌, ◌==◌, ◌+◌, ◌*◌, ◌^◌, �
 use Rattle.std.specs.Option.{option_map, option_copied}
 use Rattle.std.specs.Result.{result_err}
 use Rattle.std.proofs.lemmas.Result.{err_from_is_err_and}
-use Rattle.model.specs.Session.{Client as Known, CreateSessionOutcome, create_unless, is_client}
+use Rattle.model.specs.Sessions.Session.{Client as Known, CreateSessionOutcome, create_unless, is_client}
 use Rattle.wire.specs.ArgumentViews.{create_session_view}
 use Rattle.wire.specs.AnswerViews.{create_session_view as answer_view}
 use Rattle.session.specs.Plans.{IsPlanned}

@@ -1,8 +1,8 @@
 use Rattle.std.proofs.Common.{sym, ap, ◌∙◌, subst}
 use Rattle.std.specs.Result.{result_err}
-use Rattle.model.specs.Seats.{is_seat_of, freed, AreOfRuns}
-use Rattle.model.specs.SeatViews.{seats_view}
-use Rattle.model.specs.Session.{Table}
+use Rattle.model.specs.Sessions.Seats.{is_seat_of, freed, AreOfRuns}
+use Rattle.model.specs.Sessions.SeatViews.{seats_view}
+use Rattle.model.specs.Sessions.Session.{Table}
 use Rattle.session.specs.Views.{table_of}
 use Rattle.session.proofs.EditLaws.{freed_one}
 use Rattle.session.proofs.Giving.{given_freed, given_runs}

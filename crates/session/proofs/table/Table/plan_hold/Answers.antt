@@ -3,10 +3,10 @@ use Rattle.std.specs.Option.{option_map, option_copied}
 use Rattle.std.proofs.lemmas.List.{length-map}
 use Rattle.std.proofs.lemmas.Result.{IfOk-weaker}
 use Rattle.model.specs.declared.seats.SeatEdits.{SeatEdits}
-use Rattle.model.specs.Seats.{AreOfRuns, seat_of, holding}
-use Rattle.model.specs.SeatEdits.{SeatEdit, AreEdits, edited_all}
-use Rattle.model.specs.SeatViews.{place_view, seats_view}
-use Rattle.model.specs.Session.{Session, is_session, held_by, held_reply, slot_at}
+use Rattle.model.specs.Sessions.Seats.{AreOfRuns, seat_of, holding}
+use Rattle.model.specs.Sessions.SeatEdits.{SeatEdit, AreEdits, edited_all}
+use Rattle.model.specs.Sessions.SeatViews.{place_view, seats_view}
+use Rattle.model.specs.Sessions.Session.{Session, is_session, held_by, held_reply, slot_at}
 use Rattle.session.specs.Plans.{IsHoldPlanned}
 use Rattle.session.specs.Seating.{has_held_slot}
 use Rattle.session.specs.Views.{table_of, session_of, sessions_of}

@@ -1,11 +1,11 @@
 use Rattle.std.proofs.Common.{ℕ, ◌+◌, ◌<◌, Bool, if◌then◌else◌, List, IfSome, is_some, Ok, refl, sym, ap, ◌∙◌, subst}
 use Rattle.std.proofs.lemmas.List.{length-map}
-use Rattle.model.specs.Operation.{Channel, CreateSessionArguments}
-use Rattle.model.specs.Answer.{CreateSessionAnswer}
-use Rattle.model.specs.Seats.{Seats}
-use Rattle.model.specs.SeatEdits.{SeatEdit, CanEditAll, edited_all}
-use Rattle.model.specs.SeatViews.{place_view, seats_view}
-use Rattle.model.specs.Session.{Client, Session, Table, limits_for, fore_channel, gives_way}
+use Rattle.model.specs.Operations.Operation.{Channel, CreateSessionArguments}
+use Rattle.model.specs.Operations.Answer.{CreateSessionAnswer}
+use Rattle.model.specs.Sessions.Seats.{Seats}
+use Rattle.model.specs.Sessions.SeatEdits.{SeatEdit, CanEditAll, edited_all}
+use Rattle.model.specs.Sessions.SeatViews.{place_view, seats_view}
+use Rattle.model.specs.Sessions.Session.{Client, Session, Table, limits_for, fore_channel, gives_way}
 use Rattle.wire.specs.ArgumentViews.{create_session_view}
 use Rattle.wire.specs.SmallViews.{channel_view}
 use Rattle.session.specs.Given.{AreGiven}

@@ -2,7 +2,7 @@ use Rattle.std.proofs.Common.{◌≡◌, ◌≤◌, ◌+◌, ◌∙◌, List, Op
 use Rattle.disk.specs.Moments.{Image, applied}
 use Rattle.inode.specs.Spelling.{inode_sector}
 use Rattle.model.specs.declared.node.NodeKind.TheVariants as kind
-use Rattle.model.specs.Edit.{SetSize}
+use Rattle.model.specs.Trees.Edit.{SetSize}
 use Rattle.layout.specs.CachedNodes.{CachedNode}
 use Rattle.tree_transaction.specs.Blocks.{IsPut}
 use Rattle.tree_transaction.specs.Grown.{grown, sized}

@@ -5,7 +5,7 @@ use Rattle.disk.specs.declared.update.Update.{Update}
 use Rattle.freemap.specs.Kept.{free_places}
 use Rattle.inode.specs.Fields.{IsInode}
 use Rattle.inode.specs.Spelling.{inode_sector}
-use Rattle.model.specs.Edit.{PutBytes}
+use Rattle.model.specs.Trees.Edit.{PutBytes}
 use Rattle.layout.specs.CachedNodes.{CachedNode}
 use Rattle.node_table.specs.Seen.{seen}
 use Rattle.tree_transaction.specs.Blocks.{IsPut, HaveRegion, GetSectors, WritesBytes, ChangeBlocks, FillHoles, set_blocks}

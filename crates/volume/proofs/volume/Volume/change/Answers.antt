@@ -10,8 +10,8 @@ use Rattle.journal.specs.Log.{Log, Answers, contents}
 use Rattle.layout.specs.CachedNodes.{CachedNode}
 use Rattle.layout.specs.Health.{Health}
 use Rattle.layout.specs.Superblock.{is_size}
-use Rattle.model.specs.Charge.{fits}
-use Rattle.model.specs.Limits.{limits_of}
+use Rattle.model.specs.Trees.Charge.{fits}
+use Rattle.model.specs.Trees.Limits.{limits_of}
 use Rattle.volume.specs.Changes.{Done, Changes}
 use Rattle.parents.specs.Parents.{AreParents}
 use Rattle.volume.specs.Edits.{IsEdited, edited_by, put_by}
@@ -24,7 +24,7 @@ use Rattle.volume.proofs.ApplyLaws.{applied_serves, applied_tree, apply_done, ap
 use Rattle.volume.proofs.ChangeLaws.{behind_serving, formed_after, journal_targets, known_after, log_same, may_settle, outline_after, parents_behind}
 use Rattle.volume.proofs.EditLaws.{front_room, outline_doable, outline_few}
 use Rattle.volume.proofs.ServeLaws.{told_err}
-use Rattle.model.specs.Stamp.{stamp}
+use Rattle.model.specs.Trees.Stamp.{stamp}
 use Rattle.tree_edits.specs.Outlines.{tree_without_data}
 use Rattle.volume.proofs.KeepLaws.{left}
 use Rattle.volume.proofs.volume.Volume.change.Goals as goal

@@ -1,5 +1,5 @@
 use Rattle.std.proofs.Common.{◌≡◌, ◌∙◌, ℕ, length, ap}
-use Rattle.model.specs.Attribute.{trimmed}
+use Rattle.model.specs.Attributes.Attribute.{trimmed}
 use Rattle.wire_attributes.proofs.AnswerLaws.{words, answer_length}
 use Rattle.wire_attributes.proofs.answer.AttributesAnswer.size.Goals as goal
 

@@ -1,7 +1,7 @@
 use Rattle.std.proofs.Common.{◌≡◌, ◌∙◌, ap}
 use Rattle.xdr.specs.Forms.{counted}
 use Rattle.xdr.proofs.Writing.{wrote_on, wrote_exit}
-use Rattle.model.specs.Attribute.{trimmed}
+use Rattle.model.specs.Attributes.Attribute.{trimmed}
 use Rattle.wire_attributes.proofs.AnswerLaws.{words, values_text, front_written, all_written}
 use Rattle.wire_attributes.proofs.answer.AttributesAnswer.write.Goals as goal
 

@@ -1,0 +1,3 @@
+-- What the library does not say of truth values and options.
+pub mod BooleanLaws
+pub mod OptionLaws

@@ -1,0 +1,454 @@
+-- The headline, by induction over a run: what a stop may leave is the tree of a good prefix of what was executed.
+use Rattle.std.proofs.Common.{◌≡◌, ℕ, zero, suc, ◌<◌, ◌≤◌, ◌⊎◌, inl, inr, Bool, true, false, not, cond, ◌==◌, List, [], ◌∷◌, ◌++◌, length, take, get_or, slice_get, option_to_list, Option, None, Some, refl, sym, ap, ◌∙◌, subst, arith, append-nil, length-append, take_all}
+use Rattle.std.proofs.lemmas.List.{take-append-le}
+use Rattle.std.specs.List.{IsAmong, AllByRecursion}
+use Rattle.std.proofs.lemmas.Bool.{false≢true, or_left, and_from, or_right}
+use Rattle.model.specs.Sessions.Seats.{Seats}
+use Rattle.model.specs.Trees.Keyed.{at}
+use Rattle.model.specs.Trees.Tree.{Tree}
+use Rattle.model.specs.Server.World.{World, ServerLimits, Entry, Turned, Turn, Idle, Ran, Answered, one, is_busy, reply_at}
+use Rattle.model.specs.Server.Runs.{Event, Arrives, Turns, HangsUp, Connects, Takes, executed_of, before, IsDurable, is_durable, History, no_history, is_slot, keeping, numbers_of, named_so_far, names_by, naming_by, turned_by, taken_by, history_after, Serving, mounted, executed, executed_by, IsAfter, MayLeave, Happens, Fails, StaysDown, history_failing, IsRun, Begins, Goes_on, Fails_at, Stays_down, tree_after, IsChain, IsGood, ArePermitted, IsGoodPrefix, EveryRun}
+use Rattle.model.proofs.Server.RunLaws.{LawfulEntry, EntryFits, event_fits}
+
+-- Lists of executed operations
+
+tree_after-append : (start : Tree) (done : List Entry) (entry : Entry) → tree_after start (done ++ entry ∷ []) ≡ entry.after
+tree_after-append start [] entry = refl
+tree_after-append start (first ∷ done) entry = tree_after-append first.after done entry
+
+IsChain-append : (start : Tree) (done : List Entry) (entry : Entry) → IsChain start done → before entry ≡ tree_after start done → IsChain start (done ++ entry ∷ [])
+IsChain-append start [] entry chain e = (e, tt)
+IsChain-append start (first ∷ done) entry chain e = (chain.0, IsChain-append first.after done entry chain.1 e)
+
+pub slice_get-append : {A : Type 0} (xs ys : List A) (i : ℕ) → i < length xs → slice_get (xs ++ ys) i ≡ slice_get xs i
+slice_get-append [] ys i h = absurd (omega arith)
+slice_get-append (x ∷ xs) ys zero h = refl
+slice_get-append (x ∷ xs) ys (suc i) h = slice_get-append xs ys i (omega arith)
+
+-- a place that has something is one of the list's, or the last one of a list with one more
+pub slice_get-within : {A : Type 0} (xs : List A) (i : ℕ) (x : A) → slice_get xs i ≡ Some x → i < length xs
+slice_get-within [] i x e = let never : ⊥ = cc in absurd never
+slice_get-within (y ∷ xs) zero x e = omega arith
+slice_get-within (y ∷ xs) (suc i) x e = let later = slice_get-within xs i x e in omega arith
+
+pub slice_get-last : {A : Type 0} (xs : List A) (last : A) (i : ℕ) (x : A) → slice_get (xs ++ last ∷ []) i ≡ Some x → (slice_get xs i ≡ Some x) ⊎ (x ≡ last)
+slice_get-last [] last zero x e = let same : x ≡ last = cc in inr same
+slice_get-last [] last (suc i) x e = let never : ⊥ = cc in absurd never
+slice_get-last (y ∷ xs) last zero x e = inl e
+slice_get-last (y ∷ xs) last (suc i) x e = slice_get-last xs last i x e
+
+-- Each executed operation is lawful
+
+AllLawful : List Entry → Type 0
+AllLawful done = (i : ℕ) (entry : Entry) → slice_get done i ≡ Some entry → LawfulEntry entry
+
+AllLawful-append : (done : List Entry) (entry : Entry) → AllLawful done → LawfulEntry entry → AllLawful (done ++ entry ∷ [])
+unfolding AllLawful
+AllLawful-append done entry all lawful i other e = by_place (slice_get-last done entry i other e)
+  where
+    by_place : (slice_get done i ≡ Some other) ⊎ (other ≡ entry) → LawfulEntry other
+    by_place (inl e) = all i other e
+    by_place (inr same) = subst LawfulEntry (sym same) lawful
+
+-- a durable operation passes the test
+durable_passes : (entry : Entry) → LawfulEntry entry → IsDurable entry → is_durable entry ≡ true
+durable_passes entry lawful (inl change) =
+    let law = lawful change.0 in
+    or_left _ _ (and_from _ _ law.1 (and_from _ _ law.2 (ap not change.1)))
+durable_passes entry lawful (inr commit) = or_right _ _ (and_from _ _ commit.0 commit.1)
+
+-- What holds in a run
+
+-- the tree is one of a prefix that has each durable operation below a place
+record StandsFor (start : Tree) (done : List Entry) (settled : ℕ) (tree : Tree) : Type 0 where
+  k : ℕ
+  within : k ≤ length done
+  holds : tree ≡ tree_after start (take k done)
+  beyond : (i : ℕ) (entry : Entry) → i < settled → slice_get done i ≡ Some entry → is_durable entry ≡ true → i < k
+
+AreBelow : ℕ → List ℕ → Type 0
+AreBelow bound names = AllByRecursion (λ i. i < bound) names
+
+-- what replies name is settled
+record AreNamed (settled : ℕ) (history : History) : Type 0 where
+  named : (connection : ℕ) → AreBelow settled (history.named connection)
+  kept : (session : List ℕ) (slot : ℕ) → AreBelow settled (history.kept session slot)
+  handed_out : AreBelow settled history.handed_out
+
+-- of the trees, and of what is known of `done`
+record Core (start : Tree) (serving : Serving) (done : List Entry) (settled : ℕ) : Type 0 where
+  within : settled ≤ length done
+  whole : serving.is_down ≡ false → settled ≡ length done
+  tree : serving.is_down ≡ false → serving.world.tree ≡ tree_after start done
+  chain : IsChain start done
+  lawful : AllLawful done
+  recent : (tree : Tree) → IsAmong serving.recent tree → StandsFor start done settled tree
+
+record Holds (start : Tree) (serving : Serving) (history : History) : Type 0 where
+  settled : ℕ
+  core : Core start serving history.done settled
+  names : AreNamed settled history
+
+-- One more operation executed: nothing of what stood before is lost
+
+StandsFor-append : (start : Tree) (done : List Entry) (settled : ℕ) (tree : Tree) (more : List Entry) → settled ≤ length done
+    → StandsFor start done settled tree → StandsFor start (done ++ more) settled tree
+StandsFor-append start done settled tree more within stands = record {
+  k = stands.k;
+  within = let inside = stands.within in omega (arith, length-append done more);
+  holds = stands.holds ∙ ap (tree_after start) (sym (take-append-le stands.k done more stands.within));
+  beyond = λ i entry less e durable. stands.beyond i entry less (sym (slice_get-append done more i (omega arith)) ∙ e) durable;
+}
+
+-- the tree after the last one is that of all of them
+latest : (start : Tree) (done : List Entry) (entry : Entry) (settled : ℕ) (tree : Tree) → settled ≤ length (done ++ entry ∷ []) → tree ≡ entry.after
+    → StandsFor start (done ++ entry ∷ []) settled tree
+latest start done entry settled tree within same = record {
+  k = length (done ++ entry ∷ []);
+  within = omega arith;
+  holds = same ∙ sym (tree_after-append start done entry) ∙ ap (tree_after start) (sym (take_all (length (done ++ entry ∷ [])) (done ++ entry ∷ []) (omega arith)));
+  beyond = λ i other less e durable. omega arith;
+}
+
+behind_one : (start : Tree) (done : List Entry) (entry : Entry) (tree : Tree) (b : Bool) → is_durable entry ≡ b → (b ≡ true → tree ≡ entry.after)
+    → StandsFor start done (length done) tree → StandsFor start (done ++ entry ∷ []) (length (done ++ entry ∷ [])) tree
+behind_one start done entry tree true e durable stands = latest start done entry _ tree (omega arith) (durable refl)
+behind_one start done entry tree false e durable stands = record {
+  k = stands.k;
+  within = let inside = stands.within in omega (arith, length-append done (entry ∷ []));
+  holds = stands.holds ∙ ap (tree_after start) (sym (take-append-le stands.k done (entry ∷ []) stands.within));
+  beyond = λ i other less at lasts. by_place i other lasts (slice_get-last done entry i other at);
+}
+  where
+    by_place : (i : ℕ) (other : Entry) → is_durable other ≡ true → (slice_get done i ≡ Some other) ⊎ (other ≡ entry) → i < stands.k
+    by_place i other lasts (inl at) = stands.beyond i other (slice_get-within done i other at) at lasts
+    by_place i other lasts (inr same) = absurd (false≢true (sym e ∙ ap is_durable (sym same) ∙ lasts))
+
+-- The parts of `done` after an event
+
+abbrev pub Joined : List Entry → Option Entry → List Entry
+Joined done executed = done ++ option_to_list executed
+
+tree_behind : (start old new : Tree) (done : List Entry) (executed : Option Entry) → EntryFits old new executed → old ≡ tree_after start done
+    → new ≡ tree_after start (Joined done executed)
+tree_behind start old new done None fits at = fits ∙ at ∙ ap (tree_after start) (sym (append-nil done))
+tree_behind start old new done (Some entry) fits at = fits.1 ∙ sym (tree_after-append start done entry)
+
+chain_behind : (start old new : Tree) (done : List Entry) (executed : Option Entry) → EntryFits old new executed → old ≡ tree_after start done
+    → IsChain start done → IsChain start (Joined done executed)
+chain_behind start old new done None fits at chain = subst (IsChain start) (sym (append-nil done)) chain
+chain_behind start old new done (Some entry) fits at chain = IsChain-append start done entry chain (fits.0 ∙ at)
+
+lawful_behind : (old new : Tree) (done : List Entry) (executed : Option Entry) → EntryFits old new executed → AllLawful done → AllLawful (Joined done executed)
+lawful_behind old new done None fits lawful = subst AllLawful (sym (append-nil done)) lawful
+lawful_behind old new done (Some entry) fits lawful = AllLawful-append done entry lawful fits.2
+
+stands_behind : (start : Tree) (done : List Entry) (executed : Option Entry) (tree : Tree) (may : (IsAfter executed tree) ⊎ (StandsFor start done (length done) tree))
+    → ((entry : Entry) → executed ≡ Some entry → is_durable entry ≡ true → tree ≡ entry.after)
+    → StandsFor start (Joined done executed) (length (Joined done executed)) tree
+stands_behind start done None tree (inl after) durable = absurd after
+stands_behind start done None tree (inr stands) durable =
+    subst (λ (all : List Entry). StandsFor start all (length all) tree) (sym (append-nil done)) stands
+stands_behind start done (Some entry) tree (inl after) durable = latest start done entry _ tree (omega arith) after
+stands_behind start done (Some entry) tree (inr stands) durable = behind_one start done entry tree (is_durable entry) refl (durable entry refl) stands
+
+-- what may be left, where the last one need not be kept
+stands_failing : (start : Tree) (done : List Entry) (settled : ℕ) (executed : Option Entry) (tree : Tree) → settled ≤ length done
+    → (IsAfter executed tree) ⊎ (StandsFor start done settled tree) → StandsFor start (Joined done executed) settled tree
+stands_failing start done settled None tree within (inl after) = absurd after
+stands_failing start done settled None tree within (inr stands) = StandsFor-append start done settled tree [] within stands
+stands_failing start done settled (Some entry) tree within (inl after) =
+    latest start done entry settled tree (omega (arith, length-append done (entry ∷ []))) after
+stands_failing start done settled (Some entry) tree within (inr stands) = StandsFor-append start done settled tree (entry ∷ []) within stands
+
+-- what an event may leave, by what stood before it
+left_by : (start : Tree) (serving : Serving) (event : Event) (done : List Entry) (settled : ℕ) (tree : Tree) → Core start serving done settled
+    → MayLeave serving event tree → (IsAfter (executed serving event) tree) ⊎ (StandsFor start done settled tree)
+left_by start serving event done settled tree core (inl among) = inr (core.recent tree among)
+left_by start serving event done settled tree core (inr after) = inl after
+
+executed_up : (serving : Serving) (event : Event) → serving.is_down ≡ false → executed serving event ≡ executed_of serving.world event
+executed_up serving event up = ap (executed_by serving.world event) up
+
+-- An event
+
+core_goes : (start : Tree) (old new : Serving) (event : Event) (done : List Entry) (settled : ℕ) → Core start old done settled → Happens old event new
+    → Core start new (Joined done (executed_of old.world event)) (length (Joined done (executed_of old.world event)))
+core_goes start old new event done settled core happens =
+    let is = executed_up old event happens.up in
+    let fits = event_fits old.world event in
+    let at = core.tree happens.up in
+    record {
+      within = omega arith;
+      whole = λ up. refl;
+      tree = λ up. ap (λ (world : World). world.tree) happens.world ∙ tree_behind start old.world.tree _ done _ fits at;
+      chain = chain_behind start old.world.tree _ done _ fits at core.chain;
+      lawful = lawful_behind old.world.tree _ done _ fits core.lawful;
+      recent = λ tree among.
+          subst (λ (executed : Option Entry). StandsFor start (Joined done executed) (length (Joined done executed)) tree) is
+          (stands_behind start done (executed old event) tree
+          (settled_whole tree (core.whole happens.up) (left_by start old event done settled tree core (happens.no_others tree among)))
+          (λ entry e lasts. happens.durable entry e lasts tree among));
+    }
+  where
+    settled_whole : (tree : Tree) → settled ≡ length done → (IsAfter (executed old event) tree) ⊎ (StandsFor start done settled tree)
+        → (IsAfter (executed old event) tree) ⊎ (StandsFor start done (length done) tree)
+    settled_whole tree e (inl after) = inl after
+    settled_whole tree e (inr stands) = inr (subst (λ (n : ℕ). StandsFor start done n tree) e stands)
+
+core_fails : (start : Tree) (old new : Serving) (event : Event) (done : List Entry) (settled : ℕ) → Core start old done settled → Fails old event new
+    → Core start new (Joined done (executed_of old.world event)) settled
+core_fails start old new event done settled core fails =
+    let is = executed_up old event fails.up in
+    let fits = event_fits old.world event in
+    let at = core.tree fails.up in
+    record {
+      within = let inside = core.within in omega (arith, length-append done (option_to_list (executed_of old.world event)));
+      whole = λ up. absurd (false≢true (sym up ∙ fails.down));
+      tree = λ up. absurd (false≢true (sym up ∙ fails.down));
+      chain = chain_behind start old.world.tree _ done _ fits at core.chain;
+      lawful = lawful_behind old.world.tree _ done _ fits core.lawful;
+      recent = λ tree among.
+          subst (λ (executed : Option Entry). StandsFor start (Joined done executed) settled tree) is
+          (stands_failing start done settled (executed old event) tree core.within (left_by start old event done settled tree core (fails.no_others tree among)));
+    }
+
+core_stays : (start : Tree) (old new : Serving) (connection : ℕ) (done : List Entry) (settled : ℕ) → Core start old done settled → StaysDown old connection new
+    → Core start new done settled
+core_stays start old new connection done settled core stays = record {
+  within = core.within;
+  whole = λ up. absurd (false≢true (sym up ∙ stays.still_down));
+  tree = λ up. absurd (false≢true (sym up ∙ stays.still_down));
+  chain = core.chain;
+  lawful = core.lawful;
+  recent = λ tree among. core.recent tree (stays.no_others tree among);
+}
+
+-- What replies name
+
+AreBelow-more : (less most : ℕ) (names : List ℕ) → less ≤ most → AreBelow less names → AreBelow most names
+unfolding AreBelow
+AreBelow-more less most [] h below = tt
+AreBelow-more less most (i ∷ names) h below = (let first : i < less = below.0 in omega arith, AreBelow-more less most names h below.1)
+
+AreBelow-append : (bound : ℕ) (xs ys : List ℕ) → AreBelow bound xs → AreBelow bound ys → AreBelow bound (xs ++ ys)
+unfolding AreBelow
+AreBelow-append bound [] ys first second = second
+AreBelow-append bound (i ∷ xs) ys first second = (first.0, AreBelow-append bound xs ys first.1 second)
+
+AreBelow-place : (bound : ℕ) (names : List ℕ) (place i : ℕ) → AreBelow bound names → place < length names → i ≡ get_or names place i → i < bound
+unfolding AreBelow
+AreBelow-place bound [] place i below less e = absurd (omega arith)
+AreBelow-place bound (first ∷ names) zero i below less e = let head : first < bound = below.0 in omega arith
+AreBelow-place bound (first ∷ names) (suc place) i below less e = AreBelow-place bound names place i below.1 (omega arith) e
+
+AreBelow-at : (bound : ℕ) (names : List ℕ) (i : ℕ) → AreBelow bound names → IsAmong names i → i < bound
+AreBelow-at bound names i below among = AreBelow-place bound names among.0 i below among.1.0 among.1.1
+
+AreBelow-either : (bound : ℕ) (b : Bool) (xs ys : List ℕ) → AreBelow bound xs → AreBelow bound ys → AreBelow bound (cond b xs ys)
+AreBelow-either bound true xs ys first second = first
+AreBelow-either bound false xs ys first second = second
+
+AreBelow-none : (bound : ℕ) → AreBelow bound []
+unfolding AreBelow
+AreBelow-none bound = tt
+
+AreBelow-one : (bound i : ℕ) → i < bound → AreBelow bound (i ∷ [])
+unfolding AreBelow
+AreBelow-one bound i less = (less, tt)
+
+more_done : (done : List Entry) (executed : Option Entry) → length done ≤ length (Joined done executed)
+more_done done executed = omega (arith, length-append done (option_to_list executed))
+
+numbers_below : (history : History) (executed : Option Entry) → AreBelow (length (Joined history.done executed)) (numbers_of history executed)
+numbers_below history None = AreBelow-none _
+numbers_below history (Some entry) = AreBelow-one _ (length history.done) (omega (arith, length-append history.done (entry ∷ [])))
+
+AreNamed-more : (less most : ℕ) (history : History) → less ≤ most → AreNamed less history → AreNamed most history
+AreNamed-more less most history h names = record {
+  named = λ connection. AreBelow-more less most (history.named connection) h (names.named connection);
+  kept = λ session slot. AreBelow-more less most (history.kept session slot) h (names.kept session slot);
+  handed_out = AreBelow-more less most history.handed_out h names.handed_out;
+}
+
+names_below : (history : History) (world : World) (connection : ℕ) (turned : Turned) (replays : Option (List ℕ × ℕ)) (bound : ℕ)
+    → AreNamed bound history → AreBelow bound (numbers_of history turned.executed) → AreBelow bound (names_by history world connection turned replays)
+names_below history world connection turned (Some slot) bound names numbers = names.kept slot.0 slot.1
+names_below history world connection turned None bound names numbers =
+    AreBelow-append bound (named_so_far history world connection) (numbers_of history turned.executed)
+    (AreBelow-either bound (is_busy (at connection world.connections)) (history.named connection) [] (names.named connection) (AreBelow-none bound)) numbers
+
+naming_below : (bound : ℕ) (turn : Turn) (named : ℕ → List ℕ) (connection : ℕ) (names : List ℕ) → ((other : ℕ) → AreBelow bound (named other)) → AreBelow bound names
+    → (other : ℕ) → AreBelow bound (naming_by turn named connection names other)
+naming_below bound Idle named connection names all below other = all other
+naming_below bound Ran named connection names all below other = AreBelow-either bound (other == connection) names (named other) below (all other)
+naming_below bound Answered named connection names all below other = AreBelow-either bound (other == connection) names (named other) below (all other)
+
+keeping_below : (bound : ℕ) (kept : List ℕ → ℕ → List ℕ) (keeps : Option (List ℕ × ℕ)) (names : List ℕ) → ((session : List ℕ) (slot : ℕ) → AreBelow bound (kept session slot)) → AreBelow bound names
+    → (session : List ℕ) (slot : ℕ) → AreBelow bound (keeping kept keeps names session slot)
+keeping_below bound kept None names all below session slot = all session slot
+keeping_below bound kept (Some at) names all below session slot =
+    AreBelow-either bound (is_slot at session slot) names (kept session slot) below (all session slot)
+
+turned_names : (history : History) (world : World) (connection : ℕ) (turned : Turned) → AreNamed (length history.done) history
+    → AreNamed (length (Joined history.done turned.executed)) (turned_by history world connection turned)
+turned_names history world connection turned names =
+    let bound = length (Joined history.done turned.executed) in
+    let all = AreNamed-more (length history.done) bound history (more_done history.done turned.executed) names in
+    let these = names_below history world connection turned turned.replays bound all (numbers_below history turned.executed) in
+    record {
+      named = naming_below bound turned.turn history.named connection _ all.named these;
+      kept = keeping_below bound history.kept turned.keeps _ all.kept these;
+      handed_out = all.handed_out;
+    }
+
+taken_names : (history : History) (connection : ℕ) (reply : Option (List ℕ)) (bound : ℕ) → AreNamed bound history → AreNamed bound (taken_by history connection reply)
+taken_names history connection None bound names = names
+taken_names history connection (Some reply) bound names = record {
+  named = names.named;
+  kept = names.kept;
+  handed_out = AreBelow-append bound history.handed_out (history.named connection) names.handed_out (names.named connection);
+}
+
+pub taken_done : (history : History) (connection : ℕ) (reply : Option (List ℕ)) → (taken_by history connection reply).done ≡ history.done
+taken_done history connection None = refl
+taken_done history connection (Some reply) = refl
+
+pub done_behind : (history : History) (world : World) (event : Event) → Joined history.done (executed_of world event) ≡ (history_after history world event).done
+done_behind history world (Arrives connection piece) = append-nil history.done
+done_behind history world (Turns connection now) = refl
+done_behind history world (HangsUp connection) = append-nil history.done
+done_behind history world (Connects connection) = append-nil history.done
+done_behind history world (Takes connection) = append-nil history.done ∙ sym (taken_done history connection (reply_at world connection))
+
+none_more : (history : History) (other : History) → AreNamed (length history.done) other → AreNamed (length (history.done ++ [])) other
+none_more history other names = subst (λ (done : List Entry). AreNamed (length done) other) (sym (append-nil history.done)) names
+
+names_behind : (history : History) (world : World) (event : Event) → AreNamed (length history.done) history
+    → AreNamed (length (Joined history.done (executed_of world event))) (history_after history world event)
+names_behind history world (Arrives connection piece) names = none_more history history names
+names_behind history world (Turns connection now) names = turned_names history world connection (one world connection now) names
+names_behind history world (HangsUp connection) names = none_more history history names
+names_behind history world (Connects connection) names = none_more history history names
+names_behind history world (Takes connection) names =
+    none_more history (taken_by history connection (reply_at world connection)) (taken_names history connection (reply_at world connection) (length history.done) names)
+
+-- The induction
+
+pub only_start : (start tree : Tree) → IsAmong (start ∷ []) tree → tree ≡ start
+only_start start tree among = by_place among.0 among.1.0 among.1.1
+  where
+    by_place : (place : ℕ) → place < length (start ∷ []) → tree ≡ get_or (start ∷ []) place tree → tree ≡ start
+    by_place zero less e = e
+    by_place (suc place) less e = absurd (omega arith)
+
+AllLawful-none : AllLawful []
+unfolding AllLawful
+AllLawful-none i entry e = let never : ⊥ = cc in absurd never
+
+holds_at_start : (limits : ServerLimits) (run : ℕ) (start : Tree) (seats : Seats) → Holds start (mounted limits run start seats) no_history
+holds_at_start limits run start seats = record {
+  settled = 0;
+  core = record {
+    within = omega arith;
+    whole = λ up. refl;
+    tree = λ up. refl;
+    chain = tt;
+    lawful = AllLawful-none;
+    recent = λ tree among. record { k = 0; within = omega arith; holds = only_start start tree among; beyond = λ i entry less e durable. absurd (omega arith) };
+  };
+  names = record { named = λ connection. AreBelow-none 0; kept = λ session slot. AreBelow-none 0; handed_out = AreBelow-none 0 };
+}
+
+goes : (start : Tree) (old new : Serving) (event : Event) (history : History) → Holds start old history → Happens old event new
+    → Holds start new (history_after history old.world event)
+goes start old new event history held happens =
+    let is = done_behind history old.world event in
+    let names = AreNamed-more held.settled (length history.done) history held.core.within held.names in
+    record {
+      settled = length (Joined history.done (executed_of old.world event));
+      core = subst (λ (done : List Entry). Core start new done (length (Joined history.done (executed_of old.world event)))) is
+          (core_goes start old new event history.done held.settled held.core happens);
+      names = names_behind history old.world event names;
+    }
+
+fails_at : (start : Tree) (old new : Serving) (event : Event) (history : History) → Holds start old history → Fails old event new
+    → Holds start new (history_failing history old.world event)
+fails_at start old new event history held fails = record {
+  settled = held.settled;
+  core = core_fails start old new event history.done held.settled held.core fails;
+  names = record { named = held.names.named; kept = held.names.kept; handed_out = held.names.handed_out };
+}
+
+stays_down : (start : Tree) (old new : Serving) (connection : ℕ) (history : History) → Holds start old history → StaysDown old connection new
+    → Holds start new (history_after history old.world (Takes connection))
+stays_down start old new connection history held stays =
+    let is = taken_done history connection (reply_at old.world connection) in
+    record {
+      settled = held.settled;
+      core = subst (λ (done : List Entry). Core start new done held.settled) (sym is) (core_stays start old new connection history.done held.settled held.core stays);
+      names = taken_names history connection (reply_at old.world connection) held.settled held.names;
+    }
+
+holds : (start : Tree) (first serving : Serving) (history : History) → Holds start first no_history → IsRun first serving history → Holds start serving history
+holds start first serving history begins Begins = begins
+holds start first serving history begins (Goes_on {old = old} {new = new} {history = earlier} event run happens) =
+    goes start old new event earlier (holds start first old earlier begins run) happens
+holds start first serving history begins (Fails_at {old = old} {new = new} {history = earlier} event run fails) =
+    fails_at start old new event earlier (holds start first old earlier begins run) fails
+holds start first serving history begins (Stays_down {old = old} {new = new} {history = earlier} connection run stays) =
+    stays_down start old new connection earlier (holds start first old earlier begins run) stays
+
+-- A stop
+
+still_good : (start : Tree) (done : List Entry) (handed_out : List ℕ) (settled : ℕ) (tree : Tree) → AllLawful done → AreBelow settled handed_out
+    → (stands : StandsFor start done settled tree) → IsGood done handed_out stands.k
+unfolding AllLawful
+still_good start done handed_out settled tree lawful below stands i entry among e lasts =
+    stands.beyond i entry (AreBelow-at settled handed_out i below among) e (durable_passes entry (lawful i entry e) lasts)
+
+all_permitted : (done : List Entry) (k : ℕ) → AllLawful done → ArePermitted done k
+unfolding AllLawful
+all_permitted done k lawful i entry less e differs = (lawful i entry e differs).0
+
+prefix_of : (start : Tree) (done : List Entry) (handed_out : List ℕ) (settled : ℕ) (tree : Tree) → IsChain start done → AllLawful done → AreBelow settled handed_out
+    → StandsFor start done settled tree → IsGoodPrefix start done handed_out tree
+prefix_of start done handed_out settled tree chain lawful below stands = record {
+  k = stands.k;
+  within = stands.within;
+  holds = stands.holds;
+  good = still_good start done handed_out settled tree lawful below stands;
+  permitted = all_permitted done stands.k lawful;
+  chain = chain;
+}
+
+stopped_by : (start : Tree) (serving : Serving) (history : History) (event : Event) (tree : Tree) → Holds start serving history → (down : Bool) → serving.is_down ≡ down
+    → MayLeave serving event tree → IsGoodPrefix start (Joined history.done (executed_by serving.world event down)) history.handed_out tree
+stopped_by start serving history event tree held true e may =
+    let is : executed serving event ≡ None = ap (executed_by serving.world event) e in
+    let core = held.core in
+    prefix_of start (Joined history.done None) history.handed_out held.settled tree
+    (subst (IsChain start) (sym (append-nil history.done)) core.chain)
+    (subst AllLawful (sym (append-nil history.done)) core.lawful)
+    held.names.handed_out
+    (stands_failing start history.done held.settled None tree core.within
+    (subst (λ (executed : Option Entry). (IsAfter executed tree) ⊎ (StandsFor start history.done held.settled tree)) is
+    (left_by start serving event history.done held.settled tree core may)))
+stopped_by start serving history event tree held false e may =
+    let is = executed_up serving event e in
+    let core = held.core in
+    let fits = event_fits serving.world event in
+    let at = core.tree e in
+    prefix_of start (Joined history.done (executed_of serving.world event)) history.handed_out held.settled tree
+    (chain_behind start serving.world.tree _ history.done _ fits at core.chain)
+    (lawful_behind serving.world.tree _ history.done _ fits core.lawful)
+    held.names.handed_out
+    (stands_failing start history.done held.settled (executed_of serving.world event) tree core.within
+    (subst (λ (executed : Option Entry). (IsAfter executed tree) ⊎ (StandsFor start history.done held.settled tree)) is
+    (left_by start serving event history.done held.settled tree core may)))
+
+pub every_run : EveryRun
+every_run limits run start seats serving history is_run event tree may =
+    stopped_by start serving history event tree
+    (holds start (mounted limits run start seats) serving history (holds_at_start limits run start seats) is_run)
+    serving.is_down refl may

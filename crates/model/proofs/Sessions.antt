@@ -1,0 +1,25 @@
+-- The laws of clients, sessions, seats and opens.
+pub mod ClientTables
+pub mod TableCalls
+pub mod TableIds
+pub mod TableLaws
+pub mod SlotLaw
+pub mod SlotRuns
+pub mod SlotsHeld
+pub mod KeptLaws
+pub mod SeatLaws
+pub mod SeatTables
+pub mod SeatsFreed
+pub mod SeatsGo
+pub mod SeatsSit
+pub mod SeatReplies
+pub mod SeatWorlds
+pub mod SeatLives
+pub mod SeatRunLaws
+pub mod OpensLaws
+pub mod OpensSteps
+pub mod OpensGoOn
+pub mod OpensJoined
+pub mod OpenClients
+pub mod StateIdLaws
+pub mod StateIdRuns

@@ -1,0 +1,5 @@
+-- Worked examples, to which the definitions compute.
+pub mod AclExamples
+pub mod StepExamples
+pub mod FileExamples
+pub mod RightsExamples

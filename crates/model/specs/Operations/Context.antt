@@ -1,0 +1,56 @@
+-- What a COMPOUND hands from one operation to the next: RFC 8881, section 16.2.3.1 (current and
+-- saved filehandle and stateid).
+use Rattle.std.specs.Prelude.{ℕ, Bool, Option, Some, None, is_some, ◌==◌, ◌&&◌, bytes_eq}
+use Rattle.model.specs.declared.acl.Cred.{Cred}
+use Rattle.model.specs.Operations.Operation.{StateId, RenameArguments}
+
+-- a filehandle, as the number of its node, and the stateid that goes with it
+pub record Place : Type 0 where
+  pub number : ℕ
+  pub state : Option StateId
+
+pub record Context : Type 0 where
+  pub cred : Cred
+  pub client : ℕ
+  pub run : ℕ  -- the server's restart count
+  pub current : Option Place
+  pub saved : Option Place
+
+-- the number of a place, 0 where there is none: no node has that
+abbrev pub number_at : Option Place → ℕ
+number_at None = 0
+number_at (Some place) = place.number
+
+abbrev pub has_current : Context → Bool
+has_current context = is_some context.current
+
+abbrev pub current_number : Context → ℕ
+current_number context = number_at context.current
+
+-- the context with this node as the current one: that clears the current stateid
+abbrev pub at_node : Context → ℕ → Context
+at_node context number =
+    record context { current = Some (record { number = number; state = None }) }
+
+-- the same node, without the current stateid
+abbrev pub without_stateid : Context → Context
+without_stateid context = at_node context (current_number context)
+
+-- SAVEFH and RESTOREFH carry the stateid too
+
+abbrev pub saving : Context → Context
+saving context = record context { saved = context.current }
+
+abbrev pub restored : Context → Context
+restored context = record context { current = context.saved }
+
+abbrev pub has_saved : Context → Bool
+has_saved context = is_some context.saved
+
+abbrev pub saved_number : Context → ℕ
+saved_number context = number_at context.saved
+
+-- whether RENAME gives a name to itself: that is no change, and asks for no rights
+abbrev pub is_same_name : Context → RenameArguments → Bool
+is_same_name context arguments =
+    saved_number context == current_number context && bytes_eq arguments.old_name arguments.new_name

@@ -1,0 +1,88 @@
+-- READ, WRITE and COMMIT: RFC 8881, sections 18.22, 18.32 and 18.3. How many bytes one of them
+-- moves is this server's profile.
+use Rattle.std.specs.Prelude.{ℕ, Bool, true, false, [], ◌∷◌, List, ◌+◌, ◌==◌, ◌&&◌, nat_lt, nat_le, length, take, drop, min, if◌then◌else◌, Option, Some, None}
+use Rattle.std.specs.List.{list_all}
+use Rattle.std.specs.Int.{w64, to_be_bytes}
+use Rattle.model.specs.declared.status.Status.TheVariants as status
+use Rattle.model.specs.Operations.Answer.{Answer}
+use Rattle.model.specs.Trees.Changes.{touch}
+use Rattle.model.specs.Trees.Edit.{PutBytes}
+use Rattle.model.specs.Trees.Keyed.{at}
+use Rattle.model.specs.Trees.Limits.{Limits}
+use Rattle.model.specs.Operations.Operation.{ReadArguments, WriteArguments}
+use Rattle.model.specs.Operations.Refusal.{Refusals}
+use Rattle.model.specs.Operations.State.{State, Stepped, current, stamp_of, answered, changed}
+use Rattle.model.specs.Trees.Tree.{Tree, Node, bytes_of, is_directory_at}
+
+abbrev pub bytes_of_node : Option Node → List ℕ
+bytes_of_node None = []
+bytes_of_node (Some node) = bytes_of node.content
+
+abbrev pub bytes_at : Tree → (number : ℕ) → List ℕ
+bytes_at tree number = bytes_of_node (at number tree)
+
+-- of a file's operations
+abbrev pub file_refusals : State → Refusals
+file_refusals state = (is_directory_at state.tree (current state), status.IsDir) ∷ []
+
+-- READ: the end is where what is given reaches the file's size
+
+abbrev pub part_of : Limits → List ℕ → ReadArguments → List ℕ
+part_of limits bytes arguments =
+    take (min arguments.count limits.transfer_bytes) (drop arguments.offset bytes)
+
+abbrev pub read : Limits → State → ReadArguments → Stepped
+read limits state arguments =
+    let bytes = bytes_at state.tree (current state) in
+    let part = part_of limits bytes arguments in
+    answered state
+    (Answer.Read
+    (record {
+      is_end = nat_le (length bytes) (arguments.offset + length part);
+      data_bytes = part;
+    }))
+
+-- WRITE takes the first bytes alone, and none is no change
+
+abbrev pub are_bytes : List ℕ → Bool
+are_bytes bytes = list_all (λ byte. nat_lt byte 256) bytes
+
+abbrev pub taken_bytes : Limits → WriteArguments → List ℕ
+taken_bytes limits arguments = take limits.transfer_bytes arguments.data_bytes
+
+abbrev pub has_bytes : WriteArguments → Bool
+has_bytes arguments = nat_lt 0 (length arguments.data_bytes)
+
+-- the end that it writes up to may not be above the limit of a file
+abbrev pub write_refusals : Limits → WriteArguments → Refusals
+write_refusals limits arguments = (
+  has_bytes arguments
+      && nat_lt limits.file_bytes (arguments.offset + length (taken_bytes limits arguments)),
+  status.FBig,
+) ∷ []
+
+-- the server's restart count, which tells a client that what was not committed may be lost
+abbrev pub write_verifier : State → List ℕ
+write_verifier state = to_be_bytes w64 state.context.run
+
+-- UNSTABLE4 is 0; what is to be stable is answered FILE_SYNC4
+abbrev pub committed_as : (stable : ℕ) → ℕ
+committed_as stable = if stable == 0 then 0 else 2
+
+abbrev pub wrote : Limits → State → WriteArguments → Answer
+wrote limits state arguments = Answer.Write (record {
+  count = length (taken_bytes limits arguments);
+  committed = committed_as arguments.stable;
+  verifier = write_verifier state;
+})
+
+abbrev pub write : (has_bytes : Bool) → Limits → State → (now : ℕ) → WriteArguments → Stepped
+write true limits state now arguments =
+    answered
+    (changed state (PutBytes (current state) arguments.offset (taken_bytes limits arguments)
+    ∷ touch state.tree (current state) (stamp_of state) now ∷ [])) (wrote limits state arguments)
+write false limits state now arguments = answered state (wrote limits state arguments)
+
+-- COMMIT leaves the tree; that everything before it is kept from then on is said of runs
+abbrev pub commit : State → Stepped
+commit state = answered state (Answer.Commit (write_verifier state))

@@ -1,0 +1,30 @@
+-- What a page of READDIR is: RFC 8881, section 18.23.
+use Rattle.std.specs.Prelude.{ℕ, Bool, ◌≡◌, ◌≤◌, ◌<◌, List, [], ◌∷◌, ◌++◌, min, length}
+use Rattle.model.specs.Operations.Answer.{Entry}
+use Rattle.model.specs.Trees.Limits.{Limits}
+use Rattle.model.specs.Operations.Operation.{ReadDirArguments}
+use Rattle.model.specs.Operations.ReadDir.{all_entries, page}
+use Rattle.model.specs.Operations.State.{State}
+use Rattle.model.specs.Wire.WireAnswers as answers
+
+-- the bytes of an answer with these entries
+abbrev pub page_size : List Entry → (is_end : Bool) → ℕ
+page_size entries is_end =
+    length (answers.read_dir_answer.spelling (record { entries = entries; is_end = is_end }))
+
+pub record IsPage (limits : Limits) (state : State) (arguments : ReadDirArguments) : Type 0 where
+  -- its entries are the first of all after the cookie, and it ends where they are all of them
+  pub rest : List Entry
+  pub front : all_entries limits state arguments ≡ (page limits state arguments).entries ++ rest
+  -- it has room, as it is spelled
+  pub fits : 0 < length (page limits state arguments).entries
+      → page_size (page limits state arguments).entries (page limits state arguments).is_end
+      ≤ min arguments.max_count limits.transfer_bytes
+  -- and no further entry has
+  pub longest : (next : Entry) (others : List Entry) (is_end : Bool) → rest ≡ next ∷ others
+      → min arguments.max_count limits.transfer_bytes
+      < page_size ((page limits state arguments).entries ++ next ∷ []) is_end
+
+abbrev pub EveryPage : Type 0
+EveryPage =
+    (limits : Limits) (state : State) (arguments : ReadDirArguments) → IsPage limits state arguments

@@ -1,0 +1,103 @@
+-- READDIR: RFC 8881, section 18.23. A cookie is an entry's stamp; which entries fit is this
+-- server's profile, and so is that dircount is not looked at.
+use Rattle.std.specs.Prelude.{ℕ, Bool, false, List, [], ◌∷◌, ◌-◌, ◌+◌, ◌==◌, ◌&&◌, not, nat_lt, nat_le, length, map, filter, min, replicate, if◌then◌else◌, bytes_eq, Option, Some, None}
+use Rattle.model.specs.declared.acl.Cred.{Cred}
+use Rattle.model.specs.declared.status.Status.TheVariants as status
+use Rattle.model.specs.Rights.Acl.{granted, read_acl}
+use Rattle.model.specs.Operations.Answer.{Entry, ReadDirAnswer}
+use Rattle.model.specs.Attributes.Attribute.{attributes_of, is_among, acl_number}
+use Rattle.model.specs.Trees.Keyed.{Keyed, at}
+use Rattle.model.specs.Trees.Limits.{Limits}
+use Rattle.model.specs.Attributes.NodeAttributes.{unreadable}
+use Rattle.model.specs.Operations.Operation.{Attributes, ReadDirArguments}
+use Rattle.model.specs.Operations.Refusal.{Refusals}
+use Rattle.model.specs.Operations.SetAttr.{attributes_at}
+use Rattle.model.specs.Operations.State.{State, current}
+use Rattle.model.specs.Trees.Tree.{Tree, Node, DirEntry, names_at}
+use Rattle.model.specs.Wire.WireAnswers as answers
+
+-- rdattr_error tells of an entry that its attributes may not be read
+abbrev pub rdattr_error_number : ℕ
+rdattr_error_number = 11
+
+abbrev pub asks_lists : (bitmap : List ℕ) → Bool
+asks_lists bitmap = is_among (attributes_of bitmap) acl_number
+
+abbrev pub asks_errors : (bitmap : List ℕ) → Bool
+asks_errors bitmap = is_among (attributes_of bitmap) rdattr_error_number
+
+-- the names after a cookie, whether an entry has it or not
+abbrev pub names_after : (cookie : ℕ) → Keyed DirEntry → Keyed DirEntry
+names_after cookie names = filter (λ (name : ℕ × DirEntry). nat_lt cookie name.0) names
+
+-- a cookie but the first goes with the verifier that was answered
+abbrev pub cookie_refusals : ReadDirArguments → Refusals
+cookie_refusals arguments = (
+  not (arguments.cookie == 0) && not (bytes_eq arguments.verifier (replicate 8 0)),
+  status.NotSame,
+) ∷ []
+
+-- An entry, as it is answered
+
+abbrev pub may_read_list : Cred → Option Node → Bool
+may_read_list cred None = false
+may_read_list cred (Some node) = granted node.acl node.owner node.group cred read_acl
+
+abbrev pub entry_attributes : Limits → Cred → (bitmap : List ℕ) → (number : ℕ) → Option Node
+    → Attributes
+entry_attributes limits cred bitmap number node =
+    if asks_lists bitmap && not (may_read_list cred node)
+    then unreadable
+    else attributes_at limits bitmap number node
+
+abbrev pub listed_entry : Limits → Tree → Cred → (bitmap : List ℕ) → ℕ × DirEntry → Entry
+listed_entry limits tree cred bitmap name = record {
+  cookie = name.0;
+  name = name.1.name;
+  attributes = entry_attributes limits cred bitmap name.1.number (at name.1.number tree);
+}
+
+-- The page: the entries in their order, as many as have room
+
+-- an entry stands after a bool
+abbrev pub entry_size : Entry → ℕ
+entry_size entry = 4 + length (answers.entry.spelling entry)
+
+abbrev pub fitting : (room : ℕ) → List Entry → List Entry
+fitting room [] = []
+fitting room (entry ∷ rest) =
+    if nat_le (entry_size entry) room then entry ∷ fitting (room - entry_size entry) rest else []
+
+abbrev pub all_entries : Limits → State → ReadDirArguments → List Entry
+all_entries limits state arguments =
+    map (listed_entry limits state.tree state.context.cred arguments.bitmap)
+    (names_after arguments.cookie (names_at state.tree (current state)))
+
+-- the bytes that were asked, a page of no entries, and what that leaves: beside the entries stand
+-- the verifier, the bool that ends them and the one that tells the end
+
+abbrev pub page_bytes : Limits → ReadDirArguments → ℕ
+page_bytes limits arguments = min arguments.max_count limits.transfer_bytes
+
+abbrev pub empty_page_bytes : ℕ
+empty_page_bytes = 16
+
+abbrev pub page_room : Limits → ReadDirArguments → ℕ
+page_room limits arguments = page_bytes limits arguments - empty_page_bytes
+
+unfoldable pub page : Limits → State → ReadDirArguments → ReadDirAnswer
+page limits state arguments =
+    let all = all_entries limits state arguments in
+    let shown = fitting (page_room limits arguments) all in
+    record { entries = shown; is_end = length shown == length all }
+
+-- the first entry does not fit, or where none is left not even a page of none
+abbrev pub page_refusals : Limits → State → ReadDirArguments → Refusals
+page_refusals limits state arguments =
+    (nat_lt (page_bytes limits arguments) empty_page_bytes, status.TooSmall)
+    ∷ (
+      nat_lt 0 (length (all_entries limits state arguments))
+          && length (page limits state arguments).entries == 0,
+      status.TooSmall,
+    )
+    ∷ []

@@ -1,0 +1,90 @@
+-- REMOVE and RENAME: RFC 8881, sections 18.25 and 18.26. The order of their tests is this server's
+-- profile.
+use Rattle.std.specs.Prelude.{ℕ, Bool, true, false, [], ◌∷◌, ◌++◌, List, ◌&&◌, ◌||◌, not, nat_lt, length, if◌then◌else◌}
+use Rattle.model.specs.declared.status.Status.TheVariants as status
+use Rattle.model.specs.Trees.Ancestors.{is_below}
+use Rattle.model.specs.Operations.Answer.{Answer}
+use Rattle.model.specs.Trees.Changes.{removed_edits, renamed_edits}
+use Rattle.model.specs.Operations.Context.{has_saved}
+use Rattle.model.specs.Operations.Directory.{number_named, is_named, change_of}
+use Rattle.model.specs.Trees.Keyed.{at, is_key}
+use Rattle.model.specs.Trees.Limits.{Limits}
+use Rattle.model.specs.Attributes.Name.{name_refusals}
+use Rattle.model.specs.Operations.Operation.{RenameArguments}
+use Rattle.model.specs.Operations.Refusal.{Refusals}
+use Rattle.model.specs.Operations.State.{State, Stepped, current, saved, stamp_of, named_refusals, is_name_there, answered, changed, change_to, without_opens}
+use Rattle.model.specs.Trees.Tree.{Tree, names_at, is_directory_at}
+
+-- Tests before the caller's rights
+
+abbrev pub remove_refusals : Limits → State → (name : List ℕ) → Refusals
+remove_refusals limits state name =
+    named_refusals limits state name ++ ((not (is_name_there state name), status.NoEnt) ∷ [])
+
+abbrev pub rename_refusals : Limits → State → RenameArguments → Refusals
+rename_refusals limits state arguments =
+    ((not (has_saved state.context), status.NoFileHandle)
+    ∷ (not (is_key (saved state) state.tree), status.Stale)
+    ∷ (not (is_directory_at state.tree (saved state)), status.NotDir)
+    ∷ (not (is_directory_at state.tree (current state)), status.NotDir) ∷ [])
+    ++ (name_refusals limits arguments.old_name
+    ++ (name_refusals limits arguments.new_name
+    ++ ((not (is_named state.tree (saved state) arguments.old_name), status.NoEnt) ∷ [])))
+
+-- Tests after them
+
+abbrev pub is_other : (a b : Bool) → Bool
+is_other a b = if a then not b else b
+
+-- whether a node has names
+abbrev pub has_names : Tree → (number : ℕ) → Bool
+has_names tree number = nat_lt 0 (length (names_at tree number))
+
+abbrev pub moved_number : State → RenameArguments → ℕ
+moved_number state arguments = number_named state.tree (saved state) arguments.old_name
+
+abbrev pub target_number : State → RenameArguments → ℕ
+target_number state arguments = number_named state.tree (current state) arguments.new_name
+
+-- a directory goes to or below itself; what stands there is of the other kind, or has names
+abbrev pub late_at_rename : State → RenameArguments → Refusals
+late_at_rename state arguments = (
+  is_directory_at state.tree (moved_number state arguments)
+      && is_below state.tree (moved_number state arguments) (current state),
+  status.Inval,
+)
+    ∷ (
+      is_name_there state arguments.new_name
+          && (is_other (is_directory_at state.tree (moved_number state arguments))
+          (is_directory_at state.tree (target_number state arguments))
+          || has_names state.tree (target_number state arguments)),
+      status.Exist,
+    )
+    ∷ []
+
+-- What they do
+
+abbrev pub remove : State → (now : ℕ) → (name : List ℕ) → Stepped
+remove state now name =
+    answered
+    (without_opens
+    (changed state (removed_edits state.tree (current state) name (stamp_of state) now))
+    (number_named state.tree (current state) name))
+    (Answer.Remove (change_to state (current state) (stamp_of state)))
+
+-- a name that is given to itself stays, with its stamp
+abbrev pub rename : Bool → State → (now : ℕ) → RenameArguments → Stepped
+rename true state now arguments = answered state (Answer.Rename (record {
+  source = change_to state (saved state) (change_of (at (saved state) state.tree));
+  target = change_to state (current state) (change_of (at (current state) state.tree));
+}))
+rename false state now arguments =
+    answered
+    (without_opens
+    (changed state (renamed_edits state.tree (saved state) (current state) arguments.old_name
+    arguments.new_name (stamp_of state) now))
+    (target_number state arguments))
+    (Answer.Rename (record {
+      source = change_to state (saved state) (stamp_of state);
+      target = change_to state (current state) (stamp_of state);
+    }))

@@ -1,0 +1,374 @@
+-- What users of the server can rely on when it stops: NFS asks it of a server in RFC 8881, sections
+-- 18.3 (COMMIT), 18.32 (WRITE) and 2.10.6.2 (replies). A machine goes from event to event and may
+-- be stopped at any moment; a stop leaves the tree that a good prefix of what was executed gives.
+use Rattle.std.specs.Prelude.{◌≡◌, ◌≢◌, ℕ, ◌+◌, ◌<◌, ◌≤◌, ◌⊎◌, Bool, true, false, not, ◌&&◌, ◌||◌, ◌==◌, List, [], ◌∷◌, ◌++◌, length, take, find, slice_get, option_to_list, Option, None, Some, if◌then◌else◌, bytes_eq}
+use Rattle.std.specs.List.{IsAmong}
+use Rattle.model.specs.Operations.Answer.{Outcome}
+use Rattle.model.specs.Trees.Keyed.{at}
+use Rattle.model.specs.Rights.Need.{permitted}
+use Rattle.model.specs.Operations.Operation.{Argument}
+use Rattle.model.specs.Sessions.Seats.{HeldReply, Seats, has_seat}
+use Rattle.model.specs.Sessions.Session.{Slot, SlotState, Free, Running, Kept, Session, Table, is_session, slot_at, held_reply}
+use Rattle.model.specs.Trees.Stamp.{stamp, next_stamp}
+use Rattle.model.specs.Operations.Step.{alters}
+use Rattle.model.specs.Trees.Tree.{Tree}
+use Rattle.model.specs.Server.World.{World, ServerLimits, mounted_world, Entry, Turned, Turn, Idle, Ran, Answered, one, arrives, takes, connects, hangs_up, reply_at, is_busy}
+
+-- Events
+
+-- A hang-up of a connection whose request has begun is its further turns, and then the event.
+pub data Event : Type 0 where
+  Arrives : (connection : ℕ) → (piece : List ℕ) → Event
+  Turns : (connection now : ℕ) → Event
+  HangsUp : (connection : ℕ) → Event
+  Connects : (connection : ℕ) → Event
+  Takes : (connection : ℕ) → Event
+
+abbrev pub effect_of : World → Event → World
+effect_of world (Arrives connection piece) = arrives world connection piece
+effect_of world (Turns connection now) = (one world connection now).world
+effect_of world (HangsUp connection) = hangs_up world connection
+effect_of world (Connects connection) = connects world connection
+effect_of world (Takes connection) = takes world connection
+
+-- the operation that it executes, if it does one
+abbrev pub executed_of : World → Event → Option Entry
+executed_of world (Arrives connection piece) = None
+executed_of world (Turns connection now) = (one world connection now).executed
+executed_of world (HangsUp connection) = None
+executed_of world (Connects connection) = None
+executed_of world (Takes connection) = None
+
+-- Executed operations
+
+abbrev pub before : Entry → Tree
+before entry = entry.state.tree
+
+-- WRITE with UNSTABLE4, and COMMIT
+abbrev pub is_unstable : Argument → Bool
+is_unstable (Argument.Write arguments) = arguments.stable == 0
+is_unstable _ = false
+
+abbrev pub is_commit : Argument → Bool
+is_commit (Argument.Commit arguments) = true
+is_commit _ = false
+
+abbrev pub is_done : Outcome → Bool
+is_done (Outcome.Done answer) = true
+is_done (Outcome.Refused operation reason) = false
+
+-- a change other than an unstable write, or a COMMIT that was answered OK
+abbrev pub IsDurable : Entry → Type 0
+IsDurable entry =
+    ((before entry ≢ entry.after) × (is_unstable entry.operation ≡ false))
+    ⊎ ((is_commit entry.operation ≡ true) × (is_done entry.outcome ≡ true))
+
+-- the same as a test, by what the operation is: each durable entry passes it
+abbrev pub is_durable : Entry → Bool
+is_durable entry =
+    (alters entry.state entry.operation
+    && (is_done entry.outcome && not (is_unstable entry.operation)))
+    || (is_commit entry.operation && is_done entry.outcome)
+
+-- Replies that seats hold
+
+-- of a request that a slot of a session ran: what a seat is to hold of it
+pub record Stored : Type 0 where
+  pub session : List ℕ
+  pub slot : ℕ
+  pub held : HeldReply
+
+-- what a slot keeps, as a seat holds it
+
+abbrev pub kept_in : Slot → SlotState → Option HeldReply
+kept_in slot Free = None
+kept_in slot Running = None
+kept_in slot (Kept reply) = Some (held_reply reply slot)
+
+abbrev pub kept_of : ℕ → Option Session → Option HeldReply
+kept_of place None = None
+kept_of place (Some session) = kept_in (slot_at session place) (slot_at session place).state
+
+abbrev pub kept_at : List ℕ → ℕ → Table → Option HeldReply
+kept_at id place table = kept_of place (find (is_session id) table.sessions)
+
+-- a turn stores the reply that its slot keeps from then on, where the session has a seat then
+abbrev pub stored_as : List ℕ → ℕ → Option HeldReply → Option Stored
+stored_as id place None = None
+stored_as id place (Some held) = Some (record { session = id; slot = place; held = held })
+
+abbrev pub stored_by : Table → Option (List ℕ × ℕ) → Option Stored
+stored_by table None = None
+stored_by table (Some slot) =
+    if has_seat slot.0 table.seats then stored_as slot.0 slot.1 (kept_at slot.0 slot.1 table)
+    else None
+
+-- the sessions whose seats are gone
+abbrev pub freed_between : (old new : Seats) → List (List ℕ)
+freed_between [] new = []
+freed_between (None ∷ old) new = freed_between old new
+freed_between (Some seat ∷ old) new =
+    if has_seat seat.session new then freed_between old new
+    else seat.session ∷ freed_between old new
+
+abbrev pub stored_of : World → Event → Option Stored
+stored_of world (Arrives connection piece) = None
+stored_of world (Turns connection now) =
+    stored_by (one world connection now).world.table (one world connection now).keeps
+stored_of world (HangsUp connection) = None
+stored_of world (Connects connection) = None
+stored_of world (Takes connection) = None
+
+abbrev pub freed_of : World → Event → List (List ℕ)
+freed_of world event = freed_between world.table.seats (effect_of world event).table.seats
+
+-- What happened, which no part of the server keeps
+
+-- `done` are the executed operations of the run. A reply names those whose results it holds:
+-- `named` by connection, also of a request that has begun, `kept` by session and slot; `handed_out`
+-- are those of all replies that were taken.
+pub record History : Type 0 where
+  pub done : List Entry
+  pub named : ℕ → List ℕ
+  pub kept : List ℕ → ℕ → List ℕ
+  pub handed_out : List ℕ
+  -- the replies that seats held; the one that was being stored when the device failed; and the
+  -- sessions whose seats were freed
+  pub stored : List Stored
+  pub torn : Option Stored
+  pub freed : List (List ℕ)
+
+abbrev pub no_history : History
+no_history = record {
+  done = [];
+  named = λ connection. [];
+  kept = λ session slot. [];
+  handed_out = [];
+  stored = [];
+  torn = None;
+  freed = [];
+}
+
+abbrev pub naming : (ℕ → List ℕ) → ℕ → List ℕ → ℕ → List ℕ
+naming named connection names other = if other == connection then names else named other
+
+abbrev pub is_slot : List ℕ × ℕ → List ℕ → ℕ → Bool
+is_slot slot session place = bytes_eq slot.0 session && slot.1 == place
+
+abbrev pub keeping : (List ℕ → ℕ → List ℕ) → Option (List ℕ × ℕ) → List ℕ → List ℕ → ℕ → List ℕ
+keeping kept None names session place = kept session place
+keeping kept (Some slot) names session place =
+    if is_slot slot session place then names else kept session place
+
+-- the number that an operation gets which is executed now
+abbrev pub numbers_of : History → Option Entry → List ℕ
+numbers_of history None = []
+numbers_of history (Some entry) = length history.done ∷ []
+
+-- of a request that has begun, what it has named so far
+abbrev pub named_so_far : History → World → (connection : ℕ) → List ℕ
+named_so_far history world connection =
+    if is_busy (at connection world.connections) then history.named connection else []
+
+-- a reply that is sent again names what it named at first
+abbrev pub names_by : History → World → (connection : ℕ) → Turned → Option (List ℕ × ℕ) → List ℕ
+names_by history world connection turned (Some slot) = history.kept slot.0 slot.1
+names_by history world connection turned None =
+    named_so_far history world connection ++ numbers_of history turned.executed
+
+abbrev pub names_after : History → World → (connection : ℕ) → Turned → List ℕ
+names_after history world connection turned =
+    names_by history world connection turned turned.replays
+
+-- a turn that does nothing changes no names
+abbrev pub naming_by : Turn → (ℕ → List ℕ) → (connection : ℕ) → List ℕ → ℕ → List ℕ
+naming_by Idle named connection names = named
+naming_by Ran named connection names = naming named connection names
+naming_by Answered named connection names = naming named connection names
+
+abbrev pub turned_by : History → World → (connection : ℕ) → Turned → History
+turned_by history world connection turned = record {
+  done = history.done ++ option_to_list turned.executed;
+  named =
+      naming_by turned.turn history.named connection (names_after history world connection turned);
+  kept = keeping history.kept turned.keeps (names_after history world connection turned);
+  handed_out = history.handed_out;
+  stored = history.stored ++ option_to_list (stored_by turned.world.table turned.keeps);
+  torn = history.torn;
+  freed = history.freed ++ freed_between world.table.seats turned.world.table.seats;
+}
+
+abbrev pub taken_by : History → (connection : ℕ) → Option (List ℕ) → History
+taken_by history connection None = history
+taken_by history connection (Some reply) =
+    record history { handed_out = history.handed_out ++ history.named connection }
+
+abbrev pub history_after : History → World → Event → History
+history_after history world (Arrives connection piece) = history
+history_after history world (Turns connection now) =
+    turned_by history world connection (one world connection now)
+history_after history world (HangsUp connection) = history
+history_after history world (Connects connection) = history
+history_after history world (Takes connection) =
+    taken_by history connection (reply_at world connection)
+
+-- the operations that were executed, with one more that is under way
+abbrev pub done_with : History → Option Entry → List Entry
+done_with history executed = history.done ++ option_to_list executed
+
+-- The machine
+
+-- `recent` are the trees that a stop may leave now, as the volume keeps them: the one flushed last,
+-- and the one after each later change
+-- `held` are the seats that it may leave, each beside each of these trees
+pub record Serving : Type 0 where
+  pub world : World
+  pub recent : List Tree
+  pub held : List Seats
+  pub is_down : Bool
+
+abbrev pub mounted : ServerLimits → (run : ℕ) → Tree → Seats → Serving
+mounted limits run start seats = record {
+  world = mounted_world limits run start seats;
+  recent = start ∷ [];
+  held = seats ∷ [];
+  is_down = false;
+}
+
+-- what is down executes nothing
+abbrev pub executed_by : World → Event → (is_down : Bool) → Option Entry
+executed_by world event true = None
+executed_by world event false = executed_of world event
+
+abbrev pub executed : Serving → Event → Option Entry
+executed serving event = executed_by serving.world event serving.is_down
+
+abbrev pub IsAfter : Option Entry → Tree → Type 0
+IsAfter None tree = ⊥
+IsAfter (Some entry) tree = tree ≡ entry.after
+
+-- what a stop may leave while an event happens
+abbrev pub MayLeave : Serving → Event → Tree → Type 0
+MayLeave serving event tree = IsAmong serving.recent tree ⊎ IsAfter (executed serving event) tree
+
+-- and of the seats: those from before, or those after it
+abbrev pub IsSeatedAfter : World → Event → (is_down : Bool) → Seats → Type 0
+IsSeatedAfter world event true seats = ⊥
+IsSeatedAfter world event false seats = seats ≡ (effect_of world event).table.seats
+
+abbrev pub MayHold : Serving → Event → Seats → Type 0
+MayHold serving event seats =
+    IsAmong serving.held seats ⊎ IsSeatedAfter serving.world event serving.is_down seats
+
+-- an event happens; then, of a durable operation only the tree after it may be left, and the seats
+-- after it
+pub record Happens (old : Serving) (event : Event) (new : Serving) : Type 0 where
+  pub up : old.is_down ≡ false
+  pub world : new.world ≡ effect_of old.world event
+  pub still_up : new.is_down ≡ false
+  pub no_others : (tree : Tree) → IsAmong new.recent tree → MayLeave old event tree
+  pub durable : (entry : Entry) → executed old event ≡ Some entry → is_durable entry ≡ true
+      → (tree : Tree) → IsAmong new.recent tree → tree ≡ entry.after
+  pub seats : (seats : Seats) → IsAmong new.held seats → seats ≡ new.world.table.seats
+
+-- the device fails in it: the server is down from now on, and no reply tells of the operation under
+-- way
+pub record Fails (old : Serving) (event : Event) (new : Serving) : Type 0 where
+  pub up : old.is_down ≡ false
+  pub world : new.world ≡ old.world
+  pub down : new.is_down ≡ true
+  pub no_others : (tree : Tree) → IsAmong new.recent tree → MayLeave old event tree
+  pub seats : (seats : Seats) → IsAmong new.held seats → MayHold old event seats
+
+-- a server that is down gives the replies that it has, and does nothing else
+pub record StaysDown (old : Serving) (connection : ℕ) (new : Serving) : Type 0 where
+  pub down : old.is_down ≡ true
+  pub world : new.world ≡ takes old.world connection
+  pub still_down : new.is_down ≡ true
+  pub no_others : (tree : Tree) → IsAmong new.recent tree → IsAmong old.recent tree
+  pub seats : (seats : Seats) → IsAmong new.held seats → IsAmong old.held seats
+
+-- of an operation under way at a failure it isn't known whether it was done: it is the last of
+-- `done`, and no reply names it
+abbrev pub history_failing : History → World → Event → History
+history_failing history world event = record history {
+  done = done_with history (executed_of world event);
+  torn = stored_of world event;
+  freed = history.freed ++ freed_of world event;
+}
+
+pub data IsRun (start : Serving) : Serving → History → Type 0 where
+  Begins : IsRun start start no_history
+  Goes_on : {old new : Serving} {history : History} (event : Event) → IsRun start old history
+      → Happens old event new
+      → IsRun start new (history_after history old.world event)
+  Fails_at : {old new : Serving} {history : History} (event : Event) → IsRun start old history
+      → Fails old event new
+      → IsRun start new (history_failing history old.world event)
+  Stays_down : {old new : Serving} {history : History} (connection : ℕ) → IsRun start old history
+      → StaysDown old connection new
+      → IsRun start new (history_after history old.world (Takes connection))
+
+-- Good prefixes
+
+abbrev pub tree_after : Tree → List Entry → Tree
+tree_after start [] = start
+tree_after start (entry ∷ done) = tree_after entry.after done
+
+-- each operation began with the tree that the one before it left
+abbrev pub IsChain : Tree → List Entry → Type 0
+IsChain start [] = Unit {0}
+IsChain start (entry ∷ done) = (before entry ≡ start) × IsChain entry.after done
+
+-- each operation whose result was handed out and has to last is among the first k
+abbrev pub IsGood : List Entry → List ℕ → ℕ → Type 0
+IsGood done handed_out k =
+    (i : ℕ) (entry : Entry) → IsAmong handed_out i → slice_get done i ≡ Some entry → IsDurable entry
+    → i < k
+
+-- each change among the first k was permitted to its caller, in the tree before it
+abbrev pub ArePermitted : List Entry → ℕ → Type 0
+ArePermitted done k =
+    (i : ℕ) (entry : Entry) → i < k → slice_get done i ≡ Some entry → before entry ≢ entry.after
+    → permitted entry.state.tree entry.state.context entry.operation ≡ true
+
+-- the tree is the one that the first k executed operations give
+pub record IsGoodPrefix (start : Tree) (done : List Entry) (handed_out : List ℕ)
+    (tree : Tree) : Type 0 where
+  pub k : ℕ
+  pub within : k ≤ length done
+  pub holds : tree ≡ tree_after start (take k done)
+  pub good : IsGood done handed_out k
+  pub permitted : ArePermitted done k
+  pub chain : IsChain start done
+
+-- Whatever events happen, on whatever connections, and wherever the server is stopped, what a stop
+-- may leave is the tree of a good prefix of the operations that were executed.
+abbrev pub EveryRun : Type 0
+EveryRun = (limits : ServerLimits) (run : ℕ) (start : Tree) (seats : Seats) (serving : Serving)
+    (history : History)
+    → IsRun (mounted limits run start seats) serving history → (event : Event) (tree : Tree)
+    → MayLeave serving event tree
+    → IsGoodPrefix start (done_with history (executed serving event)) history.handed_out tree
+
+-- Stamps: a change takes the next one of its run, whether a stop takes it away or not
+
+-- that of a change made in the state of this entry, by how many changes this run had before
+abbrev pub stamp_in : (run : ℕ) → Entry → ℕ
+stamp_in run entry = next_stamp run entry.state.changes
+
+-- those of the changes rise, and are stamps of the run
+pub record AreStamped (run : ℕ) (done : List Entry) : Type 0 where
+  pub rise : (i j : ℕ) (one other : Entry) → i < j → slice_get done i ≡ Some one
+      → slice_get done j ≡ Some other → before one ≢ one.after
+      → stamp_in run one < stamp_in run other
+  pub of_run : (i : ℕ) (entry : Entry) → slice_get done i ≡ Some entry → before entry ≢ entry.after
+      → (stamp run 0 < stamp_in run entry) × (stamp_in run entry < stamp (run + 1) 0)
+
+-- of all that was executed, what a stop takes away and the one under way included
+abbrev pub EveryStamp : Type 0
+EveryStamp =
+    (limits : ServerLimits) (run : ℕ) (start : Tree) (seats : Seats) (serving : Serving)
+    (history : History)
+    → IsRun (mounted limits run start seats) serving history → (event : Event)
+    → AreStamped run (done_with history (executed serving event))
