@@ -5,10 +5,10 @@ import typing
 # What a record claims.
 CLAIM = 0xFFFFFFFF
 
-# By the turn that begins a COMPOUND: for the reply, and for the results, which its slot keeps, where
-# no COMPOUND before left that.
-ANEW = 16_412
-TAKEN = 16_384 + ANEW
+# By the turn that begins a COMPOUND: for its reply; and for its results, where no COMPOUND before
+# left a buffer on the connection.
+REPLY_BUFFER = 16_412
+BOTH = 16_384 + REPLY_BUFFER
 
 # Besides for attributes that were read, and for what is kept of a client or a session.
 SMALL = 2_048
@@ -33,10 +33,10 @@ class May(typing.NamedTuple):
 
 NOTHING = May("nothing", 0, 0)
 REPLY = May("a reply", 0, 28)
-BUFFERS = May("its buffers", ANEW, TAKEN)
-LITTLE = May("its buffers and a little", ANEW, TAKEN + SMALL)
-READS = May("its buffers and a page", ANEW, TAKEN + PAGE)
-CHANGES = May("its buffers and a transaction", ANEW, TAKEN + TRANSACTION, 16 * SECTOR)
+BUFFERS = May("its buffers", REPLY_BUFFER, BOTH)
+LITTLE = May("its buffers and a little", REPLY_BUFFER, BOTH + SMALL)
+READS = May("its buffers and a page", REPLY_BUFFER, BOTH + PAGE)
+CHANGES = May("its buffers and a transaction", REPLY_BUFFER, BOTH + TRANSACTION, 16 * SECTOR)
 
 # Of a connection, once: a piece of what comes, and the assembler of its records.
 HELD = May("an inbox and an assembler", 32_768 + 16_644, 32_768 + 16_644, 32_768)
