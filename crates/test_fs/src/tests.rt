@@ -1,9 +1,11 @@
-//! What no contract says: what stands after mounts of version 1 and their crashes, and which images
-//! a mount refuses.
+//! What no contract says: what stands after mounts of version 1 and their crashes, which images a
+//! mount refuses, and that nothing is refused where there is room.
 
+mod caches;
 mod drivers;
 mod filling;
 mod images;
 mod migrations;
 mod sectors;
 mod version_1;
+mod volumes;

@@ -29,6 +29,14 @@ pub(super) fn disk_of(
     Ok(FaultDevice::new(device, failing.0, failing.1))
 }
 
+/// A new volume.
+pub(super) fn formatted(alloc: Global, sectors: u32, nodes: u32) -> Result<Disk, Fail> {
+    let device = CrashDevice::new(MemDevice::new(alloc, sectors)?, Stop::Never);
+    let mut disk = FaultDevice::new(device, NO_CALL.0, NO_CALL.1);
+    Fs::format(alloc, &mut disk, nodes)?;
+    Ok(disk)
+}
+
 /// Mounts a disk, whatever stands on it, by a journal that keeps one sector, and leaves it. The run,
 /// or why it was refused.
 pub(super) fn try_mount(alloc: Global, disk: &mut Disk) -> Result<u32, MountFault> {
