@@ -1,6 +1,7 @@
-//! The names of a directory, and the records that they are kept in.
+//! The names of a directory, the records that they are kept in, and which names a client may give.
 #![tactic(auto)]
 
+mod check;
 mod entry;
 mod fault;
 mod laws;
@@ -11,6 +12,7 @@ mod paging;
 mod records;
 mod sectors;
 
+pub use check::check_name;
 pub use entry::Entry;
 pub use fault::{DirectoryFault, RecordsFault};
 pub use laws::reads_back;

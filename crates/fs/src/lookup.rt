@@ -5,9 +5,9 @@ use crate::fs::Fs;
 use crate::nodes::is_directory;
 use crate::rights::grants;
 use acl_eval::{Cred, Mask};
+use directory::check_name;
 use disk::Device;
 use model::status::Status;
-use names::check_name;
 
 #[tactic(auto, unfolding(crate::specs::Views::fs_of))]
 impl<D: Device> Fs<D> {

@@ -8,10 +8,10 @@ use crate::opening::{How, OpenEffect, OpenRoom, Opened, Opening, check_share, ma
 use crate::renaming::Change;
 use crate::rights::grants;
 use acl_eval::{Cred, Mask, NodeKind};
+use directory::check_name;
 use disk::Device;
 use model::not_done::NotDone;
 use model::status::Status;
-use names::check_name;
 use node_table::CachedNode;
 use set_attributes::{GivenAttributes, SETTABLE_AT_OPEN, Settings, check_attributes};
 use tree_edits::Edit;

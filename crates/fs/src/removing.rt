@@ -5,10 +5,10 @@ use crate::fault::FsFault;
 use crate::fs::Fs;
 use crate::nodes::is_directory;
 use acl_eval::Cred;
+use directory::check_name;
 use disk::Device;
 use model::not_done::NotDone;
 use model::status::Status;
-use names::check_name;
 use node_table::CachedNode;
 use tree_edits::Edit;
 

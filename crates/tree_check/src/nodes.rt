@@ -5,10 +5,9 @@ ghost use Rattle.tree_check.specs.Nodes.{AreNamesAllowed, AreNodesAllowed, IsCon
 ghost use Rattle.tree_check.specs.Nodes.{HasRootDirectory, IsNameAllowed, IsNodeAllowed, IsRootDirectory};
 
 use acl_set::is_list_for;
-use directory::Names;
+use directory::{Names, check_name};
 use model::limits::Limits;
 use model::node::{NodeKind, ROOT};
-use names::check_name;
 use node_table::{CachedNode, Table};
 
 fn is_name_allowed(name: &[u8], limits: &Limits) -> bool

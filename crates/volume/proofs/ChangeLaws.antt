@@ -37,7 +37,7 @@ use Rattle.model.specs.Trees.Tree.{Tree}
 use Rattle.model.specs.Trees.WellFormed.{IsWellFormed, IsBefore}
 use Rattle.volume.specs.Edits.{IsChange, edited_by, put_by}
 use Rattle.volume.specs.Parents.{PutsParent}
-use Rattle.parents.specs.Parents.{AreParents}
+use Rattle.volume.specs.ParentIndex.{AreParents}
 use Rattle.volume.proofs.FormedLaws.{names_most}
 use Rattle.volume.proofs.ParentLaws.{parents_after}
 use Rattle.volume.specs.Formed.{IsFormed}

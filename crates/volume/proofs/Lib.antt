@@ -1,5 +1,6 @@
 pub mod ApplyLaws
 pub mod BeginLaws
+pub mod BelowLaws
 pub mod ChangeLaws
 pub mod CheckLaws
 pub mod CheckpointLaws
@@ -16,8 +17,16 @@ pub mod MountedLaws
 pub mod NodeLaws
 pub mod OneTree
 pub mod ParentLaws
+pub mod ParentLinks
+pub mod ParentMoves
+pub mod ParentNotes
+pub mod ParentTrees
+pub mod PartLaws
 pub mod ReadLaws
 pub mod RemountLaws
+pub mod SeatEdits
+pub mod SeatPlaces
+pub mod SeatRows
 pub mod SeatingLaws
 pub mod ServeLaws
 pub mod ShownLaws

@@ -25,11 +25,11 @@ use Rattle.model.specs.Trees.Keyed.{Keyed, at, with, without, total, here_or, be
 use Rattle.model.specs.Trees.Tree.{Tree, Node, DirEntry, File, bytes_of, names_of, names_of_node, names_at}
 use Rattle.model.specs.Trees.WellFormed.{links_in, links_from, one_if}
 use Rattle.model.proofs.Trees.KeyedLaws.{at-with_same, at-with_other, at-without_same, at-without_other}
-use Rattle.parents.specs.ParentLaws.{KeepsNames, MovesName}
-use Rattle.parents.specs.Parents.{HasName, AreParents}
-use Rattle.parents.proofs.ChangeLaws.{each_kept, each_move}
-use Rattle.parents.proofs.LinkLaws.{own-places, no_other}
-use Rattle.parents.proofs.TreeLaws.{name_of_card, card_of_name}
+use Rattle.volume.specs.ParentMoves.{KeepsNames, MovesName}
+use Rattle.volume.specs.ParentIndex.{HasName, AreParents}
+use Rattle.volume.proofs.ParentMoves.{each_kept, each_move}
+use Rattle.volume.proofs.ParentLinks.{own-places, no_other}
+use Rattle.volume.proofs.ParentTrees.{name_of_card, card_of_name}
 use Rattle.tree_check.specs.Trees.{IsOneTree}
 use Rattle.tree_check.proofs.TreeLaws.{find, Finds, There, Nowhere, numbered}
 use Rattle.volume.specs.Edits.{edited_by, named_by, put_by, HasPut, IsChange}

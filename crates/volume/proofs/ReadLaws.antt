@@ -16,7 +16,7 @@ use Rattle.model.specs.declared.node.NodeKind.TheVariants as kind
 use Rattle.model.specs.Operations.Files.{bytes_at, bytes_of_node}
 use Rattle.model.specs.Trees.Keyed.{at}
 use Rattle.model.specs.Trees.Tree.{Node, kind_of, bytes_of}
-use Rattle.reading.specs.Files.{AreWithin}
+use Rattle.volume.specs.FileBlocks.{AreWithin}
 use Rattle.volume.specs.Known.{IsKnown}
 use Rattle.volume.specs.Reading.{HasFile}
 use Rattle.volume.proofs.NodeLaws.{node_there, none_there}

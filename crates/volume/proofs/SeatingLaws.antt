@@ -28,7 +28,7 @@ use Rattle.model.specs.declared.limits.Limits.{Limits}
 use Rattle.model.specs.Sessions.SeatEdits.{SeatEdit, AreEdits, edited_all}
 use Rattle.model.specs.Sessions.Seats.{Seat, Seats}
 use Rattle.model.specs.Trees.Tree.{Tree}
-use Rattle.seating.specs.Edits.{AreUpdates}
+use Rattle.volume.specs.SeatTransactions.{AreUpdates}
 use Rattle.seats.specs.Spelling.{ArePlaces, seat_sector, seats_sector}
 use Rattle.volume.specs.Changes.{Done, Broken, IsSeats, Changes, ending_of}
 use Rattle.volume.specs.VolumeState.{VolumeState, Holds, IsRecent, IsSameVolume, MayAdd, StandsForOne, AddsTrees, with_tree}

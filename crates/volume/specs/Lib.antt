@@ -1,6 +1,8 @@
 pub mod Changes
 pub mod Checks
 pub mod Edits
+pub mod FileBlocks
+pub mod FileParts
 pub mod Formats
 pub mod Formed
 pub mod Fronts
@@ -11,10 +13,16 @@ pub mod Loads
 pub mod MountAnswers
 pub mod Mounts
 pub mod Nodes
+pub mod ParentIndex
+pub mod ParentMoves
+pub mod ParentNotes
+pub mod ParentProps
 pub mod Parents
 pub mod Reading
 pub mod Refusals
 pub mod Remounts
+pub mod SeatTransactions
+pub mod SeatUpdates
 pub mod Shown
 pub mod Stands
 pub mod Starts

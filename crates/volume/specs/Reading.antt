@@ -3,8 +3,8 @@ use Rattle.std.specs.Prelude.{◌≡◌, ℕ, Result, Ok, Err, Some}
 use Rattle.model.specs.declared.node.NodeKind.TheVariants as kind
 use Rattle.model.specs.Trees.Keyed.{at}
 use Rattle.model.specs.Trees.Tree.{Tree, Node, kind_of}
-use Rattle.reading.specs.declared.fault.ReadingFault.{ReadingFault}
-use Rattle.reading.specs.declared.fault.ReadingFault.TheVariants as readings
+use Rattle.volume.specs.declared.fault.ReadingFault.{ReadingFault}
+use Rattle.volume.specs.declared.fault.ReadingFault.TheVariants as readings
 use Rattle.volume.specs.Changes.{Ending, Nothing, Broken}
 use Rattle.volume.specs.declared.fault.VolumeFault.{VolumeFault}
 use Rattle.volume.specs.declared.fault.VolumeFault.TheVariants as fault

@@ -4,10 +4,11 @@ ghost use Rattle.std.specs.Prelude.{◌≡◌, length};
 ghost use Rattle.volume.specs.Edits.{put_by, put_of};
 ghost use Rattle.volume.specs.Parents.{PutsParent};
 
+use crate::ancestors::{is_below, parent_of};
+use crate::parents::Parents;
 use crate::volume::Volume;
 use disk::Device;
 use node_table::Table;
-use parents::{Parents, is_below, parent_of};
 use tree_edits::Edit;
 
 /// The number and the directory of the name that an edit puts.

@@ -3,6 +3,7 @@
 ghost use Rattle.std.specs.Prelude.{◌≡◌};
 
 use journal::JournalFault;
+use layout::sectors::ReadFault;
 use migration::MigrationFault;
 use node_table::TableFault;
 use std::alloc::AllocError;
@@ -60,6 +61,17 @@ pub enum VolumeFault {
     /// Down since the device failed.
     #[error("Down")]
     Down,
+}
+
+/// Why the bytes of a file were not read.
+#[derive(Clone, Copy, Debug, PartialEq, Eq, Error)]
+pub enum ReadingFault {
+    /// The device failed.
+    #[error("device fault")]
+    Device,
+    /// Memory ran out.
+    #[error("out of memory")]
+    Memory,
 }
 
 impl From<JournalFault> for VolumeFault {
@@ -159,5 +171,25 @@ impl From<TableFault> for MountFault {
             TableFault::SameNumber => MountFault::Damaged,
             TableFault::Memory => MountFault::Memory,
         }
+    }
+}
+
+impl From<ReadFault> for ReadingFault {
+    ghost use Rattle.volume.specs.declared.fault.ReadingFault.TheVariants.{Device};
+
+    ghost from_gives = { λ _ fault. fault ≡ Device };
+
+    fn from(_: ReadFault) -> Self {
+        ReadingFault::Device
+    }
+}
+
+impl From<AllocError> for ReadingFault {
+    ghost use Rattle.volume.specs.declared.fault.ReadingFault.TheVariants.{Memory};
+
+    ghost from_gives = { λ _ fault. fault ≡ Memory };
+
+    fn from(_: AllocError) -> Self {
+        ReadingFault::Memory
     }
 }

@@ -3,10 +3,10 @@
 ghost use Rattle.std.specs.Prelude.{◌≡◌};
 ghost use Rattle.volume.specs.Reading.{reading_fault};
 
-use crate::fault::VolumeFault;
+use crate::fault::{ReadingFault, VolumeFault};
+use crate::file_parts::read_bytes;
 use crate::volume::Volume;
 use disk::Device;
-use reading::{ReadingFault, read_bytes};
 
 impl From<ReadingFault> for VolumeFault {
     ghost from_gives = { λ refusal fault. fault ≡ reading_fault refusal };

@@ -2,16 +2,21 @@
 //! leaves whole.
 #![tactic(auto)]
 
+mod ancestors;
 mod ancestry;
 mod change;
 mod checking;
 mod fault;
 mod file_bytes;
+mod file_parts;
 mod formatting;
 mod laws;
 mod load;
 mod mount;
+mod parents;
 mod seat_edits;
+mod seat_places;
+mod seat_updates;
 mod start;
 mod store;
 pub mod superblock;

@@ -1,10 +1,10 @@
 //! The seats of persistent sessions.
 
 use crate::fault::VolumeFault;
+use crate::seat_updates::updates_of;
 use crate::volume::Volume;
 use disk::Device;
 use model::seats::SeatEdits;
-use seating::updates_of;
 
 #[tactic(auto, unfolding(crate::specs::Views::volume_state, crate::specs::Views::volume_failures))]
 impl<D: Device> Volume<D> {

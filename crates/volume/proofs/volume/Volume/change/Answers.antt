@@ -13,7 +13,7 @@ use Rattle.layout.specs.Superblock.{is_size}
 use Rattle.model.specs.Trees.Charge.{fits}
 use Rattle.model.specs.Trees.Limits.{limits_of}
 use Rattle.volume.specs.Changes.{Done, Changes}
-use Rattle.parents.specs.Parents.{AreParents}
+use Rattle.volume.specs.ParentIndex.{AreParents}
 use Rattle.volume.specs.Edits.{IsEdited, edited_by, put_by}
 use Rattle.volume.specs.Parents.{PutsParent}
 use Rattle.volume.specs.Formed.{IsFormed, Shows}

@@ -1,4 +1,0 @@
-pub mod Notes
-pub mod ParentLaws
-pub mod ParentProps
-pub mod Parents

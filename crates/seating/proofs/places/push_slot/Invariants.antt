@@ -1,8 +1,0 @@
-use Rattle.std.proofs.Common.{◌≡◌, ◌++◌, Some}
-use Rattle.model.specs.Sessions.SeatViews.{held_view}
-use Rattle.seats.specs.Spelling.{part_of, slot_text}
-use Rattle.seating.specs.Updates.{row}
-use Rattle.seating.proofs.places.push_slot.Given as goal
-
-abbrev pub invariant-loop-part : goal.invariant-loop-part
-invariant-loop-part l = l.updates.items ≡ l.fn.updates.items ++ row l.first l.part (λ k. part_of k (slot_text (Some (held_view l.held))))

@@ -1,7 +1,0 @@
-use Rattle.std.proofs.Common.{◌≡◌, take, map}
-use Rattle.model.specs.Sessions.SeatEdits.{edit_view}
-use Rattle.seating.specs.Updates.{updates_from}
-use Rattle.seating.proofs.transaction.all_updates.Given as goal
-
-abbrev pub invariant-loop-place : goal.invariant-loop-place
-invariant-loop-place l = l.updates.items ≡ updates_from 0 (map edit_view (take l.place l.edits.list.items))

@@ -1,0 +1,133 @@
+-- What is told by place is told of the tree, whatever the sectors hold.
+use Rattle.std.proofs.Common.{◌≡◌, ◌<◌, ℕ, List, [], ◌∷◌, Option, Some, length, get_or, refl, sym, ap, subst, ◌∙◌, arith, inl, inr, lt-ltb, le-ltb}
+use Rattle.std.proofs.lemmas.Bool.{cases_eq, cases_lt}
+use Rattle.std.proofs.lemmas.Option.{same_Some}
+use Rattle.disk.specs.Moments.{Image}
+use Rattle.model.specs.Trees.Ancestors.{parent_of}
+use Rattle.model.specs.Trees.Keyed.{at, IsAbove}
+use Rattle.model.specs.Trees.Tree.{Tree, Node, root}
+use Rattle.model.specs.Trees.WellFormed.{links_from}
+use Rattle.model.proofs.Trees.KeyedLaws.{at-first, at-rest, at-above}
+use Rattle.model.proofs.Facts.OptionLaws.{some≢none}
+use Rattle.model.proofs.Facts.BooleanLaws.{if_true, if_false}
+use Rattle.node_table.specs.Tables.{number_at, number_of, HasNot, count_of_all}
+use Rattle.layout.specs.CachedNodes.{CachedNode, tree_of, node_of}
+use Rattle.layout.specs.Known.{AreCards}
+use Rattle.layout.specs.Marks.{times}
+use Rattle.layout.specs.SumLaws.{numbers_of}
+use Rattle.layout.proofs.Answering.{tree-has}
+use Rattle.layout.proofs.Changing.{tree-above, tree-lacks}
+use Rattle.layout.proofs.Knowing.{AreEach, each_above, each_card}
+use Rattle.layout.proofs.Summing.{known_sum, links-card}
+use Rattle.tree_check.specs.Trees.{led_at, led_by, IsOneTree}
+use Rattle.tree_check.proofs.TreeLaws.{find, There, Nowhere, numbered}
+use Rattle.volume.specs.ParentMoves.{EachParent}
+use Rattle.volume.specs.ParentIndex.{LeadsTo, HasName, AreParents}
+use Rattle.volume.proofs.ParentLinks.{no_root, no_other, has_name}
+
+-- A tree's parents
+
+-- each node with a name of the number has this number
+Only : Tree → (number parent : ℕ) → Type 0
+Only tree number parent = (key : ℕ) (node : Node) → at key tree ≡ Some node → 0 < links_from number node → key ≡ parent
+
+only-rest : (entry : ℕ × Node) (rest : Tree) (number parent : ℕ) → IsAbove entry.0 rest → Only (entry ∷ rest) number parent → Only rest number parent
+unfolding Only
+only-rest entry rest number parent above only key node is leads =
+    let low = at-above rest entry.0 key node above is in
+    only key node (at-rest entry.0 key entry.1 rest (omega arith) ∙ is) leads
+
+parent_found : (tree : Tree) (least number parent key : ℕ) (node : Node) → IsAbove least tree → Only tree number parent → at key tree ≡ Some node → 0 < links_from number node
+    → parent_of tree number ≡ parent
+unfolding Only
+parent_found [] least number parent key node above only is leads = absurd (some≢none node (sym is))
+parent_found (entry ∷ rest) least number parent key node above only is leads = elim (cases_lt 0 (links_from number entry.1)) [
+  | inl first ↦
+      if_true _ entry.0 (parent_of rest number) (lt-ltb 0 (links_from number entry.1) first)
+      ∙ only entry.0 entry.1 (at-first entry.0 entry.0 entry.1 rest refl) first
+  | inr none ↦ elim (cases_eq key entry.0) [
+    | inl one ↦
+        let same : entry.1 ≡ node = same_Some entry.1 node (sym (at-first entry.0 key entry.1 rest one) ∙ is) in
+        let worths : links_from number entry.1 ≡ links_from number node = ap (links_from number) same in
+        absurd (omega arith)
+    | inr apart ↦
+        if_false _ entry.0 (parent_of rest number) (le-ltb 0 (links_from number entry.1) none)
+        ∙ parent_found rest entry.0 number parent key node above.1 (only-rest entry rest number parent above.1 only) (sym (at-rest entry.0 key entry.1 rest apart) ∙ is) leads
+  ]
+]
+
+Never : Tree → (number : ℕ) → Type 0
+Never tree number = (key : ℕ) (node : Node) → at key tree ≡ Some node → links_from number node ≡ 0
+
+parent_none : (tree : Tree) (least number : ℕ) → IsAbove least tree → Never tree number → parent_of tree number ≡ 0
+unfolding Never
+parent_none [] least number above never = refl
+parent_none (entry ∷ rest) least number above never =
+    let none = never entry.0 entry.1 (at-first entry.0 entry.0 entry.1 rest refl) in
+    if_false _ entry.0 (parent_of rest number) (le-ltb 0 (links_from number entry.1) (omega arith))
+    ∙ parent_none rest entry.0 number above.1 (λ key node is. let low = at-above rest entry.0 key node above.1 is in never key node (at-rest entry.0 key entry.1 rest (omega arith) ∙ is))
+
+module _ (nodes : ℕ) (mark : ℕ → ℕ) (cards : List (Option CachedNode)) (known : AreCards nodes mark cards) where
+  is_card : AreEach cards
+  is_card = each_card nodes mark cards known
+
+  above : (image : Image) → IsAbove 0 (tree_of image cards)
+  above image = tree-above image cards (each_above cards is_card)
+
+  module _ (image : Image) (number : ℕ) where
+    -- a name in the tree is one of the cached nodes
+    pub name_of_card : (key : ℕ) (node : Node) → at key (tree_of image cards) ≡ Some node → 0 < links_from number node → HasName cards key number
+    name_of_card key node is leads = elim (find cards key) [
+      | There p card there same ↦
+          let node_is : node_of image card ≡ node = same_Some (node_of image card) node (sym (tree-has image cards p card known.apart there) ∙ ap (λ n. at n (tree_of image cards)) same ∙ is) in
+          let links : links_from number node ≡ times number (numbers_of card.names) = ap (links_from number) (sym node_is) ∙ links-card number image card (is_card p card there) in
+          let led : times number (led_at cards p) ≡ times number (numbers_of card.names) = ap (λ (found : Option CachedNode). times number (led_by found)) there in
+          record { place = p; there = ap number_of there ∙ ap Some same; leads = omega arith }
+      | Nowhere none ↦ absurd (some≢none node (sym is ∙ tree-lacks image cards key none))
+    ]
+
+    -- and the other way
+    pub card_of_name : (directory : ℕ) → HasName cards directory number → (node : Node) × ((at directory (tree_of image cards) ≡ Some node) × (0 < links_from number node))
+    card_of_name directory has =
+        let found = numbered cards has.place directory has.there in
+        let card = found.0 in
+        let there = found.1.0 in
+        let led : times number (led_at cards has.place) ≡ times number (numbers_of card.names) = ap (λ (o : Option CachedNode). times number (led_by o)) there in (
+          node_of image card,
+          (
+            ap (λ n. at n (tree_of image cards)) (sym found.1.1) ∙ tree-has image cards has.place card known.apart there,
+            omega (arith, led, has.leads, links-card number image card (is_card has.place card there)),
+          ),
+        )
+
+    pub no-parent : ((p : ℕ) → LeadsTo cards p number → ⊥) → parent_of (tree_of image cards) number ≡ 0
+    unfolding Never
+    no-parent none = parent_none (tree_of image cards) 0 number (above image) (λ key node is. elim (cases_eq (links_from number node) 0) [
+      | inl zero_links ↦ zero_links
+      | inr some ↦ let has = name_of_card key node is (omega arith) in absurd (none has.place has.leads)
+    ])
+
+    module _ (tree : IsOneTree cards) (parents : List ℕ) (are : AreParents cards parents) where
+      pub parent-there : (place : ℕ) → number_at cards place ≡ Some number → parent_of (tree_of image cards) number ≡ get_or parents place 0
+      unfolding Only
+      parent-there place there = elim (cases_eq number root) [
+        | inl is ↦
+            no-parent (λ p leads. no_root cards tree p (subst (LeadsTo cards p) is leads))
+            ∙ sym (are.rooted place (there ∙ ap Some is))
+        | inr off ↦
+            let has = has_name cards tree number place off there in
+            let stands = card_of_name has.0 has.1 in
+            parent_found (tree_of image cards) 0 number (get_or parents place 0) has.0 stands.0 (above image)
+            (λ key node is leads. sym (are.named place number key there (name_of_card key node is leads))) stands.1.0 stands.1.1
+      ]
+
+      pub parent-nowhere : HasNot cards number → parent_of (tree_of image cards) number ≡ 0
+      parent-nowhere lack = no-parent (λ p leads. no_other cards tree number p lack leads)
+
+pub each_parent : EachParent
+each_parent nodes mark cards parents known tree are image place number there = parent-there nodes mark cards known image number tree parents are place there
+
+-- How many nodes the tree has
+
+pub known-count : (nodes : ℕ) (mark : ℕ → ℕ) (cards : List (Option CachedNode)) → AreCards nodes mark cards → (image : Image) → length (tree_of image cards) ≡ count_of_all cards
+known-count nodes mark cards known image = (known_sum nodes mark cards known image).nodes

@@ -1,0 +1,9 @@
+-- That numbers by place are parents has one proof at most.
+use Rattle.std.specs.Prelude.{ℕ, List, Option}
+use Rattle.std.proofs.Props.{props}
+use Rattle.layout.specs.CachedNodes.{CachedNode}
+use Rattle.volume.specs.ParentIndex.{AreParents}
+
+pub AreParents-prop : (cards : List (Option CachedNode)) (parents : List ℕ)
+    → IsProp (AreParents cards parents)
+AreParents-prop cards parents = Prim.hlevel props

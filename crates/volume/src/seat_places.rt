@@ -1,0 +1,93 @@
+//! What the edit of one place writes.
+
+ghost use Rattle.std.specs.Prelude.{◌≡◌, ◌<◌, ◌+◌, ◌*◌, ◌++◌, OnOk};
+ghost use Rattle.std.specs.Option.{option_map};
+ghost use Rattle.model.specs.Sessions.SeatEdits.{edit_view};
+ghost use Rattle.model.specs.Sessions.SeatViews.{held_view, seat_view};
+ghost use Rattle.volume.specs.SeatUpdates.{edit_updates, place_updates, slot_updates};
+ghost use Rattle.seats.specs.Spelling.{seat_sector};
+
+use disk::{SECTOR, Update};
+use layout::places::{PLACE_SECTORS, SLOT_SECTORS, SPARE};
+use model::seats::{HeldReply, Seat, SeatEdit};
+use seats::{slot_sector, taken_sector};
+use std::alloc::AllocError;
+
+/// How many slots a seat may have.
+const SLOTS: usize = 2;
+
+/// The first sector of a place.
+fn first_of(place: u32) -> u32
+    requires { place < 5 }
+    ensures { result ≡ 100 + 9 * place }
+{
+    SPARE + PLACE_SECTORS * place
+}
+
+/// The content of one of a place's nine sectors.
+fn content_of(seat: Option<&Seat>, k: u32) -> [u8; SECTOR]
+    requires { k < 9 }
+    ensures { result ≡ seat_sector k (option_map (λ s. seat_view s.now) seat.entry) }
+{
+    match seat {
+        None => [0; SECTOR],
+        Some(seat) => taken_sector(seat, k as usize),
+    }
+}
+
+/// Adds the nine sectors of a place that this seat has, or none.
+fn push_place(updates: &mut Vec<Update>, place: u32, seat: Option<&Seat>) -> Result<(), AllocError>
+    requires { place < 5 }
+    ensures { OnOk result (updates.new.items
+        ≡ updates.old.items ++ place_updates place (option_map (λ s. seat_view s.now) seat.entry)) }
+{
+    let first = first_of(place);
+    for k in 0..PLACE_SECTORS {
+        updates.push(Update {
+            target: first + k,
+            content: content_of(seat, k),
+        })?;
+    }
+    Ok(())
+}
+
+/// Adds the four sectors of a slot that holds this reply.
+fn push_slot(
+    updates: &mut Vec<Update>,
+    place: u32,
+    slot: usize,
+    held: &HeldReply,
+) -> Result<(), AllocError>
+    requires place { place < 5 }
+    requires slot { slot < 2 }
+    ensures { OnOk result (updates.new.items
+        ≡ updates.old.items ++ slot_updates place slot (held_view held.now)) }
+{
+    let first = first_of(place) + 1 + SLOT_SECTORS * slot as u32;
+    for part in 0..SLOT_SECTORS {
+        updates.push(Update {
+            target: first + part,
+            content: slot_sector(held, part as usize),
+        })?;
+    }
+    Ok(())
+}
+
+/// Adds what the edit of a place writes.
+pub(crate) fn push_edit(
+    updates: &mut Vec<Update>,
+    place: u32,
+    edit: &SeatEdit,
+) -> Result<(), AllocError>
+    requires { place < 5 }
+    ensures { OnOk result (updates.new.items
+        ≡ updates.old.items ++ edit_updates place (edit_view edit.now)) }
+{
+    match edit {
+        SeatEdit::Stays => Ok(()),
+        SeatEdit::Frees => push_place(updates, place, None),
+        SeatEdit::Takes(seat) => push_place(updates, place, Some(seat)),
+        SeatEdit::Holds { slot, held } if *slot < SLOTS => push_slot(updates, place, *slot, held),
+        SeatEdit::Holds { .. } => Ok(()),
+    }
+}
