@@ -7,7 +7,9 @@ and their ratio.
 Needs rustc, and nfs-ganesha with its VFS module. NFS41 in the environment names another program
 than the one that `rt run` leaves. Both servers keep their files in memory
 (/dev/shm), are asked over one connection, one request at a time (scripts/nfsload.rs), and take
-turns, so that what else runs on the machine takes from both.
+turns, so that what else runs on the machine takes from both. A process of the idle class keeps each
+processor awake, since to wake one takes longer than a request, and not as long each time. `echo` is
+the time of the socket alone: a call is sent to a thread that sends it back.
 """
 import os
 import pathlib
@@ -20,7 +22,7 @@ import sys
 import tempfile
 import time
 
-OPERATIONS = """null getattr lookup read readdir write_unstable long_write_unstable write_sync
+OPERATIONS = """echo null getattr lookup read readdir write_unstable long_write_unstable write_sync
     long_write_sync mkdir_rmdir full_mkdir_rmdir create_remove full_create_remove rename
     full_rename""".split()
 TOP = pathlib.Path(__file__).resolve().parent.parent
@@ -88,6 +90,17 @@ def start_ganesha(folder):
     sys.exit("ganesha does not answer")
 
 
+def keep_awake():
+    """Returns a process for each processor, which yields it to every other."""
+
+    def take_idle_class():
+        os.sched_setscheduler(0, os.SCHED_IDLE, os.sched_param(0))
+
+    words = [sys.executable, "-c", "while True: pass"]
+    count = os.cpu_count() or 1
+    return [subprocess.Popen(words, preexec_fn=take_idle_class) for _ in range(count)]
+
+
 def end(servers):
     """Ends the servers that the functions above started."""
     for server, _ in servers.values():
@@ -110,9 +123,12 @@ def main():
     load = build_load(folder)
     servers = {"nfs41": start_nfs41(folder, rounds), "nfs-ganesha": start_ganesha(folder)}
     figures = {name: [] for name in servers}
+    spinners = keep_awake()
     for _ in range(rounds):
         for name, (_, port) in servers.items():
             figures[name].append(drive(load, port, seconds))
+    for spinner in spinners:
+        spinner.terminate()
     end(servers)
     shutil.rmtree(folder, ignore_errors=True)
     print("| operation | nfs41, µs | nfs-ganesha, µs | ratio |\n|---|---|---|---|")
