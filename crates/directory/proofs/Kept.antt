@@ -5,6 +5,7 @@ use Rattle.std.proofs.lemmas.Bool.{cases_eq, cases_lt}
 use Rattle.std.proofs.lemmas.List.{length-set, length-take, length-map, length_push, get_or-set_same, get_or-set_other, get_or-take, get_or-map, get_or_default, get_or_append_left, get_or_push, take-map, map-set}
 use Rattle.sector.specs.Written.{each_at, each_push}
 use Rattle.directory.specs.declared.entry.Entry.{Entry}
+use Rattle.directory.specs.declared.names.TheConstants.Names.{MAX_NAMES}
 use Rattle.directory.specs.Records.{Record, record_of, record_from, without_place, name_of, ApartBy, AreApart, IsRecord, IsDirectory}
 
 pub each_set : (P : Record → Type 0) (xs : List Record) (p : ℕ) (x : Record) → AllByRecursion P xs → P x → AllByRecursion P (set xs p x)
@@ -36,7 +37,7 @@ IsDirectory-set xs p new kept h same is = record {
   apart = apart_same xs (set xs p new) (length-set xs p new) (set_name xs p new h same) kept.apart;
 }
 
-pub IsDirectory-push : (xs : List Record) (new : Record) → IsDirectory xs → length xs < 1024 → ((i : ℕ) (d : Record) → i < length xs → (get_or xs i d).1.name ≢ new.1.name) → IsRecord new → IsDirectory (xs ++ new ∷ [])
+pub IsDirectory-push : (xs : List Record) (new : Record) → IsDirectory xs → length xs < MAX_NAMES → ((i : ℕ) (d : Record) → i < length xs → (get_or xs i d).1.name ≢ new.1.name) → IsRecord new → IsDirectory (xs ++ new ∷ [])
 IsDirectory-push xs new kept room fresh is = record {
   few = omega (arith, length_push xs new);
   each = each_push IsRecord xs new kept.each is;

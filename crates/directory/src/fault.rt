@@ -10,7 +10,7 @@ use thiserror::Error;
 /// Why a name could not be put.
 #[derive(Clone, Copy, Debug, PartialEq, Eq, Error)]
 pub enum DirectoryFault {
-    /// The directory has 1,024 names.
+    /// The directory has `Names::MAX_NAMES` names.
     #[error("the directory is full")]
     Full,
     /// Memory ran out.

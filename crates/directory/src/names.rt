@@ -21,7 +21,7 @@ use sector::SIZE;
 use std::alloc::{AllocError, Global};
 use std::marker::Model;
 
-/// The names of a directory, at most 1,024, in the order of their records.
+/// The names of a directory, at most `MAX_NAMES`, in the order of their records.
 ///
 /// Contracts see the list of the records. `by_stamp` has their places by rising stamp, `by_name` by
 /// rising name.
@@ -64,8 +64,8 @@ impl Names {
 
     /// The names of these records, which stand in one order in both.
     ///
-    /// None exactly where they are no directory's: more than 1,024, two of one name, or a name
-    /// without bytes or of more than 255.
+    /// None exactly where they are no directory's: more than `MAX_NAMES`, two of one name, or a
+    /// name without bytes or of more than 255.
     pub fn from_entries(alloc: Global, entries: Vec<Entry>) -> Result<Option<Names>, AllocError>
         ensures some { IfOk result (λ names.
             IfSome names (λ names. names ≡ map record_of entries.items)) }
@@ -168,7 +168,7 @@ impl Names {
     /// record's place. An `Err` changes nothing.
     ///
     /// # Errors
-    /// `Full` exactly where the name is new and there are 1,024 names.
+    /// `Full` exactly where the name is new and there are `MAX_NAMES` names.
     pub fn put(&mut self, name: &[u8], stamp: u64, number: u64) -> Result<usize, DirectoryFault>
         requires some { 0 < length name.now }
         requires few { length name.now ≤ MAX_NAME_BYTES }

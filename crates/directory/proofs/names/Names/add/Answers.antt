@@ -1,5 +1,6 @@
 use Rattle.std.proofs.Common.{◌<◌, ◌≢◌, ◌++◌, ◌∷◌, [], length, get_or, sym, ap, subst, arith}
 use Rattle.std.proofs.lemmas.List.{length_push}
+use Rattle.directory.specs.declared.names.TheConstants.Names.{MAX_NAMES}
 use Rattle.directory.specs.declared.order.By.TheVariants as by
 use Rattle.directory.specs.Order.{AreRising, IsOrder, IsInserted, AreKept}
 use Rattle.directory.specs.Records.{record_of}
@@ -51,7 +52,7 @@ pub invariant_of-self-2 : goal.invariant_of-self-2
 invariant_of-self-2 c =
     let records = c.self.inside.records in
     let new = record_of c.args.entry in
-    let room : length records < 1024 = omega (arith, ap length c.self.view_is, c.requires.room) in
+    let room : length records < MAX_NAMES = omega (arith, ap length c.self.view_is, c.requires.room) in
     let stamps = subst (λ order. IsOrder by.Stamp order records) (sym c.in_ok-reserve.ensures.items) c.self.invariant.stamps in
     let names = subst (λ order. IsOrder by.Name order records) (sym c.in_ok-reserve-2.ensures.items) c.self.invariant.names in
     let put = subst (λ rs. IsInserted by.Stamp rs c.reserve.new.self.items c.insert.new.order.items c.len-place.result) c.in_ok-push.ensures.ok c.insert.ensures in
