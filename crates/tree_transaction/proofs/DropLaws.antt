@@ -4,6 +4,7 @@ use Rattle.std.proofs.lemmas.Bool.{cases_eq}
 use Rattle.std.proofs.lemmas.List.{length-take, length-set, get_or-take}
 use Rattle.disk.specs.Moments.{Image, applied}
 use Rattle.disk.specs.declared.update.Update.{Update}
+use Rattle.directory.specs.declared.names.TheConstants.Names.{MAX_NAMES}
 use Rattle.directory.specs.Listing.{by_stamp}
 use Rattle.directory.specs.Records.{Record, record_from, IsDirectory, AreStamped, without_place, place_of}
 use Rattle.directory.specs.Spelling.{directory_sector}
@@ -86,7 +87,7 @@ module _ (old : Transaction) (place : ℕ) (was : CachedNode) (name : List ℕ) 
   pub stamped_was : AreStamped was.names
   stamped_was = let here = names_here old place was known there directory in here.stamped
 
-  pub few_names : length was.names ≤ 1024
+  pub few_names : length was.names ≤ MAX_NAMES
   few_names = let here = names_here old place was known there directory in let is = here.names in is.few
 
   module _ (names : List Record) (are : names ≡ without_place was.names at) where

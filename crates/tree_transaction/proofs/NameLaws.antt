@@ -5,6 +5,7 @@ use Rattle.std.proofs.lemmas.List.{length-append}
 use Rattle.disk.specs.Moments.{Image, applied}
 use Rattle.disk.specs.declared.update.Update.{Update}
 use Rattle.freemap.specs.Kept.{free_places}
+use Rattle.directory.specs.declared.names.TheConstants.Names.{MAX_NAMES}
 use Rattle.directory.specs.Listing.{by_stamp}
 use Rattle.directory.specs.Records.{Record, IsDirectory, AreStamped, with_record, record_from, place_of}
 use Rattle.directory.specs.Spelling.{directory_sector}
@@ -51,7 +52,7 @@ abbrev pub named_card : CachedNode → List (Option ℕ) → List Record → Cac
 named_card card blocks names = record card { fields = record card.fields { size = length names }; blocks = blocks; names = names }
 
 -- the runs of so few blocks stand in one sector
-pub few_runs : (blocks : List (Option ℕ)) (count : ℕ) → length blocks ≡ blocks_of kind.Directory count → count ≤ 1024 → sectors_for (set_blocks blocks) ≤ 1
+pub few_runs : (blocks : List (Option ℕ)) (count : ℕ) → length blocks ≡ blocks_of kind.Directory count → count ≤ MAX_NAMES → sectors_for (set_blocks blocks) ≤ 1
 few_runs blocks count long few = omega (arith, long, set_most blocks)
 
 -- a directory whose blocks and names have changed, laid anew
@@ -78,7 +79,7 @@ module _ (old : Transaction) (place : ℕ) (was : CachedNode) (known : IsKnown o
     few = (let names = names_here in let is = names.names in omega (arith, is.few, blocks_here));
   }
 
-  pub can_lay_names : (mid_places : List Bool) (blocks : List (Option ℕ)) (names : List Record) → length mid_places ≡ length old.places → length names ≤ 1024
+  pub can_lay_names : (mid_places : List Bool) (blocks : List (Option ℕ)) (names : List Record) → length mid_places ≡ length old.places → length names ≤ MAX_NAMES
       → ((n : ℕ) → times n was.fields.run_sectors ≤ mark_by first mid_places n) → CanBeLaid old.nodes place mid_places (named_card was blocks names)
   can_lay_names mid_places blocks names len few marked = record {
     room = omega (arith, known.small, len);
@@ -133,7 +134,7 @@ module _ (old : Transaction) (place : ℕ) (was : CachedNode) (name : List ℕ) 
   pub directory : was.fields.kind ≡ kind.Directory
   directory = ap (λ (one : CachedNode). one.fields.kind) (sym same) ∙ can.directory
 
-  few : length was.names < 1024
+  few : length was.names < MAX_NAMES
   few = let e = ap (λ (one : CachedNode). length one.names) same in omega (arith, e, can.few)
 
   pub is_new : place_of name was.names ≡ length was.names

@@ -2,6 +2,7 @@
 use Rattle.std.specs.Prelude.{◌≡◌, ◌≤◌, ◌<◌, ◌+◌}
 use Rattle.std.specs.Prelude.{ℕ, List, Option, Some, None, length, slice_index_or}
 use Rattle.disk.specs.Moments.{Image}
+use Rattle.directory.specs.declared.names.TheConstants.Names.{MAX_NAMES}
 use Rattle.directory.specs.Records.{Record, place_of, with_record, without_place}
 use Rattle.model.specs.declared.node.NodeKind.TheVariants as kind
 use Rattle.model.specs.Trees.Charge.{blocks_of}
@@ -12,14 +13,14 @@ use Rattle.layout.specs.CachedNodes.{CachedNode}
 use Rattle.tree_transaction.specs.declared.transaction.Transaction.{Transaction}
 use Rattle.tree_transaction.specs.Transactions.{cards_of, Makes}
 
--- a directory of fewer than 1,024 names stands at a place, which has neither the name nor the
--- stamp
+-- a directory of fewer than MAX_NAMES names stands at a place, which has neither the name nor
+-- the stamp
 pub record CanName (cards : List (Option CachedNode)) (place : ℕ) (name : List ℕ)
     (stamp : ℕ) : Type 0 where
   pub card : CachedNode
   pub there : slice_index_or cards place None ≡ Some card
   pub directory : card.fields.kind ≡ kind.Directory
-  pub few : length card.names < 1024
+  pub few : length card.names < MAX_NAMES
   pub some : 0 < length name
   pub short : length name ≤ 255
   pub new_name : (place_of name card.names ≡ length card.names) × (entry_of name card.names ≡ None)
