@@ -13,6 +13,7 @@ use Rattle.model.specs.Trees.Edit.{done}
 use Rattle.model.specs.Trees.Edit as model
 use Rattle.model.specs.Trees.Keyed.{at, is_key}
 use Rattle.model.specs.Trees.Tree.{Tree, Node, names_at, is_directory_at, entry_of}
+use Rattle.directory.specs.declared.names.TheConstants.Names.{MAX_NAMES}
 
 module _ (tree other : Tree) (alike : without_data other ≡ without_data tree) where
   key_alike : (number : ℕ) → is_key number other ≡ is_key number tree
@@ -94,6 +95,6 @@ few_alike tree other [] alike few = tt
 few_alike tree other (edit ∷ edits) alike few =
     let next : without_data (done (edit_of edit) other) ≡ without_data (done (edit_of edit) tree) =
     sym (done-without_data (edit_of edit) other) ∙ ap (λ (t : Tree). without_data (done (edit_of edit) t)) alike ∙ done-without_data (edit_of edit) tree in (
-      subst IsTrue (sym (few-without_data 1024 (done (edit_of edit) tree)) ∙ ap (few_names 1024) (sym next) ∙ few-without_data 1024 (done (edit_of edit) other)) few.0,
+      subst IsTrue (sym (few-without_data MAX_NAMES (done (edit_of edit) tree)) ∙ ap (few_names MAX_NAMES) (sym next) ∙ few-without_data MAX_NAMES (done (edit_of edit) other)) few.0,
       few_alike (done (edit_of edit) tree) (done (edit_of edit) other) edits next few.1,
     )

@@ -23,6 +23,7 @@ use Rattle.model.specs.Trees.Edit.{done, edited}
 use Rattle.model.specs.Trees.Keyed.{at, with, total, IsAbove}
 use Rattle.model.specs.Trees.Tree.{Tree, Node, names_of, names_at, names_of_node}
 use Rattle.model.proofs.Trees.KeyedLaws.{at-with_same, at-with_other}
+use Rattle.directory.specs.declared.names.TheConstants.Names.{MAX_NAMES}
 
 -- the tree after so many of the edits
 abbrev pub behind_front : Tree → List Edit → ℕ → Tree
@@ -179,17 +180,17 @@ each_node P (Some card ∷ cards) each number node is =
         ∙ ap (λ (n : ℕ). at n (with (tree_without_data cards) card.fields.number (node_of (λ n. []) card))) (sym same) ∙ is)) (each 0 card refl)
     by_number others (inr off) = others (sym (at-with_other (tree_without_data cards) card.fields.number number (node_of (λ n. []) card) off) ∙ is)
 
--- a directory's names rise, and are 1,024 at most
+-- a directory's names rise, and are MAX_NAMES at most
 record HasFewNames (node : Node) : Type 0 where
   rising : IsAbove 0 (names_of node.content)
-  few : length (names_of node.content) ≤ 1024
+  few : length (names_of node.content) ≤ MAX_NAMES
 
 module _ (nodes : ℕ) (mark : ℕ → ℕ) (cards : List (Option CachedNode)) (known : AreCards nodes mark cards) where
   content_rising : (of : NodeKind) (card : CachedNode) → HasContent of card → IsAbove 0 (names_of (content_of (λ n. []) of card))
   content_rising kind.File card has = tt
   content_rising kind.Directory card has = above_by_stamp card.names has.stamped
 
-  content_few : (of : NodeKind) (card : CachedNode) → HasContent of card → length (names_of (content_of (λ n. []) of card)) ≤ 1024
+  content_few : (of : NodeKind) (card : CachedNode) → HasContent of card → length (names_of (content_of (λ n. []) of card)) ≤ MAX_NAMES
   content_few kind.File card has = omega arith
   content_few kind.Directory card has = (let names = has.names in omega (arith, length-by_stamp card.names has.stamped, names.few))
 
@@ -209,9 +210,9 @@ module _ (nodes : ℕ) (mark : ℕ → ℕ) (cards : List (Option CachedNode)) (
       by_node number None is = tt
       by_node number (Some node) is = (let it = each_node HasFewNames cards card_few number node is in it.rising)
 
-  pub few_outline : (number : ℕ) → length (names_at (tree_without_data cards) number) ≤ 1024
+  pub few_outline : (number : ℕ) → length (names_at (tree_without_data cards) number) ≤ MAX_NAMES
   few_outline number = by_node (at number (tree_without_data cards)) refl
     where
-      by_node : (found : Option Node) → at number (tree_without_data cards) ≡ found → length (names_of_node found) ≤ 1024
+      by_node : (found : Option Node) → at number (tree_without_data cards) ≡ found → length (names_of_node found) ≤ MAX_NAMES
       by_node None is = omega arith
       by_node (Some node) is = (let it = each_node HasFewNames cards card_few number node is in it.few)

@@ -2,6 +2,7 @@
 use Rattle.std.proofs.Common.{◌≡◌, ◌<◌, ◌+◌, ◌≤◌, eqb, ℕ, Bool, true, false, List, [], ◌∷◌, Option, Some, None, length, refl, sym, ap, ◌∙◌, arith, subst}
 use Rattle.std.specs.Prelude.{bytes_eq, if◌then◌else◌, nat_le, IsTrue}
 use Rattle.std.proofs.lemmas.Bool.{and_parts, leb-true}
+use Rattle.directory.specs.declared.names.TheConstants.Names.{MAX_NAMES}
 use Rattle.directory.specs.Listing.{by_stamp, without_entry}
 use Rattle.directory.specs.Records.{Record, record_from, place_of, with_record, without_place}
 use Rattle.directory.proofs.ByStamp.{at-by_stamp}
@@ -86,7 +87,7 @@ module _ (nodes : ℕ) (mark : ℕ → ℕ) (cards : List (Option CachedNode)) (
     unstamped = sym (stamp_is stamp) ∙ new.new_stamp
 
     -- there is room for it where few names stand after it
-    pub room_there : IsTrue (few_names 1024 (altered (name_put stamp (record { name = name; number = to })) (tree_without_data cards) number)) → length it.card.names < 1024
+    pub room_there : IsTrue (few_names MAX_NAMES (altered (name_put stamp (record { name = name; number = to })) (tree_without_data cards) number)) → length it.card.names < MAX_NAMES
     unfolding node_of
     room_there few =
         let entry : DirEntry = record { name = name; number = to } in
@@ -94,12 +95,12 @@ module _ (nodes : ℕ) (mark : ℕ → ℕ) (cards : List (Option CachedNode)) (
         let behind : at number (altered (name_put stamp entry) (tree_without_data cards) number) ≡ Some (name_put stamp entry node) =
         ap (λ (found : Option Node). at number (altered_at (name_put stamp entry) (tree_without_data cards) number found)) (there_is cards known.apart place number it)
         ∙ at-with_same (tree_without_data cards) number (name_put stamp entry node) in
-        let most = few-at 1024 (altered (name_put stamp entry) (tree_without_data cards) number) number (name_put stamp entry node) few behind in
+        let most = few-at MAX_NAMES (altered (name_put stamp entry) (tree_without_data cards) number) number (name_put stamp entry node) few behind in
         let names = ap (λ (k : NodeKind). length (with (names_of (content_of (λ n. []) k it.card)) stamp entry)) is in
         let more = length-with (by_stamp it.card.names) stamp 0 entry (above_by_stamp it.card.names has_names.stamped) (at-by_stamp stamp it.card.names ∙ unstamped) in
         omega (arith, most, names, more, length-by_stamp it.card.names has_names.stamped)
 
-    pub can_name : length it.card.names < 1024 → CanName cards place name stamp
+    pub can_name : length it.card.names < MAX_NAMES → CanName cards place name stamp
     can_name room = record {
       card = it.card;
       there = it.there;

@@ -15,6 +15,7 @@ use Rattle.model.specs.Trees.Edit.{Shown, done}
 use Rattle.model.specs.Trees.Edit as model
 use Rattle.model.specs.Trees.Keyed.{at, is_key}
 use Rattle.model.specs.Trees.Tree.{Tree, Node, DirEntry, bytes_of, entry_of, names_at, is_directory_at}
+use Rattle.directory.specs.declared.names.TheConstants.Names.{MAX_NAMES}
 
 -- An edit of the code as the definition's
 
@@ -116,10 +117,10 @@ abbrev pub AreDoable : Tree → List Edit → Type 0
 AreDoable tree [] = Unit {0}
 AreDoable tree (edit ∷ edits) = CanDo tree edit × AreDoable (done (edit_of edit) tree) edits
 
--- and no directory has more than 1,024 names after any of them
+-- and no directory has more than MAX_NAMES names after any of them
 abbrev pub StayFew : Tree → List Edit → Type 0
 StayFew tree [] = Unit {0}
-StayFew tree (edit ∷ edits) = IsTrue (few_names 1024 (done (edit_of edit) tree))
+StayFew tree (edit ∷ edits) = IsTrue (few_names MAX_NAMES (done (edit_of edit) tree))
     × StayFew (done (edit_of edit) tree) edits
 
 -- what can be done to a tree can be done to each other one that is blanked alike, and as few names

@@ -268,7 +268,7 @@ fn edit_one<S: Sectors>(
 }
 
 /// Does edits one after the other. Each must be one that can be done in the tree that those before
-/// it give, and after none of them may a directory have more than 1,024 names.
+/// it give, and after none of them may a directory have more than `Names::MAX_NAMES` names.
 ///
 /// # Errors
 ///

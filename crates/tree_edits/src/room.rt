@@ -13,7 +13,9 @@ ghost use Rattle.model.specs.Trees.Keyed.{total};
 ghost use Rattle.model.specs.Trees.Tree.{is_directory_at};
 
 use crate::edit::Edit;
-use directory::Names;
+use directory::{Names, RECORDS};
+use disk::SECTOR;
+use extents::MAX_SECTOR_RUNS;
 use model::limits::Limits;
 use model::node::NodeKind;
 use node_table::Table;
@@ -137,10 +139,10 @@ fn charge_of(size: Option<Size>) -> u128
         return 0;
     };
     let blocks = match size.kind {
-        NodeKind::File => (size.count + 4095) / 4096,
-        NodeKind::Directory => (size.count + 14) / 15,
+        NodeKind::File => size.count.div_ceil(SECTOR as u128),
+        NodeKind::Directory => size.count.div_ceil(RECORDS as u128),
     };
-    blocks + (blocks + 499) / 500
+    blocks + blocks.div_ceil(MAX_SECTOR_RUNS as u128)
 }
 
 /// One, or none.
@@ -188,7 +190,7 @@ fn taken_after(table: &Table, edits: &[Edit<'_>]) -> Taken
 }
 
 /// Whether no directory has more names than so many after edits. Those that no edit changes have
-/// 1,024 at most.
+/// `Names::MAX_NAMES` at most.
 fn have_few_names(table: &Table, edits: &[Edit<'_>], most: usize) -> bool
     requires cards { (nodes : ℕ) × (mark : ℕ → ℕ) × AreCards nodes mark table.now }
     requires can { AreDoable (tree_without_data table.now) edits.now }
