@@ -17,8 +17,11 @@ use model::node::NodeKind;
 use sector::{SIZE, u16_at, u32_at, u64_at};
 use std::alloc::Global;
 
+/// The runs that one run sector keeps.
+const SECTOR_RUNS: usize = 500;
+
 /// The most runs that nine run sectors keep.
-const MAX_RUNS: u16 = 4500;
+const MAX_RUNS: u16 = 9 * SECTOR_RUNS as u16;
 
 fn kind_from(byte: u8) -> Option<NodeKind>
     ensures { (kind : NodeKind) → byte ≡ kind_byte kind → result ≡ Some kind }
@@ -118,7 +121,7 @@ fn inode_in(alloc: Global, form: Form, sector: &[u8; SIZE]) -> Result<Inode, Ino
     if runs > MAX_RUNS {
         return Err(InodeFault::NotInode);
     }
-    let run_sectors = run_sectors_in(alloc, sector, usize::from(runs).div_ceil(500))?;
+    let run_sectors = run_sectors_in(alloc, sector, usize::from(runs).div_ceil(SECTOR_RUNS))?;
     let acl = acl_in(alloc, sector, aces)?;
     Ok(Inode {
         kind,

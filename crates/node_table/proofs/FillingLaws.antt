@@ -16,6 +16,7 @@ use Rattle.layout.specs.CachedNodes.{CachedNode}
 use Rattle.layout.specs.Marks.{once_if, times}
 use Rattle.layout.specs.SumLaws.{sum_over}
 use Rattle.layout.proofs.NumberLaws.{once-off, once-at}
+use Rattle.node_table.specs.declared.table.TheConstants.Table.{MAX_NODES}
 use Rattle.node_table.specs.Index.{key_at, entries_from, AreDifferent}
 use Rattle.node_table.specs.Tables.{number_at, HaveOwnPlaces, AreNumbered, AreFew, charge_of_all, count_of_all, vacant, IsKept}
 use Rattle.node_table.proofs.IndexLaws.{at-entry}
@@ -216,7 +217,7 @@ module _ (cards : List (Option CachedNode)) (index : Keyed ℕ) (moved : IsPermu
       let two = sum-two (get_or index i (0, 0)).1 index i (omega arith) refl (one ∙ ap (λ (j : ℕ). (get_or index j (0, 0)).1) next) in
       omega (arith, two, entries-once 0 cards (get_or index i (0, 0)).1, sum_by-IsPermutation (is_for (get_or index i (0, 0)).1) (entries_from 0 cards) index moved)
 
-  pub filled : (free : List ℕ) (charge : ℕ) → length cards ≤ 16384 → AreNumbered cards → AreFew cards → IsNonDecreasingBy (λ entry. entry.0) index → AreDifferent index
+  pub filled : (free : List ℕ) (charge : ℕ) → length cards ≤ MAX_NODES → AreNumbered cards → AreFew cards → IsNonDecreasingBy (λ entry. entry.0) index → AreDifferent index
       → ((n : ℕ) → times n free ≡ vacant n cards) → length free + count_of_all cards ≡ length cards → charge ≡ charge_of_all cards → IsKept cards index free charge
   filled free charge few numbered each sorted differ places count charge_is =
       let long : length index ≡ count_of_all cards = length_permutation (entries_from 0 cards) index moved ∙ entries-count 0 cards in

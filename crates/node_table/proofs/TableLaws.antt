@@ -13,6 +13,7 @@ use Rattle.layout.specs.CachedNodes.{CachedNode}
 use Rattle.layout.specs.Marks.{once_if, times}
 use Rattle.layout.specs.SumLaws.{sum_over}
 use Rattle.layout.proofs.Formatted.{nones-at}
+use Rattle.node_table.specs.declared.table.TheConstants.Table.{MAX_NODES}
 use Rattle.node_table.specs.Index.{key_at}
 use Rattle.node_table.specs.Tables.{number_of, number_at, HaveOwnPlaces, AreBelow, IsFree, charge_of, charge_there, charge_of_all, count_of_all, vacancy, vacant, IsKept}
 use Rattle.node_table.proofs.IndexLaws.{with-last, without-entry}
@@ -304,7 +305,7 @@ none-worth : (worth : CachedNode → ℕ) (count : ℕ) → sum_over worth (repl
 none-worth worth zero = refl
 none-worth worth (suc count) = none-worth worth count
 
-pub kept_none : (count : ℕ) (free : List ℕ) → count ≤ 16384 → AreFirst count free → length free ≡ count → IsKept (replicate count None) [] free 0
+pub kept_none : (count : ℕ) (free : List ℕ) → count ≤ MAX_NODES → AreFirst count free → length free ≡ count → IsKept (replicate count None) [] free 0
 kept_none count free few are len = record {
   few = omega (arith, length-replicate {A = Option CachedNode} count None);
   each = λ place card is. absurd (some≢none card (sym is ∙ nones-at count place));

@@ -8,7 +8,7 @@ ghost use Rattle.model.specs.Trees.Charge.{charge_of_blocks};
 use crate::cached_node::CachedNode;
 use crate::fault::TableFault;
 use crate::index::{self, entry_of};
-use extents::BlockList;
+use extents::{BlockList, MAX_SECTOR_RUNS};
 use std::alloc::{AllocError, Global};
 use std::marker::Model;
 
@@ -251,7 +251,7 @@ fn blocks_charge(blocks: &BlockList) -> u64
     ensures few { length blocks.now ≤ BlockList.MAX_BLOCKS }
 {
     let count = u64::from(blocks.count());
-    count + (count + 499) / 500
+    count + count.div_ceil(MAX_SECTOR_RUNS as u64)
 }
 
 /// What the cached node at a place takes of the data region.

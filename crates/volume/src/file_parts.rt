@@ -99,9 +99,9 @@ fn read_blocks<S: Sectors>(
     let mut done = 0;
     while done < count {
         let at = offset + done as u64;
-        let from = (at % 4096) as usize;
+        let from = (at % SECTOR as u64) as usize;
         let more = (SECTOR - from).min(count - done);
-        read_block(base, blocks, at / 4096, from, more, out)?;
+        read_block(base, blocks, at / SECTOR as u64, from, more, out)?;
         done += more;
     }
     Ok(())
