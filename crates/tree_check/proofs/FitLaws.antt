@@ -12,6 +12,7 @@ use Rattle.model.specs.Trees.Keyed.{at, IsAbove}
 use Rattle.model.specs.Trees.Tree.{Tree, Node, names_of}
 use Rattle.model.proofs.Trees.KeyedLaws.{at-above, at-first, at-rest}
 use Rattle.model.proofs.Sessions.OpensLaws.{total-ones}
+use Rattle.directory.specs.declared.names.TheConstants.Names.{MAX_NAMES}
 use Rattle.directory.specs.Listing.{by_stamp}
 use Rattle.layout.specs.CachedNodes.{CachedNode, tree_of, node_of, content_of}
 use Rattle.layout.specs.Known.{HasContent, AreCards}
@@ -39,7 +40,7 @@ and-true true false c is = refl
 and-true false b c is = refl
 
 module _ (nodes : ℕ) (image : Image) (mark : ℕ → ℕ) (cards : List (Option CachedNode)) (known : AreCards nodes mark cards) where
-  few-names : (kind : NodeKind) (card : CachedNode) → HasContent kind card → length (names_of (content_of image kind card)) ≤ 1024
+  few-names : (kind : NodeKind) (card : CachedNode) → HasContent kind card → length (names_of (content_of image kind card)) ≤ MAX_NAMES
   few-names kind.File card has = omega arith
   few-names kind.Directory card has =
       let same : length (by_stamp card.names) ≡ length card.names =
@@ -47,11 +48,11 @@ module _ (nodes : ℕ) (image : Image) (mark : ℕ → ℕ) (cards : List (Optio
       let few = has.names.few in
       omega arith
 
-  few-node : (card : CachedNode) → HasContent card.fields.kind card → length (names_of (node_of image card).content) ≤ 1024
+  few-node : (card : CachedNode) → HasContent card.fields.kind card → length (names_of (node_of image card).content) ≤ MAX_NAMES
   unfolding node_of
   few-node card has = few-names card.fields.kind card has
 
-  few : (limits : Limits) → 1024 ≤ limits.names → few_names limits.names (tree_of image cards) ≡ true
+  few : (limits : Limits) → MAX_NAMES ≤ limits.names → few_names limits.names (tree_of image cards) ≡ true
   few limits most =
       few-from limits.names 0 (tree_of image cards)
       (tree-above image cards (each_above cards (is_card nodes image mark cards known)))
@@ -63,7 +64,7 @@ module _ (nodes : ℕ) (image : Image) (mark : ℕ → ℕ) (cards : List (Optio
         | Nowhere none ↦ absurd (none-node nodes image mark cards known 0 n node e ((tree_answers image cards known.apart n).none none))
       ])
 
-  pub known_fit : (limits : Limits) → 1024 ≤ limits.names
+  pub known_fit : (limits : Limits) → MAX_NAMES ≤ limits.names
       → fits limits (tree_of image cards) ≡ (nat_le (charge_of_all cards) limits.data_sectors && nat_le (count_of_all cards) limits.nodes)
   unfolding fits
   known_fit limits most =

@@ -7,6 +7,7 @@ use Rattle.model.specs.declared.limits.Limits.{Limits}
 use Rattle.model.specs.Trees.Keyed.{at}
 use Rattle.model.specs.Trees.Tree.{Node, root, is_directory_node}
 use Rattle.model.specs.Trees.WellFormed.{IsBefore, IsWellFormed}
+use Rattle.directory.specs.declared.names.TheConstants.Names.{MAX_NAMES}
 use Rattle.node_table.specs.Tables.{charge_of_all, count_of_all}
 use Rattle.layout.specs.CachedNodes.{CachedNode, tree_of}
 use Rattle.layout.specs.Known.{AreCards}
@@ -25,7 +26,7 @@ there None is = absurd (true≢false (sym is))
 there (Some node) is = refl
 
 known_bytes : (nodes : ℕ) (image : Image) (mark : ℕ → ℕ) (cards : List (Option CachedNode)) → AreCards nodes mark cards → HoldBytes image mark
-    → (limits : Limits) → 1024 ≤ limits.names → (stamp : ℕ)
+    → (limits : Limits) → MAX_NAMES ≤ limits.names → (stamp : ℕ)
     → AreWellFormed limits stamp cards ↔ (IsWellFormed limits (tree_of image cards) × IsBefore stamp (tree_of image cards))
 known_bytes nodes image mark cards known bytes limits most stamp =
     let walk = known_walk nodes image mark cards known in

@@ -7,6 +7,7 @@ use Rattle.model.specs.Trees.Charge.{fits}
 use Rattle.model.specs.Trees.Keyed.{at, is_key}
 use Rattle.model.specs.Trees.Tree.{Tree, Node, root, is_directory_at}
 use Rattle.model.specs.Trees.WellFormed.{links_to, links_owed, stamped_in, IsBefore, IsFrom, IsNode, IsWellFormed}
+use Rattle.directory.specs.declared.names.TheConstants.Names.{MAX_NAMES}
 use Rattle.layout.specs.CachedNodes.{CachedNode, tree_of}
 use Rattle.layout.specs.Known.{AreCards}
 use Rattle.layout.specs.Laid.{AreLaid}
@@ -44,12 +45,12 @@ EachAge =
     → (stamp : ℕ) → AreBefore stamp cards ↔ IsBefore stamp (tree_of image cards)
 
 -- The tree fits exactly where the nodes' charges and their count do: no directory has more than
--- 1,024 names
+-- MAX_NAMES names
 abbrev pub EachFit : Type 0
 EachFit =
     (nodes : ℕ) (image : Image) (mark : ℕ → ℕ) (cards : List (Option CachedNode))
     → AreLaid nodes image mark cards
-    → (limits : Limits) → 1024 ≤ limits.names
+    → (limits : Limits) → MAX_NAMES ≤ limits.names
     → fits limits (tree_of image cards)
     ≡ (nat_le (charge_of_all cards) limits.data_sectors && nat_le (count_of_all cards) limits.nodes)
 
@@ -72,7 +73,7 @@ EachNode = (nodes : ℕ) (image : Image) (mark : ℕ → ℕ) (cards : List (Opt
 abbrev pub EachTree : Type 0
 EachTree = (nodes : ℕ) (image : Image) (mark : ℕ → ℕ) (cards : List (Option CachedNode))
     → AreLaid nodes image mark cards → HoldBytes image mark
-    → (limits : Limits) → 1024 ≤ limits.names → (stamp : ℕ)
+    → (limits : Limits) → MAX_NAMES ≤ limits.names → (stamp : ℕ)
     → AreWellFormed limits stamp cards
     ↔ (IsWellFormed limits (tree_of image cards) × IsBefore stamp (tree_of image cards))
 
@@ -81,6 +82,6 @@ EachTree = (nodes : ℕ) (image : Image) (mark : ℕ → ℕ) (cards : List (Opt
 abbrev pub EachKnownTree : Type 0
 EachKnownTree = (nodes : ℕ) (mark : ℕ → ℕ) (cards : List (Option CachedNode))
     → AreCards nodes mark cards
-    → (limits : Limits) → 1024 ≤ limits.names → (stamp : ℕ)
+    → (limits : Limits) → MAX_NAMES ≤ limits.names → (stamp : ℕ)
     → AreWellFormed limits stamp cards
     ↔ (IsWellFormed limits (tree_of (λ n. []) cards) × IsBefore stamp (tree_of (λ n. []) cards))
