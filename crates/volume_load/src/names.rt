@@ -3,7 +3,7 @@
 ghost use Rattle.std.specs.Prelude.{◌≡◌, ◌↔◌, ◌<◌, ◌≤◌, ◌+◌, ◌/◌, List, length, map, IfOk, OnOk};
 ghost use Rattle.std.specs.Prelude.{IsErrOf, IsTrue};
 ghost use Rattle.std.specs.List.{AllByRecursion};
-ghost use Rattle.model.specs.Trees.Charge.{blocks_of};
+ghost use Rattle.model.specs.Trees.Charge.{blocks_of, divided_up};
 ghost use Rattle.model.specs.declared.node.NodeKind.TheVariants as kind;
 ghost use Rattle.directory.specs.Records.{Record, record_of, IsDirectory, AreStamped};
 ghost use Rattle.layout.specs.Health.{Reads};
@@ -14,6 +14,7 @@ use crate::fault::ScanFault;
 use crate::numbers::are_apart;
 use crate::sectors::{fetch, is_zero_from};
 use directory::{Entry, Names, RECORDS, read_records};
+use disk::SECTOR;
 use extents::BlockList;
 use layout::sectors::Sectors;
 use model::node::NodeKind;
@@ -51,7 +52,7 @@ fn read_entries<S: Sectors>(
     count: usize,
 ) -> Result<Vec<Entry>, ScanFault>
     requires within { AreSetWithin (S.size (S.kept sectors.old)) blocks.now }
-    requires enough { length blocks.now ≡ (count + 14) / 15 }
+    requires enough { length blocks.now ≡ divided_up count RECORDS }
     ensures found { IfOk result (λ entries. FindsRecords S.keeps_word
         (S.image (S.kept sectors.old)) blocks.now count (map record_of entries.items)) }
     // Refused
@@ -169,11 +170,11 @@ fn check_tail<S: Sectors>(sectors: &mut S, size: u64, blocks: &BlockList) -> Res
     ensures health { Reads (S.health sectors.old) (S.health sectors.new)
         (IsErrOf result ScanFault.Device) }
 {
-    let Some(sector) = blocks.at((size / 4096) as u32) else {
+    let Some(sector) = blocks.at((size / SECTOR as u64) as u32) else {
         return Ok(());
     };
     let content = fetch(sectors, sector)?;
-    if !is_zero_from(&content, (size % 4096) as usize) {
+    if !is_zero_from(&content, (size % SECTOR as u64) as usize) {
         return Err(ScanFault::Damaged);
     }
     Ok(())

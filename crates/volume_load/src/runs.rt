@@ -4,12 +4,13 @@ ghost use Rattle.std.specs.Prelude.{◌≡◌, ◌<◌, ◌≤◌, ◌+◌, ◌-
 ghost use Rattle.std.specs.Prelude.{min, IfOk, IfSome, IfNone, IsErrOf};
 ghost use Rattle.extents.specs.declared.run.Run.{Run};
 ghost use Rattle.extents.specs.Runs.{AreRunsOf};
-ghost use Rattle.model.specs.Trees.Charge.{blocks_of};
+ghost use Rattle.model.specs.Trees.Charge.{blocks_of, divided_up};
 ghost use Rattle.volume_load.specs.Runs.{FindsPart, FindsRuns, AreWithin};
 ghost use Rattle.layout.specs.Health.{Reads};
 
 use crate::fault::ScanFault;
 use crate::sectors::fetch;
+use directory::RECORDS;
 use disk::SECTOR;
 use extents::{BlockList, MAX_SECTOR_RUNS, Run, read_run_sector};
 use layout::sectors::Sectors;
@@ -65,7 +66,7 @@ pub(crate) fn read_runs<S: Sectors>(
     count: usize,
 ) -> Result<Vec<Run>, ScanFault>
     requires within { AreWithin (S.size (S.kept sectors.old)) numbers.now }
-    requires enough { length numbers.now ≡ (count + 499) / 500 }
+    requires enough { length numbers.now ≡ divided_up count MAX_SECTOR_RUNS }
     ensures found { IfOk result (λ runs. FindsRuns S.keeps_word
         (S.image (S.kept sectors.old)) numbers.now count runs.items) }
     // Refused
@@ -85,15 +86,16 @@ pub(crate) fn read_runs<S: Sectors>(
     Ok(runs)
 }
 
-/// How many blocks a node of this size has: none where they are more than 4,096.
+/// How many blocks a node of this size has: none where they are more than
+/// [`BlockList::MAX_BLOCKS`].
 fn count_of(kind: NodeKind, size: u64) -> Option<u32>
     ensures some { IfSome result (λ count.
         (count ≡ blocks_of kind size) × (count ≤ BlockList.MAX_BLOCKS)) }
     ensures none { IfNone result (BlockList.MAX_BLOCKS < blocks_of kind size) }
 {
     let count = match kind {
-        NodeKind::File => size.div_ceil(4096),
-        NodeKind::Directory => size.div_ceil(15),
+        NodeKind::File => size.div_ceil(SECTOR as u64),
+        NodeKind::Directory => size.div_ceil(RECORDS as u64),
     };
     if count > u64::from(BlockList::MAX_BLOCKS) {
         return None;

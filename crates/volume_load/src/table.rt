@@ -10,6 +10,7 @@ ghost use Rattle.layout.specs.Laid.{AreNumbered};
 ghost use Rattle.layout.specs.Marks.{named_by};
 ghost use Rattle.layout.specs.Stands.{version_by};
 ghost use Rattle.model.specs.Sessions.Seats.{no_seats};
+ghost use Rattle.model.specs.Trees.Charge.{divided_up};
 ghost use Rattle.volume_load.specs.Names.{AreSetWithin};
 ghost use Rattle.volume_load.specs.Marking.{CanMark, AreMarked};
 ghost use Rattle.volume_load.specs.CachedNodes.{uses, FindsBlocks, FindsRest, FindsPlace, IsFound};
@@ -22,7 +23,7 @@ use crate::names::read_content;
 use crate::nodes::read_node;
 use crate::numbers::are_apart;
 use crate::runs::{blocks_from, read_runs};
-use extents::{BlockList, Run, Runs};
+use extents::{BlockList, MAX_SECTOR_RUNS, Run, Runs};
 use freemap::Bitmap;
 use inode::{Form, Inode};
 use layout::places::NODES;
@@ -46,7 +47,8 @@ fn read_blocks<S: Sectors>(
     first: u32,
     inode: &Inode,
 ) -> Result<Laid, ScanFault>
-    requires enough { length inode.now.run_sectors.items ≡ (inode.now.runs + 499) / 500 }
+    requires enough { length inode.now.run_sectors.items
+        ≡ divided_up inode.now.runs MAX_SECTOR_RUNS }
     requires size { first + length places.old ≡ S.size (S.kept sectors.old) }
     ensures found { IfOk result (λ laid. FindsBlocks S.keeps_word (S.image (S.kept sectors.old))
         (fields_of inode.now) laid.runs.items laid.blocks) }
