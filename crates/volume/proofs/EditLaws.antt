@@ -27,6 +27,7 @@ use Rattle.model.specs.Trees.Edit as model
 use Rattle.model.specs.Trees.Keyed.{at, total}
 use Rattle.model.specs.Trees.Limits.{limits_of}
 use Rattle.model.specs.Trees.Tree.{Tree}
+use Rattle.directory.specs.declared.names.TheConstants.Names.{MAX_NAMES}
 use Rattle.volume.specs.Edits.{edited_by, front_of, named_by, IsChange}
 use Rattle.volume.specs.VolumeState.{VolumeState}
 
@@ -66,7 +67,7 @@ fit_parts limits tree fit =
       few = both.1;
     }
 
-few_fronts : (limits : Limits) → limits.names ≡ 1024 → (edits : List Edit) (tree : Tree)
+few_fronts : (limits : Limits) → limits.names ≡ MAX_NAMES → (edits : List Edit) (tree : Tree)
     → ((count : ℕ) → IsTrue (fits limits (edited (take count (edits_of edits)) tree))) → StayFew tree edits
 few_fronts limits names [] tree fronts = tt
 few_fronts limits names (edit ∷ edits) tree fronts = (

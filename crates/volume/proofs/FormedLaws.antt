@@ -19,6 +19,7 @@ use Rattle.tree_check.specs.Trees.{IsOneTree}
 use Rattle.tree_check.proofs.WholeLaws.{each_known_tree}
 use Rattle.volume.specs.Formed.{IsFormed, Shows}
 use Rattle.model.specs.Sessions.Seats.{Seats}
+use Rattle.directory.specs.declared.names.TheConstants.Names.{MAX_NAMES}
 use Rattle.volume.specs.Loads.{IsLoaded}
 use Rattle.volume.specs.declared.mount.Superblock.{Superblock}
 
@@ -54,11 +55,11 @@ shows_same keeps_word old new cards kept = record {
 }
 
 -- cached nodes whose tree is well formed are one tree
-pub formed_tree : (limits : Limits) → 1024 ≤ limits.names → (at nodes : ℕ) (mark : ℕ → ℕ) (cards : List (Option CachedNode)) → AreCards nodes mark cards → IsFormed limits at (tree_without_data cards) → ∥ IsOneTree cards ∥₁
+pub formed_tree : (limits : Limits) → MAX_NAMES ≤ limits.names → (at nodes : ℕ) (mark : ℕ → ℕ) (cards : List (Option CachedNode)) → AreCards nodes mark cards → IsFormed limits at (tree_without_data cards) → ∥ IsOneTree cards ∥₁
 formed_tree limits most at nodes mark cards known formed = ∥∥₁_map formed.well_formed (λ well. (let are =
     (each_known_tree nodes mark cards known limits most at).1
     (subst (IsWellFormed limits) (outline_fixed cards) well, subst (IsBefore at) (outline_fixed cards) formed.before) in are.tree))
 
 -- no volume has a lower limit of names
-pub names_most : (size nodes : ℕ) (limits : Limits) → limits ≡ limits_of size nodes → 1024 ≤ limits.names
-names_most size nodes limits is = (let names : limits.names ≡ 1024 = ap (λ (l : Limits). l.names) is in omega (arith, names))
+pub names_most : (size nodes : ℕ) (limits : Limits) → limits ≡ limits_of size nodes → MAX_NAMES ≤ limits.names
+names_most size nodes limits is = (let names : limits.names ≡ MAX_NAMES = ap (λ (l : Limits). l.names) is in omega (arith, names))
