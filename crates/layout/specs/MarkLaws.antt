@@ -49,7 +49,8 @@ LaysMarks =
     (cards : List (Option CachedNode))
     → WritesMarks version size nodes old new places cards → IsLaid version size nodes new cards
 
--- Kept sectors alone are seen: the superblock, and what comes after the gate and the payload
+-- Kept sectors alone are seen: the superblock, and what comes after the commit record and the
+-- payload
 pub record SeesSame (version : Version) (size nodes : ℕ) (old new : Image)
     (cards : List (Option CachedNode)) : Type 0 where
   pub laid : IsLaid version size nodes new cards

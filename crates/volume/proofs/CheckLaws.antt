@@ -59,7 +59,7 @@ look_fails sectors old mounts.Worn is = absurd is
 look_fails sectors old mounts.Memory is = absurd is
 look_fails sectors old mounts.Device is = tt
 
--- refused by the gate
+-- refused at the commit record
 pub gate_fails : (sectors : ℕ) (old : History) (fault : JournalFault) → first_verdict sectors old ≢ verdicts.NotVolume
     → (fault ≡ journals.Damaged → HasNoForm sectors old) → FailsCheck sectors old (gate_fault fault)
 gate_fails sectors old journals.Memory volume damaged = tt

@@ -117,7 +117,7 @@ module _ (size nodes run : ℕ) (kept : Kept) (seen : Image) (base : IsBase size
   abbrev Leaves : Image → Type 0
   Leaves image = StandsForIn base.stands.version.number size nodes run kept image ⊎ StandsForIn current_number size nodes (run + 1) kept image
 
-  -- a stop within the journal's mount leaves it
+  -- a crash within the journal's mount leaves it
   pub settled_moments : (old new : History) → AddsOnly (SettlesAs size seen) old new → AddsOnly Leaves old new
   settled_moments old new moments = AddsOnly-weaken (SettlesAs size seen) Leaves old new
       (λ image same. inl ∣ (record { base = base.base; settles = same base.base base.settles; stands = base.stands }, refl) ∣₁) moments

@@ -1,4 +1,4 @@
--- A journal that holds changes which are not flushed: what a stop may leave within a call.
+-- A journal that holds changes which are not flushed: what a crash may leave within a call.
 use Rattle.std.proofs.Common.{◌≡◌, ◌≤◌, ◌<◌, ◌+◌, ◌⊎◌, ℕ, zero, suc, List, [], ◌∷◌, ◌++◌, length, take, refl, sym, ap, ◌∙◌, subst, inl, inr, ⊎_elim, arith}
 use Rattle.std.proofs.lemmas.Bool.{cases_lt}
 use Rattle.std.proofs.lemmas.List.{take-append-le, length-append}
@@ -93,7 +93,7 @@ module _ (held : VolumeState) (log : Log) (size : held.sectors ≡ log.size) (hi
         subst (λ (h : History). AddsOnly (StandsForOne held (MayAdd held recent after)) h new) (sym history)
         (AddsOnly-weaken (StandsForFront log.size log.base (log.list ++ updates ∷ [])) (StandsForOne held (MayAdd held recent after)) log.history new (one_front recent is) adds)
 
-  -- a change that is not flushed: the trees that a stop may leave from now on, and the device is as it was
+  -- a change that is not flushed: the trees that a crash may leave from now on, and the device is as it was
   pub applied_recent : (after : Tree) → ∥ Stands held.sectors held.limits.nodes (applied updates (applied_all log.list log.base)) held.run (with_tree held after) ∥₁
       → (recent : List Tree) → IsRecent held recent
       → IsRecent (record held { tree = after; fronts = fronts_from log.base (log.list ++ updates ∷ []) }) (after ∷ recent)

@@ -69,7 +69,7 @@ back_since size failed was failures sectors between unmounted same stays back = 
   none = λ other. back.none other ∙ stays;
 }
 
--- refused by the gate
+-- refused at the commit record
 pub gate_counted : (before after : ℕ) (fault : JournalFault) → (fault ≡ journals.Fault) ⊎ ((fault ≡ journals.Damaged) ⊎ (fault ≡ journals.Memory))
     → (fault ≡ journals.Fault → IsCounted before after) → gate_fault fault ≡ mounts.Device → IsCounted before after
 gate_counted before after fault reasons counted is = ⊎_elim counted

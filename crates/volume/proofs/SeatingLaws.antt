@@ -173,7 +173,7 @@ module _ (keeps_word : Type 0) (limits : Limits) (run : ℕ) (cards : List (Opti
   mid_seats k = moved_seats limits run cards between mid safe.size (goes k) (safe.settled k up) (listed k)
       ∙ then_seats limits.nodes run cards cards old updates after (behind k) (serves k)
 
-  -- each front of the list with the transaction stands for what a stop may leave, and all of it for the edited seats
+  -- each front of the list with the transaction stands for what a crash may leave, and all of it for the edited seats
   front_stands : keeps_word → (recent : List Tree) → IsRecent before recent → (count : ℕ) → count ≤ length all
       → (kept : Kept) × MayAdd before recent after kept × ∥ Stands old.size limits.nodes (applied_all (take count all) old.base) run kept ∥₁
   front_stands k recent ready count few = ⊎_elim

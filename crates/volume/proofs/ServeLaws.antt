@@ -79,7 +79,7 @@ pub flush_seats : (keeps_word : Type 0) (nodes run : ℕ) (cards : List (Option 
 flush_seats keeps_word nodes run cards old new flushed serves k =
     ∥∥₁_elim (serves k) (Seats-set (seats_at (contents new)) (seats_at (contents old))) (seats_stay nodes run cards old new (flushed.contents k))
 
--- what a flush adds to what a stop may leave are trees that it may leave already
+-- what a flush adds to what a crash may leave are trees that it may leave already
 pub flush_adds : (limits : Limits) (run : ℕ) (cards : List (Option CachedNode)) (old new : Log) (after : Kept) → AddsFronts old new
     → AddsTrees (volume_state_by limits run cards old) after new.history
 flush_adds limits run cards old new after adds recent is = AddsOnly-weaken

@@ -1,4 +1,4 @@
--- What a stop leaves of a volume, by its base alone: no sector of the journal's own is looked at.
+-- What a crash leaves of a volume, by its base alone: no sector of the journal's own is looked at.
 use Rattle.std.proofs.Common.{ℕ, ◌≡◌, ◌≤◌, inl, inr, refl, rules, arith, sym, ◌∙◌}
 use Rattle.std.specs.Prelude.{IsTrue}
 use Rattle.disk.specs.Moments.{Image}

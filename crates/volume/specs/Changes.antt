@@ -43,7 +43,7 @@ IsSeats held seats after lasts = after ≡ record { tree = held.tree; seats = se
 abbrev pub Stays : VolumeState → Given
 Stays held after lasts = (after ≡ kept_of held) × (lasts ≡ false)
 
--- a stop after the call leaves these trees: of those before and the one after it, and of what has
+-- a crash after the call leaves these trees: of those before and the one after it, and of what has
 -- to last that one alone; and the seats after it
 pub record Leaves (new : VolumeState) (after : Kept) (lasts : Bool) (recent left : List Tree)
     : Type 0 where
@@ -52,7 +52,7 @@ pub record Leaves (new : VolumeState) (after : Kept) (lasts : Bool) (recent left
   pub no_others : (tree : Tree) → IsAmong left tree → IsAmong recent tree ⊎ (tree ≡ after.tree)
   pub durable : lasts ≡ true → (tree : Tree) → IsAmong left tree → tree ≡ after.tree
 
--- whichever trees a stop may leave before it
+-- whichever trees a crash may leave before it
 abbrev pub LeavesTrees : (old new : VolumeState) → (after : Kept) → (lasts : Bool) → Type 0
 LeavesTrees old new after lasts = (recent : List Tree) → IsRecent old recent
     → (left : List Tree) × Leaves new after lasts recent left
@@ -86,7 +86,7 @@ pub record Changes (keeps_word : Type 0) (given : Given) (old new : VolumeState)
   pub later : failed_before ≤ failed_after
   -- whatever failed in it is told
   pub none : (ending ≡ Broken → ⊥) → failed_after ≡ failed_before
-  -- at each moment of it a stop leaves a tree from before, or what is kept after it
+  -- at each moment of it a crash leaves a tree from before, or what is kept after it
   pub moments : keeps_word → (after : Kept) (lasts : Bool) → given after lasts
       → AddsTrees old after new.history
   pub ends : EndsAs keeps_word given old new failed_before failed_after ending

@@ -87,7 +87,7 @@ pub record IsChange (held : VolumeState) (edits : List Edit) : Type 0 where
   pub formed : IsTrue (fits held.limits (edited_by held edits))
       → IsFormed held.limits (stamp (held.run + 1) 0) (edited_by held edits)
 
--- the tree after the edits; a stop may lose it until the next flush
+-- the tree after the edits; a crash may lose it until the next flush
 abbrev pub IsEdited : VolumeState → List Edit → Given
 IsEdited held edits after lasts =
     (after ≡ with_tree held (edited_by held edits)) × (lasts ≡ false)

@@ -21,12 +21,12 @@ abbrev pub IsFresh : (sectors nodes : ℕ) → Image → Type 0
 IsFresh sectors nodes image = ∥ ((base : Image) × Settles sectors image base
     × Stands (current no_seats) sectors nodes base 0 fresh_tree) ∥₁
 
--- what a format adds to what a stop may leave: no volume, or the new one
+-- what a format adds to what a crash may leave: no volume, or the new one
 abbrev pub AddsFresh : (sectors nodes : ℕ) → (old new : History) → Type 0
 AddsFresh sectors nodes old new =
     AddsOnly (λ image. (image 0 ≡ zero_sector) ⊎ IsFresh sectors nodes image) old new
 
--- a stop leaves the new volume, and nothing else
+-- a crash leaves the new volume, and nothing else
 abbrev pub LeavesFresh : (sectors nodes : ℕ) → History → Type 0
 LeavesFresh sectors nodes history =
     (image : Image) → Left history.now image → IsFresh sectors nodes image

@@ -42,8 +42,8 @@ pub record FindsSeats (keeps_word : Type 0) (held : VolumeState) (seats : Seats)
   pub of_runs : AreOfRuns count seats
   pub are : keeps_word → seats ≡ held.seats
 
--- Nothing but what an open gate asks for: what it shows is copied home, so that each map left
--- settles as the device did. Where the gate has no form nothing is written.
+-- Nothing but what a commit record that is set asks for: what it names is copied home, so that each
+-- map left settles as the device did. Where the record has no form nothing is written.
 pub record OnlyReplays (sectors : ℕ) (old new : History) : Type 0 where
   pub moments : AddsOnly (SettlesAs sectors (seen old.now)) old new
   pub formless : ((settled : Image) → Settles sectors (seen old.now) settled → ⊥)

@@ -56,7 +56,7 @@ StandsForEither found kept image =
     StandsForIn (number_of found.version) found.sectors found.nodes found.run kept image
     ⊎ StandsForIn current_number found.sectors found.nodes (found.run + 1) kept image
 
--- what a run that begins adds to what a stop may leave: what stands, under either count
+-- what a run that begins adds to what a crash may leave: what stands, under either count
 abbrev pub AddsRaised : Superblock → (base : Image) → (old new : History) → Type 0
 AddsRaised found base old new =
     (kept : Kept) → StandsOn found base kept → AddsOnly (StandsForEither found kept) old new

@@ -29,10 +29,10 @@ pub data IsFront (device : History) : History → Type 0 where
       → IsFront device (record { now = now; past = before ∷ past })
       → IsFront device (record { now = before; past = past })
 
--- What may have become of a device since a moment of it, and from which of its moments on a stop of
--- it counts. It stays on, with what is not synced, and mounts are begun on it, of which each serves
--- or is refused; it is let go within that, as by a process that ends; or a stop leaves a map, and
--- power comes back to that.
+-- What may have become of a device since a moment of it, and from which of its moments on a crash
+-- of it counts. It stays on, with what is not synced, and mounts are begun on it, of which each
+-- serves or is refused; it is let go within that, as by a process that ends; or a crash leaves a
+-- map, and power comes back to that.
 pub data Remounts (sectors : ℕ) (first : History) (since : ℕ) : History → ℕ → Type 0 where
   Stays : Remounts sectors first since first since
   Mounts : {old new : History} {from : ℕ} → Remounts sectors first since old from
@@ -47,7 +47,7 @@ abbrev pub StandsForGood : (sectors nodes run : ℕ) → (good : Kept → Type 0
 StandsForGood sectors nodes run good image =
     ∥ ((kept : Kept) × good kept × (more : ℕ) × StandsFor sectors nodes (run + more) kept image) ∥₁
 
--- and so does each that a stop of a device leaves from a moment on
+-- and so does each that a crash of a device leaves from a moment on
 pub record LeavesGood (sectors nodes run : ℕ) (good : Kept → Type 0) (device : History)
     (from : ℕ) : Type 0 where
   pub within : from ≤ moment device

@@ -1,4 +1,4 @@
--- For what a map stands that a stop leaves: what the journal makes of it is the volume.
+-- For what a map stands that a crash leaves: what the journal makes of it is the volume.
 use Rattle.std.specs.Prelude.{ℕ, ◌≡◌}
 use Rattle.disk.specs.Moments.{Image}
 use Rattle.journal.specs.Settled.{Settles}
@@ -14,7 +14,7 @@ pub record IsBase (sectors nodes run : ℕ) (kept : Kept) (image : Image) : Type
   pub settles : Settles sectors image base
   pub stands : Stands sectors nodes base run kept
 
--- A map that a stop left stands for this tree and these seats.
+-- A map that a crash left stands for this tree and these seats.
 abbrev pub StandsFor : (sectors nodes run : ℕ) → Kept → Image → Type 0
 StandsFor sectors nodes run kept image = ∥ IsBase sectors nodes run kept image ∥₁
 

@@ -59,12 +59,12 @@ StandsForOne held may image = (kept : Kept) × may kept
 abbrev pub IsLeft : VolumeState → List Tree → Kept → Type 0
 IsLeft held recent kept = IsAmong recent kept.tree × (kept.seats ≡ held.seats)
 
--- each map that a stop leaves now stands for one of these trees
+-- each map that a crash leaves now stands for one of these trees
 abbrev pub LeavesOne : VolumeState → List Tree → Type 0
 LeavesOne held recent =
     (image : Image) → Left held.history.now image → StandsForOne held (IsLeft held recent) image
 
--- The trees that a stop may leave, now and within a flush: those of its fronts. The one in memory
+-- The trees that a crash may leave, now and within a flush: those of its fronts. The one in memory
 -- is among them.
 pub record IsRecent (held : VolumeState) (recent : List Tree) : Type 0 where
   pub leaves : LeavesOne held recent
@@ -73,7 +73,7 @@ pub record IsRecent (held : VolumeState) (recent : List Tree) : Type 0 where
       × ∥ Stands held.sectors held.limits.nodes front held.run (with_tree held tree) ∥₁
   pub newest : IsAmong recent held.tree
 
--- whichever trees a stop might leave before, it may leave now, and no others
+-- whichever trees a crash might leave before, it may leave now, and no others
 abbrev pub KeepsRecent : (old new : VolumeState) → Type 0
 KeepsRecent old new = (recent : List Tree) → IsRecent old recent → IsRecent new recent
 
@@ -83,7 +83,7 @@ LeavesCurrent held = (image : Image) → Left held.history.now image
     → ∥ ((base : Image) × Settles held.sectors image base
     × StandsNow held.sectors held.limits.nodes base held.run (kept_of held)) ∥₁
 
--- a stop leaves the tree in memory
+-- a crash leaves the tree in memory
 abbrev pub Holds : VolumeState → Type 0
 Holds held = IsRecent held (held.tree ∷ [])
 
