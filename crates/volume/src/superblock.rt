@@ -6,8 +6,20 @@ ghost use Rattle.layout.specs.Stands.{number_of};
 ghost use Rattle.volume.specs.Superblock.{is_volume, verdict, version_in, superblock, word};
 
 use disk::SECTOR;
+use freemap::Bitmap;
+pub use journal::MIN_SECTORS;
 use layout::versions::VersionNumber;
+use node_table::Table;
 use sector::{put_bytes, put_u32, put_zeros, u32_at};
+
+/// The most sectors of a volume.
+pub const MAX_SECTORS: u32 = Bitmap::MAX_PLACES;
+
+/// The fewest nodes of a volume.
+pub const MIN_NODES: u32 = 2;
+
+/// The most nodes of a volume.
+pub const MAX_NODES: u32 = Table::MAX_NODES;
 
 /// What the first sector begins with.
 const MAGIC: [u8; 8] = *b"NFS41VOL";
@@ -29,7 +41,11 @@ pub enum Verdict {
 pub fn is_volume_size(sectors: u32, nodes: u32) -> bool
     ensures { result ≡ is_size sectors nodes }
 {
-    256 <= sectors && sectors <= 65536 && 2 <= nodes && nodes <= 16384 && 164 + nodes <= sectors
+    MIN_SECTORS <= sectors
+        && sectors <= MAX_SECTORS
+        && MIN_NODES <= nodes
+        && nodes <= MAX_NODES
+        && 164 + nodes <= sectors
 }
 
 /// Writes the fields of the first sector.
