@@ -110,16 +110,14 @@ pub(crate) fn removed_edits<'a>(
     Ok(vec![in alloc; name_gone, Edit::DropNode { number }, shows]?)
 }
 
-/// Bytes of a file from a place on, and what the file shows then.
+/// Bytes of a file from a place on, and what the file shows then. Takes no memory.
 pub(crate) fn written_edits<'a>(
-    alloc: Global,
     file: u64,
     offset: usize,
     bytes: &'a [u8],
     shown: Shown,
-) -> Result<Vec<Edit<'a>>, AllocError>
-    ensures { IfOk result (λ edits. edits.items
-        ≡ edit.PutBytes file offset bytes.entry ∷ edit.Show file shown ∷ []) }
+) -> [Edit<'a>; 2]
+    ensures { result ≡ edit.PutBytes file offset bytes.entry ∷ edit.Show file shown ∷ [] }
 {
     let put = Edit::PutBytes {
         file,
@@ -130,7 +128,7 @@ pub(crate) fn written_edits<'a>(
         number: file,
         shown,
     };
-    Ok(vec![in alloc; put, shows]?)
+    [put, shows]
 }
 
 /// The size of a file, where one is set, and what the node shows then.
@@ -214,16 +212,16 @@ impl<D: Device> Fs<D> {
     }
 
     /// Makes a change, and counts it. A crash may lose it until the next flush.
-    pub(crate) fn change_unstable(&mut self, edits: Vec<Edit<'_>>) -> Result<(), FsFault>
+    pub(crate) fn change_unstable(&mut self, edits: &[Edit<'_>]) -> Result<(), FsFault>
         // A change that may be made
         requires up { (fs_of self.old).volume.is_down ≡ false }
-        requires planned { IsPlanned (fs_of self.old) edits.items }
+        requires planned { IsPlanned (fs_of self.old) edits.now }
         // In any case
         ensures volume { Alters self.old self.new
-            (IsEdited (fs_of self.old).volume edits.entry.items) (fs_ending result) }
+            (IsEdited (fs_of self.old).volume edits.now) (fs_ending result) }
         // Done
         ensures shows { OnOk result (Shows D.keeps_word
-            (edited_by (fs_of self.old).volume edits.entry.items) (fs_of self.new).volume.tree) }
+            (edited_by (fs_of self.old).volume edits.now) (fs_of self.new).volume.tree) }
         ensures counted { OnOk result ((fs_of self.new).changes ≡ (fs_of self.old).changes + 1) }
         // Refused
         ensures only { IfErr result (λ fault.
@@ -235,17 +233,17 @@ impl<D: Device> Fs<D> {
     }
 
     /// Keeps a change, and counts it.
-    pub(crate) fn change_stable(&mut self, edits: Vec<Edit<'_>>) -> Result<(), FsFault>
+    pub(crate) fn change_stable(&mut self, edits: &[Edit<'_>]) -> Result<(), FsFault>
         // A change that may be made
         requires up { (fs_of self.old).volume.is_down ≡ false }
-        requires planned { IsPlanned (fs_of self.old) edits.items }
+        requires planned { IsPlanned (fs_of self.old) edits.now }
         // In any case
         ensures volume { Alters self.old self.new
             (IsTree (fs_of self.old).volume
-            (edited_by (fs_of self.old).volume edits.entry.items)) (fs_ending result) }
+            (edited_by (fs_of self.old).volume edits.now)) (fs_ending result) }
         // Done
         ensures shows { OnOk result (Shows D.keeps_word
-            (edited_by (fs_of self.old).volume edits.entry.items) (fs_of self.new).volume.tree) }
+            (edited_by (fs_of self.old).volume edits.now) (fs_of self.new).volume.tree) }
         ensures counted { OnOk result ((fs_of self.new).changes ≡ (fs_of self.old).changes + 1) }
         // Refused
         ensures only { IfErr result (λ fault.

@@ -97,7 +97,7 @@ impl<D: Device> Fs<D> {
         if !has_room {
             return Err(FsFault::NoRoom);
         }
-        self.change_stable(planned.edits)?;
+        self.change_stable(&planned.edits)?;
         Ok(planned.created)
     }
 

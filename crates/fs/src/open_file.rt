@@ -104,7 +104,7 @@ impl<D: Device> Fs<D> {
         let Some(edits) = edits else {
             return Ok(opened);
         };
-        self.change_stable(edits)?;
+        self.change_stable(&edits)?;
         Ok(opened)
     }
 

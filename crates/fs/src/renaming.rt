@@ -200,7 +200,7 @@ impl<D: Device> Fs<D> {
         let Some(edits) = edits else {
             return Ok(renamed);
         };
-        self.change_stable(edits)?;
+        self.change_stable(&edits)?;
         Ok(renamed)
     }
 

@@ -132,7 +132,7 @@ impl<D: Device> Fs<D> {
         let Some(edits) = planned else {
             return Ok(());
         };
-        self.change_stable(edits)
+        self.change_stable(&edits)
     }
 
     /// The change that sets attributes, where nothing refuses it but that its reply has no room:

@@ -90,7 +90,7 @@ impl<D: Device> Fs<D> {
         if !has_room {
             return Err(FsFault::NoRoom);
         }
-        self.apply_plan(edits, asked.is_stable)?;
+        self.apply_plan(&edits, asked.is_stable)?;
         Ok(self.taken(asked.bytes).len() as u32)
     }
 
@@ -102,15 +102,15 @@ impl<D: Device> Fs<D> {
         number: u64,
         verdict: Result<(), Status>,
         asked: Writing<'a>,
-    ) -> Result<Vec<Edit<'a>>, NotDone>
+    ) -> Result<[Edit<'a>; 2], NotDone>
         requires up { (fs_of self.now).volume.is_down ≡ false }
         requires some { 0 < length asked.bytes.now }
-        ensures planned { IfOk result (λ edits. IsPlanned (fs_of self.now) edits.items) }
+        ensures planned { IfOk result (λ edits. IsPlanned (fs_of self.now) edits) }
         ensures step { (state : State) (arguments : WriteArguments)
             → IsOn (fs_of self.now) cred.now number state
             → IsWriting state verdict asked.entry arguments
             → IfOk result (λ edits. WritesBy (fs_of self.now) state now arguments
-            (length (bytes_taken (fs_of self.now) asked.entry)) edits.items) }
+            (length (bytes_taken (fs_of self.now) asked.entry)) edits) }
         // Refused
         ensures refused { (state : State) (arguments : WriteArguments)
             → IsOn (fs_of self.now) cred.now number state
@@ -133,7 +133,7 @@ impl<D: Device> Fs<D> {
             }]));
         };
         let shown = metadata_with_change(card, stamp, now)?;
-        let edits = written_edits(self.alloc, number, offset, part, shown)?;
+        let edits = written_edits(number, offset, part, shown);
         if !self.volume.fits(&edits) {
             return Err(NotDone::Status(Status::NoSpc));
         }
@@ -169,16 +169,16 @@ impl<D: Device> Fs<D> {
     }
 
     /// Makes a change, and counts it; one that is to be stable is kept.
-    fn apply_plan(&mut self, edits: Vec<Edit<'_>>, is_stable: bool) -> Result<(), FsFault>
+    fn apply_plan(&mut self, edits: &[Edit<'_>], is_stable: bool) -> Result<(), FsFault>
         // A change that may be made
         requires up { (fs_of self.old).volume.is_down ≡ false }
-        requires planned { IsPlanned (fs_of self.old) edits.items }
+        requires planned { IsPlanned (fs_of self.old) edits.now }
         // In any case
         ensures volume { Alters self.old self.new
-            (IsPut (fs_of self.old).volume edits.entry.items is_stable) (fs_ending result) }
+            (IsPut (fs_of self.old).volume edits.now is_stable) (fs_ending result) }
         // Done
         ensures shows { OnOk result (Shows D.keeps_word
-            (edited_by (fs_of self.old).volume edits.entry.items) (fs_of self.new).volume.tree) }
+            (edited_by (fs_of self.old).volume edits.now) (fs_of self.new).volume.tree) }
         ensures counted { OnOk result ((fs_of self.new).changes ≡ (fs_of self.old).changes + 1) }
         // Refused
         ensures only { IfErr result (λ fault.

@@ -1,6 +1,7 @@
 -- Edits one after the other.
-use Rattle.std.proofs.Common.{◌≡◌, ◌≤◌, ◌<◌, ℕ, zero, suc, List, [], ◌∷◌, Some, length, get_or, take, refl, sym, ap, ◌∙◌, arith, inl, inr, ⊎_elim}
+use Rattle.std.proofs.Common.{◌≡◌, ◌≤◌, ◌<◌, ◌+◌, ℕ, zero, suc, List, [], ◌∷◌, Some, length, drop, get_or, take, refl, sym, ap, ◌∙◌, arith, inl, inr, ⊎_elim}
 use Rattle.std.specs.List.{IsAmong}
+use Rattle.std.proofs.lemmas.List.{drop_more}
 use Rattle.disk.specs.Moments.{Image}
 use Rattle.node_table.specs.Tables.{number_at}
 use Rattle.tree_transaction.specs.declared.transaction.Transaction.{Transaction}
@@ -61,6 +62,11 @@ same_length tree other edits alike =
     ∙ ap (λ (t : Tree). length (without_data (edited edits t))) alike
     ∙ ap (λ (t : Tree). length t) (edits_blanked edits tree)
     ∙ length-without_data (edited edits tree)
+
+-- What is left of edits
+
+pub next_edit : (edits : List Edit) (i : ℕ) (edit : Edit) → i < length edits → edit ≡ get_or edits i edit → drop i edits ≡ edit ∷ drop (i + 1) edits
+next_edit edits i edit within is = drop_more edits i edit within ∙ ap (λ (one : Edit). one ∷ drop (i + 1) edits) (sym is)
 
 -- Edits that were done, and none
 

@@ -1,7 +1,7 @@
 //! Edits that are done on a transaction.
 
 ghost use Rattle.std.specs.Prelude.{◌≡◌, ◌≤◌, ◌<◌, ◌+◌, [], ◌∷◌, Some, None, All, length, slice_index_or};
-ghost use Rattle.std.specs.Prelude.{IsTrue, OnOk, IsErrOf};
+ghost use Rattle.std.specs.Prelude.{IsTrue, IfOk, OnOk, IsErrOf};
 ghost use Rattle.node_table.specs.Tables.{number_at};
 ghost use Rattle.tree_transaction.specs.Transactions.{cards_of, end_of, IsKnown};
 ghost use Rattle.tree_transaction.specs.Nodes.{shown_of, new_card, HasNode};
@@ -49,12 +49,13 @@ fn drop_node(transaction: &mut Transaction<'_>, number: u64) -> Result<(), Alloc
     transaction.free(place)
 }
 
-fn show(transaction: &mut Transaction<'_>, number: u64, shown: Shown) -> Result<(), AllocError>
+fn show(transaction: &mut Transaction<'_>, number: u64, shown: &Shown) -> Result<(), AllocError>
     requires known { IsKnown transaction.old }
     requires forms { HaveCurrentForms (cards_of transaction.old) }
-    requires can { IsShown (tree_without_data (cards_of transaction.old)) number (shown_of shown) }
+    requires can { IsShown (tree_without_data (cards_of transaction.old)) number
+        (shown_of shown.now) }
     ensures done { OnOk result
-        (DoesAnywhere transaction.old transaction.new (edit.Show number shown)) }
+        (DoesAnywhere transaction.old transaction.new (edit.Show number shown.now)) }
     ensures table { transaction.new.cards.table ≡ transaction.old.cards.table }
 {
     let place = place_of(transaction, number);
@@ -104,11 +105,17 @@ fn drop_name(
 }
 
 /// The cached node of a node without bytes or names.
-fn fresh_card(alloc: Global, number: u64, kind: NodeKind, shown: Shown) -> CachedNode
-    ensures card { result ≡ new_card Two result.fields }
-    ensures fields { result.fields ≡ fresh_fields kind number (shown_of shown) }
+fn fresh_card(
+    alloc: Global,
+    number: u64,
+    kind: NodeKind,
+    shown: &Shown,
+) -> Result<CachedNode, AllocError>
+    ensures card { IfOk result (λ card. card ≡ new_card Two card.fields) }
+    ensures fields { IfOk result (λ card.
+        card.fields ≡ fresh_fields kind number (shown_of shown.now)) }
 {
-    CachedNode {
+    Ok(CachedNode {
         form: Form::Two,
         inode: Inode {
             kind,
@@ -120,33 +127,34 @@ fn fresh_card(alloc: Global, number: u64, kind: NodeKind, shown: Shown) -> Cache
             size: 0,
             runs: 0,
             run_sectors: Vec::new(alloc),
-            acl: shown.acl,
+            acl: shown.acl.try_clone()?,
         },
         runs: Runs::new(),
         blocks: BlockList::new(alloc),
         names: Names::new(alloc),
-    }
+    })
 }
 
 fn put_node(
     transaction: &mut Transaction<'_>,
     number: u64,
     kind: NodeKind,
-    shown: Shown,
+    shown: &Shown,
 ) -> Result<(), SpaceFault>
     requires known { IsKnown transaction.old }
     requires can { IsNewNode (tree_without_data (cards_of transaction.old)) number
-        (fresh_node kind (shown_of shown)) }
+        (fresh_node kind (shown_of shown.now)) }
     ensures done { OnOk result (DoesAnywhere transaction.old transaction.new
-        (edit.PutNode number kind shown)) }
+        (edit.PutNode number kind shown.now)) }
     ensures full { IsErrOf result SpaceFault.Full
-        → Overfills transaction.old (edit.PutNode number kind shown ∷ []) }
+        → Overfills transaction.old (edit.PutNode number kind shown.now ∷ []) }
     ensures table { transaction.new.cards.table ≡ transaction.old.cards.table }
 {
     let Some(place) = transaction.cards.free_place() else {
         return Err(SpaceFault::Full);
     };
-    transaction.make(place, fresh_card(transaction.alloc, number, kind, shown))?;
+    let card = fresh_card(transaction.alloc, number, kind, shown)?;
+    transaction.make(place, card)?;
     Ok(())
 }
 
@@ -218,51 +226,51 @@ fn set_size<S: Sectors>(
 fn edit_one<S: Sectors>(
     transaction: &mut Transaction<'_>,
     base: &mut S,
-    edit: Edit<'_>,
+    edit: &Edit<'_>,
 ) -> Result<(), TransactionFault>
     // An edit that can be done
     requires known { IsKnown transaction.old × (end_of transaction.old ≤ S.size (S.kept base.old)) }
     requires forms { HaveCurrentForms (cards_of transaction.old) }
-    requires can { CanDo (tree_without_data (cards_of transaction.old)) edit }
+    requires can { CanDo (tree_without_data (cards_of transaction.old)) edit.now }
     requires few { IsTrue (few_names Names.MAX_NAMES
-        (done (edit_of edit) (tree_without_data (cards_of transaction.old)))) }
+        (done (edit_of edit.now) (tree_without_data (cards_of transaction.old)))) }
     // Done, or full
     ensures done { OnOk result (Does S.keeps_word (S.image (S.kept base.old))
-        (S.size (S.kept base.old)) transaction.old transaction.new (edit.entry ∷ [])) }
+        (S.size (S.kept base.old)) transaction.old transaction.new (edit.now ∷ [])) }
     ensures full { IsErrOf result TransactionFault.Full
-        → Overfills transaction.old (edit.entry ∷ []) }
+        → Overfills transaction.old (edit.now ∷ []) }
     // In any case
     ensures kept { (S.kept base.new ≡ S.kept base.old)
         × (transaction.new.cards.table ≡ transaction.old.cards.table) }
     ensures health { Reads (S.health base.old) (S.health base.new)
         (IsErrOf result TransactionFault.Device) }
-    ensures parts { OnOk result (PutsBytes edit.entry) }
+    ensures parts { OnOk result (PutsBytes edit.now) }
 {
     match edit {
         Edit::PutNode {
             number,
             kind,
             shown,
-        } => put_node(transaction, number, kind, shown)?,
-        Edit::DropNode { number } => drop_node(transaction, number)?,
-        Edit::Show { number, shown } => show(transaction, number, shown)?,
+        } => put_node(transaction, *number, *kind, shown)?,
+        Edit::DropNode { number } => drop_node(transaction, *number)?,
+        Edit::Show { number, shown } => show(transaction, *number, shown)?,
         Edit::PutName {
             directory,
             stamp,
             name,
             number,
-        } => put_name(transaction, directory, stamp, name, number)?,
+        } => put_name(transaction, *directory, *stamp, name, *number)?,
         Edit::DropName {
             directory,
             stamp,
             name,
-        } => drop_name(transaction, directory, stamp, name)?,
+        } => drop_name(transaction, *directory, *stamp, name)?,
         Edit::PutBytes {
             file,
             offset,
             bytes,
-        } => put_bytes(transaction, base, file, offset, bytes)?,
-        Edit::SetSize { file, size } => set_size(transaction, base, file, size)?,
+        } => put_bytes(transaction, base, *file, *offset, bytes)?,
+        Edit::SetSize { file, size } => set_size(transaction, base, *file, *size)?,
     }
     Ok(())
 }
@@ -278,24 +286,24 @@ fn edit_one<S: Sectors>(
 pub(crate) fn edit_all<S: Sectors>(
     transaction: &mut Transaction<'_>,
     base: &mut S,
-    edits: Vec<Edit<'_>>,
+    edits: &[Edit<'_>],
 ) -> Result<(), TransactionFault>
     // An edit that can be done
     requires known { IsKnown transaction.old × (end_of transaction.old ≤ S.size (S.kept base.old)) }
     requires forms { HaveCurrentForms (cards_of transaction.old) }
-    requires can { AreDoable (tree_without_data (cards_of transaction.old)) edits.items }
-    requires few { StayFew (tree_without_data (cards_of transaction.old)) edits.items }
+    requires can { AreDoable (tree_without_data (cards_of transaction.old)) edits.now }
+    requires few { StayFew (tree_without_data (cards_of transaction.old)) edits.now }
     // Done, or full
     ensures done { OnOk result (Does S.keeps_word (S.image (S.kept base.old))
-        (S.size (S.kept base.old)) transaction.old transaction.new edits.entry.items) }
+        (S.size (S.kept base.old)) transaction.old transaction.new edits.now) }
     ensures full { IsErrOf result TransactionFault.Full
-        → Overfills transaction.old edits.entry.items }
+        → Overfills transaction.old edits.now }
     // In any case
     ensures kept { (S.kept base.new ≡ S.kept base.old)
         × (transaction.new.cards.table ≡ transaction.old.cards.table) }
     ensures health { Reads (S.health base.old) (S.health base.new)
         (IsErrOf result TransactionFault.Device) }
-    ensures parts { OnOk result (PartsAreBytes edits.entry.items) }
+    ensures parts { OnOk result (PartsAreBytes edits.now) }
 {
     for edit in edits {
         edit_one(transaction, base, edit)?;

@@ -27,15 +27,15 @@ pub fn outcome_of<S: Sectors>(
     base: &mut S,
     table: &Table,
     places: &Places,
-    edits: Vec<Edit<'_>>,
+    edits: &[Edit<'_>],
 ) -> Result<PreparedTransaction, TransactionFault>
     requires whole { IsWholeVolume (S.size (S.kept base.old)) table.now places.now }
-    requires can { AreDoable (tree_without_data table.now) edits.items }
-    requires few { StayFew (tree_without_data table.now) edits.items }
+    requires can { AreDoable (tree_without_data table.now) edits.now }
+    requires few { StayFew (tree_without_data table.now) edits.now }
     requires room { FrontsHaveRoom (length places.now) (length table.now)
-        (tree_without_data table.now) edits.items }
+        (tree_without_data table.now) edits.now }
     ensures done { IfOk result (λ outcome. ComesTo S.keeps_word (S.image (S.kept base.old))
-        (S.size (S.kept base.old)) table.now places.now edits.entry.items outcome) }
+        (S.size (S.kept base.old)) table.now places.now edits.now outcome) }
     // Refused
     ensures full { IsErrOf result TransactionFault.Full → ⊥ }
     ensures health { Reads (S.health base.old) (S.health base.new)

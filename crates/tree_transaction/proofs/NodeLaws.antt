@@ -26,9 +26,9 @@ use Rattle.tree_transaction.specs.declared.transaction.Transaction.{Transaction}
 use Rattle.tree_transaction.specs.Transactions.{cards_of, image_of, tree_of, IsKnown, StaysKnown}
 use Rattle.tree_transaction.specs.Transactions.{MakesOver, HasNow}
 use Rattle.tree_transaction.specs.Nodes.{new_card, IsNewCard, no_content, new_node, fields_showing}
-use Rattle.tree_transaction.specs.Nodes.{showing}
+use Rattle.tree_transaction.specs.Nodes.{showing, CanShow}
 use Rattle.tree_transaction.proofs.BlockLaws.{here, elsewhere}
-use Rattle.tree_transaction.proofs.KnownLaws.{in_table, card_at, named_once, held_at, changed_known, stays_put, made}
+use Rattle.tree_transaction.proofs.KnownLaws.{same_card, in_table, card_at, named_once, held_at, changed_known, stays_put, made}
 
 -- ---- a node is made
 
@@ -220,26 +220,33 @@ module _ (old new : Transaction) (place : ℕ) (was is : CachedNode) (known : Is
 
 -- ---- a node shows something else
 
+-- what is asked is of the cached node at the place
+pub fits_at : (cards : List (Option CachedNode)) (place : ℕ) (shown : Shown) (was : CachedNode) → CanShow cards place shown → get_or cards place None ≡ Some was → IsInode was.form (fields_showing was.fields shown)
+fits_at cards place shown was can there = subst (λ (one : CachedNode). IsInode one.form (fields_showing one.fields shown)) (same_card cards place can.card was can.there there) can.fits
+
+content_shown : (shown : Shown) (card : CachedNode) (k : NodeKind) → HasContent k card → HasContent k (showing shown card)
+content_shown it card kind.File none = none
+content_shown it card kind.Directory names = record { count = names.count; names = names.names; stamped = names.stamped }
+
+pub shown_card : (shown : Shown) (card : CachedNode) → IsCard card → IsInode card.form (fields_showing card.fields shown) → IsCard (showing shown card)
+shown_card it card is fits = record {
+  fits = fits;
+  number = is.number;
+  each_run = is.each_run;
+  run_count = is.run_count;
+  runs = is.runs;
+  blocks = is.blocks;
+  content = content_shown it card card.fields.kind is.content;
+}
+
 module _ (old new : Transaction) (place : ℕ) (was : CachedNode) (shown : Shown) (known : IsKnown old) (there : get_or (cards_of old) place None ≡ Some was) (fits : IsInode was.form (fields_showing was.fields shown)) (same : new.nodes ≡ old.nodes) (places : new.places ≡ old.places)
     (cards : cards_of new ≡ set (cards_of old) place (Some (showing shown was)))
     (put : (image : Image) → IsPut (applied old.updates image) (applied new.updates image) (148 + place) (inode_sector was.form (fields_showing was.fields shown))) where
   was_known : IsCard was
   was_known = card_at old.nodes (mark_by (148 + old.nodes) old.places) (cards_of old) place was known.cards there
 
-  content_shown : (k : NodeKind) → HasContent k was → HasContent k (showing shown was)
-  content_shown kind.File none = none
-  content_shown kind.Directory names = record { count = names.count; names = names.names; stamped = names.stamped }
-
   shown_known : IsCard (showing shown was)
-  shown_known = record {
-    fits = fits;
-    number = was_known.number;
-    each_run = was_known.each_run;
-    run_count = was_known.run_count;
-    runs = was_known.runs;
-    blocks = was_known.blocks;
-    content = content_shown was.fields.kind was_known.content;
-  }
+  shown_known = shown_card shown was was_known fits
 
   pub show_stays : StaysKnown old new
   show_stays = alone_stays old new place was (showing shown was) known there refl refl refl (λ n. refl) shown_known same places cards put

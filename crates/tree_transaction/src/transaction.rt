@@ -77,6 +77,18 @@ fn put_card(cards: &mut Overlay<'_>, place: u32, card: CachedNode) -> Result<(),
     cards.put(place, Some(card))
 }
 
+/// Lets a cached node show something else beside its content.
+fn show_in(card: &mut CachedNode, shown: &Shown) -> Result<(), AllocError>
+    ensures { OnOk result (card.new ≡ showing (shown_of shown.now) card.old) }
+{
+    card.inode.acl = shown.acl.try_clone()?;
+    card.inode.owner = shown.owner;
+    card.inode.group = shown.group;
+    card.inode.change = shown.change;
+    card.inode.time_modify = shown.time_modify;
+    Ok(())
+}
+
 /// Lets a file reach to an end at least, by holes.
 fn grow_to(card: &mut CachedNode, end: u64) -> Result<(), AllocError>
     requires end { end ≤ SECTOR * BlockList.MAX_BLOCKS }
@@ -156,23 +168,20 @@ impl<'a> Transaction<'a> {
     /// # Errors
     ///
     /// Memory alone.
-    pub fn show(&mut self, place: u32, shown: Shown) -> Result<(), AllocError>
+    pub fn show(&mut self, place: u32, shown: &Shown) -> Result<(), AllocError>
         requires known { IsKnown self.old }
-        requires node { CanShow (cards_of self.old) place (shown_of shown) }
+        requires node { CanShow (cards_of self.old) place (shown_of shown.now) }
         ensures known { OnOk result (StaysKnown self.old self.new) }
-        ensures cards { OnOk result (Turns self.old self.new place (showing (shown_of shown))) }
+        ensures cards { OnOk result
+            (Turns self.old self.new place (showing (shown_of shown.now))) }
         ensures shown { OnOk result (Edits self.old self.new place
-            (λ number. Show number (shown_of shown))) }
+            (λ number. Show number (shown_of shown.now))) }
         // In any case
         ensures count { length self.new.updates ≤ length self.old.updates + 1 }
         ensures table { self.new.cards.table ≡ self.old.cards.table }
     {
         let mut card = take_card(&mut self.cards, place)?;
-        card.inode.owner = shown.owner;
-        card.inode.group = shown.group;
-        card.inode.acl = shown.acl;
-        card.inode.change = shown.change;
-        card.inode.time_modify = shown.time_modify;
+        show_in(&mut card, shown)?;
         put_node(&mut self.updates, place, &card)?;
         put_card(&mut self.cards, place, card)?;
         Ok(())

@@ -68,27 +68,27 @@ impl<D: Device> Volume<D> {
     /// [`VolumeFault::Down`], then [`VolumeFault::NoSpace`] exactly where the tree after all of
     /// the edits would not fit; [`VolumeFault::Memory`]; [`VolumeFault::Device`] where the device
     /// failed. None of them changes what is shown of the tree.
-    pub fn change(&mut self, edits: Vec<Edit<'_>>) -> Result<(), VolumeFault>
-        requires { IsChange (volume_state self.old) edits.items }
+    pub fn change(&mut self, edits: &[Edit<'_>]) -> Result<(), VolumeFault>
+        requires { IsChange (volume_state self.old) edits.now }
         ensures volume { Alters self.old self.new
-            (IsEdited (volume_state self.old) edits.entry.items) (ending_of result) }
+            (IsEdited (volume_state self.old) edits.now) (ending_of result) }
         ensures shows { OnOk result (Shows D.keeps_word
-            (edited_by (volume_state self.old) edits.entry.items) (volume_state self.new).tree) }
+            (edited_by (volume_state self.old) edits.now) (volume_state self.new).tree) }
         // Refused
         ensures stays { OnErr result
             (ShowsAs (volume_state self.old).tree (volume_state self.new).tree) }
         ensures down { IsErrOf result VolumeFault.Down ↔ ((volume_state self.old).is_down ≡ true) }
         ensures no_space { (volume_state self.old).is_down ≡ false
             → IsErrOf result VolumeFault.NoSpace ↔ (fits (volume_state self.old).limits
-            (edited_by (volume_state self.old) edits.entry.items) ≡ false) }
+            (edited_by (volume_state self.old) edits.now) ≡ false) }
     {
         if self.store.journal.is_down() {
             return Err(VolumeFault::Down);
         }
-        if !self.fits(&edits) {
+        if !self.fits(edits) {
             return Err(VolumeFault::NoSpace);
         }
-        let put = put_by(&edits);
+        let put = put_by(edits);
         let outcome = outcome_of(
             self.alloc,
             &mut self.store,
@@ -114,18 +114,18 @@ impl<D: Device> Volume<D> {
     /// # Errors
     ///
     /// Those of [`Volume::change`].
-    pub fn keep(&mut self, edits: Vec<Edit<'_>>) -> Result<(), VolumeFault>
-        requires { IsChange (volume_state self.old) edits.items }
+    pub fn keep(&mut self, edits: &[Edit<'_>]) -> Result<(), VolumeFault>
+        requires { IsChange (volume_state self.old) edits.now }
         ensures volume { Alters self.old self.new
-            (IsTree (volume_state self.old) (edited_by (volume_state self.old) edits.entry.items))
+            (IsTree (volume_state self.old) (edited_by (volume_state self.old) edits.now))
             (ending_of result) }
         ensures shows { OnOk result (Shows D.keeps_word
-            (edited_by (volume_state self.old) edits.entry.items) (volume_state self.new).tree) }
+            (edited_by (volume_state self.old) edits.now) (volume_state self.new).tree) }
         // Refused
         ensures down { IsErrOf result VolumeFault.Down ↔ ((volume_state self.old).is_down ≡ true) }
         ensures no_space { (volume_state self.old).is_down ≡ false
             → IsErrOf result VolumeFault.NoSpace ↔ (fits (volume_state self.old).limits
-            (edited_by (volume_state self.old) edits.entry.items) ≡ false) }
+            (edited_by (volume_state self.old) edits.now) ≡ false) }
     {
         self.change(edits)?;
         self.flush()

@@ -1,6 +1,6 @@
-use Rattle.std.proofs.Common.{List, [], ◌∷◌, sym, ap, ◌∙◌, subst, arith}
+use Rattle.std.proofs.Common.{◌≡◌, ◌+◌, List, [], ◌∷◌, drop, sym, ap, ◌∙◌, subst, arith}
 use Rattle.std.specs.Prelude.{Err}
-use Rattle.std.proofs.lemmas.List.{nil_from_length}
+use Rattle.std.proofs.Math.ListN.{drop_of_length-le}
 use Rattle.tree_transaction.specs.declared.transaction.Transaction.{Transaction}
 use Rattle.tree_transaction.specs.Transactions.{cards_of}
 use Rattle.tree_transaction.proofs.FaultLaws.{told}
@@ -11,7 +11,7 @@ use Rattle.tree_edits.specs.Doing.{Does, Overfills}
 use Rattle.tree_edits.specs.Edits.{AreDoable, StayFew}
 use Rattle.tree_edits.specs.Outlines.{tree_without_data}
 use Rattle.tree_edits.specs.Parts.{PartsAreBytes}
-use Rattle.tree_edits.proofs.ListLaws.{does_nothing, goes_on, still_doable, still_few, overfills_later, overfills_first}
+use Rattle.tree_edits.proofs.ListLaws.{next_edit, does_nothing, goes_on, still_doable, still_few, overfills_later, overfills_first}
 use Rattle.tree_edits.proofs.doing.edit_all.Goals as goal
 
 pub loop-edit-preserved : goal.loop-edit-preserved
@@ -20,9 +20,9 @@ loop-edit-preserved g c =
     let old : Transaction = c.loop-edit.transaction in
     let mid : Transaction = c.edit_one.new.transaction in
     let kept = S.kept c.args.base.now in
-    let edit : Edit = c.in-Some.edit in
-    let rest : List Edit = c.next.new.self.rest.items in
-    let next = c.in-Some.ensures.steps.0 in
+    let edit : Edit = c.edit-item.result in
+    let rest : List Edit = drop (c.loop-edit.edit-index + 1) c.args.edits.now in
+    let next : drop c.loop-edit.edit-index c.args.edits.now ≡ edit ∷ rest = next_edit c.args.edits.now c.loop-edit.edit-index edit c.loop-edit-test.true c.edit-item.is in
     let so_far = c.loop-edit.invariant in
     let first : Does S.keeps_word (S.image kept) (S.size kept) old mid (edit ∷ []) =
     subst (λ k. Does S.keeps_word (S.image k) (S.size k) old mid (edit ∷ [])) so_far.kept c.in_ok-edit_one.ensures.done in
@@ -43,10 +43,10 @@ loop-edit-preserved g c =
 
 pub returns-in_err-edit_one-clause-full : goal.returns-in_err-edit_one-clause-full
 returns-in_err-edit_one-clause-full g c = λ full.
-    let edit : Edit = c.in-Some.edit in
-    let rest : List Edit = c.next.new.self.rest.items in
+    let edit : Edit = c.edit-item.result in
+    let rest : List Edit = drop (c.loop-edit.edit-index + 1) c.args.edits.now in
     let so_far = c.loop-edit.invariant in
-    so_far.full (subst (Overfills c.loop-edit.transaction) (sym c.in-Some.ensures.steps.0)
+    so_far.full (subst (Overfills c.loop-edit.transaction) (sym (next_edit c.args.edits.now c.loop-edit.edit-index edit c.loop-edit-test.true c.edit-item.is))
     (overfills_first c.loop-edit.transaction edit rest (c.in_err-edit_one.ensures.full
     (ap (λ (f : TransactionFault). Err f) (told c.from_residual.result c.in_err-edit_one.field-0.0 fault.Full c.from_residual.ensures.1 full)))))
 
@@ -56,9 +56,9 @@ returns-clause-done g c =
     let kept = S.kept c.args.base.now in
     let so_far = c.loop-edit.invariant in
     so_far.does c.loop-edit.transaction (subst (λ (l : List Edit). Does S.keeps_word (S.image kept) (S.size kept) c.loop-edit.transaction c.loop-edit.transaction l)
-    (sym (nil_from_length c.loop-edit.edit-iterator.rest.items (sym c.loop-edit.edit-iterator.rest.ok.0 ∙ c.in-None.ensures.steps.0)))
+    (sym (drop_of_length-le c.args.edits.now (omega (arith, c.loop-edit-test.false))))
     (does_nothing S.keeps_word (S.image kept) (S.size kept) c.loop-edit.transaction so_far.known))
 
 pub returns-clause-parts : goal.returns-clause-parts
 returns-clause-parts g c = c.loop-edit.invariant.parts (subst PartsAreBytes
-    (sym (nil_from_length c.loop-edit.edit-iterator.rest.items (sym c.loop-edit.edit-iterator.rest.ok.0 ∙ c.in-None.ensures.steps.0))) tt)
+    (sym (drop_of_length-le c.args.edits.now (omega (arith, c.loop-edit-test.false)))) tt)

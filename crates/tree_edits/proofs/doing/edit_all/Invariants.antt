@@ -1,4 +1,4 @@
-use Rattle.std.proofs.Common.{◌≡◌, ◌≤◌}
+use Rattle.std.proofs.Common.{◌≡◌, ◌≤◌, drop}
 use Rattle.tree_transaction.specs.declared.transaction.Transaction.{Transaction}
 use Rattle.tree_transaction.specs.Transactions.{cards_of, end_of, IsKnown}
 use Rattle.layout.specs.Stands.{HaveCurrentForms}
@@ -13,14 +13,14 @@ invariant-loop-edit g l = record {
   known : IsKnown l.transaction;
   within : end_of l.transaction ≤ g.S.Sectors.size (g.S.Sectors.kept l.fn.base);
   forms : HaveCurrentForms (cards_of l.transaction);
-  can : AreDoable (tree_without_data (cards_of l.transaction)) l.edit-iterator.rest.items;
-  few : StayFew (tree_without_data (cards_of l.transaction)) l.edit-iterator.rest.items;
-  does : (new : Transaction) → Does g.S.Sectors.keeps_word (g.S.Sectors.image (g.S.Sectors.kept l.fn.base)) (g.S.Sectors.size (g.S.Sectors.kept l.fn.base)) l.transaction new l.edit-iterator.rest.items
-      → Does g.S.Sectors.keeps_word (g.S.Sectors.image (g.S.Sectors.kept l.fn.base)) (g.S.Sectors.size (g.S.Sectors.kept l.fn.base)) l.fn.transaction new l.fn.edits.items;
-  full : Overfills l.transaction l.edit-iterator.rest.items
-      → Overfills l.fn.transaction l.fn.edits.items;
+  can : AreDoable (tree_without_data (cards_of l.transaction)) (drop l.edit-index l.edits);
+  few : StayFew (tree_without_data (cards_of l.transaction)) (drop l.edit-index l.edits);
+  does : (new : Transaction) → Does g.S.Sectors.keeps_word (g.S.Sectors.image (g.S.Sectors.kept l.fn.base)) (g.S.Sectors.size (g.S.Sectors.kept l.fn.base)) l.transaction new (drop l.edit-index l.edits)
+      → Does g.S.Sectors.keeps_word (g.S.Sectors.image (g.S.Sectors.kept l.fn.base)) (g.S.Sectors.size (g.S.Sectors.kept l.fn.base)) l.fn.transaction new l.edits;
+  full : Overfills l.transaction (drop l.edit-index l.edits)
+      → Overfills l.fn.transaction l.edits;
   kept : g.S.Sectors.kept l.base ≡ g.S.Sectors.kept l.fn.base;
   table : l.transaction.cards.table ≡ l.fn.transaction.cards.table;
-  parts : PartsAreBytes l.edit-iterator.rest.items → PartsAreBytes l.fn.edits.items;
+  parts : PartsAreBytes (drop l.edit-index l.edits) → PartsAreBytes l.edits;
   healthy : g.S.Sectors.health l.base ≡ g.S.Sectors.health l.fn.base;
 }

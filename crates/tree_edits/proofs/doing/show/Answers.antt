@@ -15,7 +15,7 @@ show-requires-clause-node c =
     record {
       card = it.card;
       there = it.there;
-      fits = shown_fits it.card c.args.shown
+      fits = shown_fits it.card c.args.shown.now
           (card_at old.nodes (mark_by (148 + old.nodes) old.places) (cards_of old) c.place_of-place.result it.card c.requires.known.cards it.there) (c.requires.forms c.place_of-place.result it.card it.there) c.requires.can.entries;
     }
 
@@ -24,7 +24,7 @@ returns-clause-done c =
     let old = c.args.transaction.now in
     let new = c.show.new.self in
     let place = c.place_of-place.result in
-    let shown = shown_of c.args.shown in
+    let shown = shown_of c.args.shown.now in
     let it : IsThere (cards_of old) place c.args.number = there_at (cards_of old) place c.args.number c.place_of-place.ensures in
     all_ok c.show.result c.show.ensures.known c.show.ensures.cards c.show.ensures.shown
     (λ known turns shows base size. record {

@@ -14,12 +14,12 @@ never_lasts false is_stable is unstable = refl
 pub returns-then-is_stable-clause-volume : goal.returns-then-is_stable-clause-volume
 returns-then-is_stable-clause-volume g c =
     let held = (fs_of c.args.self.now).volume in
-    changes_by g.D.Device.keeps_word (IsTree held (edited_by held c.args.edits.items)) (IsPut held c.args.edits.items c.args.is_stable)
+    changes_by g.D.Device.keeps_word (IsTree held (edited_by held c.args.edits.now)) (IsPut held c.args.edits.now c.args.is_stable)
     (λ after lasts is. is.0) _ _ _ _ (fs_ending c.change_stable.result)
     c.change_stable.ensures.volume
 
 pub returns-else-is_stable-clause-volume : goal.returns-else-is_stable-clause-volume
 returns-else-is_stable-clause-volume g c =
     let held = (fs_of c.args.self.now).volume in
-    changes_by g.D.Device.keeps_word (IsEdited held c.args.edits.items) (IsPut held c.args.edits.items c.args.is_stable)
+    changes_by g.D.Device.keeps_word (IsEdited held c.args.edits.now) (IsPut held c.args.edits.now c.args.is_stable)
     (λ after lasts is. (is.0, never_lasts lasts c.args.is_stable is.1 c.if-is_stable.false)) _ _ _ _ (fs_ending c.change_unstable.result) c.change_unstable.ensures.volume

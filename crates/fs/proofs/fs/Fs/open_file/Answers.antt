@@ -63,11 +63,11 @@ returns-in_err-change_stable-clause-volume g c =
     let held = (fs_of c.args.self.now).volume in
     rw told (changes_by g.D.Device.keeps_word (IsTree held (edited_by held c.in-Some.edits.items)) _
     (λ after lasts made. made.kept ∙ ap (λ (s : Stepped). with_tree held s.state.tree) (rw c.in-Some.is at (c.in_ok-planned.ensures.step made.state made.arguments made.on made.opening)))
-    _ _ _ _ _ (rw c.in_err-change_stable.was at c.change_stable.ensures.volume))
+    _ _ _ _ _ (rw (c.in_err-change_stable.was, c.deref.ensures.value) at c.change_stable.ensures.volume))
 
 pub returns-clause-volume : goal.returns-clause-volume
 returns-clause-volume g c =
     let held = (fs_of c.args.self.now).volume in
     changes_by g.D.Device.keeps_word (IsTree held (edited_by held c.in-Some.edits.items)) _
     (λ after lasts made. made.kept ∙ ap (λ (s : Stepped). with_tree held s.state.tree) (rw c.in-Some.is at (c.in_ok-planned.ensures.step made.state made.arguments made.on made.opening)))
-    _ _ _ _ _ (rw c.in_ok-change_stable.was at c.change_stable.ensures.volume)
+    _ _ _ _ _ (rw (c.in_ok-change_stable.was, c.deref.ensures.value) at c.change_stable.ensures.volume)

@@ -1,16 +1,13 @@
 use Rattle.std.proofs.Common.{◌≡◌, ◌≤◌, ◌+◌, ◌^◌, ◌∙◌, length, sym, subst}
 use Rattle.std.proofs.lemmas.Bool.{lt-ltb}
 use Rattle.std.proofs.lemmas.Result.{err_from_is_err_and}
-use Rattle.tree_edits.specs.Edits.{AreDoable}
 use Rattle.model.specs.declared.not_done.NotDone.{NotDone}
-use Rattle.model.specs.Trees.Charge.{fits}
 use Rattle.model.specs.Operations.Operation.{Argument}
 use Rattle.fs.specs.Operations.{IsNotDone}
 use Rattle.fs.specs.Refusals.{fault_of}
 use Rattle.fs.specs.Views.{fs_of}
 use Rattle.fs.specs.Writing.{bytes_taken}
 use Rattle.fs.proofs.WrittenLaws.{early, too_big, doable, last_doable, last_refused, planned, plan_full, plan_goes_on}
-use Rattle.volume.specs.Edits.{edited_by}
 use Rattle.volume.specs.Views.{volume_state}
 use Rattle.model.specs.declared.not_done.NotDone.TheVariants as refusal
 use Rattle.volume.proofs.ServeLaws.{told_err}
@@ -24,15 +21,6 @@ returns-in_err-shown-clause-step g c = rw (told_err c.from_residual-in_err-shown
 
 pub returns-in_err-shown-clause-refused : goal.returns-in_err-shown-clause-refused
 returns-in_err-shown-clause-refused g c = rw (told_err c.from_residual-in_err-shown.result refusal.Memory c.from_residual-in_err-shown.ensures.1) (λ state arguments on is. tt)
-
-pub returns-in_err-edits-clause-planned : goal.returns-in_err-edits-clause-planned
-returns-in_err-edits-clause-planned g c = rw (told_err c.from_residual-in_err-edits.result refusal.Memory c.from_residual-in_err-edits.ensures.1) (tt)
-
-pub returns-in_err-edits-clause-step : goal.returns-in_err-edits-clause-step
-returns-in_err-edits-clause-step g c = rw (told_err c.from_residual-in_err-edits.result refusal.Memory c.from_residual-in_err-edits.ensures.1) (λ state arguments on is. tt)
-
-pub returns-in_err-edits-clause-refused : goal.returns-in_err-edits-clause-refused
-returns-in_err-edits-clause-refused g c = rw (told_err c.from_residual-in_err-edits.result refusal.Memory c.from_residual-in_err-edits.ensures.1) (λ state arguments on is. tt)
 
 pub returns-in_err-card-clause-planned : goal.returns-in_err-card-clause-planned
 returns-in_err-card-clause-planned g c = rw (told_err c.from_residual.result (refusal.Status c.in_err-card.field-0.0) c.from_residual.ensures.1) (tt)
@@ -75,45 +63,41 @@ unfolding fs_of volume_state
 fits-requires g c =
     let fs = fs_of c.args.self.now in
     let low : c.args.asked.offset + length (bytes_taken fs c.args.asked) ≤ fs.volume.limits.file_bytes = rw (← c.taken-part.ensures.taken) c.in-Some.ensures.some.1 in
-    subst (AreDoable fs.volume.tree) (sym c.deref.ensures.value)
-    (doable fs (c.args.self.now.ready c.requires.up) c.args.self.now.counted c.args.self.now.volume.limited c.args.cred.now c.args.now c.args.number c.args.verdict c.args.asked c.in_ok-card.card.now
+    doable fs (c.args.self.now.ready c.requires.up) c.args.self.now.counted c.args.self.now.volume.limited c.args.cred.now c.args.now c.args.number c.args.verdict c.args.asked c.in_ok-card.card.now
     c.in_ok-card.ensures.node c.in_ok-card.ensures.file c.in_ok-card.ensures.fit c.in_ok-card.ensures.tests c.requires.some low
-    c.in-Some-stamp_left.stamp c.in-Some.offset c.taken-part.result c.in_ok-shown.shown c.in_ok-edits.edits.items
-    c.in-Some-stamp_left.ensures.0 c.in-Some.ensures.some.0 c.taken-part.ensures.taken c.in_ok-shown.ensures c.in_ok-edits.ensures)
+    c.in-Some-stamp_left.stamp c.in-Some.offset c.taken-part.result c.in_ok-shown.shown c.written_edits-edits.result
+    c.in-Some-stamp_left.ensures.0 c.in-Some.ensures.some.0 c.taken-part.ensures.taken c.in_ok-shown.ensures c.written_edits-edits.ensures
 
 pub returns-then-not-fits-clause-refused : goal.returns-then-not-fits-clause-refused
 unfolding fs_of volume_state
 returns-then-not-fits-clause-refused g c state arguments on is =
     let fs = fs_of c.args.self.now in
     let low : c.args.asked.offset + length (bytes_taken fs c.args.asked) ≤ fs.volume.limits.file_bytes = rw (← c.taken-part.ensures.taken) c.in-Some.ensures.some.1 in
-    let told : c.fits.result ≡ fits fs.volume.limits (edited_by fs.volume c.in_ok-edits.edits.items) = rw (← c.deref.ensures.value) c.fits.ensures in
     plan_full fs (c.args.self.now.ready c.requires.up) c.args.self.now.counted c.args.self.now.volume.limited c.args.cred.now c.args.now c.args.number c.args.verdict c.args.asked c.in_ok-card.card.now
     c.in_ok-card.ensures.node c.in_ok-card.ensures.file c.in_ok-card.ensures.fit c.in_ok-card.ensures.tests c.requires.some low
-    c.in-Some-stamp_left.stamp c.in-Some.offset c.taken-part.result c.in_ok-shown.shown c.in_ok-edits.edits.items
-    c.in-Some-stamp_left.ensures.0 c.in-Some.ensures.some.0 c.taken-part.ensures.taken c.in_ok-shown.ensures c.in_ok-edits.ensures
-    c.taken-part.ensures.bytes state arguments on is (sym told ∙ c.if-not-fits.true)
+    c.in-Some-stamp_left.stamp c.in-Some.offset c.taken-part.result c.in_ok-shown.shown c.written_edits-edits.result
+    c.in-Some-stamp_left.ensures.0 c.in-Some.ensures.some.0 c.taken-part.ensures.taken c.in_ok-shown.ensures c.written_edits-edits.ensures
+    c.taken-part.ensures.bytes state arguments on is (sym c.fits.ensures ∙ c.if-not-fits.true)
 
 pub returns-clause-planned : goal.returns-clause-planned
 unfolding fs_of volume_state
 returns-clause-planned g c =
     let fs = fs_of c.args.self.now in
     let low : c.args.asked.offset + length (bytes_taken fs c.args.asked) ≤ fs.volume.limits.file_bytes = rw (← c.taken-part.ensures.taken) c.in-Some.ensures.some.1 in
-    let told : c.fits.result ≡ fits fs.volume.limits (edited_by fs.volume c.in_ok-edits.edits.items) = rw (← c.deref.ensures.value) c.fits.ensures in
     planned fs (c.args.self.now.ready c.requires.up) c.args.self.now.counted c.args.self.now.volume.limited c.args.cred.now c.args.now c.args.number c.args.verdict c.args.asked c.in_ok-card.card.now
     c.in_ok-card.ensures.node c.in_ok-card.ensures.file c.in_ok-card.ensures.fit c.in_ok-card.ensures.tests c.requires.some low
-    c.in-Some-stamp_left.stamp c.in-Some.offset c.taken-part.result c.in_ok-shown.shown c.in_ok-edits.edits.items
-    c.in-Some-stamp_left.ensures.0 c.in-Some.ensures.some.0 c.taken-part.ensures.taken c.in_ok-shown.ensures c.in_ok-edits.ensures
-    (sym told ∙ c.if-not-fits.false) c.in-Some-stamp_left.ensures.1
+    c.in-Some-stamp_left.stamp c.in-Some.offset c.taken-part.result c.in_ok-shown.shown c.written_edits-edits.result
+    c.in-Some-stamp_left.ensures.0 c.in-Some.ensures.some.0 c.taken-part.ensures.taken c.in_ok-shown.ensures c.written_edits-edits.ensures
+    (sym c.fits.ensures ∙ c.if-not-fits.false) c.in-Some-stamp_left.ensures.1
 
 pub returns-clause-step : goal.returns-clause-step
 unfolding fs_of volume_state
 returns-clause-step g c state arguments on is =
     let fs = fs_of c.args.self.now in
     let low : c.args.asked.offset + length (bytes_taken fs c.args.asked) ≤ fs.volume.limits.file_bytes = rw (← c.taken-part.ensures.taken) c.in-Some.ensures.some.1 in
-    let told : c.fits.result ≡ fits fs.volume.limits (edited_by fs.volume c.in_ok-edits.edits.items) = rw (← c.deref.ensures.value) c.fits.ensures in
     plan_goes_on fs (c.args.self.now.ready c.requires.up) c.args.self.now.counted c.args.self.now.volume.limited c.args.cred.now c.args.now c.args.number c.args.verdict c.args.asked c.in_ok-card.card.now
     c.in_ok-card.ensures.node c.in_ok-card.ensures.file c.in_ok-card.ensures.fit c.in_ok-card.ensures.tests c.requires.some low
-    c.in-Some-stamp_left.stamp c.in-Some.offset c.taken-part.result c.in_ok-shown.shown c.in_ok-edits.edits.items
-    c.in-Some-stamp_left.ensures.0 c.in-Some.ensures.some.0 c.taken-part.ensures.taken c.in_ok-shown.ensures c.in_ok-edits.ensures
-    c.taken-part.ensures.bytes state arguments on is (sym told ∙ c.if-not-fits.false)
+    c.in-Some-stamp_left.stamp c.in-Some.offset c.taken-part.result c.in_ok-shown.shown c.written_edits-edits.result
+    c.in-Some-stamp_left.ensures.0 c.in-Some.ensures.some.0 c.taken-part.ensures.taken c.in_ok-shown.ensures c.written_edits-edits.ensures
+    c.taken-part.ensures.bytes state arguments on is (sym c.fits.ensures ∙ c.if-not-fits.false)
     (lt-ltb (fs.changes + 1) (2 ^ 32) c.in-Some-stamp_left.ensures.1)

@@ -42,4 +42,4 @@ returns-clause-volume g c =
     changes_by g.D.Device.keeps_word (IsTree fs.volume (edited_by fs.volume c.in-Some.edits.items)) (SetsTree fs c.args.cred.now c.args.now c.args.asked)
     (λ after lasts made. sets_tree fs c.args.cred.now c.args.now c.args.asked c.in-Some.edits.items
     (λ state arguments on is. rw c.in-Some.is at (c.in_ok-planned.ensures.step state arguments on is)) after lasts made)
-    _ _ _ _ (fs_ending c.change_stable.result) c.change_stable.ensures.volume
+    _ _ _ _ (fs_ending c.change_stable.result) (rw c.deref.ensures.value at c.change_stable.ensures.volume)

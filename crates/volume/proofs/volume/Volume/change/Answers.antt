@@ -1,6 +1,5 @@
 use Rattle.std.proofs.Common.{◌≡◌, ◌≤◌, ◌+◌, ◌∙◌, ℕ, false, List, Option, length, refl, sym, ap, subst, arith}
 use Rattle.std.specs.Prelude.{IsTrue, Err}
-use Rattle.tree_edits.specs.declared.edit.Edit.{Edit}
 use Rattle.tree_edits.specs.Outcomes.{cards_after}
 use Rattle.tree_edits.proofs.BlankLaws.{each_outline}
 use Rattle.journal.specs.Calls.{IsSafe, HasApplied}
@@ -43,7 +42,7 @@ unfolding volume_state
 outcome_of-requires-clause-can g c =
     let volume = c.args.self.now in
     let log : Log = log_of volume.store.journal in
-    outline_doable (volume_state_by volume.limits volume.run volume.table log) c.args.edits.items c.requires (contents log) volume.table refl
+    outline_doable (volume_state_by volume.limits volume.run volume.table log) c.args.edits.now c.requires (contents log) volume.table refl
 
 pub outcome_of-requires-clause-few : goal.outcome_of-requires-clause-few
 unfolding volume_state
@@ -51,8 +50,8 @@ outcome_of-requires-clause-few g c =
     let volume = c.args.self.now in
     let log : Log = log_of volume.store.journal in
     let held = volume_state_by volume.limits volume.run volume.table log in
-    outline_few held c.args.edits.items c.requires (contents log) volume.table refl log.size volume.limits.nodes _ volume.limited volume.known.whole
-    (ap (λ (l : List Edit). fits volume.limits (edited_by held l)) (sym c.deref.ensures.value) ∙ sym c.fits.ensures ∙ c.if-not-fits.false)
+    outline_few held c.args.edits.now c.requires (contents log) volume.table refl log.size volume.limits.nodes _ volume.limited volume.known.whole
+    (sym c.fits.ensures ∙ c.if-not-fits.false)
 
 pub outcome_of-requires-clause-room : goal.outcome_of-requires-clause-room
 unfolding volume_state
@@ -60,8 +59,8 @@ outcome_of-requires-clause-room g c = λ count within.
     let volume = c.args.self.now in
     let log : Log = log_of volume.store.journal in
     let held = volume_state_by volume.limits volume.run volume.table log in
-    let room = front_room held c.args.edits.items c.requires (contents log) volume.table refl log.size volume.limits.nodes _ volume.limited volume.known.whole
-    (ap (λ (l : List Edit). fits volume.limits (edited_by held l)) (sym c.deref.ensures.value) ∙ sym c.fits.ensures ∙ c.if-not-fits.false) count in
+    let room = front_room held c.args.edits.now c.requires (contents log) volume.table refl log.size volume.limits.nodes _ volume.limited volume.known.whole
+    (sym c.fits.ensures ∙ c.if-not-fits.false) count in
     let nodes = room.1 in
     record { charge = room.0; nodes = omega (arith, nodes, volume.known.are_cards.count) }
 
@@ -78,7 +77,7 @@ unfolding volume_state
 settle-requires g c =
     let volume = c.args.self.now in
     let log : Log = log_of volume.store.journal in
-    may_settle g.D.Device.keeps_word volume.limits volume.run log volume.table volume.places c.args.edits.items c.in_ok-outcome.outcome c.requires volume.known c.in_ok-outcome.ensures.done
+    may_settle g.D.Device.keeps_word volume.limits volume.run log volume.table volume.places c.args.edits.now c.in_ok-outcome.outcome c.requires volume.known c.in_ok-outcome.ensures.done
 
 pub returns-in_err-apply-clause-volume : goal.returns-in_err-apply-clause-volume
 unfolding volume_state volume_failures
@@ -95,7 +94,7 @@ returns-in_err-apply-clause-volume g c =
     let told = told_err c.from_residual-in_err-apply.result (fault_of fault) c.from_residual-in_err-apply.ensures.1 in
     let up : old.is_down ≡ false = sym c.is_down.ensures ∙ c.if-is_down.false in
     let few : length c.in_ok-outcome.outcome.updates.items ≤ 48 = omega (arith, c.requires.few, c.in_ok-outcome.ensures.done.count) in
-    rw told (apply_refused word volume.limits volume.run volume.table old new (edited_by (volume_state_by volume.limits volume.run volume.table old) c.args.edits.items) _ _ fault
+    rw told (apply_refused word volume.limits volume.run volume.table old new (edited_by (volume_state_by volume.limits volume.run volume.table old) c.args.edits.now) _ _ fault
     (subst (λ (log : Log). IsSafe word log new) same c.in_err-apply.ensures.safe)
     up
     (λ many. (let bound = (c.in_err-apply.ensures.too_many (ap (λ (log : Log). log.is_down) same ∙ up)).0 (ap (λ x. Err x) many) in omega (arith, bound, few)))
@@ -122,7 +121,7 @@ invariant_of-self-2 g c =
     let new : Log = log_of c.apply.new.self in
     let nodes = volume.limits.nodes in
     let held = volume_state_by volume.limits volume.run volume.table old in
-    let edits = c.args.edits.items in
+    let edits = c.args.edits.now in
     let outcome = c.in_ok-outcome.outcome in
     let comes = c.in_ok-outcome.ensures.done in
     let health = c.in_ok-outcome.ensures.health.stays (λ faulted. cc) in
@@ -132,7 +131,7 @@ invariant_of-self-2 g c =
     let size : old.size ≡ new.size = sym safe.size in
     let up : old.is_down ≡ false = sym c.is_down.ensures ∙ c.if-is_down.false in
     let fit : IsTrue (fits volume.limits (edited_by held edits)) =
-    ap (λ (l : List Edit). fits volume.limits (edited_by held l)) (sym c.deref.ensures.value) ∙ sym c.fits.ensures ∙ c.if-not-fits.false in
+    sym c.fits.ensures ∙ c.if-not-fits.false in
     let settled : cards_after volume.table outcome ≡ c.settle.new.self = sym c.settle.ensures in
     record {
       bounded = volume.bounded;
@@ -147,7 +146,7 @@ invariant_of-self-2 g c =
           (parents_behind word volume.limits volume.run old volume.table volume.places edits outcome c.requires volume.known comes volume.limited fit volume.parents c.put_parent.new.parents volume.named
           (subst (λ (cards : List (Option CachedNode)). PutsParent cards volume.parents c.put_parent.new.parents (put_by edits)) (sym settled)
           (subst (λ (put : Option (ℕ × ℕ)). PutsParent c.settle.new.self volume.parents c.put_parent.new.parents put)
-          (c.put_by-put.ensures ∙ ap put_by c.deref-2.ensures.value) c.put_parent.ensures)));
+          c.put_by-put.ensures c.put_parent.ensures)));
       serves = λ k is_up. subst (λ (cards : List (Option CachedNode)). ∥ IsServing new nodes volume.run cards ∥₁) settled
           (applied_serves word volume.limits volume.run volume.table (cards_after volume.table outcome) old new outcome.updates.items (edited_by held edits) 0 0
           safe (omega arith) is_up has (λ kept. volume.serves kept up)
@@ -165,7 +164,7 @@ returns-clause-volume g c =
     let new : Log = log_of c.apply.new.self in
     let nodes = volume.limits.nodes in
     let held = volume_state_by volume.limits volume.run volume.table old in
-    let edits = c.args.edits.items in
+    let edits = c.args.edits.now in
     let outcome = c.in_ok-outcome.outcome in
     let health = c.in_ok-outcome.ensures.health.stays (λ faulted. cc) in
     let same : mid ≡ old = log_same old mid c.in_ok-outcome.ensures.kept (ap (λ (h : Health). h.is_down) health) in
@@ -174,7 +173,7 @@ returns-clause-volume g c =
     let has : HasApplied word outcome.updates.items old new = subst (λ (log : Log). HasApplied word outcome.updates.items log new) same c.in_ok-apply.ensures.ok in
     let up : old.is_down ≡ false = sym c.is_down.ensures ∙ c.if-is_down.false in
     let fit : IsTrue (fits volume.limits (edited_by held edits)) =
-    ap (λ (l : List Edit). fits volume.limits (edited_by held l)) (sym c.deref.ensures.value) ∙ sym c.fits.ensures ∙ c.if-not-fits.false in
+    sym c.fits.ensures ∙ c.if-not-fits.false in
     subst (λ (cards : List (Option CachedNode)). Changes word (IsEdited held edits) held (volume_state_by volume.limits volume.run cards new) (failures_of volume.store.journal) (failures_of c.apply.new.self) Done)
     (sym c.settle.ensures)
     (apply_done word volume.limits volume.run volume.table (cards_after volume.table outcome) old new outcome.updates.items (edited_by held edits)
@@ -194,7 +193,7 @@ returns-clause-shows g c =
     let new : Log = log_of c.apply.new.self in
     let nodes = volume.limits.nodes in
     let held = volume_state_by volume.limits volume.run volume.table old in
-    let edits = c.args.edits.items in
+    let edits = c.args.edits.now in
     let outcome = c.in_ok-outcome.outcome in
     let health = c.in_ok-outcome.ensures.health.stays (λ faulted. cc) in
     let same : mid ≡ old = log_same old mid c.in_ok-outcome.ensures.kept (ap (λ (h : Health). h.is_down) health) in
@@ -202,7 +201,7 @@ returns-clause-shows g c =
     let has : HasApplied word outcome.updates.items old new = subst (λ (log : Log). HasApplied word outcome.updates.items log new) same c.in_ok-apply.ensures.ok in
     let up : old.is_down ≡ false = sym c.is_down.ensures ∙ c.if-is_down.false in
     let fit : IsTrue (fits volume.limits (edited_by held edits)) =
-    ap (λ (l : List Edit). fits volume.limits (edited_by held l)) (sym c.deref.ensures.value) ∙ sym c.fits.ensures ∙ c.if-not-fits.false in
+    sym c.fits.ensures ∙ c.if-not-fits.false in
     subst (λ (cards : List (Option CachedNode)). Shows word (edited_by held edits) (volume_state_by volume.limits volume.run cards new).tree)
     (sym c.settle.ensures)
     (record {

@@ -11,11 +11,11 @@ pub returns-in_err-change-clause-volume : goal.returns-in_err-change-clause-volu
 returns-in_err-change-clause-volume g c =
     let fault = c.in_err-change.field-0.0 in
     rw (told_err c.from_residual.result fault c.from_residual.ensures.1)
-    (refused_unchanged g.D.Device.keeps_word (volume_state c.args.self.now) (volume_state c.change.new.self) (edited_by (volume_state c.args.self.now) c.args.edits.items) _ _ fault
+    (refused_unchanged g.D.Device.keeps_word (volume_state c.args.self.now) (volume_state c.change.new.self) (edited_by (volume_state c.args.self.now) c.args.edits.now) _ _ fault
     c.in_err-change.ensures.volume)
 
 pub returns-clause-volume : goal.returns-clause-volume
 returns-clause-volume g c =
-    keep_flushed g.D.Device.keeps_word (volume_state c.args.self.now) (volume_state c.change.new.self) (volume_state c.flush.new.self) (edited_by (volume_state c.args.self.now) c.args.edits.items)
+    keep_flushed g.D.Device.keeps_word (volume_state c.args.self.now) (volume_state c.change.new.self) (volume_state c.flush.new.self) (edited_by (volume_state c.args.self.now) c.args.edits.now)
     (volume_failures c.args.self.now) (volume_failures c.change.new.self) (volume_failures c.flush.new.self)
     c.in_ok-change.ensures.volume c.in_ok-change.ensures.shows c.flush.result c.flush.ensures.volume c.flush.ensures.down c.flush.ensures.refuses
