@@ -1,6 +1,7 @@
 -- What calls of a transaction make of its outline.
 use Rattle.std.proofs.Common.{◌≡◌, ◌<◌, ◌+◌, ◌^◌, max, ℕ, List, [], Option, Some, None, length, get_or, set, refl, sym, ap, ap₂, ◌∙◌, arith, inl, subst}
 use Rattle.std.specs.Prelude.{Result, Ok, Err, OnOk}
+use Rattle.std.proofs.lemmas.List.{get_or-set_same}
 use Rattle.node_table.specs.Tables.{number_of, number_at, HasNot}
 use Rattle.disk.specs.Moments.{Image}
 use Rattle.tree_transaction.specs.declared.transaction.Transaction.{Transaction}
@@ -35,6 +36,10 @@ use Rattle.directory.specs.Listing.{by_stamp}
 use Rattle.directory.specs.Records.{Record, place_of, with_record, without_place}
 
 -- clauses that hold of what was answered Ok, one after the other
+pub both_ok : {T E A B C : Type 0} (result : Result T E) → OnOk result A → OnOk result B → (A → B → C) → OnOk result C
+both_ok (Ok done) a b then = then a b
+both_ok (Err fault) a b then = tt
+
 pub all_ok : {T E A B C D : Type 0} (result : Result T E) → OnOk result A → OnOk result B → OnOk result C → (A → B → C → D) → OnOk result D
 all_ok (Ok done) a b c then = then a b c
 all_ok (Err fault) a b c then = tt
@@ -71,6 +76,14 @@ module _ (old new : Transaction) (known : IsKnown old) (place number : ℕ) (it 
       (same : (change it.card).fields.number ≡ it.card.fields.number) where
     is_number : turns.is.fields.number ≡ number
     is_number = ap (λ (f : Fields). f.number) turns.fields ∙ same ∙ it.number_is
+
+    -- the node stands where it stood
+    pub turned_there : IsThere (cards_of new) place number
+    turned_there = record {
+      card = turns.is;
+      there = ap (λ (l : List (Option CachedNode)). get_or l place None) turns.cards ∙ get_or-set_same cards place (Some turns.is) None (place-within cards place it.card it.there);
+      number_is = is_number;
+    }
 
     pub turned : (alter : Node → Node) → node_of (λ n. []) (change it.card) ≡ blank_node (alter (node_of (λ n. []) it.card))
         → tree_without_data (cards_of new)

@@ -5,15 +5,16 @@ use Rattle.std.proofs.lemmas.List.{drop_more}
 use Rattle.disk.specs.Moments.{Image}
 use Rattle.node_table.specs.Tables.{number_at}
 use Rattle.tree_transaction.specs.declared.transaction.Transaction.{Transaction}
-use Rattle.tree_transaction.specs.Transactions.{cards_of, IsKnown}
+use Rattle.tree_transaction.specs.Transactions.{cards_of, tree_of, IsKnown, IsTransaction, StaysKnown}
 use Rattle.tree_edits.specs.declared.edit.Edit.{Edit}
 use Rattle.tree_edits.specs.declared.edit.Edit.TheVariants as declared
-use Rattle.tree_edits.specs.Doing.{Does, DoesAnywhere, made_by, FitsOn, Overfills}
+use Rattle.tree_edits.specs.Doing.{AreMade, Does, DoesAnywhere, made_by, updates_of_all, FitsOn, Overfills}
 use Rattle.tree_edits.specs.Edits.{edit_of, edits_of, AreDoable, StayFew}
 use Rattle.tree_edits.specs.Outlines.{without_data, tree_without_data}
 use Rattle.tree_edits.proofs.BlankLaws.{edits_blanked, charge-without_data, length-without_data}
 use Rattle.tree_edits.proofs.DoableLaws.{doable_alike, few_alike}
 use Rattle.tree_edits.proofs.DoingLaws.{outline_fixed}
+use Rattle.layout.specs.Stands.{HaveCurrentForms}
 use Rattle.model.specs.Trees.Charge.{charge}
 use Rattle.model.specs.Trees.Edit.{done, edited}
 use Rattle.model.specs.Trees.Edit as model
@@ -80,18 +81,33 @@ does_nothing word base size transaction known = record {
   count = omega arith;
 }
 
+-- what they make of a transaction, but for how many updates
+
+pub record Leads (word : Type 0) (base : Image) (size : ℕ) (old new : Transaction) (edits : List Edit) : Type 0 where
+  pub known : StaysKnown old new
+  pub outline : tree_without_data (cards_of new) ≡ without_data (edited (edits_of edits) (tree_without_data (cards_of old)))
+  pub forms : HaveCurrentForms (cards_of old) → HaveCurrentForms (cards_of new)
+  pub made : AreMade (cards_of old) (cards_of new) (made_by edits)
+  pub tree : word → IsTransaction base size old → IsTransaction base size new × (tree_of base new ≡ edited (edits_of edits) (tree_of base old))
+
+leads : (word : Type 0) (base : Image) (size : ℕ) (old new : Transaction) (edits : List Edit) → Does word base size old new edits → Leads word base size old new edits
+leads word base size old new edits does = record { known = does.known; outline = does.outline; forms = does.forms; made = does.made; tree = does.tree }
+
+pub does_so : (word : Type 0) (base : Image) (size : ℕ) (old new : Transaction) (edits : List Edit) → Leads word base size old new edits → length new.updates ≤ length old.updates + updates_of_all edits → Does word base size old new edits
+does_so word base size old new edits leads count = record { known = leads.known; outline = leads.outline; forms = leads.forms; made = leads.made; tree = leads.tree; count = count }
+
 pub anywhere : (word : Type 0) (base : Image) (size : ℕ) (old new : Transaction) (edit : Edit) → DoesAnywhere old new edit → Does word base size old new (edit ∷ [])
 anywhere word base size old new edit does =
     let it = does base size in
     record { known = it.known; outline = it.outline; forms = it.forms; made = it.made; tree = λ k. it.tree tt; count = it.count }
 
-module _ (word : Type 0) (base : Image) (size : ℕ) (old mid : Transaction) (edit : Edit) (first : Does word base size old mid (edit ∷ [])) where
+module _ (word : Type 0) (base : Image) (size : ℕ) (old mid : Transaction) (edit : Edit) (first : Leads word base size old mid (edit ∷ [])) where
   -- what memory tells of the tree in between
   alike : without_data (tree_without_data (cards_of mid)) ≡ without_data (done (edit_of edit) (tree_without_data (cards_of old)))
   alike = outline_fixed (cards_of mid) ∙ first.outline
 
-  pub goes_on : (new : Transaction) (edits : List Edit) → Does word base size mid new edits → Does word base size old new (edit ∷ edits)
-  goes_on new edits rest = record {
+  pub leads_on : (new : Transaction) (edits : List Edit) → Leads word base size mid new edits → Leads word base size old new (edit ∷ edits)
+  leads_on new edits rest = record {
     known = record {
       known = rest.known.known;
       nodes = rest.known.nodes ∙ first.known.nodes;
@@ -111,22 +127,31 @@ module _ (word : Type 0) (base : Image) (size : ℕ) (old mid : Transaction) (ed
         let one = first.tree k laid in
         let all = rest.tree k one.0 in
         (all.0, all.1 ∙ ap (edited (edits_of edits)) one.1);
-    count = omega (arith, first.count, rest.count);
   }
 
+module _ (word : Type 0) (base : Image) (size : ℕ) (old mid : Transaction) (edit : Edit) (first : Does word base size old mid (edit ∷ [])) where
+  led : Leads word base size old mid (edit ∷ [])
+  led = leads word base size old mid (edit ∷ []) first
+
+  alike_led : without_data (tree_without_data (cards_of mid)) ≡ without_data (done (edit_of edit) (tree_without_data (cards_of old)))
+  alike_led = alike word base size old mid edit led
+
+  pub goes_on : (new : Transaction) (edits : List Edit) → Does word base size mid new edits → Does word base size old new (edit ∷ edits)
+  goes_on new edits rest = does_so word base size old new (edit ∷ edits) (leads_on word base size old mid edit led new edits (leads word base size mid new edits rest)) (omega (arith, first.count, rest.count))
+
   pub still_doable : (edits : List Edit) → AreDoable (tree_without_data (cards_of old)) (edit ∷ edits) → AreDoable (tree_without_data (cards_of mid)) edits
-  still_doable edits can = doable_alike (done (edit_of edit) (tree_without_data (cards_of old))) (tree_without_data (cards_of mid)) edits alike can.1
+  still_doable edits can = doable_alike (done (edit_of edit) (tree_without_data (cards_of old))) (tree_without_data (cards_of mid)) edits alike_led can.1
 
   pub still_few : (edits : List Edit) → StayFew (tree_without_data (cards_of old)) (edit ∷ edits) → StayFew (tree_without_data (cards_of mid)) edits
-  still_few edits few = few_alike (done (edit_of edit) (tree_without_data (cards_of old))) (tree_without_data (cards_of mid)) edits alike few.1
+  still_few edits few = few_alike (done (edit_of edit) (tree_without_data (cards_of old))) (tree_without_data (cards_of mid)) edits alike_led few.1
 
   pub overfills_later : (edits : List Edit) → Overfills mid edits → Overfills old (edit ∷ edits)
   overfills_later edits over = record {
     count = suc over.count;
     within = omega (arith, over.within);
     full = λ room. over.full (record {
-      charge = (let fits = room.charge in omega (arith, fits, first.known.places, same_charge (done (edit_of edit) (tree_without_data (cards_of old))) (tree_without_data (cards_of mid)) (take over.count (edits_of edits)) alike));
-      nodes = (let fits = room.nodes in omega (arith, fits, first.known.nodes, same_length (done (edit_of edit) (tree_without_data (cards_of old))) (tree_without_data (cards_of mid)) (take over.count (edits_of edits)) alike));
+      charge = (let fits = room.charge in omega (arith, fits, first.known.places, same_charge (done (edit_of edit) (tree_without_data (cards_of old))) (tree_without_data (cards_of mid)) (take over.count (edits_of edits)) alike_led));
+      nodes = (let fits = room.nodes in omega (arith, fits, first.known.nodes, same_length (done (edit_of edit) (tree_without_data (cards_of old))) (tree_without_data (cards_of mid)) (take over.count (edits_of edits)) alike_led));
     });
   }
 

@@ -21,8 +21,8 @@ use Rattle.layout.proofs.NodeEditLaws.{named_by-parts}
 use Rattle.node_table.specs.Tables.{charge_of, charge_of_all}
 use Rattle.tree_transaction.specs.Blocks.{IsPut, set_blocks}
 use Rattle.tree_transaction.specs.declared.transaction.Transaction.{Transaction}
-use Rattle.tree_transaction.specs.Transactions.{cards_of, end_of, image_of, tree_of, IsKnown, StaysKnown, IsTransaction, HasNow, IsBack}
-use Rattle.tree_transaction.specs.Laying.{fields_with, IsRerun, Follow}
+use Rattle.tree_transaction.specs.Transactions.{cards_of, end_of, image_of, tree_of, IsKnown, StaysKnown, IsTransaction, HasNow, IsBack, StandsAgain}
+use Rattle.tree_transaction.specs.Laying.{fields_with, IsRerun}
 use Rattle.tree_transaction.specs.Updates.{AreBetween}
 use Rattle.tree_transaction.proofs.BlockLaws.{here, elsewhere}
 use Rattle.tree_transaction.proofs.CountLaws.{region_named, sum_over-set, less_others, named_count, named_charged}
@@ -39,19 +39,6 @@ pub record IsMoved (old : Transaction) (was mid_card : CachedNode) (mid_places :
   pub marks : (n : ℕ) → mark_by (148 + old.nodes) mid_places n + times_set n was.blocks ≡ mark_by (148 + old.nodes) old.places n + times_set n mid_card.blocks
   pub len : length mid_places ≡ length old.places
   pub others : (image : Image) (n : ℕ) → times_set n was.blocks ≡ 0 → times_set n mid_card.blocks ≡ 0 → applied mid_updates image n ≡ applied old.updates image n
-
--- A cached node that was taken out stands at its place again, with runs of its blocks. Its run sectors hold
--- them where those of the cached node that was put back held its own
-pub record StandsAgain (old new : Transaction) (place : ℕ) (card : CachedNode) (places : List Bool) (updates : List Update) : Type 0 where
-  pub is : CachedNode
-  pub put : cards_of new ≡ set (cards_of old) place (Some is)
-  pub same : new.nodes ≡ old.nodes
-  pub rerun : IsRerun card is
-  pub follow : Follow (148 + old.nodes) places new.places card.fields.run_sectors is.fields.run_sectors
-  pub len : length new.places ≡ length places
-  pub node : (image : Image) → applied new.updates image (148 + place) ≡ inode_sector is.form is.fields
-  pub run_sectors : (image : Image) → AreRunSectors (applied updates image) card.fields.run_sectors card.runs → AreRunSectors (applied new.updates image) is.fields.run_sectors is.runs
-  pub others : (image : Image) (n : ℕ) → n ≢ 148 + place → times n is.fields.run_sectors ≡ 0 → applied new.updates image n ≡ applied updates image n
 
 -- it is laid anew
 pub laid_again : (old new : Transaction) (place : ℕ) (card : CachedNode) (places : List Bool) (updates : List Update) → IsBack old.nodes place places updates (set (cards_of old) place None) new card → StandsAgain old new place card places updates

@@ -21,10 +21,10 @@ use Rattle.layout.proofs.NodeEditLaws.{cut_file}
 use Rattle.layout.proofs.StepLaws.{each_own, others_hold}
 use Rattle.tree_transaction.specs.Blocks.{IsPut, HaveMarks, AreWithin, ClearsTail, ChangeBlocks}
 use Rattle.tree_transaction.specs.declared.transaction.Transaction.{Transaction}
-use Rattle.tree_transaction.specs.Transactions.{cards_of, end_of, image_of, tree_of, IsKnown, StaysKnown, MakesOver, HasNow}
+use Rattle.tree_transaction.specs.Transactions.{cards_of, end_of, image_of, tree_of, IsKnown, StaysKnown, MakesOver, HasNow, StandsAgain}
 use Rattle.tree_transaction.specs.Grown.{sized}
 use Rattle.tree_transaction.specs.Laying.{CanBeLaid, HasEnough, IsRerun}
-use Rattle.tree_transaction.proofs.BackLaws.{IsMoved, StandsAgain, stays, has_now, kept, makes, steps, are_files, file_content, shows_sized}
+use Rattle.tree_transaction.proofs.BackLaws.{IsMoved, stays, has_now, kept, makes, steps, are_files, file_content, shows_sized}
 use Rattle.tree_transaction.proofs.BlockLaws.{here, elsewhere, sector-within}
 use Rattle.tree_transaction.proofs.KnownLaws.{in_table, card_at, named_once, file_blocks, file_unnamed, fields_fit}
 use Rattle.tree_transaction.proofs.RunLaws.{enough}

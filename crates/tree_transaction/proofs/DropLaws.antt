@@ -25,12 +25,12 @@ use Rattle.layout.proofs.NodeEditLaws.{drop_one_name}
 use Rattle.layout.proofs.StepLaws.{each_own, each_change}
 use Rattle.tree_transaction.specs.Blocks.{set_blocks}
 use Rattle.tree_transaction.specs.declared.transaction.Transaction.{Transaction}
-use Rattle.tree_transaction.specs.Transactions.{cards_of, image_of, IsKnown, StaysKnown, MakesOver}
+use Rattle.tree_transaction.specs.Transactions.{cards_of, image_of, IsKnown, StaysKnown, MakesOver, StandsAgain}
 use Rattle.tree_transaction.specs.Transactions.{Makes}
 use Rattle.tree_transaction.specs.Transactions.{HasNow}
 use Rattle.tree_transaction.specs.Laying.{CanBeLaid, HasEnough, IsRerun, sectors_for}
 use Rattle.tree_transaction.specs.Naming.{HasName, DropsNamed, Rewrites, renamed, without_name}
-use Rattle.tree_transaction.proofs.BackLaws.{IsMoved, StandsAgain, makes, steps}
+use Rattle.tree_transaction.proofs.BackLaws.{IsMoved, makes, steps}
 use Rattle.tree_transaction.proofs.KnownLaws.{same_card, held_at}
 use Rattle.tree_transaction.proofs.NameLaws.{named_card, directory_is, names_here, blocks_here, named_here, can_lay_names, few_runs, named_stays, named_now, directories, still}
 use Rattle.tree_transaction.proofs.RunLaws.{enough}

@@ -13,6 +13,8 @@ pub mod NodeLaws
 pub mod NumberLaws
 pub mod RerunLaws
 pub mod RunLaws
+pub mod ShowingLaws
 pub mod UpdateLaws
 pub mod WholeLaws
 pub mod WriteLaws
+pub mod WrittenLaws

@@ -29,11 +29,11 @@ use Rattle.layout.proofs.NodeEditLaws.{put_one_name}
 use Rattle.node_table.specs.Tables.{charge_of, charge_of_all}
 use Rattle.tree_transaction.specs.Blocks.{HaveRegion, GetSectors, WritesOne, set_blocks}
 use Rattle.tree_transaction.specs.declared.transaction.Transaction.{Transaction}
-use Rattle.tree_transaction.specs.Transactions.{cards_of, image_of, IsKnown, StaysKnown, MakesOver}
+use Rattle.tree_transaction.specs.Transactions.{cards_of, image_of, IsKnown, StaysKnown, MakesOver, StandsAgain}
 use Rattle.tree_transaction.specs.Transactions.{HasNow}
 use Rattle.tree_transaction.specs.Laying.{CanBeLaid, IsRerun, sectors_for}
 use Rattle.tree_transaction.specs.Naming.{CanName, renamed, with_name, blocks_named}
-use Rattle.tree_transaction.proofs.BackLaws.{charged, IsMoved, StandsAgain, stays, has_now, kept, makes, steps, shows_same, shows_sized}
+use Rattle.tree_transaction.proofs.BackLaws.{charged, IsMoved, stays, has_now, kept, makes, steps, shows_same, shows_sized}
 use Rattle.tree_transaction.proofs.CountLaws.{few_numbers, set_most}
 use Rattle.tree_transaction.proofs.KnownLaws.{same_card, in_table, card_at, named_once, held_at, directory_known, directory_blocks, content_of_directory, fields_fit}
 

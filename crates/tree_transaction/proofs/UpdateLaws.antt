@@ -38,6 +38,11 @@ applied-first (update ∷ updates) image n zero other apart first =
 applied-first (update ∷ updates) image n (suc place) other apart first =
     applied-first updates (put image update) n place other apart.1 (record { within = let h = first.within in omega arith; there = first.there; before = λ i h. first.before (suc i) (omega arith) })
 
+-- one more update after the others
+pub applied-last : (updates : List Update) (last : Update) (image : Image) → applied (updates ++ last ∷ []) image ≡ put (applied updates image) last
+applied-last [] last image = refl
+applied-last (update ∷ updates) last image = applied-last updates last (put image update)
+
 -- one more update, whether in place of another or not
 pub applied-updated : (updates : List Update) (update : Update) (image : Image) (n : ℕ) → AreApart updates → applied (updated updates update) image n ≡ put (applied updates image) update n
 applied-updated [] update image n apart = refl

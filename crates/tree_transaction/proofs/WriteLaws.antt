@@ -21,11 +21,11 @@ use Rattle.node_table.specs.Tables.{charge_of, charge_of_all}
 use Rattle.tree_transaction.specs.Blocks.{IsPut, HaveRegion, GetSectors, ChangeBlocks, WritesBytes}
 use Rattle.tree_transaction.specs.Blocks.{set_blocks}
 use Rattle.tree_transaction.specs.declared.transaction.Transaction.{Transaction}
-use Rattle.tree_transaction.specs.Transactions.{cards_of, image_of, IsKnown, StaysKnown, MakesOver}
+use Rattle.tree_transaction.specs.Transactions.{cards_of, image_of, IsKnown, StaysKnown, MakesOver, StandsAgain}
 use Rattle.tree_transaction.specs.Transactions.{HasNow}
 use Rattle.tree_transaction.specs.Grown.{grown, reaching, blocks_to, CanWrite}
 use Rattle.tree_transaction.specs.Laying.{CanBeLaid, sectors_for}
-use Rattle.tree_transaction.proofs.BackLaws.{charged, IsMoved, StandsAgain, put_again, stays, has_now, kept, makes, steps, are_files, file_content, shows_sized}
+use Rattle.tree_transaction.proofs.BackLaws.{charged, IsMoved, put_again, stays, has_now, kept, makes, steps, are_files, file_content, shows_sized}
 use Rattle.tree_transaction.proofs.BlockLaws.{length-holes}
 use Rattle.tree_transaction.proofs.CountLaws.{few_numbers, set_holes, set_most}
 use Rattle.tree_transaction.proofs.GrowLaws.{grown_known}

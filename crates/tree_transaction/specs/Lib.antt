@@ -8,3 +8,4 @@ pub mod Ranges
 pub mod Transactions
 pub mod Updates
 pub mod Whole
+pub mod Written

@@ -1,19 +1,20 @@
 -- What a transaction is, and what calls make of it.
-use Rattle.std.specs.Prelude.{◌≡◌, ◌≤◌, ◌<◌, ◌+◌, ◌^◌}
+use Rattle.std.specs.Prelude.{◌≡◌, ◌≢◌, ◌≤◌, ◌<◌, ◌+◌, ◌^◌}
 use Rattle.std.specs.Prelude.{ℕ, Bool, List, Option, Some, None, length, set, slice_index_or}
 use Rattle.disk.specs.declared.update.Update.{Update}
 use Rattle.disk.specs.Moments.{Image, applied}
+use Rattle.inode.specs.Spelling.{inode_sector}
 use Rattle.model.specs.Trees.Charge.{charge_of_blocks}
 use Rattle.model.specs.Trees.Edit.{Edit, done}
 use Rattle.model.specs.Trees.Tree.{Tree}
 use Rattle.layout.specs.CachedNodes.{CachedNode}
 use Rattle.layout.specs.CachedNodes as layout
 use Rattle.layout.specs.Known.{AreCards}
-use Rattle.layout.specs.Laid.{AreLaid}
-use Rattle.layout.specs.Marks.{mark_by}
+use Rattle.layout.specs.Laid.{AreLaid, AreRunSectors}
+use Rattle.layout.specs.Marks.{times, mark_by}
 use Rattle.node_table.specs.Tables.{charge_of, charge_of_all}
 use Rattle.tree_transaction.specs.declared.transaction.Transaction.{Transaction}
-use Rattle.tree_transaction.specs.Laying.{fields_with, LaysCard}
+use Rattle.tree_transaction.specs.Laying.{fields_with, Follow, IsRerun, LaysCard}
 use Rattle.tree_transaction.specs.Updates.{AreBetween}
 
 abbrev pub cards_of : Transaction → List (Option CachedNode)
@@ -96,6 +97,26 @@ pub record IsBack (nodes place : ℕ) (places : List Bool) (updates : List Updat
   pub put : cards_of new ≡ set cards place (Some is)
   pub same : new.nodes ≡ nodes
   pub laid : LaysCard nodes place places new.places updates new.updates card is
+
+-- A cached node that was taken out stands at its place again, over these places and updates, with
+-- runs of its blocks. Its run sectors hold them where those of the cached node that was put back
+-- held its own.
+pub record StandsAgain (old new : Transaction) (place : ℕ) (card : CachedNode)
+    (places : List Bool) (updates : List Update) : Type 0 where
+  pub is : CachedNode
+  pub put : cards_of new ≡ set (cards_of old) place (Some is)
+  pub same : new.nodes ≡ old.nodes
+  pub rerun : IsRerun card is
+  pub follow : Follow (148 + old.nodes) places new.places card.fields.run_sectors
+      is.fields.run_sectors
+  pub len : length new.places ≡ length places
+  pub node : (image : Image)
+      → applied new.updates image (148 + place) ≡ inode_sector is.form is.fields
+  pub run_sectors : (image : Image)
+      → AreRunSectors (applied updates image) card.fields.run_sectors card.runs
+      → AreRunSectors (applied new.updates image) is.fields.run_sectors is.runs
+  pub others : (image : Image) (n : ℕ) → n ≢ 148 + place → times n is.fields.run_sectors ≡ 0
+      → applied new.updates image n ≡ applied updates image n
 
 -- where the node at a place had so many blocks, all would be charged for more sectors than the data
 -- region has

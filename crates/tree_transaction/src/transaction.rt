@@ -1,6 +1,6 @@
 //! One transaction in the making.
 
-ghost use Rattle.std.specs.Prelude.{◌≡◌, ◌≤◌, ◌<◌, ◌+◌, ◌*◌, ◌/◌, ◌%◌, ◌^◌, set, [], Some, None, length, slice_index_or, IfOk, OnOk, IsErrOf};
+ghost use Rattle.std.specs.Prelude.{◌≡◌, ◌≤◌, ◌<◌, ◌+◌, ◌*◌, ◌/◌, ◌%◌, ◌^◌, false, set, [], Some, None, length, slice_index_or, IfOk, OnOk, IsErrOf};
 ghost use Rattle.node_table.specs.Overlays.{changed};
 ghost use Rattle.node_table.specs.Tables.{HasNot, IsFree};
 ghost use Rattle.directory.specs.Records.{record_from};
@@ -12,7 +12,7 @@ ghost use Rattle.model.specs.Trees.Edit.{PutNode, DropNode, Show, PutName, PutBy
 ghost use Rattle.layout.specs.CachedNodes as layout;
 ghost use Rattle.layout.specs.Health.{Reads};
 ghost use Rattle.tree_transaction.specs.Blocks.{IsPut, set_blocks};
-ghost use Rattle.tree_transaction.specs.Transactions.{cards_of, end_of, IsKnown, StaysKnown, Makes, Edits, EditsOver, Turns, IsBack, IsOvercharged};
+ghost use Rattle.tree_transaction.specs.Transactions.{cards_of, end_of, IsKnown, StaysKnown, Makes, Edits, EditsOver, Turns, IsBack, StandsAgain, IsOvercharged};
 ghost use Rattle.tree_transaction.specs.Grown.{grown, reaching, sized, blocks_to, CanWrite};
 ghost use Rattle.tree_transaction.specs.Grown.{CanGrow, CanCut};
 ghost use Rattle.tree_transaction.specs.Laying.{CanBeLaid, HasEnough, sectors_for};
@@ -21,6 +21,7 @@ ghost use Rattle.tree_transaction.specs.Nodes.{IsNewCard, new_node, shown_of, sh
 ghost use Rattle.tree_transaction.specs.Nodes.{CanShow};
 ghost use Rattle.tree_transaction.specs.Updates.{AreTargets};
 ghost use Rattle.tree_transaction.specs.Whole.{Finishes};
+ghost use Rattle.tree_transaction.specs.Written.{HasBytes, HasItsRuns, IsWritten, WritesShowing};
 
 use crate::blocks::{clear_tail, rewrite_names, write_blocks, write_names};
 use crate::fault::{SpaceFault, TransactionFault};
@@ -55,6 +56,14 @@ pub struct PreparedTransaction {
     pub updates: Vec<Update>,
     pub places: Places,
     pub changes: Changes,
+}
+
+/// A file's cached node that was taken out, and whose blocks are written.
+#[derive(Drop)]
+struct WrittenCard {
+    card: CachedNode,
+    /// Whether holes got sectors.
+    filled: bool,
 }
 
 /// Takes the cached node of a place out of the table.
@@ -375,6 +384,75 @@ impl<'a> Transaction<'a> {
         ensures health { Reads (S.health base.old) (S.health base.new)
             (IsErrOf result TransactionFault.Device) }
     {
+        let written = self.write_blocks_of(base, place, offset, bytes)?;
+        self.store_written(place, written)?;
+        Ok(())
+    }
+
+    /// Writes bytes as [`Transaction::write`] does, and lets the file show something else beside
+    /// its content, as [`Transaction::show`] does after it; its node is encoded once.
+    ///
+    /// # Errors
+    ///
+    /// Those of [`Transaction::write`].
+    pub fn write_showing<S: Sectors>(
+        &mut self,
+        base: &mut S,
+        place: u32,
+        offset: usize,
+        bytes: &[u8],
+        shown: &Shown,
+    ) -> Result<(), TransactionFault>
+        requires known { IsKnown self.old × (end_of self.old ≤ S.size (S.kept base.old)) }
+        requires file { CanWrite (cards_of self.old) place (offset + length bytes.now) }
+        requires node { CanShow (cards_of self.old) place (shown_of shown.now) }
+        ensures done { OnOk result (WritesShowing S.keeps_word (S.image (S.kept base.old))
+            (S.size (S.kept base.old)) self.old self.new place offset bytes.now
+            (shown_of shown.now)) }
+        // What it takes
+        ensures count { OnOk result (length self.new.updates
+            ≤ length self.old.updates + (offset % SECTOR + length bytes.now + 4095) / SECTOR + 10) }
+        ensures full { IsErrOf result TransactionFault.Full
+            → IsOvercharged self.old place (blocks_to (offset + length bytes.now)) }
+        // It only reads the base
+        ensures kept { (S.kept base.new ≡ S.kept base.old)
+            × (self.new.cards.table ≡ self.old.cards.table) }
+        ensures health { Reads (S.health base.old) (S.health base.new)
+            (IsErrOf result TransactionFault.Device) }
+    {
+        let mut written = self.write_blocks_of(base, place, offset, bytes)?;
+        show_in(&mut written.card, shown)?;
+        self.store_written(place, written)?;
+        Ok(())
+    }
+
+    /// Takes the cached node of a file out, lets it reach to the end of these bytes, and writes
+    /// them into its blocks.
+    fn write_blocks_of<S: Sectors>(
+        &mut self,
+        base: &mut S,
+        place: u32,
+        offset: usize,
+        bytes: &[u8],
+    ) -> Result<WrittenCard, TransactionFault>
+        requires known { IsKnown self.old × (end_of self.old ≤ S.size (S.kept base.old)) }
+        requires file { CanWrite (cards_of self.old) place (offset + length bytes.now) }
+        ensures written { IfOk result (λ written. IsWritten self.old self.new place
+            (offset + length bytes.now) written.card written.filled) }
+        ensures bytes { S.keeps_word → IfOk result (λ written.
+            HasBytes (S.image (S.kept base.old)) self.old self.new place offset bytes.now
+            written.card) }
+        // What it takes
+        ensures count { OnOk result (length self.new.updates
+            ≤ length self.old.updates + (offset % SECTOR + length bytes.now + 4095) / SECTOR) }
+        ensures full { IsErrOf result TransactionFault.Full
+            → IsOvercharged self.old place (blocks_to (offset + length bytes.now)) }
+        // It only reads the base
+        ensures kept { (S.kept base.new ≡ S.kept base.old)
+            × (self.new.cards.table ≡ self.old.cards.table) }
+        ensures health { Reads (S.health base.old) (S.health base.new)
+            (IsErrOf result TransactionFault.Device) }
+    {
         let mut card = take_card(&mut self.cards, place)?;
         grow_to(&mut card, (offset + bytes.len()) as u64)?;
         let filled = write_blocks(
@@ -386,13 +464,7 @@ impl<'a> Transaction<'a> {
             offset,
             bytes,
         )?;
-        if filled {
-            self.store_node_and_runs(place, card)?;
-        } else {
-            // The runs of its blocks are as they were.
-            self.store_node(place, card)?;
-        }
-        Ok(())
+        Ok(WrittenCard { card, filled })
     }
 
     /// Writes the marks of the places where they are not as before: the last step. What is to be
@@ -414,6 +486,32 @@ impl<'a> Transaction<'a> {
     {
         put_marks(&mut self.updates, &self.places, before, 0)?;
         put_marks(&mut self.updates, &self.places, before, 1)?;
+        Ok(())
+    }
+
+    /// Puts a cached node whose blocks were written back. Its runs are laid anew only where holes
+    /// got sectors.
+    fn store_written(&mut self, place: u32, written: WrittenCard) -> Result<(), SpaceFault>
+        requires can { CanBeLaid self.old.nodes place self.old.places written.card }
+        requires within { place < length (cards_of self.old) }
+        requires same { written.filled ≡ false → HasItsRuns place written.card }
+        ensures stands { OnOk result (StandsAgain self.old self.new place written.card
+            self.old.places self.old.updates) }
+        // In any case
+        ensures table { self.new.cards.table ≡ self.old.cards.table }
+        // What it takes
+        ensures count { length self.new.updates
+            ≤ length self.old.updates + 1 + sectors_for (set_blocks written.card.blocks) }
+        ensures full { IsErrOf result SpaceFault.Full
+            → free_places self.old.places + length written.card.fields.run_sectors
+            < sectors_for (set_blocks written.card.blocks) }
+    {
+        if written.filled {
+            self.store_node_and_runs(place, written.card)?;
+        } else {
+            // The runs of its blocks are as they were.
+            self.store_node(place, written.card)?;
+        }
         Ok(())
     }
 

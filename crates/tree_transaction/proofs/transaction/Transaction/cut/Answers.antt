@@ -7,10 +7,10 @@ use Rattle.layout.specs.CachedNodes.{CachedNode}
 use Rattle.layout.specs.Marks.{times_set, mark_by}
 use Rattle.node_table.specs.Seen.{seen}
 use Rattle.tree_transaction.specs.Blocks.{HaveMarks, AreWithin, ChangeBlocks, ClearsTail}
-use Rattle.tree_transaction.specs.Transactions.{IsBack}
+use Rattle.tree_transaction.specs.Transactions.{IsBack, StandsAgain}
 use Rattle.tree_transaction.specs.Grown.{sized}
 use Rattle.tree_transaction.specs.Laying.{CanBeLaid, HasEnough}
-use Rattle.tree_transaction.proofs.BackLaws.{StandsAgain, laid_again}
+use Rattle.tree_transaction.proofs.BackLaws.{laid_again}
 use Rattle.tree_transaction.proofs.CutLaws.{cut_card, blocks_marked, sectors_here, can_be_cut, cut_enough, cut_stays, cut_now, cut_made}
 use Rattle.tree_transaction.proofs.KnownLaws.{same_card, edits_over, turns}
 use Rattle.tree_transaction.proofs.transaction.Transaction.cut.Goals as goal

@@ -13,10 +13,10 @@ use Rattle.layout.specs.Laid.{names_of_block}
 use Rattle.layout.specs.Marks.{times_set, mark_by}
 use Rattle.node_table.specs.Seen.{seen}
 use Rattle.tree_transaction.specs.Blocks.{HaveMarks, set_blocks}
-use Rattle.tree_transaction.specs.Transactions.{IsBack}
+use Rattle.tree_transaction.specs.Transactions.{IsBack, StandsAgain}
 use Rattle.tree_transaction.specs.Laying.{CanBeLaid, HasEnough}
 use Rattle.tree_transaction.specs.Naming.{Rewrites, without_name}
-use Rattle.tree_transaction.proofs.BackLaws.{StandsAgain, laid_again}
+use Rattle.tree_transaction.proofs.BackLaws.{laid_again}
 use Rattle.tree_transaction.proofs.CutLaws.{blocks_marked}
 use Rattle.tree_transaction.proofs.DropLaws.{stamped_was, drop_few, drop_can, drop_enough, drop_stays, drop_now, drop_made, dropped}
 use Rattle.tree_transaction.proofs.KnownLaws.{turns}

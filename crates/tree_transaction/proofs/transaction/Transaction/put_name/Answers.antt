@@ -14,10 +14,10 @@ use Rattle.node_table.specs.Seen.{seen}
 use Rattle.tree_transaction.specs.Blocks.{HaveRegion, GetSectors, WritesOne, set_blocks}
 use Rattle.tree_transaction.specs.declared.fault.SpaceFault.{SpaceFault}
 use Rattle.tree_transaction.specs.declared.fault.SpaceFault.TheVariants as space
-use Rattle.tree_transaction.specs.Transactions.{IsBack}
+use Rattle.tree_transaction.specs.Transactions.{IsBack, StandsAgain}
 use Rattle.tree_transaction.specs.Laying.{CanBeLaid, sectors_for}
 use Rattle.tree_transaction.specs.Naming.{with_name, blocks_named}
-use Rattle.tree_transaction.proofs.BackLaws.{StandsAgain, laid_again}
+use Rattle.tree_transaction.proofs.BackLaws.{laid_again}
 use Rattle.tree_transaction.proofs.FaultLaws.{told}
 use Rattle.tree_transaction.proofs.KnownLaws.{edits, turns, overcharged}
 use Rattle.tree_transaction.proofs.NameLaws.{named_card, unnamed, unused, stamped_was, named_region, block_within, named_first, can_be_named, named_few, named_last, put_stays, put_now, put_made}

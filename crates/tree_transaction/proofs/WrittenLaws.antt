@@ -1,0 +1,149 @@
+-- A file whose blocks are written: it can be laid, and stands again.
+use Rattle.std.proofs.Common.{◌≡◌, ◌≤◌, ◌<◌, ◌+◌, ◌∙◌, ℕ, Bool, false, List, [], Option, Some, None, length, set, sym, ap, subst, arith}
+use Rattle.std.proofs.lemmas.List.{length-set}
+use Rattle.disk.specs.Moments.{Image, applied}
+use Rattle.freemap.specs.Kept.{free_places}
+use Rattle.inode.specs.Fields.{IsInode}
+use Rattle.model.specs.Trees.Edit.{Shown, PutBytes}
+use Rattle.layout.specs.CachedNodes.{CachedNode}
+use Rattle.layout.specs.Known.{IsCard}
+use Rattle.layout.specs.Marks.{times, times_set, mark_by}
+use Rattle.layout.proofs.MarkProofs.{mark-front}
+use Rattle.tree_transaction.specs.Blocks.{WritesBytes, set_blocks}
+use Rattle.tree_transaction.specs.declared.transaction.Transaction.{Transaction}
+use Rattle.tree_transaction.specs.Transactions.{cards_of, IsKnown, StaysKnown, EditsOver, Turns, StandsAgain, IsOvercharged}
+use Rattle.tree_transaction.specs.Grown.{grown, reaching, blocks_to, CanWrite}
+use Rattle.tree_transaction.specs.Laying.{CanBeLaid, fields_with, sectors_for, Follow}
+use Rattle.tree_transaction.specs.Nodes.{fields_showing, showing}
+use Rattle.tree_transaction.specs.Written.{HasItsRuns, IsWritten, WritesShowing}
+use Rattle.tree_transaction.proofs.BlockLaws.{none_filled}
+use Rattle.tree_transaction.proofs.KnownLaws.{put-back, in_table, named_once, fields_fit, edits_over, turns, overcharged}
+use Rattle.tree_transaction.proofs.NodeLaws.{shown_card}
+use Rattle.tree_transaction.proofs.ShowingLaws.{through, stands_through, shown_stays, shown_turns, shown_edits}
+use Rattle.tree_transaction.proofs.WriteLaws.{grown_region, can_be_laid, mid_known, charged_last, write_stays, write_now, write_made}
+
+module _ (old mid : Transaction) (place end : ℕ) (card : CachedNode) (filled : Bool) (known : IsKnown old) (can : CanWrite (cards_of old) place end) (w : IsWritten old mid place end card filled) where
+  abbrev written : CachedNode
+  written = record (grown w.was end) { blocks = card.blocks }
+
+  within_table : place < old.nodes
+  within_table = in_table old.nodes (mark_by (148 + old.nodes) old.places) (cards_of old) place w.was known.cards w.there
+
+  once : (n : ℕ) → times n w.was.fields.run_sectors + times_set n w.was.blocks ≤ mark_by (148 + old.nodes) old.places n
+  once = named_once old.nodes (mark_by (148 + old.nodes) old.places) (cards_of old) place w.was known.cards w.there
+
+  pub within_now : place < length (cards_of mid)
+  within_now = let known_cards = known.cards in omega (arith, within_table, known_cards.count, ap (λ (l : List (Option CachedNode)). length l) w.cards, length-set (cards_of old) place None)
+
+  can_be : CanBeLaid mid.nodes place mid.places written
+  can_be = subst (λ (n : ℕ). CanBeLaid n place mid.places written) (sym w.nodes) (can_be_laid old place end w.was known w.there can card.blocks mid.places w.gets w.count)
+
+  pub can_now : CanBeLaid mid.nodes place mid.places card
+  can_now = subst (CanBeLaid mid.nodes place mid.places) (sym w.card_is) can_be
+
+  pub few_now : length card.blocks ≤ 4096
+  few_now = let region = grown_region old place end w.was known w.there can in omega (arith, region.few, w.count)
+
+  pub full_now : free_places mid.places + length card.fields.run_sectors < sectors_for (set_blocks card.blocks) → IsOvercharged old place (blocks_to end)
+  full_now full = overcharged old place w.was (blocks_to end) w.there (charged_last old place end w.was known w.there can card.blocks mid.places w.gets w.count
+      (subst (λ (one : CachedNode). free_places mid.places + length one.fields.run_sectors < sectors_for (set_blocks one.blocks)) w.card_is full))
+
+  -- no hole got a sector
+
+  is_card : filled ≡ false → IsCard card
+  is_card none = subst IsCard (sym w.card_is) (mid_known old place end w.was known w.there can card.blocks mid.places w.gets w.count (none_filled filled (grown w.was end).blocks card.blocks none w.fills))
+
+  apart : times (148 + place) card.fields.run_sectors ≡ 0
+  apart = omega (arith, within_table, once (148 + place), mark-front (148 + old.nodes) old.places (148 + place), ap (λ (one : CachedNode). times (148 + place) one.fields.run_sectors) w.card_is)
+
+  pub runs_now : filled ≡ false → HasItsRuns place card
+  runs_now none = record { is_card = is_card none; apart = apart }
+
+  -- the node shows something else too
+  module _ (shown : Shown) (fits : IsInode w.was.form (fields_showing w.was.fields shown)) where
+    fits_with : IsInode w.was.form (fields_with (fields_showing written.fields shown) 0 [])
+    fits_with = let laid = can_be_laid old place end w.was known w.there can card.blocks mid.places w.gets w.count in fields_fit w.was.form (fields_showing w.was.fields shown) written.fields.size fits laid.fits.size
+
+    pub can_shown : CanBeLaid mid.nodes place mid.places (showing shown card)
+    can_shown =
+        let laid = can_be in
+        subst (λ (one : CachedNode). CanBeLaid mid.nodes place mid.places (showing shown one)) (sym w.card_is)
+        (record { room = laid.room; within = laid.within; fits = fits_with; marked = laid.marked })
+
+    fits_shown : filled ≡ false → IsInode card.form (fields_showing card.fields shown)
+    fits_shown none =
+        let card_fits = is_card none in
+        let fits_plain : IsInode w.was.form written.fields = subst (λ (one : CachedNode). IsInode one.form one.fields) w.card_is card_fits.fits in
+        subst (λ (one : CachedNode). IsInode one.form (fields_showing one.fields shown)) (sym w.card_is) (record {
+          number = fits_plain.number;
+          owner = fits.owner;
+          group = fits.group;
+          change = fits.change;
+          time_modify = fits.time_modify;
+          size = fits_plain.size;
+          runs = fits_plain.runs;
+          run_sectors = fits_plain.run_sectors;
+          each_run_sector = fits_plain.each_run_sector;
+          acl = fits.acl;
+          each_ace = fits.each_ace;
+        })
+
+    pub runs_shown : filled ≡ false → HasItsRuns place (showing shown card)
+    runs_shown none = record { is_card = shown_card shown card (is_card none) (fits_shown none); apart = apart }
+
+  -- the cached node stands at its place again
+
+  module _ (new : Transaction) (stands : StandsAgain mid new place card mid.places mid.updates) where
+    again : StandsAgain old new place written mid.places mid.updates
+    again = subst (λ (one : CachedNode). StandsAgain old new place one mid.places mid.updates) w.card_is (record {
+      is = stands.is;
+      put = stands.put ∙ ap (λ (l : List (Option CachedNode)). set l place (Some stands.is)) w.cards ∙ put-back (cards_of old) place stands.is;
+      same = stands.same ∙ w.nodes;
+      rerun = stands.rerun;
+      follow = subst (λ (n : ℕ). Follow (148 + n) mid.places new.places card.fields.run_sectors stands.is.fields.run_sectors) w.nodes stands.follow;
+      len = stands.len;
+      node = stands.node;
+      run_sectors = stands.run_sectors;
+      others = stands.others;
+    })
+
+    pub known_now : StaysKnown old new
+    known_now = write_stays old place end w.was known w.there can card.blocks mid.places w.gets w.count new mid.updates w.others again
+
+    pub cards_now : Turns old new place (reaching end)
+    cards_now = turns old new place w.was w.there (reaching end) (write_now old place end w.was known w.there can card.blocks mid.places w.gets w.count new mid.updates w.others again)
+
+    pub tree_now : (base : Image) (size offset : ℕ) (bytes : List ℕ) → end ≡ offset + length bytes → WritesBytes (applied old.updates base) (applied mid.updates base) (grown w.was end).blocks card.blocks offset bytes
+        → EditsOver base size old new place (λ number. PutBytes number offset bytes)
+    tree_now base size offset bytes end_is writes = edits_over old new place w.was w.there base size (λ number. PutBytes number offset bytes)
+        (write_made old place end w.was known w.there can card.blocks mid.places w.gets w.count new mid.updates w.others again base size offset bytes end_is writes)
+
+  -- and shows something else then
+
+  module _ (shown : Shown) (fits : IsInode w.was.form (fields_showing w.was.fields shown)) (new : Transaction) (stands : StandsAgain mid new place (showing shown card) mid.places mid.updates) where
+    plain : IsInode card.form (fields_with card.fields 0 [])
+    plain = let laid = can_now in laid.fits
+
+    within_mid : place < mid.nodes
+    within_mid = omega (arith, within_table, w.nodes)
+
+    abbrev between : Transaction
+    between = through mid new place card shown plain apart within_mid stands
+
+    stands_between : StandsAgain mid between place card mid.places mid.updates
+    stands_between = stands_through mid new place card shown plain apart within_mid stands
+
+    known_between : StaysKnown old between
+    known_between = known_now between stands_between
+
+    pub writes_showing : (word : Type 0) (base : Image) (size offset : ℕ) (bytes : List ℕ) → end ≡ offset + length bytes → (word → WritesBytes (applied old.updates base) (applied mid.updates base) (grown w.was end).blocks card.blocks offset bytes)
+        → WritesShowing word base size old new place offset bytes shown
+    writes_showing word base size offset bytes end_is writes = record {
+      mid = between;
+      known_mid = known_between;
+      cards_mid = subst (λ (e : ℕ). Turns old between place (reaching e)) end_is (cards_now between stands_between);
+      written = λ k. tree_now between stands_between base size offset bytes end_is (writes k);
+      known = shown_stays mid new place card shown plain apart within_mid stands known_between.known within_now;
+      cards = shown_turns mid new place card shown plain apart within_mid stands known_between.known within_now;
+      shows = shown_edits mid new place card shown plain apart within_mid stands known_between.known within_now;
+    }
