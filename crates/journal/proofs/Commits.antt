@@ -5,8 +5,6 @@ use Rattle.disk.specs.Moments.{Image, History, seen, applied, put, newest}
 use Rattle.disk.proofs.MomentLemmas.{AddsOnly-weaken, AddsOnly-join}
 use Rattle.journal.specs.Layout.{AreTargets, gate, through, targets, placed, copies}
 use Rattle.journal.specs.Settled.{AreSame, Settles}
-use Rattle.journal.specs.declared.recorded.Recorded.{Recorded}
-use Rattle.journal.specs.Recorded.{IsStored}
 use Rattle.journal.specs.Phase.{LeftWith, AddsUpdates, IsFixedAs, IsGated}
 use Rattle.journal.specs.Behind.{way_cost}
 use Rattle.journal.specs.Commit.{AddsEither, IsRecorded, KeepsShown, IsCopiedHome, MakesWay, IsCommitted}
@@ -110,13 +108,6 @@ AddsUpdates-at xs ys h h1 e w = let P : List Update → Type 0 = λ us. AddsUpda
 pub IsFixedAs-at : (xs ys : List Update) (h h1 : History) → xs ≡ ys → IsFixedAs xs h h1 → IsFixedAs ys h h1
 IsFixedAs-at xs ys h h1 e w = let P : List Update → Type 0 = λ us. IsFixedAs us h h1 in subst P e w
 
--- a closed gate has nothing in its payload
-pub stored_closed : (recorded : Recorded) (h : History) → recorded.targets.items ≡ [] → recorded.updates.items ≡ [] → IsGated [] h → IsStored recorded h
-stored_closed recorded h none empty closed = record {
-  gated = let P : List ℕ → Type 0 = λ to. IsGated to h in subst P (sym none) closed;
-  payload = ap (λ (to : List ℕ). copies (seen h.now) 2 to) none ∙ sym empty;
-}
-
 -- the payload's phase, where what is shown was counted
 pub payload_moments_at : (behind count : ℕ) (us : List Update) (h h1 : History) → behind ≡ count → AddsUpdates (placed (2 + behind) us) h h1
     → AddsUpdates (placed (2 + count) us) h h1
@@ -147,13 +138,15 @@ module _ (size size1 : ℕ) (to : List ℕ) (us : List Update) (was shown : List
       (λ (s : Settles size image (applied us (through shown (seen h1.now)))). inr (settles_same size image _ _ (applied_keeps size us _ _ back) s))
       e) (subst P same_size w))
 
-  pub committed : (h2 : History) (now : List ℕ) → to ≡ targets us → IsRecorded size1 us shown now h1 h2 → IsCommitted size us was now h h2
-  committed h2 now named w =
+  pub committed : (h2 : History) (now : List ℕ) (stay : List Update) → to ≡ targets us → copies (seen h1.now) 2 shown ≡ stay
+      → IsRecorded size1 us shown now h1 h2 → IsCommitted size us was now stay h h2
+  committed h2 now stay named paid w =
       let P : ℕ → Type 0 = λ s. IsRecorded s us shown now h1 h2 in
       let recorded_here : IsRecorded size us shown now h1 h2 = subst P same_size w in
       record {
         gated = recorded_here.gated;
         same = λ n k. applied_keeps size us _ _ way.same n k ∙ recorded_here.same n k;
+        payload = recorded_here.payload ∙ ap (λ (vs : List Update). vs ++ us) paid;
         cost = omega (arith, recorded_here.cost, way.cost, ap (λ (ts : List ℕ). way_cost was ts) named);
       }
 

@@ -31,10 +31,10 @@ pub targets_more : (us : List Update) (i : ℕ) (d : Update) → i < length us
 targets_more us i d l = ap (λ xs. targets xs) (take_more us i d l) ∙ targets-push (take i us) (get_or us i d)
 
 -- a commit that went well
-pub committed_at : {T E : Type 0} (r : Result T E) (size : ℕ) (xs ys : List Update) (was shown : List ℕ) (h h1 : History) → is_err r ≡ false → xs ≡ ys
-    → OnOk r (IsCommitted size xs was shown h h1) → IsCommitted size ys was shown h h1
-committed_at r size xs ys was shown h h1 ok e w =
-    let P : List Update → Type 0 = λ us. OnOk r (IsCommitted size us was shown h h1) in on_ok r ok (subst P e w)
+pub committed_at : {T E : Type 0} (r : Result T E) (size : ℕ) (xs ys : List Update) (was shown : List ℕ) (stay : List Update) (h h1 : History)
+    → is_err r ≡ false → xs ≡ ys → OnOk r (IsCommitted size xs was shown stay h h1) → IsCommitted size ys was shown stay h h1
+committed_at r size xs ys was shown stay h h1 ok e w =
+    let P : List Update → Type 0 = λ us. OnOk r (IsCommitted size us was shown stay h h1) in on_ok r ok (subst P e w)
 
 pub either_at : (size : ℕ) (xs ys : List Update) (base : Image) (h h1 : History) → xs ≡ ys → AddsEither size xs base h h1 → AddsEither size ys base h h1
 either_at size xs ys base h h1 e w = let P : List Update → Type 0 = λ us. AddsEither size us base h h1 in subst P e w

@@ -47,12 +47,14 @@ pub record MakesWay (size : ℕ) (to was shown : List ℕ) (old new : History) :
   pub same : AreSame size (through was (seen old.now)) (through shown (seen new.now))
   pub cost : moment new ≡ moment old + way_cost was to
 
--- Through the gate the device reads as with the updates.
-pub record IsCommitted (size : ℕ) (updates : List Update) (was shown : List ℕ) (old new : History)
-    : Type 0 where
+-- Through the gate the device reads as with the updates. The payload has their contents behind those
+-- of the updates that stay.
+pub record IsCommitted (size : ℕ) (updates : List Update) (was shown : List ℕ) (stay : List Update)
+    (old new : History) : Type 0 where
   pub gated : IsGated shown new
   pub same : AreSame size (applied updates (through was (seen old.now)))
       (through shown (seen new.now))
+  pub payload : copies (seen new.now) 2 shown ≡ stay ++ updates
   pub cost : moment new ≡ moment old + (way_cost was (targets updates) + (length updates + 3))
 
 -- what is named stays what a gate can name, with the room that there is

@@ -3,7 +3,7 @@
 
 ghost use Rattle.std.specs.Prelude.{OnOk, ◌≡◌, ◌≤◌, ◌<◌, ◌++◌, ◌+◌, [], length, vec_capacity};
 ghost use Rattle.disk.specs.Moments.{seen};
-ghost use Rattle.journal.specs.Layout.{copies, targets, through};
+ghost use Rattle.journal.specs.Layout.{targets, through};
 ghost use Rattle.journal.specs.Behind.{FitsGate, way_for};
 ghost use Rattle.journal.specs.Recorded.{FitsRecorded, IsStored};
 ghost use Rattle.journal.specs.Phase.{IsGated, FailsCounted};
@@ -32,11 +32,8 @@ pub(crate) fn commit<D: Device>(
         (D.history device.old) (D.history device.new) }
     ensures ok { D.keeps_word → IsStored recorded.old (D.history device.old)
         → OnOk result (IsCommitted (D.size device.old) updates.now
-        recorded.old.targets.items recorded.new.targets.items
+        recorded.old.targets.items recorded.new.targets.items recorded.new.updates.items
         (D.history device.old) (D.history device.new)) }
-    ensures payload { D.keeps_word → IsStored recorded.old (D.history device.old)
-        → OnOk result (copies (seen (D.history device.new).now) 2 recorded.new.targets.items
-        ≡ recorded.new.updates.items ++ updates.now) }
     // On any device
     ensures shown { OnOk result
         ((recorded.new.targets.items ≡ way_for recorded.old.targets.items to.now ++ to.now)

@@ -1,5 +1,4 @@
 use Rattle.std.proofs.Common.{◌∙◌, ◌++◌, ap, ℕ, List, length, arith, sym, subst}
-use Rattle.disk.specs.declared.update.Update.{Update}
 use Rattle.journal.specs.Behind.{FitsGate}
 use Rattle.journal.specs.Layout.{AreTargets}
 use Rattle.journal.proofs.Behinds.{fits_at, way_fits}
@@ -46,14 +45,8 @@ returns-clause-ok g c = λ k stored.
     committed (g.D.Device.size c.args.device.now) (g.D.Device.size c.make_way.new.device) c.args.to.now c.args.updates.now
     c.args.recorded.now.targets.items c.make_way.new.recorded.targets.items
     (g.D.Device.history c.args.device.now) (g.D.Device.history c.make_way.new.device) c.in_ok-make_way.ensures.size (c.in_ok-make_way.ensures.moments k stored) way
-    (g.D.Device.history c.write_commit_record.new.device) c.write_commit_record.new.shown.items c.requires.taken.named
-    (c.in_ok-write_commit_record.ensures.ok k way.gated)
-
-pub returns-clause-payload : goal.returns-clause-payload
-returns-clause-payload g c = λ k stored.
-    let way = c.in_ok-make_way.ensures.stored k stored in
-    (c.in_ok-write_commit_record.ensures.ok k way.gated).payload
-    ∙ ap (λ (us : List Update). us ++ c.args.updates.now) way.payload
+    (g.D.Device.history c.write_commit_record.new.device) c.write_commit_record.new.shown.items c.make_way.new.recorded.updates.items c.requires.taken.named
+    (c.in_ok-make_way.ensures.stored k stored).payload (c.in_ok-write_commit_record.ensures.ok k way.gated)
 
 pub returns-clause-shown : goal.returns-clause-shown
 returns-clause-shown g c = (

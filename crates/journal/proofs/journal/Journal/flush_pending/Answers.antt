@@ -1,7 +1,6 @@
 use Rattle.std.proofs.Common.{◌≡◌, ◌∙◌, ◌+◌, ◌++◌, ap, sym, ℕ, List, length, false, rules, arith}
 use Rattle.std.proofs.lemmas.List.{length-append}
 use Rattle.std.specs.Global.{Vec}
-use Rattle.disk.specs.declared.update.Update.{Update}
 use Rattle.disk.specs.Moments.{AddsOnly, applied, seen, moment}
 use Rattle.journal.specs.Behind.{way_for}
 use Rattle.journal.specs.Commit.{IsCommitted}
@@ -26,10 +25,10 @@ stored g c k = stored_of c.args.self.now.recorded (g.D.Device.history c.args.sel
     (c.args.self.now.gate_is k c.requires) (c.args.self.now.payload k c.requires)
 
 done : (g : Over) (c : After-is_err g) → c.is_err.result ≡ false → g.D.Device.keeps_word
-    → IsCommitted (g.D.Device.size c.args.self.now.device) c.args.self.now.pending.items c.args.self.now.recorded.targets.items c.commit.new.recorded.targets.items
+    → IsCommitted (g.D.Device.size c.args.self.now.device) c.args.self.now.pending.items c.args.self.now.recorded.targets.items c.commit.new.recorded.targets.items c.commit.new.recorded.updates.items
     (g.D.Device.history c.args.self.now.device) (g.D.Device.history c.commit.new.device)
 done g c e k = committed_at c.commit.result (g.D.Device.size c.args.self.now.device) c.deref-2.result.now c.args.self.now.pending.items
-    c.args.self.now.recorded.targets.items c.commit.new.recorded.targets.items
+    c.args.self.now.recorded.targets.items c.commit.new.recorded.targets.items c.commit.new.recorded.updates.items
     (g.D.Device.history c.args.self.now.device) (g.D.Device.history c.commit.new.device)
     (sym c.is_err.ensures.value ∙ e) c.deref-2.ensures.value (c.commit.ensures.ok k (stored g c k))
 
@@ -132,6 +131,5 @@ unfolding log_of
 invariant_of-self-2-clause-payload g c = λ k up.
     let at = (goal.at.invariant_of-self-2-clause-payload g c).After-is_err in
     ap (λ (to : Vec ℕ). copies (seen (g.D.Device.history c.commit.new.device).now) 2 to.items) c.take_over.ensures.targets
-    ∙ on_ok c.commit.result (sym c.is_err.ensures.value ∙ c.if-is_err.false) (c.commit.ensures.payload k (stored g at k))
-    ∙ ap (λ (us : List Update). c.commit.new.recorded.updates.items ++ us) c.deref-2.ensures.value
+    ∙ (done g at c.if-is_err.false k).payload
     ∙ sym c.take_over.ensures.items
