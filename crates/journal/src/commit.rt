@@ -1,5 +1,5 @@
-//! How a transaction goes through the gate: it is recorded behind what the open gate shows, and
-//! copied home only where a later one has no room there.
+//! How a transaction goes through the commit record: it is recorded behind what the record names,
+//! and copied home only where a later one has no room there.
 
 ghost use Rattle.std.specs.Prelude.{OnOk, ◌≡◌, ◌≤◌, ◌<◌, ◌++◌, ◌+◌, [], length, vec_capacity};
 ghost use Rattle.disk.specs.Moments.{seen};
@@ -14,7 +14,7 @@ use crate::recorded::Recorded;
 use crate::{gate, phase};
 use disk::{Device, DiskFault, Update};
 
-/// Takes updates through the gate, which shows them afterwards, alone or after what it showed. That
+/// Commits updates: the commit record names them afterwards, alone or after what it named. That
 /// they are recorded too is left to the caller.
 pub(crate) fn commit<D: Device>(
     device: &mut D,
@@ -47,7 +47,8 @@ pub(crate) fn commit<D: Device>(
     Ok(())
 }
 
-/// Where more targets do not go behind what the gate shows, copies that home and closes the gate.
+/// Where more targets do not go behind what the commit record names, copies that home and clears
+/// the record.
 pub(crate) fn make_way<D: Device>(
     device: &mut D,
     recorded: &mut Recorded,
@@ -81,7 +82,7 @@ pub(crate) fn make_way<D: Device>(
     Ok(())
 }
 
-/// Copies home what the gate shows, and closes it. Nothing is read.
+/// Copies home what the commit record names, and clears it. Nothing is read.
 pub(crate) fn close<D: Device>(device: &mut D, recorded: &mut Recorded) -> Result<(), DiskFault>
     requires fits { FitsRecorded (D.size device.old) recorded.old }
     requires large { FIRST_TARGET ≤ D.size device.old }
@@ -105,7 +106,7 @@ pub(crate) fn close<D: Device>(device: &mut D, recorded: &mut Recorded) -> Resul
     Ok(())
 }
 
-/// Writes the payload behind what the gate shows, and then names its targets in the gate.
+/// Writes the payload behind what the commit record names, and then names its targets there too.
 pub(crate) fn write_commit_record<D: Device>(
     device: &mut D,
     shown: &mut Vec<u32>,

@@ -10,7 +10,7 @@ pub enum JournalFault {
     /// The device failed. The journal is down from then on.
     #[error("the device failed")]
     Fault,
-    /// The gate sector has no form that a journal writes.
+    /// The sector of the commit record has no form that a journal writes.
     #[error("the gate has no form")]
     Damaged,
     /// A transaction of more than 48 sectors. Nothing changed.

@@ -1,4 +1,5 @@
-//! The gate sector: zeros where it is closed, and else 1, the number of targets, and the targets.
+//! The gate, the sector of the commit record: zeros where it is cleared, and else 1, the number of
+//! targets, and the targets.
 
 ghost use Rattle.std.specs.Prelude.{◌≡◌, ◌≤◌, ◌<◌, ◌+◌, ◌*◌, ◌↔◌, ◌⊎◌, ℕ, List, [], ◌++◌, length, drop, false, IsTrue, vec_capacity};
 ghost use Rattle.byteorder.specs.Endian.{big_number};
@@ -9,10 +10,10 @@ use crate::layout::{FIRST_TARGET, PAYLOAD, PAYLOAD_SECTORS};
 use byteorder::{BigEndian, ByteOrder};
 use disk::SECTOR;
 
-/// The first word of an open gate.
+/// The first word of a commit record that is set.
 const OPEN: u32 = 1;
 
-/// The gate sector for these targets; for none it is closed.
+/// The commit record for these targets; for none it is cleared.
 pub(crate) fn encode(targets: &[u32]) -> [u8; SECTOR]
     requires { length targets.now ≤ PAYLOAD_SECTORS }
     ensures { result ≡ gate targets.now }
@@ -24,7 +25,7 @@ pub(crate) fn encode(targets: &[u32]) -> [u8; SECTOR]
     sector
 }
 
-/// The sector of a closed gate: zeros.
+/// The sector of a cleared commit record: zeros.
 #[tactic(auto, unfolding(crate::specs::Layout::gate, disk::specs::Calls::zero_sector))]
 pub(crate) fn closed() -> [u8; SECTOR]
     ensures { result ≡ gate [] }
@@ -32,7 +33,7 @@ pub(crate) fn closed() -> [u8; SECTOR]
     [0; SECTOR]
 }
 
-/// Writes an open gate's words to the front of a sector.
+/// Writes the words of a commit record that is set to the front of a sector.
 fn write_words(targets: &[u32], sector: &mut [u8])
     requires few { length targets.now ≤ PAYLOAD_SECTORS }
     requires long { length sector.old ≡ SECTOR }
@@ -44,7 +45,7 @@ fn write_words(targets: &[u32], sector: &mut [u8])
     BigEndian::write_u32_into(targets, &mut sector[8..8 + 4 * targets.len()]);
 }
 
-/// Whether a gate sector has a form: then `targets` holds what it names.
+/// Whether a sector is a commit record, set or cleared: then `named` holds what it names.
 pub(crate) fn decode(sector: &[u8; SECTOR], sectors: u32, named: &mut Vec<u32>) -> bool
     requires { PAYLOAD_SECTORS ≤ vec_capacity named.old }
     ensures found { IsTrue result → NamesTargets sectors sector.now named.new.items }
@@ -57,7 +58,7 @@ pub(crate) fn decode(sector: &[u8; SECTOR], sectors: u32, named: &mut Vec<u32>) 
     are_targets(named, sectors) && encode(named).as_slice() == sector.as_slice()
 }
 
-/// Reads a gate sector's words; false where they tell of more targets than a gate has.
+/// Reads a commit record's words; false where they tell of more targets than there can be.
 fn read_words(sector: &[u8], named: &mut Vec<u32>) -> bool
     requires room { PAYLOAD_SECTORS ≤ vec_capacity named.old }
     requires long { length sector.now ≡ SECTOR }
@@ -90,7 +91,7 @@ pub(crate) fn are_targets(to: &[u32], sectors: u32) -> bool
     true
 }
 
-/// Where sector `n` stands, behind a gate that names these targets.
+/// Where sector `n` stands, read through a commit record that names these targets.
 pub(crate) fn place_of(named: &[u32], n: u32) -> u32
     requires { length named.now ≤ PAYLOAD_SECTORS }
     ensures place { result ≡ home named.now 2 n }
@@ -104,7 +105,8 @@ pub(crate) fn place_of(named: &[u32], n: u32) -> u32
     n
 }
 
-/// Whether more targets go behind a gate: all others than it names, and few enough beside them.
+/// Whether more targets go behind those that a commit record names: all others than these, and few
+/// enough beside them.
 pub(crate) fn goes_behind(named: &[u32], to: &[u32]) -> bool
     requires named { length named.now ≤ PAYLOAD_SECTORS }
     requires few { length to.now ≤ PAYLOAD_SECTORS }

@@ -1,4 +1,4 @@
-//! The journal: a base, and a list of transactions that go into it through the gate.
+//! The journal: a base, and a list of transactions that go into it through the commit record.
 
 ghost use Rattle.std.specs.Prelude.{◌≡◌, ◌≤◌, ◌<◌, ◌⊎◌, ◌+◌, ◌↔◌, [], length, false, vec_capacity, OnOk, IfOk, IfErr, IsErrOf};
 ghost use Rattle.disk.specs.Moments.{applied, seen, moment};
@@ -33,7 +33,7 @@ pub struct Journal<D: Device> {
     device: D,
     pending: Vec<Update>,
     pending_sectors: Vec<u32>,
-    /// What the open gate shows.
+    /// What the commit record names.
     recorded: Recorded,
     /// What was read last.
     cache: Cache,
@@ -118,8 +118,8 @@ impl<D: Device> Journal<D> {
         Ok(())
     }
 
-    /// Mounts the journal of a device: what an open gate shows is copied home first. It keeps the
-    /// 64 sectors in memory that were read last.
+    /// Mounts the journal of a device: what a commit record that stands names is copied home first.
+    /// It keeps the 64 sectors in memory that were read last.
     ///
     /// # Errors
     ///
@@ -144,8 +144,9 @@ impl<D: Device> Journal<D> {
     ///
     /// # Errors
     ///
-    /// The device comes back with the reason: `Damaged` where the gate has no form, and then
-    /// nothing was written; `Fault` where the device failed; `Memory`, and then it was not touched.
+    /// The device comes back with the reason: `Damaged` where the commit record is malformed, and
+    /// then nothing was written; `Fault` where the device failed; `Memory`, and then it was not
+    /// touched.
     pub fn mount_cached(
         alloc: Global,
         device: D,
@@ -185,13 +186,13 @@ impl<D: Device> Journal<D> {
         }
     }
 
-    /// What a mount would begin with, read without one: an open gate is read through, and nothing
-    /// is written.
+    /// What a mount would begin with, read without one: through a commit record that stands, and
+    /// nothing is written.
     ///
     /// # Errors
     ///
-    /// As [`Journal::mount`], with the device: `Damaged` where the gate has no form, `Fault` where
-    /// the device failed, and `Memory`.
+    /// As [`Journal::mount`], with the device: `Damaged` where the commit record is malformed,
+    /// `Fault` where the device failed, and `Memory`.
     pub fn view(alloc: Global, device: &mut D) -> Result<View<'_, D>, Unmounted<&mut D>>
         requires { MIN_SECTORS ≤ D.size device.old }
         ensures new { IfOk result (λ view. IsNew (D.size device.old) (D.failed device.old)
@@ -314,8 +315,9 @@ impl<D: Device> Journal<D> {
         Ok(())
     }
 
-    /// Copies home what the open gate names, and closes it, so that the next flush finds it closed.
-    /// The base and the list stay. Where the gate is closed, nothing is done. Takes no memory.
+    /// Makes a checkpoint: copies home what the commit record names, and clears it, so that the
+    /// next flush finds it cleared. The base and the list stay. Where none stands, nothing is done.
+    /// Takes no memory.
     ///
     /// # Errors
     ///

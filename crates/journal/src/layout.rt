@@ -11,13 +11,13 @@ pub const MIN_SECTORS: u32 = 256;
 /// The sector that the caller writes by itself.
 pub(crate) const SUPERBLOCK: u32 = 0;
 
-/// The sector of the gate.
+/// The gate: the sector of the commit record.
 pub(crate) const GATE: u32 = 1;
 
 /// The first sector of the payload.
 pub(crate) const PAYLOAD: u32 = 2;
 
-/// The number of sectors of the payload, and so the most targets of a gate.
+/// The number of sectors of the payload, and so the most targets of a commit record.
 pub const PAYLOAD_SECTORS: usize = 96;
 
 /// The first sector that a transaction may write.

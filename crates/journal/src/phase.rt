@@ -53,7 +53,7 @@ pub(crate) fn write_homes<D: Device>(device: &mut D, updates: &[Update]) -> Resu
     Ok(())
 }
 
-/// Writes one sector: the gate or the superblock.
+/// Writes one sector: the commit record or the superblock.
 pub(crate) fn write_sector<D: Device>(
     device: &mut D,
     n: u32,

@@ -1,4 +1,4 @@
-//! What the open gate shows, kept in memory, so that copying it home reads nothing.
+//! What the commit record names, kept in memory, so that copying it home reads nothing.
 
 ghost use Rattle.std.specs.Prelude.{◌≡◌, ◌≤◌, ◌+◌, ◌++◌, [], false, length, vec_capacity, IfOk, IsTrue};
 ghost use Rattle.disk.specs.Moments.{Image, applied};
@@ -12,10 +12,10 @@ use disk::{SECTOR, Update};
 use std::alloc::{AllocError, Global};
 use std::mem;
 
-/// The targets of the open gate, and what the payload has for them.
+/// The targets of the commit record, and what the payload has for them.
 #[derive(Drop)]
 pub(crate) struct Recorded {
-    /// In the order that the gate names them in.
+    /// In the order that the commit record names them in.
     pub(crate) targets: Vec<u32>,
     /// The same sectors, each with its content.
     pub(crate) updates: Vec<Update>,
@@ -24,7 +24,7 @@ pub(crate) struct Recorded {
 }
 
 impl Recorded {
-    /// Memory for all that a gate can name.
+    /// Memory for all that a commit record can name.
     pub(crate) fn new(alloc: Global) -> Result<Recorded, AllocError>
         ensures { IfOk result
             (λ recorded. (recorded.targets.items ≡ []) × (recorded.updates.items ≡ [])) }

@@ -12,8 +12,8 @@ use crate::recorded::Recorded;
 use crate::{JournalFault, commit, gate, layout};
 use disk::{Device, DiskFault, SECTOR, Update};
 
-/// Syncs, since contents of an earlier run may still be unsynced, and then copies an open gate's
-/// payload home. Where that went well, nothing is recorded any more.
+/// Syncs, since contents of an earlier run may still be unsynced, and then copies home what a
+/// commit record that stands names. Where that went well, nothing is recorded any more.
 pub(crate) fn recover<D: Device>(
     device: &mut D,
     recorded: &mut Recorded,
@@ -46,7 +46,7 @@ pub(crate) fn recover<D: Device>(
     Ok(())
 }
 
-/// Reads the gate: where it has a form, `named` holds what it names.
+/// Reads the commit record: where it has a form, `named` holds what it names.
 pub(crate) fn read_gate<D: Device>(device: &mut D, named: &mut Vec<u32>) -> Result<(), JournalFault>
     requires large { MIN_SECTORS ≤ D.size device.old }
     requires room { PAYLOAD_SECTORS ≤ vec_capacity named.old }

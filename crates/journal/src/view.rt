@@ -9,20 +9,20 @@ use disk::{Device, SECTOR};
 
 /// What the journal of a device has in its base, without a mount.
 ///
-/// A target of an open gate is read in the payload, where its content stands, and each other sector
-/// at its own place.
+/// A target of a commit record that stands is read in the payload, where its content is, and each
+/// other sector at its own place.
 #[derive(Drop)]
 pub struct View<'a, D: Device> {
     device: &'a mut D,
     targets: [u32; PAYLOAD_SECTORS],
-    /// How many of these the gate names.
+    /// How many of these the commit record names.
     count: usize,
     is_down: bool,
     ghost large: { MIN_SECTORS ≤ D.size device.now },
     ghost few: { count ≤ PAYLOAD_SECTORS },
 }
 
-/// The targets of a gate, and zeros after them.
+/// The targets of a commit record, and zeros after them.
 fn padded(targets: &[u32]) -> [u32; PAYLOAD_SECTORS]
     requires { length targets.now ≤ PAYLOAD_SECTORS }
     ensures { take (length targets.now) result ≡ targets.now }
@@ -39,7 +39,7 @@ impl<'a, D: Device> View<'a, D> {
     ghost use Rattle.journal.specs.Viewed.{viewed};
     ghost use Rattle.journal.specs.Views.{view_of, view_failures, name_of};
 
-    /// A view of a device behind a gate of these targets.
+    /// A view of a device through a commit record of these targets.
     pub(crate) fn new(device: &'a mut D, targets: &[u32]) -> View<'a, D>
         requires large { MIN_SECTORS ≤ D.size device.old }
         requires few { length targets.now ≤ PAYLOAD_SECTORS }
