@@ -30,6 +30,14 @@ pub record LeavesOnlySynced (size : ℕ) (old new : History) : Type 0 where
   pub formless : (settled : Image) → Settles size (seen old.now) settled → ⊥
   pub only_synced : new ≡ synced old
 
+-- what a replay did that began with the sync of this history
+pub record Replays {T : Type 0} (size : ℕ) (before new : History) (result : Result T JournalFault)
+    : Type 0 where
+  pub moments : AddsOnly (SettlesAs size (seen before.now)) before new
+  pub ok : OnOk result (Recovers size before new)
+  pub closed : IsClosed before → WritesNothing before new result
+  pub damaged : IsErrOf result faults.Damaged → LeavesOnlySynced size before new
+
 -- a mount's failures: of the device, which counted it, or the gate's, and then it counted none
 pub record FaultsCounted {T : Type 0} (before after : ℕ) (result : Result T JournalFault)
     : Type 0 where

@@ -1,11 +1,11 @@
 //! What a mount does to a device before anything else.
 
 ghost use Rattle.std.specs.Prelude.{◌≡◌, ◌≤◌, ◌<◌, ◌^◌, ℕ, List, [], OnOk, IsErrOf, length, vec_capacity};
-ghost use Rattle.disk.specs.Moments.{AddsOnly, seen};
+ghost use Rattle.disk.specs.Moments.{History, AddsOnly, seen, synced};
 ghost use Rattle.journal.specs.Layout.{AreTargets, NamesTargets, copies, gate, targets};
 ghost use Rattle.journal.specs.Settled.{SettlesAs};
 ghost use Rattle.journal.specs.Phase.{FailsCounted};
-ghost use Rattle.journal.specs.Recover.{Recovers, LeavesOnlySynced, IsClosed, WritesNothing, FaultsCounted};
+ghost use Rattle.journal.specs.Recover.{Recovers, Replays, LeavesOnlySynced, IsClosed, WritesNothing, FaultsCounted};
 
 use crate::layout::{MIN_SECTORS, PAYLOAD, PAYLOAD_SECTORS};
 use crate::recorded::Recorded;
@@ -37,6 +37,23 @@ pub(crate) fn recover<D: Device>(
     ensures failures { FaultsCounted (D.failed device.old) (D.failed device.new) result }
 {
     device.sync()?;
+    replay(device, recorded)
+}
+
+/// Copies home what a commit record that stands names, where nothing is unsynced since a sync just
+/// before.
+fn replay<D: Device>(device: &mut D, recorded: &mut Recorded) -> Result<(), JournalFault>
+    requires large { MIN_SECTORS ≤ D.size device.old }
+    requires empty { recorded.old.updates.items ≡ [] }
+    // On a device that keeps its word
+    ensures replays { D.keeps_word → (before : History) → D.history device.old ≡ synced before
+        → Replays (D.size device.old) before (D.history device.new) result }
+    // On any device
+    ensures none { OnOk result
+        ((recorded.new.targets.items ≡ []) × (recorded.new.updates.items ≡ [])) }
+    ensures size { D.size device.new ≡ D.size device.old }
+    ensures failures { FaultsCounted (D.failed device.old) (D.failed device.new) result }
+{
     read_gate(device, &mut recorded.targets)?;
     if recorded.targets.is_empty() {
         return Ok(());

@@ -1,15 +1,8 @@
-use Rattle.std.proofs.Common.{◌≡◌, ◌<◌, ◌^◌, ℕ, List, length, arith, sym, subst, ◌∙◌, refl, ap, vec_len, inl, inr}
-use Rattle.std.proofs.lemmas.Bool.{eqb-true}
-use Rattle.disk.specs.Moments.{History, seen, synced}
-use Rattle.journal.specs.Layout.{NamesTargets, copies}
-use Rattle.journal.specs.Phase.{IsGated}
-use Rattle.journal.specs.Recover.{IsClosed}
-use Rattle.journal.proofs.Answerings.{counted_of, is_fault, is_told}
-use Rattle.journal.proofs.Journals.{same_fit}
-use Rattle.journal.proofs.Recovers.{counted_after, synced_moments, recover_moments, keeps_shown_at, gated_after, closed_none, copied_home_at, fault_counted, no_elements, none_counted, not_empty, recovers_closed, recovers_copied, unmoved}
+use Rattle.std.proofs.Common.{◌∙◌, ℕ, inl, refl, subst}
+use Rattle.journal.specs.Recover.{Replays}
+use Rattle.journal.proofs.Answerings.{counted_of, is_fault}
+use Rattle.journal.proofs.Recovers.{counted_after, fault_counted, unmoved}
 use Rattle.journal.proofs.recover.recover.Goals as goal
-use Rattle.journal.proofs.recover.recover.Given.{Over}
-use Rattle.journal.proofs.recover.recover.Goals.{In_ok-read_gate, In_ok-read_payload}
 
 pub returns-in_err-sync : goal.returns-in_err-sync
 returns-in_err-sync g c = rw (is_fault _ c.from_residual.ensures.1) (record {
@@ -22,161 +15,16 @@ returns-in_err-sync g c = rw (is_fault _ c.from_residual.ensures.1) (record {
   failures = fault_counted _ _ _ refl (counted_of _ _ _ refl c.in_err-sync.ensures.cause c.in_err-sync.ensures.not_range);
 })
 
-pub returns-in_err-read_gate : goal.returns-in_err-read_gate
-returns-in_err-read_gate g c =
-    let fault = c.in_err-read_gate.field-0.0 in
-    let synced_once = λ (k : g.D.Device.keeps_word). c.in_err-read_gate.ensures.reads.0 ∙ c.in_ok-sync.ensures.ok k in
-    rw (is_told _ fault c.from_residual-in_err-read_gate.ensures.1) (record {
-      moments = λ k. synced_moments _ _ _ _ c.in_err-read_gate.ensures.reads.0 (c.in_ok-sync.ensures.ok k);
-      ok = λ k. tt;
-      closed = λ k closed. record { ok = tt; err = inr (synced_once k) };
-      damaged = λ k e. record {
-        formless = λ settled s. c.in_err-read_gate.ensures.damaged k e s.to (record {
-          few = s.few;
-          fit = same_fit _ _ s.to c.in_ok-sync.ensures.size s.fit;
-          gate_is = ap (λ (h : History). seen h.now 1) (c.in_ok-sync.ensures.ok k) ∙ s.gate_is;
-        });
-        only_synced = synced_once k;
-      };
-      none = tt;
-      size = c.in_err-read_gate.ensures.reads.1 ∙ c.in_ok-sync.ensures.size;
-      failures = counted_after _ _ _ _ c.in_ok-sync.ensures.cause.ok c.in_err-read_gate.ensures.failures;
-    })
-
-resynced : (g : Over) (c : In_ok-read_gate g) → g.D.Device.keeps_word → g.D.Device.history c.read_gate.new.device ≡ synced (g.D.Device.history c.args.device.now)
-resynced g c k = c.in_ok-read_gate.ensures.reads.0 ∙ c.in_ok-sync.ensures.ok k
-
-resized : (g : Over) (c : In_ok-read_gate g) → g.D.Device.size c.read_gate.new.device ≡ g.D.Device.size c.args.device.now
-resized g c = c.in_ok-read_gate.ensures.reads.1 ∙ c.in_ok-sync.ensures.size
-
--- the gate names what was read
-named_by : (g : Over) (c : In_ok-read_gate g) → g.D.Device.keeps_word
-    → NamesTargets (g.D.Device.size c.args.device.now) (seen (g.D.Device.history c.sync.new.self).now 1) c.read_gate.new.named.items
-named_by g c k = record {
-  few = c.in_ok-read_gate.ensures.named.0;
-  fit = same_fit _ _ _ (sym c.in_ok-sync.ensures.size) c.in_ok-read_gate.ensures.named.1;
-  gate_is = c.in_ok-read_gate.ensures.gate_is k;
-}
-
-gated : (g : Over) (c : In_ok-read_gate g) → g.D.Device.keeps_word → IsGated c.read_gate.new.named.items (g.D.Device.history c.read_gate.new.device)
-gated g c k = gated_after _ _ _ _ c.in_ok-read_gate.ensures.reads.0 (c.in_ok-sync.ensures.ok k) (c.in_ok-read_gate.ensures.gate_is k)
-
--- neither the sync nor the read failed
-unfailed : (g : Over) (c : In_ok-read_gate g) → g.D.Device.failed c.read_gate.new.device ≡ g.D.Device.failed c.args.device.now
-unfailed g c = c.in_ok-read_gate.ensures.failures.none (λ e. cc) ∙ c.in_ok-sync.ensures.cause.ok
-
-small : (g : Over) (c : In_ok-read_gate g) → g.D.Device.size c.args.device.now < 2 ^ 32
-small g c = omega (arith, c.in_ok-read_gate.ensures.small, c.in_ok-sync.ensures.size)
-
-pub returns-then-is_empty : goal.returns-then-is_empty
-returns-then-is_empty g c =
-    let read = (goal.at.returns-then-is_empty g c).In_ok-read_gate in
-    let none : vec_len c.read_gate.new.named ≡ 0 = eqb-true (vec_len c.read_gate.new.named) 0 (sym c.is_empty.ensures ∙ c.if-is_empty.true) in
-    let no_items : length c.read_gate.new.named.items ≡ 0 = sym c.read_gate.new.named.ok.0 ∙ none in
-    record {
-      moments = λ k. synced_moments _ _ _ _ c.in_ok-read_gate.ensures.reads.0 (c.in_ok-sync.ensures.ok k);
-      ok = λ k. recovers_closed _ _ _ _ (resynced g read k) no_items (gated g read k);
-      closed = λ k closed. record { ok = resynced g read k; err = tt };
-      damaged = λ k e. absurd (cc);
-      none = (no_elements _ no_items, c.requires.empty);
-      size = resized g read;
-      failures = counted_after _ _ _ _ c.in_ok-sync.ensures.cause.ok c.in_ok-read_gate.ensures.failures;
-    }
-
--- a closed gate names nothing
-none_named : (g : Over) (c : In_ok-read_gate g) → g.D.Device.keeps_word → IsClosed (g.D.Device.history c.args.device.now) → vec_len c.read_gate.new.named ≡ 0
-none_named g c k closed =
-    let read = ap (λ (h : History). seen h.now 1) (c.in_ok-sync.ensures.ok k) ∙ closed in
-    let none = closed_none _ _ _ (small g c) (named_by g c k) read in
-    omega (arith, ap (λ (xs : List ℕ). length xs) none, c.read_gate.new.named.ok)
-
--- after the payload was read all is as the sync left it
-past_payload : (g : Over) (c : In_ok-read_payload g) → g.D.Device.keeps_word
-    → g.D.Device.history c.read_gate.new.device ≡ synced (g.D.Device.history c.args.device.now)
-    → g.D.Device.history c.read_payload.new.device ≡ synced (g.D.Device.history c.args.device.now)
-past_payload g c k read = c.in_ok-read_payload.ensures.reads.0 ∙ read
-
-size_past : (g : Over) (c : In_ok-read_payload g) → g.D.Device.size c.read_gate.new.device ≡ g.D.Device.size c.args.device.now
-    → g.D.Device.size c.read_payload.new.device ≡ g.D.Device.size c.args.device.now
-size_past g c read = c.in_ok-read_payload.ensures.reads.1 ∙ read
-
-gated_past : (g : Over) (c : In_ok-read_payload g) → IsGated c.read_gate.new.named.items (g.D.Device.history c.read_gate.new.device)
-    → IsGated c.read_gate.new.named.items (g.D.Device.history c.read_payload.new.device)
-gated_past g c open_for =
-    let P : History → Type 0 = λ h. IsGated c.read_gate.new.named.items h in subst P (sym c.in_ok-read_payload.ensures.reads.0) open_for
-
--- what was read is what the device has
-payload_past : (g : Over) (c : In_ok-read_payload g) → c.deref.result.now ≡ c.read_gate.new.named.items → g.D.Device.keeps_word
-    → copies (seen (g.D.Device.history c.read_payload.new.device).now) 2 c.read_gate.new.named.items ≡ c.read_payload.new.updates.items
-payload_past g c to k =
-    ap (λ (h : History). copies (seen h.now) 2 c.read_gate.new.named.items) c.in_ok-read_payload.ensures.reads.0
-    ∙ ap (λ (ts : List ℕ). copies (seen (g.D.Device.history c.read_gate.new.device).now) 2 ts) (sym to)
-    ∙ c.in_ok-read_payload.ensures.ok k
-
-pub returns-in_err-read_payload : goal.returns-in_err-read_payload
-returns-in_err-read_payload g c =
-    let read = (goal.at.returns-in_err-read_payload g c).In_ok-read_gate in
-    let stays = λ (k : g.D.Device.keeps_word). c.in_err-read_payload.ensures.reads.0 ∙ resynced g read k in
-    rw (is_fault _ c.from_residual-in_err-read_payload.ensures.1) (record {
-      moments = λ k. synced_moments _ _ _ _ c.in_err-read_payload.ensures.reads.0 (resynced g read k);
-      ok = λ k. tt;
-      closed = λ k closed. record { ok = tt; err = inr (stays k) };
-      damaged = λ k e. absurd (cc);
-      none = tt;
-      size = c.in_err-read_payload.ensures.reads.1 ∙ resized g read;
-      failures = fault_counted _ _ _ (unfailed g read) c.in_err-read_payload.ensures.failures.counted;
-    })
-
-pub read_payload-requires-clause-few : goal.read_payload-requires-clause-few
-read_payload-requires-clause-few g c = omega (arith, ap (λ (ts : List ℕ). length ts) c.deref.ensures.value, c.in_ok-read_gate.ensures.named.0)
-
-pub close-requires-clause-fits : goal.close-requires-clause-fits
-close-requires-clause-fits g c = record {
-  fits = record {
-    few = c.in_ok-read_gate.ensures.named.0;
-    fit = same_fit (g.D.Device.size c.sync.new.self) (g.D.Device.size c.read_payload.new.device) c.read_gate.new.named.items
-        (c.in_ok-read_payload.ensures.reads.1 ∙ c.in_ok-read_gate.ensures.reads.1) c.in_ok-read_gate.ensures.named.1;
-  };
-  named = c.in_ok-read_payload.ensures.named ∙ c.deref.ensures.value;
-}
-
-pub returns-in_err-close : goal.returns-in_err-close
-returns-in_err-close g c =
-    let read = (goal.at.returns-in_err-close g c).In_ok-read_gate in
-    let past = (goal.at.returns-in_err-close g c).In_ok-read_payload in
-    let size_is = size_past g past (resized g read) in
-    rw (is_fault _ c.from_residual-in_err-close.ensures.1) (record {
-      moments = λ k.
-          let open_for = gated_past g past (gated g read k) in
-          recover_moments _ _ _ _ _ (past_payload g past k (resynced g read k)) (small g read) (named_by g read k).few (named_by g read k).fit open_for
-          (keeps_shown_at _ _ _ _ _ size_is
-          (c.in_err-close.ensures.moments k (record { gated = open_for; payload = payload_past g past c.deref.ensures.value k })));
-      ok = λ k. tt;
-      closed = λ k closed. absurd (not_empty _ _ c.is_empty.ensures c.if-is_empty.false (none_named g read k closed));
-      damaged = λ k e. absurd (cc);
-      none = tt;
-      size = c.in_err-close.ensures.size ∙ size_is;
-      failures = fault_counted _ _ _ (c.in_ok-read_payload.ensures.failures.ok ∙ unfailed g read) c.in_err-close.ensures.failures.counted;
-    })
-
 pub returns : goal.returns
 returns g c =
-    let read = (goal.at.returns g c).In_ok-read_gate in
-    let past = (goal.at.returns g c).In_ok-read_payload in
-    let size_is = size_past g past (resized g read) in
-    let open_for = λ (k : g.D.Device.keeps_word). gated_past g past (gated g read k) in
-    let shown = λ (k : g.D.Device.keeps_word). keeps_shown_at _ _ _ _ _ size_is
-    (c.in_ok-close.ensures.moments k (record { gated = open_for k; payload = payload_past g past c.deref.ensures.value k })) in
+    let replays = λ (k : g.D.Device.keeps_word). (let P : ℕ → Type 0 = λ n. Replays n (g.D.Device.history c.args.device.now) (g.D.Device.history c.replay.new.device) c.replay.result in
+    subst P c.in_ok-sync.ensures.size (c.replay.ensures.replays k _ (c.in_ok-sync.ensures.ok k))) in
     record {
-      moments = λ k. recover_moments _ _ _ _ _ (past_payload g past k (resynced g read k)) (small g read) (named_by g read k).few (named_by g read k).fit
-          (open_for k) (shown k);
-      ok = λ k. recovers_copied _ _ _ _ _ (past_payload g past k (resynced g read k)) (small g read) (named_by g read k).few (named_by g read k).fit
-          (open_for k) (shown k)
-          (copied_home_at _ _ _ _ _ size_is
-          (c.in_ok-close.ensures.ok k (record { gated = open_for k; payload = payload_past g past c.deref.ensures.value k })));
-      closed = λ k closed. absurd (not_empty _ _ c.is_empty.ensures c.if-is_empty.false (none_named g read k closed));
-      damaged = λ k e. absurd (cc);
-      none = c.in_ok-close.ensures.shown;
-      size = c.in_ok-close.ensures.size ∙ size_is;
-      failures = none_counted _ _ _ (c.in_ok-close.ensures.failures.ok ∙ c.in_ok-read_payload.ensures.failures.ok ∙ unfailed g read);
+      moments = λ k. (replays k).moments;
+      ok = λ k. (replays k).ok;
+      closed = λ k. (replays k).closed;
+      damaged = λ k. (replays k).damaged;
+      none = c.replay.ensures.none;
+      size = c.replay.ensures.size ∙ c.in_ok-sync.ensures.size;
+      failures = counted_after _ _ _ _ c.in_ok-sync.ensures.cause.ok c.replay.ensures.failures;
     }
