@@ -21,8 +21,8 @@ pub struct Checked {
     pub count: u32,
 }
 
-/// Reads what a mount would find, behind an open gate, and writes nothing: whether a tree stands
-/// there. A full restart count is told as any other.
+/// Reads what a mount would find, through a commit record that stands, and writes nothing: whether
+/// a tree stands there. A full restart count is told as any other.
 ///
 /// # Errors
 ///

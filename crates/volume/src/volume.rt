@@ -84,10 +84,10 @@ impl<D: Device> Volume<D> {
     ghost use Rattle.volume.specs.Nodes.{IsNodeOf};
     ghost use Rattle.volume.specs.Views.{volume_state, volume_failures, Alters};
 
-    /// Mounts the volume: finds it by its first sector, copies home what an open gate shows, reads
-    /// its nodes and seats, migrates one of version 1, and raises the restart count. Every map that
-    /// a crash leaves from then on has the new count, which is this mount's run. Its journal keeps
-    /// 64 sectors in memory.
+    /// Mounts the volume: finds it by its first sector, copies home what a commit record that stands
+    /// names, reads its nodes and seats, migrates one of version 1, and raises the restart count.
+    /// Every map that a crash leaves from then on has the new count, which is this mount's run. Its
+    /// journal keeps 64 sectors in memory.
     ///
     /// # Errors
     ///
@@ -276,8 +276,9 @@ impl<D: Device> Volume<D> {
         Ok(())
     }
 
-    /// Copies home what the journal's open gate names, and closes it: the next change that is kept
-    /// waits for two syncs, and not for four. The tree stays, and so does what a crash may leave.
+    /// Makes a checkpoint: copies home what the journal's commit record names, and clears it. The
+    /// next change that is kept waits for two syncs, and not for four. The tree stays, and so does
+    /// what a crash may leave.
     ///
     /// # Errors
     ///
