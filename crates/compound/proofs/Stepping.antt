@@ -1,5 +1,5 @@
 -- A step of a request is the turn of the definition.
-use Rattle.std.proofs.Common.{◌≡◌, ◌+◌, ℕ, List, refl, sym, ap, ap₂, subst, ◌∙◌}
+use Rattle.std.proofs.Common.{◌≡◌, ℕ, List, refl, sym, ap, ap₂, subst, ◌∙◌}
 use Rattle.model.specs.Operations.Answer as model
 use Rattle.model.specs.Wire.Record.{framed}
 use Rattle.model.specs.Wire.Rpc.{Success, reply_text}
@@ -10,13 +10,12 @@ use Rattle.compound.specs.Operates.{left_by}
 use Rattle.compound.specs.Runs.{with_rest}
 use Rattle.compound.specs.Views.{Asked}
 use Rattle.compound.specs.States.{SharedState, HasState, with_state}
-use Rattle.compound.specs.Steps.{Steps, StaysInRun, GoesFurther, GoesOn, still_fits, stepped_on}
+use Rattle.compound.specs.Steps.{Steps, stepped_on}
 use Rattle.compound.specs.Turns.{TurnsTo, StandsAfter, repeated}
 use Rattle.compound.proofs.Rooms.{state_same}
 use Rattle.compound.specs.declared.executed.Effect.{Effect}
 use Rattle.compound.specs.declared.executed.Effect.TheVariants as effect
 use Rattle.compound.specs.declared.step.Stepped.{Stepped}
-use Rattle.compound.specs.declared.step.Stepped.TheVariants as stepped
 
 -- what an operation leaves does not touch the bytes after it
 pub left_rest : (left : Effect) (request : InProgress) (rest : List ℕ) → left_by left (with_rest request rest) ≡ with_rest (left_by left request) rest
@@ -56,18 +55,6 @@ left_run effect.Restores request = refl
 left_run (effect.Opens number state) request = refl
 left_run effect.Closes request = refl
 left_run (effect.Joins slot client) request = refl
-
-further_from : (before request : InProgress) (done : Stepped) → before.answered ≡ request.answered → before.ended ≡ request.ended → GoesFurther before done → GoesFurther request done
-further_from before request (stepped.Ran progress) same ended further = (sym ended ∙ further.0, further.1 ∙ ap (λ (n : ℕ). n + 1) same)
-further_from before request (stepped.Answered reply) same ended further = tt
-
-pub goes_on_from : (run : ℕ) (asked other : Asked) (before request : InProgress) (done : Stepped) → other ≡ asked → before.answered ≡ request.answered → before.ended ≡ request.ended
-    → before.context.run ≡ run → GoesOn before.context.run other before done → GoesOn run asked request done
-goes_on_from run asked other before request done same answered ended run_is goes = record {
-  stays = subst (λ (n : ℕ). StaysInRun n done) run_is goes.stays;
-  further = further_from before request done answered ended goes.further;
-  fits = ap (λ (one : Asked). still_fits one done) (sym same) ∙ goes.fits;
-}
 
 pub steps_to : (now : ℕ) (old middle : SharedState) (new : Table) (asked before : Asked) (request left after : InProgress) (outcome : model.Outcome) (done : Stepped)
     → TurnsTo now old middle request left outcome → before ≡ asked → after ≡ left → StandsAfter middle.table new before after outcome done
