@@ -13,7 +13,7 @@ ghost use Rattle.compound.specs.Views.{slot_of};
 
 use crate::fault::Fault;
 use crate::held_replies::put_seats;
-use crate::progress::{Progress, RESULT_BUFFER, SlotId};
+use crate::progress::{BEFORE_RESULT, Progress, RESULT_BUFFER, SlotId};
 use crate::running::Running;
 use disk::Device;
 use fs::Fs;
@@ -22,10 +22,6 @@ use model::status::Status;
 use rpc::{Compound, CompoundResult, Reply, Tag, write_reply};
 use session::Table;
 use xdr::Writer;
-
-/// The bytes of a reply's record before the result of its COMPOUND: the header, the xid, the message
-/// type and four words up to the accept status.
-const BEFORE_RESULT: usize = 28;
 
 impl Running<'_> {
     ghost use Rattle.std.specs.Prelude.{◌≡◌, ℕ, List, false, Some, IfOk, IfErr, OnOk};

@@ -11,8 +11,12 @@ use xdr::Writer;
 /// which a slot keeps in the memory of the operations' results.
 pub(crate) const RESULT_BUFFER: usize = 16_384;
 
-/// Those of the longest reply's record: the record's header, and six words, stand round the result.
-pub(crate) const RECORD_BUFFER: usize = RESULT_BUFFER + 28;
+/// The bytes of a reply's record before the result of its COMPOUND: the header, the xid, the message
+/// type and four words up to the accept status.
+pub(crate) const BEFORE_RESULT: usize = 28;
+
+/// Those of the longest reply's record.
+pub(crate) const RECORD_BUFFER: usize = RESULT_BUFFER + BEFORE_RESULT;
 
 /// A slot of a session.
 #[derive(Clone, Copy, PartialEq, Eq)]
