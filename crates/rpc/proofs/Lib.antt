@@ -2,6 +2,7 @@ pub mod Ends
 pub mod Feeds
 pub mod Fragments
 pub mod Joins
+pub mod Places
 pub mod Replies
 pub mod Rooms
 pub mod Tags

@@ -1,2 +1,3 @@
 pub mod Assembly
+pub mod Places
 pub mod Views

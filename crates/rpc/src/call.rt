@@ -1,8 +1,9 @@
 //! Calls (RFC 5531, section 9).
 
-ghost use Rattle.std.specs.Prelude.{◌≡◌, MatchResult};
+ghost use Rattle.std.specs.Prelude.{◌≡◌, IfOk, MatchResult};
 ghost use Rattle.xdr.specs.Clauses.{Scans};
 ghost use Rattle.model.specs.Wire.Rpc.{NoCall, read_call, opaque_auth, call_start, call_header};
+ghost use Rattle.rpc.specs.Places.{HasBody};
 ghost use Rattle.rpc.specs.Views.{start_view, auth_view, header_view, call_read_view};
 ghost use Rattle.rpc.specs.declared.fault.RecordFault.TheVariants.{NotACall};
 
@@ -68,8 +69,9 @@ pub struct Header<'a> {
 /// padded with other bytes than zero.
 #[tactic(auto, unfolding(model::specs::Wire::Rpc::read_call))]
 pub fn read_call(bytes: &[u8]) -> Result<CallRead<'_>, RecordFault>
-    ensures { MatchResult result (λ read. read_call bytes.now ≡ call_read_view read)
+    ensures read { MatchResult result (λ read. read_call bytes.now ≡ call_read_view read)
         (λ fault. (read_call bytes.now ≡ NoCall) × (fault ≡ NotACall)) }
+    ensures body { IfOk result (HasBody bytes.now) }
 {
     let mut at = Reader::new(bytes);
     let start = match read_start(&mut at) {

@@ -10,6 +10,7 @@ mod fault;
 mod fragment;
 mod join;
 mod numbers;
+mod place;
 mod receive;
 mod reply;
 mod request;
@@ -26,6 +27,7 @@ pub use numbers::{
     AUTH_NONE, AUTH_SYS, CALL, COMPOUND, LAST_FRAGMENT, MINOR_VERSION, NFS_VERSION, PROGRAM, REPLY,
     RPC_VERSION,
 };
+pub use place::CompoundPlace;
 pub use reply::{AuthStat, CompoundResult, Reply, write_frame_header, write_reply};
 pub use request::Request;
 pub use tag::{MAX_TAG_BYTES, Tag};

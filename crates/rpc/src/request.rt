@@ -3,6 +3,7 @@
 ghost use Rattle.std.specs.Prelude.{◌≡◌, []};
 ghost use Rattle.xdr.specs.Clauses.{Scans};
 ghost use Rattle.model.specs.Wire.Rpc.{request_of, compound_head, compound_request, by_head, Success, compound_text};
+ghost use Rattle.rpc.specs.Places.{IsOfBody};
 ghost use Rattle.rpc.specs.Views.{head_view, call_view, reply_view, request_view, tail_of, IsBrief};
 
 use crate::auth::{cred_from, read_auth_sys};
@@ -40,6 +41,7 @@ impl<'a> Call<'a> {
     pub fn request(self) -> Request<'a>
         ensures request { request_of (call_view self.entry) ≡ request_view result }
         ensures brief { IsBrief result }
+        ensures stands { IsOfBody self.entry.body.now result }
     {
         let reply = if self.program != PROGRAM {
             Reply::ProgramUnavailable
@@ -60,6 +62,7 @@ impl<'a> Call<'a> {
     fn compound(self) -> Request<'a>
         ensures request { compound_request (call_view self.entry) ≡ request_view result }
         ensures brief { IsBrief result }
+        ensures stands { IsOfBody self.entry.body.now result }
     {
         if self.flavour == AUTH_NONE {
             return Request::Answers(Reply::AuthRefused(AuthStat::TooWeak));
@@ -77,6 +80,7 @@ impl<'a> Call<'a> {
 fn compound_of<'a>(cred: Cred, body: &'a [u8]) -> Request<'a>
     ensures request { by_head cred (compound_head.read body.now) ≡ request_view result }
     ensures brief { IsBrief result }
+    ensures stands { IsOfBody body.now result }
 {
     let mut at = Reader::new(body);
     let head = match read_head(&mut at) {

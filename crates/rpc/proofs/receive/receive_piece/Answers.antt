@@ -43,7 +43,7 @@ returns-in-Ok-clause-received c =
     let count = t.count in
     let len = c.len.ensures.value in
     let read = drop start c.deref-in-Whole.result.now in
-    let call : is_call_read (read_call read) ≡ true = is_call read c.in-Ok.field-0 (ap read_call (sym (from_place c.deref-in-Whole.result.now start)) ∙ c.in-Ok.ensures) in (
+    let call : is_call_read (read_call read) ≡ true = is_call read c.in-Ok.field-0 (ap read_call (sym (from_place c.deref-in-Whole.result.now start)) ∙ c.in-Ok.ensures.read) in (
       t.rest,
       t.is ∙ ap (λ (request : List ℕ). Whole request t.rest) same,
       omega arith,
@@ -62,5 +62,5 @@ returns-in-Err-clause-received c =
     let whole = whole_there old piece after c.in-Whole.end c.len.result t c.len.ensures.value c.extend_reserved-in-Whole.ensures.items in
     let same : t.request ≡ left = same_request after t.request left whole c.drop_headers-start.ensures.request in
     let read = drop start c.deref-in-Whole.result.now in
-    let none : read_call read ≡ NoCall = ap read_call (sym (from_place c.deref-in-Whole.result.now start)) ∙ c.in-Err.ensures.0 in
+    let none : read_call read ≡ NoCall = ap read_call (sym (from_place c.deref-in-Whole.result.now start)) ∙ c.in-Err.ensures.read.0 in
     no_call (old ++ piece) t.request t.rest t.is (ap read_call (same ∙ ap (drop start) (sym c.deref-in-Whole.ensures)) ∙ none)
