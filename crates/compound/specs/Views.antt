@@ -87,7 +87,7 @@ pub record IsBegin (run : ℕ) (progress : Progress) : Type 0 where
       → fits asked progress ≡ true
 
 abbrev pub asked_of : Running → Asked
-asked_of running = asks running.xid running.cred (compound_view running.compound)
+asked_of running = asks running.xid running.cred.now (compound_view running.compound)
 
 unfoldable pub in_progress_of : Running → InProgress
 in_progress_of running = resumed (asked_of running) running.progress

@@ -27,7 +27,7 @@ impl Running<'_> {
             Ok(number) => number,
             Err(status) => return self.refuse(Operation::Access, status),
         };
-        match fs.access(&self.cred, number, asked) {
+        match fs.access(self.cred, number, asked) {
             Ok(access) => self.settle(Answer::Access(answered(access)), Effect::Stays),
             Err(fault) => self.refuse(Operation::Access, status_of(fault)),
         }

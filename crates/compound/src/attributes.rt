@@ -36,7 +36,7 @@ impl Running<'_> {
             Ok(number) => number,
             Err(status) => return Ok(self.refuse(Operation::GetAttr, status)),
         };
-        match fs.attributes(&self.cred, number, asked.as_slice()) {
+        match fs.attributes(self.cred, number, asked.as_slice()) {
             Ok(answer) => {
                 let values = spelled(self.alloc, &answer)?;
                 Ok(self.settle_spelled(Operation::GetAttr, values))

@@ -19,8 +19,9 @@ impl Progress {
     ghost use Rattle.compound.specs.declared.fault.Fault.TheVariants.{Memory};
 
     /// Before the first operation, in this run of the server. All memory for the reply is taken
-    /// here, and that of the results only where `spare` has too little.
-    pub(crate) fn begin(alloc: Global, run: u32, spare: &mut Writer) -> Result<Progress, Fault>
+    /// here, and that of the results only where `spare`, which an earlier COMPOUND left, has too
+    /// little.
+    pub fn begin(alloc: Global, run: u32, spare: &mut Writer) -> Result<Progress, Fault>
         ensures ok { IfOk result (IsBegin run) }
         ensures err { IfErr result (λ fault. fault ≡ Memory) }
     {
@@ -53,48 +54,24 @@ fn take_memory(alloc: Global, spare: &mut Writer) -> Result<Writer, Fault>
 }
 
 impl<'a> Running<'a> {
-    ghost use Rattle.std.specs.Prelude.{◌≡◌, true, IfOk, IfErr};
-    ghost use Rattle.model.specs.Server.World.{World, in_progress};
+    ghost use Rattle.std.specs.Prelude.{◌≡◌, true};
     ghost use Rattle.rpc.specs.Views.{compound_view};
     ghost use Rattle.compound.specs.Views.{in_progress_of, asks, asked_of, resumed, fits};
-    ghost use Rattle.compound.specs.declared.fault.Fault.TheVariants.{Memory};
 
-    /// Begins the COMPOUND of a call with this xid, by this caller, in this run of the server. All
-    /// memory for its reply is taken here, or from `spare`, which an earlier COMPOUND left.
-    pub fn begin(
-        alloc: Global,
-        xid: u32,
-        run: u32,
-        cred: Cred,
-        compound: Compound<'a>,
-        spare: &mut Writer,
-    ) -> Result<Running<'a>, Fault>
-        ensures asked { IfOk result (λ running.
-            asked_of running ≡ asks xid cred (compound_view compound.entry)) }
-        ensures ok { IfOk result (λ running. (world : World) → world.run ≡ run
-            → in_progress_of running ≡ in_progress world xid cred (compound_view compound.entry)) }
-        ensures run { IfOk result (λ running. (in_progress_of running).context.run ≡ run) }
-        ensures err { IfErr result (λ fault. fault ≡ Memory) }
-    {
-        let progress = Progress::begin(alloc, run, spare)?;
-        Ok(Running::resume(alloc, xid, cred, compound, progress))
-    }
-
-    /// Goes on with the COMPOUND of a call with this xid, by this caller, from where it has come
-    /// to.
+    /// The COMPOUND of a call with this xid, by this caller, from where it has come to.
     #[tactic(auto, unfolding(crate::specs::Views::in_progress_of))]
     pub fn resume(
         alloc: Global,
         xid: u32,
-        cred: Cred,
+        cred: &'a Cred,
         compound: Compound<'a>,
         progress: Progress,
     ) -> Running<'a>
-        requires { fits (asks xid cred (compound_view compound)) progress ≡ true }
-        ensures asked { asked_of result ≡ asks xid cred (compound_view compound.entry) }
+        requires { fits (asks xid cred.now (compound_view compound)) progress ≡ true }
+        ensures asked { asked_of result ≡ asks xid cred.now (compound_view compound.entry) }
         ensures progress { result.progress ≡ progress }
         ensures request { in_progress_of result
-            ≡ resumed (asks xid cred (compound_view compound.entry)) progress }
+            ≡ resumed (asks xid cred.now (compound_view compound.entry)) progress }
     {
         Running {
             alloc,

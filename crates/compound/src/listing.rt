@@ -48,7 +48,7 @@ impl Running<'_> {
             Ok(number) => number,
             Err(status) => return Ok(self.refuse(Operation::ReadDir, status)),
         };
-        match fs.list(&self.cred, listing(directory, arguments)) {
+        match fs.list(self.cred, listing(directory, arguments)) {
             Ok(page) => {
                 let values = spelled(self.alloc, &page)?;
                 Ok(self.settle_spelled(Operation::ReadDir, values))

@@ -84,7 +84,7 @@ impl Running<'_> {
         opens.reserve()?;
         let is_full = opens.is_full(fs.limits().opens, &asked);
         let room = self.open_room(how);
-        match fs.open_file(&self.cred, now, opening, is_full, room) {
+        match fs.open_file(self.cred, now, opening, is_full, room) {
             Ok(made) => {
                 let change = change_info(made.directory.before, made.directory.after);
                 Ok(self.give_open(opens, asked, change, set_by(made.effect, how)))
@@ -126,7 +126,7 @@ impl Running<'_> {
     {
         let is_full = opens.has_no_room(fs.limits().opens);
         let room = self.open_room(how);
-        match fs.open_file(&self.cred, now, opening, is_full, room) {
+        match fs.open_file(self.cred, now, opening, is_full, room) {
             // the file that is made would have such a number
             Ok(made) => {
                 tell_64_bits(made.number);

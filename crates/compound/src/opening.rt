@@ -114,7 +114,7 @@ impl Running<'_> {
         opens.reserve()?;
         let is_full = opens.is_full(fs.limits().opens, &asked);
         let create = creates(how);
-        match fs.open_current(&self.cred, number, share_of(arguments), create, is_full) {
+        match fs.open_current(self.cred, number, share_of(arguments), create, is_full) {
             Ok(()) => {
                 if !self.has_opened_room(Bitmap::new()) {
                     return Ok(self.refuse(Operation::Open, Status::RepTooBig));

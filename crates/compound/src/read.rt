@@ -66,7 +66,7 @@ impl Running<'_> {
         let verdict = self.verdict(opens, &arguments.state, Access::READ);
         let ReadArguments { offset, count, .. } = *arguments;
         let mut values = room_for(self.alloc, count)?;
-        match fs.read(&self.cred, number, verdict, offset, count, &mut values) {
+        match fs.read(self.cred, number, verdict, offset, count, &mut values) {
             Ok(is_end) => {
                 finish(&mut values, is_end)?;
                 Ok(self.settle_spelled(Operation::Read, values))

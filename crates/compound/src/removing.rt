@@ -62,7 +62,7 @@ impl Running<'_> {
             Err(status) => return Ok(self.refuse(Operation::Remove, status)),
         };
         let has_room = self.has_removed_room();
-        match fs.remove(&self.cred, now, directory, name, has_room) {
+        match fs.remove(self.cred, now, directory, name, has_room) {
             Ok(gone) => {
                 opens.remove_file(gone.number);
                 Ok(Executed::Gives {

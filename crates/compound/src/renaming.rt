@@ -79,7 +79,7 @@ impl Running<'_> {
             to,
             new_name: arguments.new_name,
         };
-        match fs.rename(&self.cred, now, asked, has_room) {
+        match fs.rename(self.cred, now, asked, has_room) {
             Ok(made) => {
                 end_replaced(opens, asked, made.replaced);
                 Ok(Executed::Gives {

@@ -10,12 +10,12 @@ use rpc::Compound;
 use std::alloc::Global;
 
 /// A COMPOUND of which an operation runs next, or whose reply a seat is to hold next. Its tag and
-/// its operations stand in its record.
+/// its operations stand in its record, and its caller is kept beside that.
 #[derive(Drop)]
 pub struct Running<'a> {
     pub(crate) alloc: Global,
     pub(crate) xid: u32,
-    pub(crate) cred: Cred,
+    pub(crate) cred: &'a Cred,
     pub(crate) compound: Compound<'a>,
     pub(crate) progress: Progress,
     ghost within: { progress.position ≤ length compound.operations.now },

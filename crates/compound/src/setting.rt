@@ -71,7 +71,7 @@ impl Running<'_> {
                 values: arguments.attributes.values,
             },
         };
-        match fs.set_attributes(&self.cred, now, asked, has_room) {
+        match fs.set_attributes(self.cred, now, asked, has_room) {
             Ok(()) => Ok(Executed::Gives {
                 outcome: attributes_set(&arguments.attributes.bitmap),
                 effect: Effect::Stays,

@@ -63,7 +63,7 @@ impl Running<'_> {
             Ok(number) => number,
             Err(status) => return self.refuse(Operation::Lookup, status),
         };
-        match fs.lookup(&self.cred, directory, name) {
+        match fs.lookup(self.cred, directory, name) {
             Ok(number) => self.settle(Answer::Lookup, Effect::Moves(number)),
             Err(fault) => self.refuse(Operation::Lookup, status_of(fault)),
         }
@@ -82,7 +82,7 @@ impl Running<'_> {
             Ok(number) => number,
             Err(status) => return self.refuse(Operation::LookupParent, status),
         };
-        match fs.parent(&self.cred, directory) {
+        match fs.parent(self.cred, directory) {
             Ok(number) => self.settle(Answer::LookupParent, Effect::Moves(number)),
             Err(fault) => self.refuse(Operation::LookupParent, status_of(fault)),
         }
@@ -168,7 +168,7 @@ impl Running<'_> {
                 values: attributes.values,
             },
         };
-        match fs.make_dir(&self.cred, now, asked, has_room) {
+        match fs.make_dir(self.cred, now, asked, has_room) {
             Ok(made) => Ok(Executed::Gives {
                 outcome: created(&attributes.bitmap, made.before, made.number),
                 effect: Effect::Moves(made.number),

@@ -68,7 +68,7 @@ impl Running<'_> {
             bytes: arguments.data,
             is_stable: is_to_be_stable(arguments.stable),
         };
-        match fs.write(&self.cred, now, number, verdict, asked, has_room) {
+        match fs.write(self.cred, now, number, verdict, asked, has_room) {
             Ok(count) => Ok(Executed::Gives {
                 outcome: written(self.progress.run, arguments.stable, count),
                 effect: Effect::Stays,
@@ -109,7 +109,7 @@ impl Running<'_> {
             Err(status) => return Ok(self.refuse(Operation::Commit, status)),
         };
         let has_room = self.has_committed_room();
-        match fs.commit(&self.cred, number, has_room) {
+        match fs.commit(self.cred, number, has_room) {
             Ok(()) => Ok(Executed::Gives {
                 outcome: committed(self.progress.run),
                 effect: Effect::Stays,

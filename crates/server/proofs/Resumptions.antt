@@ -1,59 +1,55 @@
--- The COMPOUND that a record asks for, between its turns.
-use Rattle.std.proofs.Common.{◌≡◌, ℕ, true, List, Option, Some, None, ◌<◌, refl, sym, subst}
+-- A COMPOUND between its turns, in the record that an assembler holds.
+use Rattle.std.proofs.Common.{◌≡◌, ℕ, true, List, Option, Some, None, ◌<◌, refl, sym, subst, ◌∙◌}
+use Rattle.std.proofs.lemmas.Bool.{and_parts}
+use Rattle.compound.specs.Steps as compound
 use Rattle.compound.specs.Steps.{GoesFurther}
-use Rattle.compound.specs.Views.{Asked, resumed, asked_of, in_progress_of}
-use Rattle.compound.specs.declared.progress.Progress.{Progress}
-use Rattle.compound.specs.declared.running.Running.{Running}
+use Rattle.compound.specs.Views.{fits}
 use Rattle.compound.specs.declared.step.Stepped.{Stepped}
 use Rattle.compound.specs.declared.step.Stepped.TheVariants as stepped
 use Rattle.compound.proofs.Resuming.{fits_more}
-use Rattle.model.specs.Wire.Rpc.{Call, NoCall, OtherVersion, Calls, Compound, Reply, Answers, Runs, read_call, request_of}
 use Rattle.model.specs.Server.World.{InProgress, Busy}
-use Rattle.model.specs.declared.acl.Cred.{Cred}
-use Rattle.server.specs.Connections.{IsOfRun, HasGoneOn}
-use Rattle.server.specs.Stages.{asked_in, begun, left_by, can_go_on}
+use Rattle.rpc.specs.Assembly.{Assembly, Gathers, Holds, Refuses}
+use Rattle.rpc.specs.Places.{is_within}
+use Rattle.server.specs.declared.begun.Begun.{Begun}
+use Rattle.server.specs.Connections.{IsOfRun, HasGoneOn, GoesOn}
+use Rattle.server.specs.Stages.{CanGoOn, asked_at, in_progress_at, fits_in, held_by, busy_with, can_go_on, left_of, left_by}
 
-pub asked_is : (request : List ℕ) (call : Call) (cred : Cred) (compound : Compound) → read_call request ≡ Calls call → request_of call ≡ Runs cred compound
-    → asked_in request ≡ Some (record { xid = call.xid; cred = cred; compound = compound })
-unfolding asked_in
-asked_is request call cred compound is asks = rw (is, asks) refl
+-- one that has begun has its record, and is of its run
+pub goes_on_held : (run : ℕ) (assembly : Assembly) (begun : Begun) → can_go_on (held_by assembly) begun ≡ true → IsOfRun run (busy_with (held_by assembly) begun)
+    → (request : List ℕ) × (assembly ≡ Holds request) × CanGoOn run request begun
+goes_on_held run (Gathers bytes) begun can here = let never : ⊥ = cc in absurd never
+goes_on_held run (Holds request) begun can here = (request, refl, record { can = can; began_in = here (in_progress_at request begun) refl })
+goes_on_held run (Refuses fault) begun can here = let never : ⊥ = cc in absurd never
 
-pub none_answered : (request : List ℕ) (call : Call) (reply : Reply) → read_call request ≡ Calls call → request_of call ≡ Answers reply → asked_in request ≡ None
-unfolding asked_in
-none_answered request call reply is asks = rw (is, asks) refl
+one_held : (request other : List ℕ) → Holds request ≡ Holds other → request ≡ other
+one_held request other is = cc
 
-pub none_of_another : (request : List ℕ) (xid : ℕ) → read_call request ≡ OtherVersion xid → asked_in request ≡ None
-unfolding asked_in
-none_of_another request xid is = rw is refl
-
-pub none_of_no_call : (request : List ℕ) → read_call request ≡ NoCall → asked_in request ≡ None
-unfolding asked_in
-none_of_no_call request is = rw is refl
-
-pub goes_nowhere : (asked : Option Asked) (progress : Progress) → asked ≡ None → can_go_on asked progress ≡ true → ⊥
-goes_nowhere None progress is can = let never : ⊥ = cc in never
-goes_nowhere (Some asked) progress is can = let never : ⊥ = cc in never
-
--- it is of its run
-pub run_of : (run : ℕ) (asked : Option Asked) (progress : Progress) → can_go_on asked progress ≡ true → IsOfRun run (begun asked progress) → progress.run ≡ run
-run_of run None progress can here = let never : ⊥ = cc in absurd never
-run_of run (Some asked) progress can here = here (resumed asked progress) refl
+-- whichever name the record has
+pub goes_on_as : (run : ℕ) (assembly : Assembly) (request other : List ℕ) (begun : Begun) → assembly ≡ Holds request → assembly ≡ Holds other → CanGoOn run request begun → CanGoOn run other begun
+goes_on_as run assembly request other begun is also can =
+    subst (λ (one : List ℕ). CanGoOn run one begun) (one_held request other (sym is ∙ also)) can
 
 -- and has operations left, unless it has ended
-pub some_more : (asked : Option Asked) (progress : Progress) (request : InProgress) → can_go_on asked progress ≡ true → begun asked progress ≡ Busy request
+pub some_more : (held : Option (List ℕ)) (begun : Begun) (request : InProgress) → can_go_on held begun ≡ true → busy_with held begun ≡ Busy request
     → request.ended ≡ None → request.answered < request.count
-some_more None progress request can is = let never : ⊥ = cc in absurd never
-some_more (Some asked) progress request can is =
-    let same : resumed asked progress ≡ request = cc in
-    subst (λ (r : InProgress). r.ended ≡ None → r.answered < r.count) same (fits_more asked progress can)
+some_more None begun request can is = let never : ⊥ = cc in absurd never
+some_more (Some bytes) begun request can is =
+    let same : in_progress_at bytes begun ≡ request = cc in
+    let fit = (and_parts (is_within bytes begun.call.place) (fits (asked_at bytes begun.call) begun.progress) can).1 in
+    subst (λ (r : InProgress). r.ended ≡ None → r.answered < r.count) same (fits_more (asked_at bytes begun.call) begun.progress fit)
+
+pub stands_within : (bytes : List ℕ) (begun : Begun) → fits_in bytes begun.call begun.progress ≡ true → is_within bytes begun.call.place ≡ true
+stands_within bytes begun can = (and_parts (is_within bytes begun.call.place) (fits (asked_at bytes begun.call) begun.progress) can).0
 
 -- after a step of it
-stepped_on : (running : Running) (done : Stepped) → GoesFurther (in_progress_of running) done → HasGoneOn (Some (Busy (in_progress_of running))) (Some (left_by (Some (asked_of running)) done))
-unfolding in_progress_of
-stepped_on running (stepped.Ran progress) further = (further.0, further.1, refl)
-stepped_on running (stepped.Answered reply) further = tt
+gone_on : (bytes : List ℕ) (begun : Begun) (done : Stepped) → GoesFurther (in_progress_at bytes begun) done
+    → HasGoneOn (Some (Busy (in_progress_at bytes begun))) (Some (left_by (Some bytes) (left_of begun.call done)))
+gone_on bytes begun (stepped.Ran progress) further = (further.0, further.1, refl)
+gone_on bytes begun (stepped.Answered reply) further = tt
 
-pub gone_on : (asked : Option Asked) (running : Running) (done : Stepped) → asked ≡ Some (asked_of running) → GoesFurther (in_progress_of running) done
-    → HasGoneOn (Some (Busy (in_progress_of running))) (Some (left_by asked done))
-gone_on asked running done is further =
-    subst (λ (a : Option Asked). HasGoneOn (Some (Busy (in_progress_of running))) (Some (left_by a done))) (sym is) (stepped_on running done further)
+pub steps_on : (run : ℕ) (bytes : List ℕ) (begun : Begun) (done : Stepped) → is_within bytes begun.call.place ≡ true
+    → compound.GoesOn run (asked_at bytes begun.call) (in_progress_at bytes begun) done → GoesOn run bytes begun (left_of begun.call done)
+steps_on run bytes begun (stepped.Ran progress) within goes =
+    let fit : fits (asked_at bytes begun.call) progress ≡ true = goes.fits in
+    record { stays = goes.stays; further = gone_on bytes begun (stepped.Ran progress) goes.further; follows = rw (within, fit) refl }
+steps_on run bytes begun (stepped.Answered reply) within goes = record { stays = tt; further = tt; follows = refl }

@@ -3,9 +3,8 @@ use Rattle.std.proofs.Common.{◌≡◌, ℕ, false, List, [], ◌∷◌, Option
 use Rattle.std.proofs.lemmas.Bool.{cases_order}
 use Rattle.std.proofs.lemmas.Option.{same_Some}
 use Rattle.compound.specs.States.{Agrees, SharedState, HasState, with_state}
-use Rattle.compound.specs.Steps.{Steps, stepped_on, turn_by, connection_by}
-use Rattle.compound.specs.Views.{Asked, asked_of, in_progress_of}
-use Rattle.compound.specs.declared.running.Running.{Running}
+use Rattle.compound.specs.Steps as compound
+use Rattle.compound.specs.Steps.{stepped_on}
 use Rattle.compound.specs.declared.step.Stepped.{Stepped}
 use Rattle.compound.specs.declared.step.Stepped.TheVariants as stepped
 use Rattle.compound.specs.declared.fault.Fault.{Fault}
@@ -25,8 +24,9 @@ use Rattle.model.specs.Sessions.Session.{Table}
 use Rattle.model.specs.Server.World as world
 use Rattle.model.specs.Server.World.{World, Connection, Turned, Waiting, Busy, Replied, one, called, turned, idle, is_busy, with_connection}
 use Rattle.rpc.specs.Assembly.{Assembly, Gathers, Holds, Refuses, connection_of}
-use Rattle.server.specs.Connections.{IsRising, Leads, Turns, HasGoneOn, turn_view}
-use Rattle.server.specs.Stages.{left_by}
+use Rattle.server.specs.declared.begun.Begun.{Begun}
+use Rattle.server.specs.Connections.{IsRising, Leads, Steps, Turns, HasGoneOn, turn_view}
+use Rattle.server.specs.Stages.{asked_at, in_progress_at, held_by, busy_with, left_of}
 use Rattle.server.specs.declared.turn.Turn.{Turn}
 use Rattle.server.specs.declared.turn.Turn.TheVariants as turn
 
@@ -122,26 +122,25 @@ pub waiting_comes : (now : ℕ) (before : Connection) (request : List ℕ) → b
     → (world : World) (number : ℕ) → turned world number now (Some before) ≡ called world number now (read_call request)
 waiting_comes now before request is world number = rw is refl
 
--- a request that has begun goes on with its next operation: none of the code has ended before its reply is there
-pub running_comes : (now : ℕ) (running : Running) (world : World) (number : ℕ)
-    → turned world number now (Some (Busy (in_progress_of running))) ≡ stepped_on world number now (in_progress_of running)
-unfolding in_progress_of
-running_comes now running world number = refl
+-- a request that has begun goes on with its next operation
+pub held_comes : (now : ℕ) (assembly : Assembly) (request : List ℕ) (begun : Begun) → assembly ≡ Holds request → (world : World) (number : ℕ)
+    → turned world number now (Some (busy_with (held_by assembly) begun)) ≡ stepped_on world number now (in_progress_at request begun)
+held_comes now assembly request begun is world number = ap (λ (a : Assembly). turned world number now (Some (busy_with (held_by a) begun))) is
 
-left_is : (asked : Asked) (done : Stepped) → connection_by asked done ≡ left_by (Some asked) done
-left_is asked (stepped.Ran progress) = refl
-left_is asked (stepped.Answered reply) = refl
-
-pub running_leads : (now : ℕ) (running : Running) (done : Stepped) (before after : Connection) (old new : SharedState) (asked : Option Asked) (turn : world.Turn)
-    → before ≡ Busy (in_progress_of running) → asked ≡ Some (asked_of running) → after ≡ left_by asked done → turn ≡ turn_by done
-    → Steps now old new (asked_of running) (in_progress_of running) done → Leads (λ w n. turned w n now (Some before)) old new after turn
-running_leads now running done before after old new asked turn is asks left did steps = λ world number served.
-    let comes = ap (λ (b : Connection). turned world number now (Some b)) is ∙ running_comes now running world number in
-    let step = steps world number served in
-    let here : connection_by (asked_of running) done ≡ after = left_is (asked_of running) done ∙ sym (left ∙ ap (λ (a : Option Asked). left_by a done) asks) in (
-      ap (λ (t : Turned). t.turn) comes ∙ (step.0 ∙ sym did),
-      ap (λ (t : Turned). t.world) comes ∙ (step.1 ∙ ap (λ (c : Connection). with_connection (with_state world new) number c) here),
+-- a turn that is the same as another, and what it leaves
+pub leads_as : (by other : World → ℕ → Turned) (old new : SharedState) → ((world : World) (number : ℕ) → HasState world old → other world number ≡ by world number)
+    → (after left : Connection) (done turn : world.Turn) → after ≡ left → done ≡ turn → Leads by old new left turn → Leads other old new after done
+leads_as by other old new same after left done turn leaves did leads = λ world number served.
+    let led = leads world number served in (
+      ap (λ (t : Turned). t.turn) (same world number served) ∙ (led.0 ∙ sym did),
+      ap (λ (t : Turned). t.world) (same world number served) ∙ (led.1 ∙ ap (λ (c : Connection). with_connection (with_state world new) number c) (sym leaves)),
     )
+
+-- a step of a COMPOUND, by what it leaves
+pub step_leads : (now : ℕ) (bytes : List ℕ) (begun : Begun) (done : Stepped) (old new : SharedState)
+    → compound.Steps now old new (asked_at bytes begun.call) (in_progress_at bytes begun) done → Steps now old new bytes begun (left_of begun.call done)
+step_leads now bytes begun (stepped.Ran progress) old new steps = steps
+step_leads now bytes begun (stepped.Answered reply) old new steps = steps
 
 -- A connection whose request has not begun may become anything
 

@@ -1,15 +1,16 @@
 -- What a connection stands for, and a turn of it by the definition.
-use Rattle.std.specs.Prelude.{◌≡◌, ◌+◌, ℕ, List, [], ◌∷◌, map, Option, Some, None}
+use Rattle.std.specs.Prelude.{◌≡◌, ◌+◌, ℕ, true, List, [], ◌∷◌, map, Option, Some, None}
 use Rattle.slab.specs.Slab.{Slab, entries}
 use Rattle.compound.specs.States.{SharedState, HasState, with_state}
 use Rattle.compound.specs.Steps.{stepped_on}
-use Rattle.compound.specs.Views.{in_progress_of, asked_of}
 use Rattle.model.specs.Trees.Keyed.{Keyed, at, IsAbove}
 use Rattle.model.specs.Wire.Rpc.{read_call}
 use Rattle.model.specs.Server.World as world
 use Rattle.model.specs.Server.World.{World, InProgress, Turned, Answered, Busy, Replied, one, called, with_connection}
 use Rattle.server.specs.declared.connection.Connection.{Connection}
-use Rattle.server.specs.Stages.{stage_view, asked_in}
+use Rattle.server.specs.Stages.{CanGoOn, IsLeftInRun, in_progress_at, stage_view, turn_by, left_by, can_follow}
+use Rattle.server.specs.declared.begun.Begun.{Begun}
+use Rattle.server.specs.declared.begun.Left.{Left}
 use Rattle.server.specs.declared.request.Opened.{Opened}
 use Rattle.server.specs.declared.request.Opened.TheVariants as opened
 use Rattle.server.specs.declared.turn.Turn.{Turn}
@@ -67,6 +68,19 @@ HasGoneOn (Some (Busy request)) (Some (Replied reply)) = Unit {0}
 HasGoneOn (Some (Busy request)) _ = ⊥
 HasGoneOn _ _ = Unit {0}
 
+-- a turn of a COMPOUND whose call stands in this record, by the definition
+abbrev pub Steps : (now : ℕ) → (old new : SharedState) → (request : List ℕ) → Begun → Left → Type 0
+Steps now old new request begun done =
+    Leads (λ world number. stepped_on world number now (in_progress_at request begun)) old new
+    (left_by (Some request) done) (turn_by done)
+
+-- what it leaves, on any device
+pub record GoesOn (run : ℕ) (request : List ℕ) (begun : Begun) (done : Left) : Type 0 where
+  pub stays : IsLeftInRun run done
+  pub further : HasGoneOn (Some (Busy (in_progress_at request begun)))
+      (Some (left_by (Some request) done))
+  pub follows : can_follow (Some request) done ≡ true
+
 -- a turn that gives this reply without an operation
 abbrev pub replied : World → (number : ℕ) → (reply : List ℕ) → Turned
 replied old number reply = record {
@@ -82,9 +96,8 @@ abbrev pub OpensTo : (run : ℕ) → (request : List ℕ) → Opened → Type 0
 OpensTo run request (opened.Answers reply) =
     (world : World) (number now : ℕ)
     → called world number now (read_call request) ≡ replied world number reply.items
-OpensTo run request (opened.Begins running) =
-    (asked_in request ≡ Some (asked_of running))
-    × ((in_progress_of running).context.run ≡ run)
+OpensTo run request (opened.Begins begun) =
+    CanGoOn run request begun
     × ((world : World) (number now : ℕ) → world.run ≡ run
     → called world number now (read_call request)
-    ≡ stepped_on world number now (in_progress_of running))
+    ≡ stepped_on world number now (in_progress_at request begun))

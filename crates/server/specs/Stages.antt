@@ -1,62 +1,58 @@
 -- What a connection does, and what has come over it.
-use Rattle.std.specs.Prelude.{◌≡◌, ℕ, Bool, true, false, List, [], ◌∷◌, Option, Some, None}
-use Rattle.compound.specs.Views.{Asked, resumed, fits}
+use Rattle.std.specs.Prelude.{◌≡◌, ℕ, Bool, true, false, ◌&&◌, List, [], ◌∷◌, Option, Some, None, Result, Ok, Err}
+use Rattle.compound.specs.Views.{Asked, asks, resumed, fits}
+use Rattle.compound.specs.Volumes.{ending_of}
 use Rattle.compound.specs.declared.progress.Progress.{Progress}
 use Rattle.compound.specs.declared.step.Stepped.{Stepped}
 use Rattle.compound.specs.declared.step.Stepped.TheVariants as stepped
-use Rattle.model.specs.Wire.Rpc.{CallRead, NoCall, OtherVersion, Calls, Request, Answers, Runs, read_call, request_of}
-use Rattle.model.specs.Server.World.{Connection, Busy, Replied, Closed}
+use Rattle.volume.specs.Changes.{Ending, Done}
+use Rattle.model.specs.Server.World as world
+use Rattle.model.specs.Server.World.{Connection, InProgress, Busy, Replied, Closed}
 use Rattle.rpc.specs.Assembly.{Assembly, Gathers, Holds, Refuses, connection_of}
+use Rattle.rpc.specs.Places.{compound_at, is_within}
+use Rattle.server.specs.declared.begun.Begun.{Begun}
+use Rattle.server.specs.declared.begun.Left.{Left}
+use Rattle.server.specs.declared.begun.Left.TheVariants as left
+use Rattle.server.specs.declared.begun.ReadCall.{ReadCall}
+use Rattle.server.specs.declared.begun.Undone.{Undone}
 use Rattle.server.specs.declared.stage.Stage.{Stage}
 use Rattle.server.specs.declared.stage.Stage.TheVariants as stage
 
-abbrev pub asked_by : (xid : ℕ) → Request → Option Asked
-asked_by xid (Answers reply) = None
-asked_by xid (Runs cred compound) = Some (record { xid = xid; cred = cred; compound = compound })
+-- the COMPOUND that a call asks for, and whose it is, where the call stands in this record
+abbrev pub asked_at : (request : List ℕ) → ReadCall → Asked
+asked_at request call = asks call.xid call.cred (compound_at request call.place)
 
-abbrev pub asked_of_call : CallRead → Option Asked
-asked_of_call NoCall = None
-asked_of_call (OtherVersion xid) = None
-asked_of_call (Calls call) = asked_by call.xid (request_of call)
+abbrev pub in_progress_at : (request : List ℕ) → Begun → InProgress
+in_progress_at request begun = resumed (asked_at request begun.call) begun.progress
 
--- the COMPOUND that a whole record asks for, if it asks for one
-unfoldable pub asked_in : List ℕ → Option Asked
-asked_in request = asked_of_call (read_call request)
+-- it stands there, and can go on so
+abbrev pub fits_in : (request : List ℕ) → ReadCall → Progress → Bool
+fits_in request call progress =
+    is_within request call.place && fits (asked_at request call) progress
 
--- of the record that an assembler holds
-abbrev pub asked_held : Assembly → Option Asked
-asked_held (Gathers bytes) = None
-asked_held (Holds request) = asked_in request
-asked_held (Refuses fault) = None
+-- and in this run, in which it began
+pub record CanGoOn (run : ℕ) (request : List ℕ) (begun : Begun) : Type 0 where
+  pub can : fits_in request begun.call begun.progress ≡ true
+  pub began_in : begun.progress.run ≡ run
 
--- a COMPOUND that has come so far
-abbrev pub begun : Option Asked → Progress → Connection
-begun (Some asked) progress = Busy (resumed asked progress)
-begun None progress = Closed
+-- the record that an assembler holds
+abbrev pub held_by : Assembly → Option (List ℕ)
+held_by (Gathers bytes) = None
+held_by (Holds request) = Some request
+held_by (Refuses fault) = None
+
+abbrev pub busy_with : Option (List ℕ) → Begun → Connection
+busy_with (Some request) begun = Busy (in_progress_at request begun)
+busy_with None begun = Closed
 
 abbrev pub stage_view : Assembly → Stage → Connection
 stage_view assembly stage.Receiving = connection_of assembly
-stage_view assembly (stage.Running progress) = begun (asked_held assembly) progress
+stage_view assembly (stage.Running begun) = busy_with (held_by assembly) begun
 stage_view assembly (stage.Replied reply) = Replied reply.items
 
--- after a step of the COMPOUND that was asked for
-abbrev pub left_by : Option Asked → Stepped → Connection
-left_by asked (stepped.Ran progress) = begun asked progress
-left_by asked (stepped.Answered reply) = Replied reply.items
-
--- the COMPOUND that was asked for can go on so
-abbrev pub can_go_on : Option Asked → Progress → Bool
-can_go_on (Some asked) progress = fits asked progress
-can_go_on None progress = false
-
--- and in this run, in which it began
-pub record CanGoOn (run : ℕ) (asked : Option Asked) (progress : Progress) : Type 0 where
-  pub can : can_go_on asked progress ≡ true
-  pub began_in : progress.run ≡ run
-
-abbrev pub can_follow : Option Asked → Stepped → Bool
-can_follow asked (stepped.Ran progress) = can_go_on asked progress
-can_follow asked (stepped.Answered reply) = true
+abbrev pub can_go_on : Option (List ℕ) → Begun → Bool
+can_go_on (Some request) begun = fits_in request begun.call begun.progress
+can_go_on None begun = false
 
 abbrev pub is_fresh : Assembly → Bool
 is_fresh (Gathers []) = true
@@ -67,5 +63,33 @@ is_fresh (Refuses fault) = false
 -- a request that has begun goes on, and nothing comes while a reply waits
 abbrev pub is_ready : Stage → Assembly → Bool
 is_ready stage.Receiving assembly = true
-is_ready (stage.Running progress) assembly = can_go_on (asked_held assembly) progress
+is_ready (stage.Running begun) assembly = can_go_on (held_by assembly) begun
 is_ready (stage.Replied reply) assembly = is_fresh assembly
+
+-- A turn of a call
+
+abbrev pub left_of : ReadCall → Stepped → Left
+left_of call (stepped.Ran progress) = left.Begun (record { call = call; progress = progress })
+left_of call (stepped.Answered reply) = left.Answered reply
+
+abbrev pub turn_by : Left → world.Turn
+turn_by (left.Begun begun) = world.Ran
+turn_by (left.Answered reply) = world.Answered
+
+-- the connection after it
+abbrev pub left_by : Option (List ℕ) → Left → Connection
+left_by request (left.Begun begun) = busy_with request begun
+left_by request (left.Answered reply) = Replied reply.items
+
+abbrev pub can_follow : Option (List ℕ) → Left → Bool
+can_follow request (left.Begun begun) = can_go_on request begun
+can_follow request (left.Answered reply) = true
+
+-- the request goes on in the same run of the server
+abbrev pub IsLeftInRun : (run : ℕ) → Left → Type 0
+IsLeftInRun run (left.Begun begun) = begun.progress.run ≡ run
+IsLeftInRun run (left.Answered reply) = Unit {0}
+
+abbrev pub undone_ending : {T : Type 0} → Result T Undone → Ending
+undone_ending (Ok done) = Done
+undone_ending (Err undone) = ending_of undone.fault

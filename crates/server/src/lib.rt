@@ -2,6 +2,7 @@
 //! crash at any moment.
 #![tactic(auto)]
 
+mod begun;
 mod connection;
 mod fault;
 mod laws;

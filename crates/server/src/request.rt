@@ -5,23 +5,22 @@ ghost use Rattle.fs.specs.Views.{fs_of, Alters};
 ghost use Rattle.model.specs.Wire.Record.{framed};
 ghost use Rattle.model.specs.Wire.Rpc as rpc;
 ghost use Rattle.model.specs.Wire.Rpc.{is_call_read, reply_text};
-ghost use Rattle.model.specs.Server.World.{Busy, called};
+ghost use Rattle.model.specs.Server.World.{called};
 ghost use Rattle.rpc.specs.Views.{reply_view, tail_of};
 ghost use Rattle.opens.specs.Views.{opens_of};
 ghost use Rattle.session.specs.Views.{table_of};
 ghost use Rattle.compound.specs.States.{Agrees, shared_of};
-ghost use Rattle.compound.specs.Steps.{StaysInRun, turn_by};
 ghost use Rattle.compound.specs.Volumes.{TurnGives, ending};
 ghost use Rattle.compound.specs.declared.fault.Fault.TheVariants.{Memory};
-ghost use Rattle.compound.specs.Views.{in_progress_of, asked_of};
 ghost use Rattle.server.specs.Connections.{OpensTo, Leads};
-ghost use Rattle.server.specs.Stages.{asked_in, begun, left_by, can_go_on, can_follow};
+ghost use Rattle.server.specs.Stages.{IsLeftInRun, turn_by, left_by, can_follow};
 
-use compound::{Fault, Progress, Running, Stepped};
+use crate::begun::{Begun, Left, ReadCall};
+use compound::{Fault, Progress};
 use disk::Device;
 use fs::Fs;
 use opens::Opens;
-use rpc::{CallRead, Reply, Request, read_call, write_reply};
+use rpc::{CallRead, CompoundPlace, Reply, Request, read_call, write_reply};
 use session::Table;
 use std::alloc::Global;
 use xdr::Writer;
@@ -31,11 +30,11 @@ const HEADER_SIZE: usize = 4;
 
 /// What a call comes to before an operation runs.
 #[derive(Drop)]
-pub enum Opened<'a> {
+pub enum Opened {
     /// The whole record of a reply.
     Answers(Vec<u8>),
     /// A COMPOUND whose first operation runs next.
-    Begins(Running<'a>),
+    Begins(Begun),
 }
 
 /// The first turn of a whole record: its call is answered at once, or the first operation of its
@@ -48,16 +47,16 @@ pub fn first_turn<D: Device>(
     opens: &mut Opens,
     now: u64,
     spare: &mut Writer,
-) -> Result<Stepped, Fault>
+) -> Result<Left, Fault>
     requires up { (fs_of fs.old).volume.is_down ≡ false }
     requires call { is_call_read (rpc.read_call request.now) ≡ true }
     requires agrees { D.keeps_word → Agrees (fs_of fs.old) (table_of table.old) }
     ensures turn { D.keeps_word → IfOk result (λ done. Leads (λ world number.
         called world number now (rpc.read_call request.now))
         (shared_of fs.old table.old opens.old) (shared_of fs.new table.new opens.new)
-        (left_by (asked_in request.now) done) (turn_by done)) }
-    ensures stays { IfOk result (StaysInRun (fs_of fs.old).volume.run) }
-    ensures follows { IfOk result (λ done. can_follow (asked_in request.now) done ≡ true) }
+        (left_by (Some request.now) done) (turn_by done)) }
+    ensures stays { IfOk result (IsLeftInRun (fs_of fs.old).volume.run) }
+    ensures follows { IfOk result (λ done. can_follow (Some request.now) done ≡ true) }
     ensures agrees { D.keeps_word → OnOk result (Agrees (fs_of fs.new) (table_of table.new)) }
     // Refused
     ensures back { OnErr result ((table_of table.new ≡ table_of table.old)
@@ -67,11 +66,11 @@ pub fn first_turn<D: Device>(
         (λ world number. called world number now (rpc.read_call request.now))) (ending result) }
 {
     match open(alloc, fs.restart_count(), request, spare)? {
-        Opened::Answers(reply) => Ok(Stepped::Answered(reply)),
-        Opened::Begins(running) => match running.step(fs, table, opens, now, spare) {
+        Opened::Answers(reply) => Ok(Left::Answered(reply)),
+        Opened::Begins(begun) => match begun.step(alloc, request, fs, table, opens, now, spare) {
             Ok(done) => Ok(done),
             Err(undone) => {
-                *spare = undone.progress.into_memory();
+                *spare = undone.begun.progress.into_memory();
                 Err(undone.fault)
             }
         },
@@ -80,12 +79,7 @@ pub fn first_turn<D: Device>(
 
 /// Reads the call of a whole record, and tests it. All memory for its reply is taken here, or from
 /// `spare`.
-pub fn open<'a>(
-    alloc: Global,
-    run: u32,
-    request: &'a [u8],
-    spare: &mut Writer,
-) -> Result<Opened<'a>, Fault>
+pub fn open(alloc: Global, run: u32, request: &[u8], spare: &mut Writer) -> Result<Opened, Fault>
     requires { is_call_read (rpc.read_call request.now) ≡ true }
     ensures ok { IfOk result (OpensTo run request.now) }
     ensures err { IfErr result (λ fault. fault ≡ Memory) }
@@ -101,29 +95,15 @@ pub fn open<'a>(
     match call.request() {
         Request::Answers(reply) => Ok(Opened::Answers(record_of(alloc, call.xid, &reply)?)),
         Request::Runs(cred, compound) => {
-            let running = Running::begin(alloc, call.xid, run, cred, compound, spare)?;
-            Ok(Opened::Begins(running))
+            let progress = Progress::begin(alloc, run, spare)?;
+            let place = CompoundPlace::of(request, call.body, &compound);
+            let call = ReadCall {
+                xid: call.xid,
+                cred,
+                place,
+            };
+            Ok(Opened::Begins(Begun { call, progress }))
         }
-    }
-}
-
-/// The COMPOUND that a whole record asks for, from where it has come to.
-pub fn resume(alloc: Global, request: &[u8], progress: Progress) -> Running<'_>
-    requires { can_go_on (asked_in request.now) progress ≡ true }
-    ensures asked { asked_in request.now ≡ Some (asked_of result) }
-    ensures progress { result.progress ≡ progress }
-    ensures request { begun (asked_in request.now) progress ≡ Busy (in_progress_of result) }
-{
-    let call = match read_call(request) {
-        Ok(CallRead::Calls(call)) => call,
-        Ok(CallRead::OtherVersion { .. }) => unreachable!(),
-        Err(_) => unreachable!(),
-    };
-    match call.request() {
-        Request::Runs(cred, compound) => {
-            Running::resume(alloc, call.xid, cred, compound, progress)
-        }
-        Request::Answers(_) => unreachable!(),
     }
 }
 

@@ -2,11 +2,12 @@
 
 ghost use Rattle.std.specs.Prelude.{◌≡◌};
 
+use crate::begun::{Begun, Left};
 use crate::connection::Connection;
-use crate::request::{first_turn, resume};
+use crate::request::first_turn;
 use crate::stage::Stage;
 use crate::turn::Turn;
-use compound::{Fault, Progress, Stepped};
+use compound::Fault;
 use disk::Device;
 use fs::Fs;
 use opens::Opens;
@@ -22,10 +23,9 @@ impl Connection {
     ghost use Rattle.session.specs.Views.{table_of};
     ghost use Rattle.rpc.specs.Assembly.{Holds};
     ghost use Rattle.compound.specs.States.{Agrees, shared_of};
-    ghost use Rattle.compound.specs.Steps.{turn_by};
     ghost use Rattle.compound.specs.Volumes.{TurnGives, ending};
     ghost use Rattle.server.specs.Connections.{connection_view, turn_view, Turns, Leads, IsOfRun, HasGoneOn};
-    ghost use Rattle.server.specs.Stages.{CanGoOn, asked_held, begun, left_by, can_follow};
+    ghost use Rattle.server.specs.Stages.{CanGoOn, held_by, busy_with, turn_by, left_by, can_follow};
 
     /// Runs one operation of the request that waits or has begun, or has a seat hold the reply of
     /// one that has ended, at this moment in nanoseconds since 1970.
@@ -71,7 +71,7 @@ impl Connection {
                 },
                 None => Ok(Turn::Idle),
             },
-            Stage::Running(progress) => self.next_turn(progress, fs, table, opens, now),
+            Stage::Running(begun) => self.next_turn(begun, fs, table, opens, now),
             Stage::Replied(reply) => {
                 self.stage = Stage::Replied(reply);
                 Ok(Turn::Idle)
@@ -82,61 +82,61 @@ impl Connection {
     /// One more operation of the request that has begun, or its reply.
     fn next_turn<D: Device>(
         &mut self,
-        progress: Progress,
+        begun: Begun,
         fs: &mut Fs<D>,
         table: &mut Table,
         opens: &mut Opens,
         now: u64,
     ) -> Result<Turn, Fault>
-        requires goes_on { CanGoOn (fs_of fs.old).volume.run (asked_held self.old.assembler)
-            progress }
+        requires goes_on { (request : List ℕ) × (self.old.assembler ≡ Holds request)
+            × CanGoOn (fs_of fs.old).volume.run request begun }
         requires up { (fs_of fs.old).volume.is_down ≡ false }
         requires agrees { D.keeps_word → Agrees (fs_of fs.old) (table_of table.old) }
         // What it answers
         ensures turn { D.keeps_word → IfOk result (λ done. Leads (λ world number.
-            turned world number now (Some (begun (asked_held self.old.assembler) progress)))
+            turned world number now (Some (busy_with (held_by self.old.assembler) begun)))
             (shared_of fs.old table.old opens.old) (shared_of fs.new table.new opens.new)
             (connection_view self.new) (turn_view done)) }
         ensures further { OnOk result (HasGoneOn
-            (Some (begun (asked_held self.old.assembler) progress))
+            (Some (busy_with (held_by self.old.assembler) begun))
             (Some (connection_view self.new))) }
         ensures run { IsOfRun (fs_of fs.old).volume.run (connection_view self.new) }
         ensures agrees { D.keeps_word → OnOk result (Agrees (fs_of fs.new) (table_of table.new)) }
         // Refused
         ensures back { OnErr result
-            ((connection_view self.new ≡ begun (asked_held self.old.assembler) progress)
+            ((connection_view self.new ≡ busy_with (held_by self.old.assembler) begun)
             × (table_of table.new ≡ table_of table.old)
             × (opens_of opens.new ≡ opens_of opens.old)) }
         // In any case
         ensures volume { Alters fs.old fs.new (TurnGives (shared_of fs.old table.old opens.old)
             (λ world number. turned world number now
-            (Some (begun (asked_held self.old.assembler) progress)))) (ending result) }
+            (Some (busy_with (held_by self.old.assembler) begun)))) (ending result) }
     {
         let Some(record) = self.assembler.record() else {
             unreachable!();
         };
-        match resume(self.alloc, record, progress).step(fs, table, opens, now, &mut self.spare) {
+        match begun.step(self.alloc, record, fs, table, opens, now, &mut self.spare) {
             Ok(done) => Ok(self.settle(done)),
             Err(undone) => {
-                self.stage = Stage::Running(undone.progress);
+                self.stage = Stage::Running(undone.begun);
                 Err(undone.fault)
             }
         }
     }
 
     /// Goes on after a step, and says what the turn was. With the reply the record goes.
-    fn settle(&mut self, done: Stepped) -> Turn
+    fn settle(&mut self, done: Left) -> Turn
         requires holds { (request : List ℕ) × (self.old.assembler ≡ Holds request) }
-        requires follows { can_follow (asked_held self.old.assembler) done ≡ true }
+        requires follows { can_follow (held_by self.old.assembler) done ≡ true }
         ensures turn { turn_view result ≡ turn_by done }
-        ensures state { connection_view self.new ≡ left_by (asked_held self.old.assembler) done }
+        ensures state { connection_view self.new ≡ left_by (held_by self.old.assembler) done }
     {
         match done {
-            Stepped::Ran(progress) => {
-                self.stage = Stage::Running(progress);
+            Left::Begun(begun) => {
+                self.stage = Stage::Running(begun);
                 Turn::Ran
             }
-            Stepped::Answered(reply) => {
+            Left::Answered(reply) => {
                 self.assembler.release();
                 self.stage = Stage::Replied(reply);
                 Turn::Answered

@@ -1,7 +1,6 @@
-use Rattle.std.proofs.Common.{◌≡◌, ◌∙◌, refl, sym, ap, arith}
+use Rattle.std.proofs.Common.{◌≡◌, ◌∙◌, ℕ, Some, refl, sym, ap, subst, arith}
 use Rattle.compound.specs.States.{shared_of}
 use Rattle.compound.specs.Steps.{stepped_on}
-use Rattle.compound.specs.Views.{in_progress_of}
 use Rattle.compound.specs.Volumes.{ending_of}
 use Rattle.compound.specs.declared.fault.Fault.TheVariants as fault
 use Rattle.volume.specs.Changes.{Done}
@@ -10,7 +9,8 @@ use Rattle.volume.proofs.ServeLaws.{told_err}
 use Rattle.compound.proofs.QuietLaws.{leaves_all}
 use Rattle.model.specs.Wire.Rpc.{read_call}
 use Rattle.model.specs.Server.World.{Turned, called}
-use Rattle.server.proofs.Turning.{same_changes, idle_changes}
+use Rattle.server.specs.Stages.{CanGoOn, in_progress_at, turn_by, left_by}
+use Rattle.server.proofs.Turning.{same_changes, idle_changes, leads_as}
 use Rattle.server.proofs.request.first_turn.Goals as goal
 
 pub returns-in_err-reply-clause-volume : goal.returns-in_err-reply-clause-volume
@@ -19,6 +19,19 @@ returns-in_err-reply-clause-volume g c =
     let told = told_err c.from_residual.result reason c.from_residual.ensures.1 in
     let memory : reason ≡ fault.Memory = rw c.in_err-reply.was at c.open.ensures.err in
     rw (told, memory) (leaves_all g.D.Device.keeps_word _ _ _ _ _ refl (omega arith))
+
+pub step-requires-clause-goes_on : goal.step-requires-clause-goes_on
+step-requires-clause-goes_on g c =
+    let opens = rw c.in-Begins.is at c.in_ok-reply.ensures.ok in
+    subst (λ (run : ℕ). CanGoOn run c.args.request.now c.in-Begins.begun) c.restart_count.ensures opens.0
+
+pub returns-in-Ok-clause-turn : goal.returns-in-Ok-clause-turn
+returns-in-Ok-clause-turn g c = λ keeps.
+    let opens = rw c.in-Begins.is at c.in_ok-reply.ensures.ok in
+    leads_as (λ world number. stepped_on world number c.args.now (in_progress_at c.args.request.now c.in-Begins.begun)) (λ world number. called world number c.args.now (read_call c.args.request.now))
+    (shared_of c.args.fs.now c.args.table.now c.args.opens.now) (shared_of c.step.new.fs c.step.new.table c.step.new.opens)
+    (λ world number served. opens.1 world number c.args.now (served.run ∙ sym c.restart_count.ensures))
+    (left_by (Some c.args.request.now) c.in-Ok.done) (left_by (Some c.args.request.now) c.in-Ok.done) (turn_by c.in-Ok.done) (turn_by c.in-Ok.done) refl refl (c.in-Ok.ensures.step keeps)
 
 pub returns-in-Answers-clause-volume : goal.returns-in-Answers-clause-volume
 returns-in-Answers-clause-volume g c =
@@ -31,12 +44,12 @@ pub returns-in-Ok-clause-volume : goal.returns-in-Ok-clause-volume
 returns-in-Ok-clause-volume g c =
     let opens = rw c.in-Begins.is at c.in_ok-reply.ensures.ok in
     same_changes g.D.Device.keeps_word (shared_of c.args.fs.now c.args.table.now c.args.opens.now) (fs_of c.args.fs.now) (fs_of c.step.new.fs) _ _
-    (λ world number. stepped_on world number c.args.now (in_progress_of c.in-Begins.running)) (λ world number. called world number c.args.now (read_call c.args.request.now))
-    (λ world number served. opens.2 world number c.args.now (served.run ∙ sym c.restart_count.ensures)) Done c.in-Ok.ensures.volume
+    (λ world number. stepped_on world number c.args.now (in_progress_at c.args.request.now c.in-Begins.begun)) (λ world number. called world number c.args.now (read_call c.args.request.now))
+    (λ world number served. opens.1 world number c.args.now (served.run ∙ sym c.restart_count.ensures)) Done c.in-Ok.ensures.volume
 
 pub returns-in-Err-clause-volume : goal.returns-in-Err-clause-volume
 returns-in-Err-clause-volume g c =
     let opens = rw c.in-Begins.is at c.in_ok-reply.ensures.ok in
     same_changes g.D.Device.keeps_word (shared_of c.args.fs.now c.args.table.now c.args.opens.now) (fs_of c.args.fs.now) (fs_of c.step.new.fs) _ _
-    (λ world number. stepped_on world number c.args.now (in_progress_of c.in-Begins.running)) (λ world number. called world number c.args.now (read_call c.args.request.now))
-    (λ world number served. opens.2 world number c.args.now (served.run ∙ sym c.restart_count.ensures)) (ending_of c.in-Err.undone.fault) c.in-Err.ensures.volume
+    (λ world number. stepped_on world number c.args.now (in_progress_at c.args.request.now c.in-Begins.begun)) (λ world number. called world number c.args.now (read_call c.args.request.now))
+    (λ world number served. opens.1 world number c.args.now (served.run ∙ sym c.restart_count.ensures)) (ending_of c.in-Err.undone.fault) c.in-Err.ensures.volume

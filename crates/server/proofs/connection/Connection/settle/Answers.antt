@@ -1,26 +1,25 @@
 use Rattle.std.proofs.Common.{sym, ap, ◌∙◌}
-use Rattle.compound.specs.Steps.{turn_by}
 use Rattle.rpc.specs.Assembly.{released}
 use Rattle.server.specs.Connections.{connection_view}
-use Rattle.server.specs.Stages.{asked_held, left_by, is_fresh}
+use Rattle.server.specs.Stages.{held_by, turn_by, left_by, is_fresh}
 use Rattle.server.proofs.connection.Connection.settle.Goals as goal
 
 pub invariant_of-self : goal.invariant_of-self
-invariant_of-self c = record { ready = rw c.in-Ran.is at c.requires.follows }
+invariant_of-self c = record { ready = rw c.in-Begun.is at c.requires.follows }
 
 pub invariant_of-self-in-Answered : goal.invariant_of-self-in-Answered
 invariant_of-self-in-Answered c = record { ready = ap is_fresh (c.release.ensures.assembly ∙ ap released c.requires.holds.1) }
 
-pub returns-in-Ran-clause-turn : goal.returns-in-Ran-clause-turn
-returns-in-Ran-clause-turn c = ap turn_by (sym c.in-Ran.is)
+pub returns-in-Begun-clause-turn : goal.returns-in-Begun-clause-turn
+returns-in-Begun-clause-turn c = ap turn_by (sym c.in-Begun.is)
 
-pub returns-in-Ran-clause-state : goal.returns-in-Ran-clause-state
+pub returns-in-Begun-clause-state : goal.returns-in-Begun-clause-state
 unfolding connection_view
-returns-in-Ran-clause-state c = ap (left_by (asked_held c.args.self.now.assembler)) (sym c.in-Ran.is)
+returns-in-Begun-clause-state c = ap (left_by (held_by c.args.self.now.assembler)) (sym c.in-Begun.is)
 
 pub returns-in-Answered-clause-turn : goal.returns-in-Answered-clause-turn
 returns-in-Answered-clause-turn c = ap turn_by (sym c.in-Answered.is)
 
 pub returns-in-Answered-clause-state : goal.returns-in-Answered-clause-state
 unfolding connection_view
-returns-in-Answered-clause-state c = ap (left_by (asked_held c.args.self.now.assembler)) (sym c.in-Answered.is)
+returns-in-Answered-clause-state c = ap (left_by (held_by c.args.self.now.assembler)) (sym c.in-Answered.is)

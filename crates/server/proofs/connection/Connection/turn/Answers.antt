@@ -1,6 +1,5 @@
 use Rattle.std.proofs.Common.{◌≡◌, ℕ, true, false, List, Some, OnOk, refl, ap, sym, subst, ◌∙◌}
 use Rattle.compound.specs.States.{shared_of}
-use Rattle.compound.specs.Steps.{turn_by}
 use Rattle.compound.specs.Volumes.{ending, ending_of}
 use Rattle.volume.specs.Changes.{Done}
 use Rattle.fs.specs.Views.{fs_of, fs_failures}
@@ -8,11 +7,11 @@ use Rattle.model.specs.Wire.Rpc.{read_call}
 use Rattle.model.specs.Server.World.{World, Connection, is_busy, Waiting, Replied, Turned, called, idle, turned}
 use Rattle.rpc.specs.Assembly.{Assembly, Gathers, Holds, Refuses, connection_of}
 use Rattle.server.specs.Connections.{connection_view, HasGoneOn, IsOfRun}
-use Rattle.server.specs.Stages.{stage_view, asked_in, asked_held, begun, left_by, is_ready}
+use Rattle.server.specs.Stages.{stage_view, held_by, busy_with, turn_by, left_by, is_ready}
 use Rattle.server.specs.declared.stage.Stage.{Stage}
 use Rattle.server.specs.declared.stage.Stage.TheVariants as stages
 use Rattle.server.proofs.Turning.{not_begun, turns_by, turns_if, same_changes, idle_changes, idle_turn_to, replied_comes, no_record_comes, waiting_comes}
-use Rattle.server.proofs.Resumptions.{run_of}
+use Rattle.server.proofs.Resumptions.{goes_on_held}
 use Rattle.server.proofs.connection.Connection.turn.Goals as goal
 
 -- what the connection was, by its stage
@@ -26,13 +25,10 @@ pub next_turn-requires-clause-goes_on : goal.next_turn-requires-clause-goes_on
 unfolding connection_view
 next_turn-requires-clause-goes_on g c =
     let assembly = c.args.self.now.assembler in
-    let can : is_ready (stages.Running c.in-Running.progress) assembly ≡ true =
+    let can : is_ready (stages.Running c.in-Running.begun) assembly ≡ true =
     subst (λ (s : Stage). is_ready s assembly ≡ true) (sym c.in-Running.ensures.value) c.args.self.now.ready in
-    record {
-      can = can;
-      began_in = run_of (fs_of c.args.fs.now).volume.run (asked_held assembly) c.in-Running.progress can
-          (subst (IsOfRun (fs_of c.args.fs.now).volume.run) (ap (stage_view assembly) (sym c.in-Running.ensures.value)) c.requires.run);
-    }
+    goes_on_held (fs_of c.args.fs.now).volume.run assembly c.in-Running.begun can
+    (subst (IsOfRun (fs_of c.args.fs.now).volume.run) (ap (stage_view assembly) (sym c.in-Running.ensures.value)) c.requires.run)
 
 pub returns-in-Ok-clause-turn : goal.returns-in-Ok-clause-turn
 unfolding connection_view
@@ -41,8 +37,8 @@ returns-in-Ok-clause-turn g c = λ keeps.
     (waiting_comes c.args.now (connection_view c.args.self.now) c.in-Some.record.now
     (waits c.args.self.now.assembler c.args.self.now.stage c.in-Some.record.now c.in-Receiving.ensures.value c.in-Some.ensures.waits))
     (shared_of c.args.fs.now c.args.table.now c.args.opens.now) (shared_of c.first_turn.new.fs c.first_turn.new.table c.first_turn.new.opens)
-    (connection_view c.settle.new.self) (left_by (asked_in c.in-Some.record.now) c.in-Ok.done) c.settle.result (turn_by c.in-Ok.done)
-    c.settle.ensures.turn (c.settle.ensures.state ∙ ap (λ (a : Assembly). left_by (asked_held a) c.in-Ok.done) c.in-Some.ensures.waits) (c.in-Ok.ensures.turn keeps)
+    (connection_view c.settle.new.self) (left_by (Some c.in-Some.record.now) c.in-Ok.done) c.settle.result (turn_by c.in-Ok.done)
+    c.settle.ensures.turn (c.settle.ensures.state ∙ ap (λ (a : Assembly). left_by (held_by a) c.in-Ok.done) c.in-Some.ensures.waits) (c.in-Ok.ensures.turn keeps)
 
 pub returns-in-None-clause-turn : goal.returns-in-None-clause-turn
 unfolding connection_view
@@ -58,7 +54,7 @@ unfolding connection_view
 returns-in-Running-clause-turn g c = λ keeps.
     let assembly = c.args.self.now.assembler in
     let before = ap (stage_view assembly) (sym c.in-Running.ensures.value) in
-    turns_if c.args.now (connection_view c.args.self.now) (λ world number. turned world number c.args.now (Some (begun (asked_held assembly) c.in-Running.progress)))
+    turns_if c.args.now (connection_view c.args.self.now) (λ world number. turned world number c.args.now (Some (busy_with (held_by assembly) c.in-Running.begun)))
     (λ world number. ap (λ (b : Connection). turned world number c.args.now (Some b)) before)
     (shared_of c.args.fs.now c.args.table.now c.args.opens.now) (shared_of c.next_turn.new.fs c.next_turn.new.table c.next_turn.new.opens)
     (connection_view c.next_turn.new.self) c.next_turn.result (c.next_turn.ensures.turn keeps)
@@ -106,7 +102,7 @@ returns-in-Running-clause-volume g c =
     let assembly = c.args.self.now.assembler in
     let before = ap (stage_view assembly) (sym c.in-Running.ensures.value) in
     same_changes g.D.Device.keeps_word (shared_of c.args.fs.now c.args.table.now c.args.opens.now) (fs_of c.args.fs.now) (fs_of c.next_turn.new.fs) _ _
-    (λ world number. turned world number c.args.now (Some (begun (asked_held assembly) c.in-Running.progress)))
+    (λ world number. turned world number c.args.now (Some (busy_with (held_by assembly) c.in-Running.begun)))
     (λ world number. turned world number c.args.now (Some (connection_view c.args.self.now)))
     (λ world number served. ap (λ (b : Connection). turned world number c.args.now (Some b)) before) (ending c.next_turn.result) c.next_turn.ensures.volume
 

@@ -1,0 +1,55 @@
+use Rattle.std.proofs.Common.{ap, sym, subst, ◌∙◌}
+use Rattle.compound.specs.States.{shared_of}
+use Rattle.compound.specs.Steps as compound
+use Rattle.compound.specs.Steps.{stepped_on}
+use Rattle.compound.specs.Views.{Asked, asked_of, in_progress_of}
+use Rattle.compound.specs.Volumes.{ending_of}
+use Rattle.compound.specs.declared.progress.Progress.{Progress}
+use Rattle.volume.specs.Changes.{Done}
+use Rattle.fs.specs.Views.{fs_of}
+use Rattle.model.specs.Server.World.{InProgress}
+use Rattle.server.specs.declared.begun.Begun.{Begun}
+use Rattle.server.specs.declared.begun.Left.{Left}
+use Rattle.server.specs.Connections.{GoesOn, Steps}
+use Rattle.server.specs.Stages.{in_progress_at}
+use Rattle.server.proofs.Resumptions.{stands_within, steps_on}
+use Rattle.server.proofs.Turning.{same_changes, step_leads}
+use Rattle.server.proofs.begun.Begun.step.Goals as goal
+
+pub step-requires-clause-run : goal.step-requires-clause-run
+step-requires-clause-run g c = ap (λ (r : InProgress). r.context.run) c.resume.ensures.request ∙ c.requires.goes_on.began_in
+
+pub returns-in-Ok-clause-step : goal.returns-in-Ok-clause-step
+returns-in-Ok-clause-step g c = λ keeps.
+    let request = c.args.request.now in
+    let old = shared_of c.args.fs.now c.args.table.now c.args.opens.now in
+    let new = shared_of c.step.new.fs c.step.new.table c.step.new.opens in
+    subst (λ (left : Left). Steps c.args.now old new request c.args.self left) (sym c.left.ensures)
+    (step_leads c.args.now request c.args.self c.in-Ok.done old new
+    (subst (λ (asked : Asked). compound.Steps c.args.now old new asked (in_progress_at request c.args.self) c.in-Ok.done) c.resume.ensures.asked
+    (subst (λ (r : InProgress). compound.Steps c.args.now old new (asked_of c.resume.result) r c.in-Ok.done) c.resume.ensures.request (c.in-Ok.ensures.step keeps))))
+
+pub returns-in-Ok-clause-goes_on : goal.returns-in-Ok-clause-goes_on
+returns-in-Ok-clause-goes_on g c =
+    let request = c.args.request.now in
+    let run = (fs_of c.args.fs.now).volume.run in
+    subst (λ (left : Left). GoesOn run request c.args.self left) (sym c.left.ensures)
+    (steps_on run request c.args.self c.in-Ok.done (stands_within request c.args.self c.requires.goes_on.can)
+    (subst (λ (asked : Asked). compound.GoesOn run asked (in_progress_at request c.args.self) c.in-Ok.done) c.resume.ensures.asked
+    (subst (λ (r : InProgress). compound.GoesOn run (asked_of c.resume.result) r c.in-Ok.done) c.resume.ensures.request c.in-Ok.ensures.goes_on)))
+
+pub returns-in-Ok-clause-volume : goal.returns-in-Ok-clause-volume
+returns-in-Ok-clause-volume g c =
+    same_changes g.D.Device.keeps_word (shared_of c.args.fs.now c.args.table.now c.args.opens.now) (fs_of c.args.fs.now) (fs_of c.step.new.fs) _ _
+    (λ world number. stepped_on world number c.args.now (in_progress_of c.resume.result)) (λ world number. stepped_on world number c.args.now (in_progress_at c.args.request.now c.args.self))
+    (λ world number served. ap (stepped_on world number c.args.now) (sym c.resume.ensures.request)) Done c.in-Ok.ensures.volume
+
+pub returns-in-Err-clause-back : goal.returns-in-Err-clause-back
+returns-in-Err-clause-back g c =
+    ap (λ (progress : Progress). let one : Begun = record { call = c.args.self.call; progress = progress } in one) (c.in-Err.ensures.back ∙ c.resume.ensures.progress)
+
+pub returns-in-Err-clause-volume : goal.returns-in-Err-clause-volume
+returns-in-Err-clause-volume g c =
+    same_changes g.D.Device.keeps_word (shared_of c.args.fs.now c.args.table.now c.args.opens.now) (fs_of c.args.fs.now) (fs_of c.step.new.fs) _ _
+    (λ world number. stepped_on world number c.args.now (in_progress_of c.resume.result)) (λ world number. stepped_on world number c.args.now (in_progress_at c.args.request.now c.args.self))
+    (λ world number served. ap (stepped_on world number c.args.now) (sym c.resume.ensures.request)) (ending_of c.in-Err.undone.fault) c.in-Err.ensures.volume

@@ -1,0 +1,131 @@
+//! A COMPOUND that has begun: what is kept of it from turn to turn, beside the record of its call.
+
+use compound::{Fault, Progress, Running, Stepped};
+use disk::Device;
+use fs::Fs;
+use model::acl::Cred;
+use opens::Opens;
+use rpc::CompoundPlace;
+use session::Table;
+use std::alloc::Global;
+use xdr::Writer;
+
+/// What a call says, which its first turn reads. The COMPOUND's bytes stand in the record.
+#[derive(Drop)]
+pub struct ReadCall {
+    pub(crate) xid: u32,
+    pub(crate) cred: Cred,
+    pub(crate) place: CompoundPlace,
+}
+
+/// A COMPOUND that has begun: its call, and how far it has come.
+#[derive(Drop)]
+pub struct Begun {
+    pub(crate) call: ReadCall,
+    pub(crate) progress: Progress,
+}
+
+/// What a turn of a call leaves.
+#[derive(Drop)]
+pub enum Left {
+    /// The COMPOUND goes on.
+    Begun(Begun),
+    /// The whole record of the reply.
+    Answered(Vec<u8>),
+}
+
+/// A COMPOUND of which a turn was not done, as it was before, and why.
+#[derive(Drop)]
+pub struct Undone {
+    pub fault: Fault,
+    pub begun: Begun,
+}
+
+impl Begun {
+    ghost use Rattle.std.specs.Prelude.{◌≡◌, false, IfOk, IfErr, OnOk, OnErr};
+    ghost use Rattle.fs.specs.Views.{fs_of, Alters};
+    ghost use Rattle.opens.specs.Views.{opens_of};
+    ghost use Rattle.session.specs.Views.{table_of};
+    ghost use Rattle.compound.specs.States.{Agrees, shared_of};
+    ghost use Rattle.compound.specs.Steps.{stepped_on};
+    ghost use Rattle.compound.specs.Volumes.{TurnGives};
+    ghost use Rattle.server.specs.Connections.{GoesOn, Steps};
+    ghost use Rattle.server.specs.Stages.{CanGoOn, in_progress_at, undone_ending};
+
+    /// A turn of the COMPOUND, whose call stands in this record.
+    ///
+    /// # Errors
+    /// Those of `Running::step`.
+    pub fn step<D: Device>(
+        self,
+        alloc: Global,
+        request: &[u8],
+        fs: &mut Fs<D>,
+        table: &mut Table,
+        opens: &mut Opens,
+        now: u64,
+        spare: &mut Writer,
+    ) -> Result<Left, Undone>
+        requires goes_on { CanGoOn (fs_of fs.old).volume.run request.now self }
+        requires up { (fs_of fs.old).volume.is_down ≡ false }
+        requires agrees { D.keeps_word → Agrees (fs_of fs.old) (table_of table.old) }
+        // Done
+        ensures step { D.keeps_word → IfOk result (Steps now (shared_of fs.old table.old opens.old)
+            (shared_of fs.new table.new opens.new) request.now self) }
+        ensures agrees { D.keeps_word → OnOk result (Agrees (fs_of fs.new) (table_of table.new)) }
+        ensures goes_on { IfOk result (GoesOn (fs_of fs.old).volume.run request.now self) }
+        // Not done
+        ensures back { IfErr result (λ undone. undone.begun ≡ self) }
+        ensures others { OnErr result ((table_of table.new ≡ table_of table.old)
+            × (opens_of opens.new ≡ opens_of opens.old)) }
+        // In any case
+        ensures volume { Alters fs.old fs.new (TurnGives (shared_of fs.old table.old opens.old)
+            (λ world number. stepped_on world number now (in_progress_at request.now self)))
+            (undone_ending result) }
+    {
+        let Begun { call, progress } = self;
+        match call
+            .resume(alloc, request, progress)
+            .step(fs, table, opens, now, spare)
+        {
+            Ok(done) => Ok(call.left(done)),
+            Err(undone) => Err(Undone {
+                fault: undone.fault,
+                begun: Begun {
+                    call,
+                    progress: undone.progress,
+                },
+            }),
+        }
+    }
+}
+
+impl ReadCall {
+    ghost use Rattle.std.specs.Prelude.{◌≡◌, true};
+    ghost use Rattle.compound.specs.Views.{in_progress_of, asked_of, resumed};
+    ghost use Rattle.server.specs.Stages.{asked_at, fits_in, left_of};
+
+    /// The COMPOUND that stands in this record, from where it has come to.
+    fn resume<'a>(&'a self, alloc: Global, request: &'a [u8], progress: Progress) -> Running<'a>
+        requires { fits_in request.now self.now progress ≡ true }
+        ensures asked { asked_of result ≡ asked_at request.now self.now }
+        ensures progress { result.progress ≡ progress }
+        ensures request { in_progress_of result ≡ resumed (asked_at request.now self.now) progress }
+    {
+        let compound = self.place.compound(request);
+        Running::resume(alloc, self.xid, &self.cred, compound, progress)
+    }
+
+    /// What a step of its COMPOUND leaves.
+    fn left(self, done: Stepped) -> Left
+        ensures { result ≡ left_of self done }
+    {
+        match done {
+            Stepped::Ran(progress) => Left::Begun(Begun {
+                call: self,
+                progress,
+            }),
+            Stepped::Answered(reply) => Left::Answered(reply),
+        }
+    }
+}
