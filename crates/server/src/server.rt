@@ -227,9 +227,9 @@ impl<D: Device> Server<D> {
         }
     }
 
-    /// Copies home what the journal's open gate names, and closes it, so that the next change waits
-    /// for two syncs, and not for four: for when no reply is due. Nothing that a client can tell
-    /// changes, and a crash leaves what it might have left before.
+    /// A checkpoint, for when no reply is due: copies home what the commit record names, and clears
+    /// that, so that the next change waits for two syncs, and not for four. Nothing that a client
+    /// can tell changes, and a crash leaves what it might have left before.
     ///
     /// # Errors
     /// Device where the file system is down, or goes down in this call.
