@@ -73,7 +73,7 @@ fn entry_at(alloc: Global, sector: &[u8; SIZE], at: usize) -> Result<Entry, Reco
         → IfOk result (λ entry. record_of entry ≡ other) }
     ensures err { IsErrOf result RecordsFault.NotRecords → (other : Record) (rest : List ℕ)
         → IsRecord other
-        → drop at sector.now ≡ record_bytes other ++ rest → ⊥ }
+        → ¬ (drop at sector.now ≡ record_bytes other ++ rest) }
 {
     let len = usize::from(sector[at + 16]);
     if len == 0 {
@@ -94,7 +94,7 @@ fn entries_in(alloc: Global, count: usize, sector: &[u8; SIZE]) -> Result<Vec<En
         → IfOk result (λ entries. map record_of entries.items ≡ others) }
     ensures err { IsErrOf result RecordsFault.NotRecords → (others : List Record)
         → AllByRecursion IsRecord others
-        → length others ≡ count → sector.now ≡ directory_sector others → ⊥ }
+        → length others ≡ count → ¬ (sector.now ≡ directory_sector others) }
 {
     let mut entries = Vec::new(alloc);
     for i in 0..count {

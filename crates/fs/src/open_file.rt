@@ -327,7 +327,7 @@ impl<D: Device> Fs<D> {
         ensures tests { IsCheckedInMemory (room_tests (fs_of self.now)
             (tree_cut (fs_of self.now) number now)) result }
         ensures memory { is_stamp_left (fs_of self.now).changes ≡ false
-            → IsErrOf result NotDone.Memory → ⊥ }
+            → ¬ IsErrOf result NotDone.Memory }
         // Where none holds
         ensures planned { IfOk result (λ edits. IsPlanned (fs_of self.now) edits.items) }
         ensures after { IfOk result (λ edits. edited_by (fs_of self.now).volume edits.items

@@ -91,7 +91,7 @@ impl<D: Device> Fs<D> {
         ensures down { (fs_of self.old).volume.is_down ≡ true → IsErrOf result FsFault.Down }
         ensures device_room { IsErrOf result FsFault.Device → has_room ≡ true }
         ensures memory { is_stamp_left (fs_of self.old).changes ≡ false
-            → IsErrOf result FsFault.Memory → ⊥ }
+            → ¬ IsErrOf result FsFault.Memory }
     {
         if self.is_down() {
             return Err(FsFault::Down);
@@ -125,7 +125,7 @@ impl<D: Device> Fs<D> {
             → IfErr result (λ refusal. IsNotDone (fs_of self.now) state now
             (Argument.Remove name.now) (fault_of refusal)) }
         ensures memory { is_stamp_left (fs_of self.now).changes ≡ false
-            → IsErrOf result NotDone.Memory → ⊥ }
+            → ¬ IsErrOf result NotDone.Memory }
     {
         let removal = self.permit_removal(cred, directory, name)?;
         let holder = removal.directory;

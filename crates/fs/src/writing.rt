@@ -74,7 +74,7 @@ impl<D: Device> Fs<D> {
         ensures down { (fs_of self.old).volume.is_down ≡ true → IsErrOf result FsFault.Down }
         ensures device_room { IsErrOf result FsFault.Device → has_room ≡ true }
         ensures memory { is_stamp_left (fs_of self.old).changes ≡ false
-            → IsErrOf result FsFault.Memory → ⊥ }
+            → ¬ IsErrOf result FsFault.Memory }
     {
         if self.is_down() {
             return Err(FsFault::Down);
@@ -118,7 +118,7 @@ impl<D: Device> Fs<D> {
             → IfErr result (λ refusal. IsNotDone (fs_of self.now) state now
             (Argument.Write arguments) (fault_of refusal)) }
         ensures memory { is_stamp_left (fs_of self.now).changes ≡ false
-            → IsErrOf result NotDone.Memory → ⊥ }
+            → ¬ IsErrOf result NotDone.Memory }
     {
         let part = self.taken(asked.bytes);
         let card = self.permit_file(cred, number, verdict, Mask::WRITE_DATA)?;

@@ -56,7 +56,7 @@ fn run_sectors_in(alloc: Global, sector: &[u8; SIZE], count: usize) -> Result<Ve
     ensures err { IsErrOf result InodeFault.NotInode → (numbers : List ℕ) (rest : List ℕ)
         → AllByRecursion IsRunSector numbers
         → length numbers ≡ count
-        → drop RUN_NUMBERS sector.now ≡ flat_map number_bytes numbers ++ rest → ⊥ }
+        → ¬ (drop RUN_NUMBERS sector.now ≡ flat_map number_bytes numbers ++ rest) }
 {
     let mut numbers = Vec::new(alloc);
     for i in 0..count {
@@ -78,7 +78,7 @@ fn acl_in(alloc: Global, sector: &[u8; SIZE], count: usize) -> Result<Acl, Inode
         → IfOk result (λ acl. acl ≡ aces) }
     ensures err { IsErrOf result InodeFault.NotInode → (aces : List Ace) (rest : List ℕ)
         → AllByRecursion IsAce aces
-        → length aces ≡ count → drop ENTRIES sector.now ≡ flat_map ace_bytes aces ++ rest → ⊥ }
+        → length aces ≡ count → ¬ (drop ENTRIES sector.now ≡ flat_map ace_bytes aces ++ rest) }
 {
     let mut acl = Acl::new(alloc);
     for i in 0..count {
@@ -108,7 +108,7 @@ fn inode_in(alloc: Global, form: Form, sector: &[u8; SIZE]) -> Result<Inode, Ino
         → sector.now ≡ inode_sector form fields
         → IfOk result (λ inode. fields_of inode ≡ fields) }
     ensures err { IsErrOf result InodeFault.NotInode → (fields : Fields) → IsInode form fields
-        → sector.now ≡ inode_sector form fields → ⊥ }
+        → ¬ (sector.now ≡ inode_sector form fields) }
 {
     let Some(kind) = kind_from(sector[4]) else {
         return Err(InodeFault::NotInode);

@@ -69,7 +69,7 @@ impl Cache {
 
     fn forget_one(&mut self, n: u32)
         ensures among { AreAmong self.new.sectors.entries self.old.sectors.entries }
-        ensures gone { (content : List ℕ) → Contains self.new.sectors.entries (n, content) → ⊥ }
+        ensures gone { (content : List ℕ) → ¬ Contains self.new.sectors.entries (n, content) }
     {
         // of its length a cache tells that no two of its keys are the same
         let _ = self.sectors.len();

@@ -49,7 +49,7 @@ fn write_words(targets: &[u32], sector: &mut [u8])
 pub(crate) fn decode(sector: &[u8; SECTOR], sectors: u32, named: &mut Vec<u32>) -> bool
     requires { PAYLOAD_SECTORS ≤ vec_capacity named.old }
     ensures found { IsTrue result → NamesTargets sectors sector.now named.new.items }
-    ensures missing { result ≡ false → (to : List ℕ) → NamesTargets sectors sector.now to → ⊥ }
+    ensures missing { result ≡ false → (to : List ℕ) → ¬ NamesTargets sectors sector.now to }
     ensures capacity { vec_capacity named.new ≡ vec_capacity named.old }
 {
     if !read_words(sector, named) {

@@ -395,12 +395,12 @@ impl<D: Device> Journal<D> {
             → (log_of self.new ≡ log_of self.old)
             × (self.new.pending.items ≡ self.old.pending.items)
             × (shown_of self.new ≡ shown_of self.old) }
-        ensures flushed { OnOk result ((FitTogether (list_with (log_of self.old) updates.now) → ⊥)
+        ensures flushed { OnOk result ((¬ FitTogether (list_with (log_of self.old) updates.now))
             → HasFlushed D.keeps_word (log_of self.old) (log_of self.new)) }
-        ensures gate { OnOk result ((FitTogether (list_with (log_of self.old) updates.now) → ⊥)
+        ensures gate { OnOk result ((¬ FitTogether (list_with (log_of self.old) updates.now))
             → GoesThrough D.keeps_word (shown_of self.old) (shown_of self.new)
             (log_of self.old) (log_of self.new)) }
-        ensures emptied { OnOk result ((FitTogether (list_with (log_of self.old) updates.now) → ⊥)
+        ensures emptied { OnOk result ((¬ FitTogether (list_with (log_of self.old) updates.now))
             → self.new.pending.items ≡ []) }
         ensures room { OnOk result
             (length (gathered self.new.pending_sectors.items (targets updates.now))

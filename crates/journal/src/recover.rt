@@ -78,7 +78,7 @@ pub(crate) fn read_gate<D: Device>(device: &mut D, named: &mut Vec<u32>) -> Resu
     ensures small { D.size device.old < 2 ^ 32 }
     // Refused
     ensures damaged { D.keeps_word → IsErrOf result JournalFault.Damaged → (to : List ℕ)
-        → NamesTargets (D.size device.old) (seen (D.history device.old).now 1) to → ⊥ }
+        → ¬ NamesTargets (D.size device.old) (seen (D.history device.old).now 1) to }
     ensures failures { FaultsCounted (D.failed device.old) (D.failed device.new) result }
 {
     let sectors = device.sectors();

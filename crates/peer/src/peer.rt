@@ -96,7 +96,7 @@ impl From<ServerFault> for Parting {
 }
 
 impl<S: Stream + Drop> Peer<S> {
-    ghost use Rattle.std.specs.Prelude.{◌≡◌, ◌||◌, [], Ok, None, IfOk, IfErr, IsErrOf, MatchOption};
+    ghost use Rattle.std.specs.Prelude.{◌≢◌, ◌≡◌, ◌||◌, [], Ok, None, IfOk, IfErr, IsErrOf, MatchOption};
     ghost use Rattle.std.specs.Duration.{as_nanos};
     ghost use Rattle.server.specs.Refused.{connection_at, view};
     ghost use Rattle.peer.specs.Calls.{Goes, IsEnd};
@@ -136,7 +136,7 @@ impl<S: Stream + Drop> Peer<S> {
     /// For how long it has been quiet, where that is so long that another one may have its place: a
     /// minute between two requests, and ten within the bytes of one.
     pub fn quiet_for(&self, now: Instant) -> Option<Duration>
-        ensures { MatchOption result (IsSpare self.now now → ⊥) (λ quiet. IsSpare self.now now
+        ensures { MatchOption result (¬ IsSpare self.now now) (λ quiet. IsSpare self.now now
             × (as_nanos quiet ≡ quiet_nanos self.now now)) }
     {
         if !matches!(self.stage, Stage::Gathers) || !self.inbox.is_empty() {
@@ -190,7 +190,7 @@ impl<S: Stream + Drop> Peer<S> {
         C: Clock,
         ensures asleep { IfOk result (λ step. step ≡ Step.Stays Pace.Sleeps → IsStuck self.new) }
         // It stays, or ends
-        ensures stays { (self.new.stage ≡ Stage.Ends → ⊥)
+        ensures stays { (self.new.stage ≢ Stage.Ends)
             → ServesOn D.keeps_word server.old server.new self.old self.new
             (result ≡ Ok (Step.Stays Pace.Goes)) }
         ensures ends { self.new.stage ≡ Stage.Ends
@@ -384,7 +384,7 @@ impl<S: Stream + Drop> Peer<S> {
     where
         D: Device,
         C: Clock,
-        ensures awake { IfOk result (λ step. step ≡ Step.Stays Pace.Sleeps → ⊥) }
+        ensures awake { IfOk result (λ step. step ≢ Step.Stays Pace.Sleeps) }
         ensures stage { self.new.stage ≡ Stage.Ends }
         ensures same { (self.new.stream ≡ self.old.stream) × (self.new.inbox ≡ self.old.inbox)
             × (self.new.conn ≡ self.old.conn) }

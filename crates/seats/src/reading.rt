@@ -28,7 +28,7 @@ fn slot_in(
     ensures value { IfOk result (λ slot. option_map held_view slot
         ≡ total.slot_in (text_from (sector_of sectors.now) first)) }
     ensures err { IsErrOf result SeatFault.NotSeat → (slot : Option kept.HeldReply) → IsSlot slot
-        → text_from (sector_of sectors.now) first ≡ slot_text slot → ⊥ }
+        → ¬ (text_from (sector_of sectors.now) first ≡ slot_text slot) }
 {
     let head = &sectors[first];
     if u32_at(head, 0) != 1 {
@@ -59,7 +59,7 @@ fn slots_in(
     ensures some { IfOk result (λ slots. 1 ≤ vec_len slots) }
     ensures few { IfOk result (λ slots. vec_len slots ≤ 2) }
     ensures err { IsErrOf result SeatFault.NotSeat → (seat : kept.Seat) → IsSeat seat
-        → AreSectorsOf (sector_of sectors.now) (Some seat) → ⊥ }
+        → ¬ AreSectorsOf (sector_of sectors.now) (Some seat) }
 {
     let mut slots = Vec::new(alloc);
     slots.push(slot_in(alloc, sectors, 1)?)?;
@@ -74,7 +74,7 @@ fn taken_in(alloc: Global, sectors: &[[u8; SIZE]]) -> Result<Seat, SeatFault>
     requires { length sectors.now ≡ 9 }
     ensures value { IfOk result (λ seat. seat_view seat ≡ taken_from (sector_of sectors.now)) }
     ensures err { IsErrOf result SeatFault.NotSeat → (seat : kept.Seat) → IsSeat seat
-        → AreSectorsOf (sector_of sectors.now) (Some seat) → ⊥ }
+        → ¬ AreSectorsOf (sector_of sectors.now) (Some seat) }
 {
     let head = &sectors[0];
     let count = u32_at(head, 24);
@@ -105,7 +105,7 @@ fn place_in(alloc: Global, sectors: &[[u8; SIZE]]) -> Result<Option<Seat>, SeatF
     requires { length sectors.now ≡ 9 }
     ensures value { IfOk result (λ place. place_view place ≡ seat_in (sector_of sectors.now)) }
     ensures err { IsErrOf result SeatFault.NotSeat → (place : Option kept.Seat) → IsPlace place
-        → AreSectorsOf (sector_of sectors.now) place → ⊥ }
+        → ¬ AreSectorsOf (sector_of sectors.now) place }
 {
     if sectors[0][0] != b'S' {
         return Ok(None);
@@ -138,7 +138,7 @@ pub fn read_seat(alloc: Global, sectors: &[[u8; SIZE]]) -> Result<Option<Seat>, 
     ensures found { IfOk result (λ place.
         AreSectorsOf (sector_of sectors.now) (place_view place)) }
     ensures not_seat { IsErrOf result SeatFault.NotSeat → (place : Option kept.Seat) → IsPlace place
-        → AreSectorsOf (sector_of sectors.now) place → ⊥ }
+        → ¬ AreSectorsOf (sector_of sectors.now) place }
 {
     let place = place_in(alloc, sectors)?;
     if !are_sectors_of(sectors, &place) {

@@ -42,7 +42,7 @@ pub struct Server<D: Device> {
 
 #[tactic(auto, unfolding(crate::specs::Views::world_of, crate::specs::Views::files_of, crate::specs::Views::volume_of, crate::specs::Views::failures_of))]
 impl<D: Device> Server<D> {
-    ghost use Rattle.std.specs.Prelude.{◌≡◌, ◌≤◌, ◌↔◌, List, true, false, Some, None, length, OnOk, OnErr, IfOk, IfErr, IsErrOf};
+    ghost use Rattle.std.specs.Prelude.{◌≢◌, ◌≡◌, ◌≤◌, ◌↔◌, List, true, false, Some, None, length, OnOk, OnErr, IfOk, IfErr, IsErrOf};
     ghost use Rattle.model.specs.Server.Runs as runs;
     ghost use Rattle.model.specs.Sessions.Seats.{Seats};
     ghost use Rattle.model.specs.Trees.Tree.{Tree};
@@ -86,7 +86,7 @@ impl<D: Device> Server<D> {
             → length (world_of self.old).connections ≡ most_connections
             → IsErrOf result ServerFault.Full }
         ensures only { IfErr result (λ fault.
-            (fault ≡ ServerFault.NoConnection → ⊥) × (fault ≡ ServerFault.Closed → ⊥)) }
+            (fault ≢ ServerFault.NoConnection) × (fault ≢ ServerFault.Closed)) }
         ensures err { OnErr result (world_of self.new ≡ world_of self.old) }
         ensures volume { files_of self.new ≡ files_of self.old }
         ensures failures { failures_of self.new ≡ failures_of self.old }
@@ -119,9 +119,9 @@ impl<D: Device> Server<D> {
         ensures is_none { (volume_of self.old).is_down ≡ false
             → connection_at (view self.old) conn ≡ None → IsErrOf result ServerFault.NoConnection }
         ensures only { IfErr result (λ fault.
-            (fault ≡ ServerFault.Full → ⊥) × (fault ≡ ServerFault.Memory → ⊥)) }
+            (fault ≢ ServerFault.Full) × (fault ≢ ServerFault.Memory)) }
         ensures err { IfErr result (λ fault.
-            (fault ≡ ServerFault.Closed → ⊥) → world_of self.new ≡ world_of self.old) }
+            (fault ≢ ServerFault.Closed) → world_of self.new ≡ world_of self.old) }
         ensures volume { files_of self.new ≡ files_of self.old }
         ensures failures { failures_of self.new ≡ failures_of self.old }
     {

@@ -279,7 +279,7 @@ fn set_size<S: Sectors>(
     // Done, or full
     ensures done { OnOk result (Does S.keeps_word (S.image (S.kept base.old))
         (S.size (S.kept base.old)) transaction.old transaction.new (edit.SetSize file size ∷ [])) }
-    ensures full { IsErrOf result TransactionFault.Full → ⊥ }
+    ensures full { ¬ IsErrOf result TransactionFault.Full }
     // In any case
     ensures kept { (S.kept base.new ≡ S.kept base.old)
         × (transaction.new.cards.table ≡ transaction.old.cards.table) }

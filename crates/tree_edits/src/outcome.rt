@@ -37,7 +37,7 @@ pub fn outcome_of<S: Sectors>(
     ensures done { IfOk result (λ outcome. ComesTo S.keeps_word (S.image (S.kept base.old))
         (S.size (S.kept base.old)) table.now places.now edits.now outcome) }
     // Refused
-    ensures full { IsErrOf result TransactionFault.Full → ⊥ }
+    ensures full { ¬ IsErrOf result TransactionFault.Full }
     ensures health { Reads (S.health base.old) (S.health base.new)
         (IsErrOf result TransactionFault.Device) }
     // In every answer

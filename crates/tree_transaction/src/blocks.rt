@@ -50,7 +50,7 @@ fn write_over<S: Sectors>(
     ensures others { OnOk result (ChangeOne updates.old updates.new sector) }
     // What it takes
     ensures count { length updates.new ≤ length updates.old + 1 }
-    ensures full { IsErrOf result TransactionFault.Full → ⊥ }
+    ensures full { ¬ IsErrOf result TransactionFault.Full }
     // It only reads the base
     ensures kept { S.kept base.new ≡ S.kept base.old }
     ensures health { Reads (S.health base.old) (S.health base.new)
@@ -289,7 +289,7 @@ pub(crate) fn clear_tail<S: Sectors>(
     ensures others { OnOk result (ChangeBlocks updates.old updates.new blocks.now) }
     // What it takes
     ensures count { length updates.new ≤ length updates.old + 1 }
-    ensures full { IsErrOf result TransactionFault.Full → ⊥ }
+    ensures full { ¬ IsErrOf result TransactionFault.Full }
     // It only reads the base
     ensures kept { S.kept base.new ≡ S.kept base.old }
     ensures health { Reads (S.health base.old) (S.health base.new)
@@ -324,7 +324,7 @@ fn clear_from<S: Sectors>(
     ensures others { OnOk result (ChangeOne updates.old updates.new sector) }
     // What it takes
     ensures count { length updates.new ≤ length updates.old + 1 }
-    ensures full { IsErrOf result TransactionFault.Full → ⊥ }
+    ensures full { ¬ IsErrOf result TransactionFault.Full }
     // It only reads the base
     ensures kept { S.kept base.new ≡ S.kept base.old }
     ensures health { Reads (S.health base.old) (S.health base.new)

@@ -334,7 +334,7 @@ impl<'a> Transaction<'a> {
             (S.size (S.kept base.old)) self.old self.new place (λ number. SetSize number size)) }
         // What it takes
         ensures count { OnOk result (length self.new.updates ≤ length self.old.updates + 11) }
-        ensures full { IsErrOf result TransactionFault.Full → ⊥ }
+        ensures full { ¬ IsErrOf result TransactionFault.Full }
         // It only reads the base
         ensures kept { (S.kept base.new ≡ S.kept base.old)
             × (self.new.cards.table ≡ self.old.cards.table) }

@@ -77,7 +77,7 @@ pub fn format<D: Device>(alloc: Global, device: &mut D, nodes: u32) -> Result<()
         → D.history device.new ≡ D.history device.old }
     ensures cause { IsErrOf result FormatFault.Device
         → IsCounted (D.failed device.old) (D.failed device.new) }
-    ensures none { (IsErrOf result FormatFault.Device → ⊥)
+    ensures none { (¬ IsErrOf result FormatFault.Device)
         → D.failed device.new ≡ D.failed device.old }
     ensures later { D.failed device.old ≤ D.failed device.new }
     ensures same_size { D.size device.new ≡ D.size device.old }

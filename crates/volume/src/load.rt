@@ -81,7 +81,7 @@ pub(crate) fn read_nodes<S: Sectors>(
         (IsErrOf result MountFault.Device) }
     // Refused
     ensures damaged { S.keeps_word → IsErrOf result MountFault.Damaged → (kept : Kept)
-        → StandsOn found (S.image (S.kept sectors.old)) kept → ⊥ }
+        → ¬ StandsOn found (S.image (S.kept sectors.old)) kept }
     ensures only { IfErr result (λ fault. (fault ≡ MountFault.Device)
         ⊎ ((fault ≡ MountFault.Damaged) ⊎ (fault ≡ MountFault.Memory))) }
 {
@@ -129,7 +129,7 @@ pub(crate) fn load<D: Device>(
         (IsErrOf result MountFault.Device) }
     // Refused
     ensures damaged { D.keeps_word → IsErrOf result MountFault.Damaged → (kept : Kept)
-        → StandsOn found (log_of store.old.journal).base kept → ⊥ }
+        → ¬ StandsOn found (log_of store.old.journal).base kept }
     ensures only { IfErr result (λ fault. (fault ≡ MountFault.Device)
         ⊎ ((fault ≡ MountFault.Damaged) ⊎ (fault ≡ MountFault.Memory))) }
 {

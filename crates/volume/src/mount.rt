@@ -38,7 +38,7 @@ fn read_first<D: Device>(device: &mut D) -> Result<[u8; SECTOR], MountFault>
     ensures later { D.failed device.old ≤ D.failed device.new }
     ensures cause { IsErrOf result MountFault.Device
         → IsCounted (D.failed device.old) (D.failed device.new) }
-    ensures none { (IsErrOf result MountFault.Device → ⊥)
+    ensures none { (¬ IsErrOf result MountFault.Device)
         → D.failed device.new ≡ D.failed device.old }
 {
     if device.sectors() < MIN_SECTORS {
@@ -64,9 +64,9 @@ pub(crate) fn read_mountable_superblock<D: Device>(device: &mut D) -> Result<Sup
     ensures later { D.failed device.old ≤ D.failed device.new }
     ensures cause { IsErrOf result MountFault.Device
         → IsCounted (D.failed device.old) (D.failed device.new) }
-    ensures none { (IsErrOf result MountFault.Device → ⊥)
+    ensures none { (¬ IsErrOf result MountFault.Device)
         → D.failed device.new ≡ D.failed device.old }
-    ensures no_memory { IsErrOf result MountFault.Memory → ⊥ }
+    ensures no_memory { ¬ IsErrOf result MountFault.Memory }
 {
     let first = match read_first(device) {
         Ok(first) => first,
@@ -99,10 +99,10 @@ pub(crate) fn read_superblock<D: Device>(device: &mut D) -> Result<Superblock, M
     ensures later { D.failed device.old ≤ D.failed device.new }
     ensures cause { IsErrOf result MountFault.Device
         → IsCounted (D.failed device.old) (D.failed device.new) }
-    ensures none { (IsErrOf result MountFault.Device → ⊥)
+    ensures none { (¬ IsErrOf result MountFault.Device)
         → D.failed device.new ≡ D.failed device.old }
-    ensures no_memory { IsErrOf result MountFault.Memory → ⊥ }
-    ensures never_worn { IsErrOf result MountFault.Worn → ⊥ }
+    ensures no_memory { ¬ IsErrOf result MountFault.Memory }
+    ensures never_worn { ¬ IsErrOf result MountFault.Worn }
 {
     let first = match read_first(device) {
         Ok(first) => first,

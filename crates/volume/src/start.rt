@@ -37,7 +37,7 @@ fn move_nodes<D: Device>(
     ensures later { failures_of journal.old ≤ failures_of journal.new }
     ensures cause { IsErrOf result MigrationFault.Device
         → IsCounted (failures_of journal.old) (failures_of journal.new) }
-    ensures none { (IsErrOf result MigrationFault.Device → ⊥)
+    ensures none { (¬ IsErrOf result MigrationFault.Device)
         → failures_of journal.new ≡ failures_of journal.old }
 {
     match found.version {
