@@ -2,10 +2,9 @@
 use Rattle.std.proofs.Common.{◌≡◌, ℕ, Bool, true, false, Option, Some, None, refl}
 use Rattle.model.specs.Operations.Answer.{Answer, Outcome}
 use Rattle.model.specs.Operations.Context.{has_current, at_node}
-use Rattle.model.specs.Rights.Need.{permitted}
 use Rattle.model.specs.Operations.Operation.{Argument, NewDirectory, OtherType, operation_of}
 use Rattle.model.specs.Operations.Refusal.{refused_or}
-use Rattle.model.specs.Operations.Step.{does, refusals, effect}
+use Rattle.model.specs.Operations.Step.{does, refusals, effect, permitted}
 use Rattle.model.specs.Trees.Tree.{root}
 use Rattle.model.specs.Server.World.{World, InProgress, Gives, run}
 use Rattle.model.specs.declared.status.Status.{Status}

@@ -24,13 +24,12 @@ use Rattle.model.specs.Attributes.Attribute.{settable_at_open, trimmed}
 use Rattle.model.specs.Operations.Context.{Context, has_current, current_number}
 use Rattle.model.specs.Operations.Directory.{is_named}
 use Rattle.model.specs.Attributes.Name.{name_refusals}
-use Rattle.model.specs.Rights.Need.{need_first, need_then}
 use Rattle.model.specs.Operations.Open.{asked_open, at_opened, creates, cuts, file_opened, given_by, known_refusals, late_at_open, middle_at_open, new_refusals, no_change_info, open_refusals, opening_refusals, place_refusals, set_at_open, share_refusals, size_alone}
 use Rattle.model.specs.Sessions.Opens.{Open, Opens}
 use Rattle.model.specs.Operations.Operation.{Argument, ChangeInfo, OpenArguments, OpenType, NoCreate, Unchecked, Guarded, Opening, Opens as Opens_as, Exclusive, ByName, ByHandle, OtherClaim}
 use Rattle.model.specs.Sessions.Session.{Table}
 use Rattle.model.specs.Sessions.StateIds.{closed_state, is_like, is_table_full, new_open, open_like, opened, opened_by, state_of as stateid_of, zeros}
-use Rattle.model.specs.Operations.Step.{State, Stepped, alters, does, effect, refused, refusals, without_rights, answered, current, current_refusals}
+use Rattle.model.specs.Operations.Step.{State, Stepped, alters, does, effect, refused, refusals, without_rights, answered, current, current_refusals, need_first, need_then}
 use Rattle.model.specs.Trees.Tree.{Tree}
 use Rattle.model.specs.Server.World as turns
 use Rattle.model.specs.Server.World.{World, InProgress, HasRun, run, state_of, reply_with, outcome_text}

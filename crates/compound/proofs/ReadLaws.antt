@@ -10,12 +10,11 @@ use Rattle.fs.specs.declared.fault.FsFault.TheVariants as fault
 use Rattle.fs.proofs.ChangeLaws.{changes_by}
 use Rattle.model.specs.Operations.Answer.{Answer, Done, Refused}
 use Rattle.model.specs.Operations.Context.{has_current}
-use Rattle.model.specs.Rights.Need.{permitted, need_first, need_then}
 use Rattle.model.specs.Sessions.Opens.{Opens}
 use Rattle.model.specs.Operations.Operation.{Argument, ReadArguments}
 use Rattle.model.specs.Sessions.Session.{Table}
 use Rattle.model.specs.Sessions.StateIds.{state_refusals, read_access}
-use Rattle.model.specs.Operations.Step.{State, answered, does, effect, refused, refusals, unless_refused, without_rights, late}
+use Rattle.model.specs.Operations.Step.{State, answered, does, effect, refused, refusals, unless_refused, without_rights, late, permitted, need_first, need_then}
 use Rattle.model.specs.Server.World.{World, InProgress, Gives, run, stepped, state_of, in_room, refuses}
 use Rattle.model.specs.declared.limits.Limits.{Limits}
 use Rattle.model.specs.declared.status.Status.{Status}

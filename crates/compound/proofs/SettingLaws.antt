@@ -9,13 +9,12 @@ use Rattle.fs.specs.declared.setting.Setting.{Setting}
 use Rattle.model.specs.Operations.Answer.{Done}
 use Rattle.model.specs.Attributes.Attribute.{attribute_refusals, settable_at_setattr, values_of}
 use Rattle.model.specs.Operations.Context.{Context, has_current, current_number}
-use Rattle.model.specs.Rights.Need.{need_first, need_then}
 use Rattle.model.specs.Sessions.Opens.{Opens}
 use Rattle.model.specs.Operations.Operation.{Argument, Attributes, SetAttrArguments}
 use Rattle.model.specs.Sessions.Session.{Table}
 use Rattle.model.specs.Operations.SetAttr.{kind_at, set_attributes, sets, sets_size, size_refusals, was_set}
 use Rattle.model.specs.Sessions.StateIds.{state_refusals, write_access}
-use Rattle.model.specs.Operations.Step.{State, alters, does, effect, refused, refusals, without_rights, answered, current, current_refusals}
+use Rattle.model.specs.Operations.Step.{State, alters, does, effect, refused, refusals, without_rights, answered, current, current_refusals, need_first, need_then}
 use Rattle.model.specs.Trees.Tree.{is_directory_at}
 use Rattle.model.specs.Server.World as turns
 use Rattle.model.specs.Server.World.{World, InProgress, HasRun, run, stepped, state_of, reply_with}

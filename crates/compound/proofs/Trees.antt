@@ -14,13 +14,12 @@ use Rattle.model.specs.Operations.Context.{Context, has_current, current_number,
 use Rattle.model.specs.Trees.Keyed.{is_key}
 use Rattle.model.specs.declared.limits.Limits.{Limits}
 use Rattle.model.specs.Attributes.Name.{name_refusals}
-use Rattle.model.specs.Rights.Need.{need_first, need_then}
 use Rattle.model.specs.Sessions.Opens.{Opens, no_opens}
 use Rattle.model.specs.Operations.Operation.{Argument, Attributes, NewDirectory, OtherType, RenameArguments, operation_of}
 use Rattle.model.specs.Operations.Refusal.{Refusals, first_refusal, refused_or}
 use Rattle.model.specs.Sessions.Session.{Table}
 use Rattle.model.specs.Operations.Status.{code_of}
-use Rattle.model.specs.Operations.Step.{State, Stepped, does, refused, refusals, effect, late, without_rights, change_refusals, unless_refused, current, current_refusals, answered, rename, rename_refusals, late_at_rename}
+use Rattle.model.specs.Operations.Step.{State, Stepped, does, refused, refusals, effect, late, without_rights, change_refusals, unless_refused, current, current_refusals, answered, rename, rename_refusals, late_at_rename, need_first, need_then}
 use Rattle.model.specs.Trees.Tree.{root}
 use Rattle.model.specs.Server.World.{World, InProgress, Gives, run, stepped, state_of, reclaimed}
 use Rattle.model.specs.declared.node.NodeKind.{NodeKind}

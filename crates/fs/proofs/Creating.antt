@@ -12,11 +12,11 @@ use Rattle.model.specs.Trees.Charge.{fits}
 use Rattle.model.specs.Operations.Context.{has_current}
 use Rattle.model.specs.Trees.Keyed.{at, is_key}
 use Rattle.model.specs.Attributes.Name.{name_refusals}
-use Rattle.model.specs.Rights.Need.{granted_on, need_first, need_then}
+use Rattle.model.specs.Rights.Need.{granted_on}
 use Rattle.model.specs.Operations.Operation.{Argument, Attributes, NewDirectory}
 use Rattle.model.specs.Operations.Refusal.{Refusals, first_refusal, refused_or}
 use Rattle.model.specs.Trees.Stamp.{is_stamp_left}
-use Rattle.model.specs.Operations.Step.{State, current, late, without_rights, refusals, change_refusals, effect, does, refused, made, create, unless_refused}
+use Rattle.model.specs.Operations.Step.{State, current, late, without_rights, refusals, change_refusals, effect, does, refused, made, create, unless_refused, need_first, need_then}
 use Rattle.model.specs.Trees.Tree.{Tree, Node, is_directory, is_directory_at, names_of, names_at, entry_of}
 use Rattle.model.proofs.Operations.RefusalLaws.{first-append, or_else}
 use Rattle.model.proofs.Facts.BooleanLaws.{alone}

@@ -5,10 +5,9 @@ use Rattle.model.specs.declared.status.Status.TheVariants as status
 use Rattle.model.specs.Operations.Answer.{Answer}
 use Rattle.model.specs.Operations.Context.{has_current}
 use Rattle.model.specs.Trees.Keyed.{is_key}
-use Rattle.model.specs.Rights.Need.{permitted}
 use Rattle.model.specs.Operations.Operation.{Argument}
 use Rattle.model.specs.Trees.Stamp.{filehandle_of, is_filehandle, number_of}
-use Rattle.model.specs.Operations.Step.{State, current, refusals, effect, does, refused, answered, moved_to}
+use Rattle.model.specs.Operations.Step.{State, current, refusals, effect, does, refused, answered, moved_to, permitted}
 
 module _ (limits : Limits) (state : State) (now : ℕ) (handle : List ℕ) where
   pub bad_handle : is_filehandle handle ≡ false → does limits state now (Argument.PutFh handle) ≡ refused state (Argument.PutFh handle) status.BadHandle

@@ -13,12 +13,12 @@ use Rattle.model.specs.Operations.Context.{Context}
 use Rattle.directory.specs.Listing.{after, by_stamp}
 use Rattle.directory.specs.Records.{Record}
 use Rattle.model.specs.Trees.Keyed.{Keyed, at, is_key, with, in_place_of, before_or_behind}
-use Rattle.model.specs.Rights.Need.{Right, granted_on, is_granted, are_granted, here, listing_rights}
+use Rattle.model.specs.Rights.Need.{Right, granted_on, is_granted, are_granted, here}
 use Rattle.model.specs.Attributes.NodeAttributes.{unreadable}
 use Rattle.model.specs.Operations.Operation.{Argument, Attributes, ReadDirArguments}
-use Rattle.model.specs.Operations.ReadDir.{asks_lists, asks_errors, may_read_list, listed_entry, names_after, all_entries, page, page_bytes, page_room, page_refusals}
+use Rattle.model.specs.Operations.ReadDir.{asks_errors, may_read_list, listed_entry, names_after, all_entries, page, page_bytes, page_room, page_refusals, listing_rights}
 use Rattle.model.specs.Operations.Refusal.{first_refusal, refused_or}
-use Rattle.model.specs.Operations.SetAttr.{attributes_at}
+use Rattle.model.specs.Operations.SetAttr.{attributes_at, asks_lists}
 use Rattle.model.specs.Operations.Step.{State, current, refusals, change_refusals, without_rights, effect, does, answered, refused, unless_refused}
 use Rattle.model.specs.Trees.Tree.{Tree, Node, DirEntry, is_directory_at, names_at}
 use Rattle.model.proofs.Facts.BooleanLaws.{and_false, alone}

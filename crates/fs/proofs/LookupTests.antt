@@ -11,10 +11,10 @@ use Rattle.model.specs.Operations.Directory.{number_of_entry}
 use Rattle.model.specs.Trees.Keyed.{at, is_key}
 use Rattle.model.specs.declared.limits.Limits.{Limits}
 use Rattle.model.specs.Attributes.Name.{name_refusals}
-use Rattle.model.specs.Rights.Need.{permitted, granted_on}
+use Rattle.model.specs.Rights.Need.{granted_on}
 use Rattle.model.specs.Operations.Operation.{Argument}
 use Rattle.model.specs.Operations.Refusal.{Refusals, first_refusal, refused_or}
-use Rattle.model.specs.Operations.Step.{State, current, is_name_there, refusals, change_refusals, effect, does, refused, answered, moved_to, unless_refused}
+use Rattle.model.specs.Operations.Step.{State, current, is_name_there, refusals, change_refusals, effect, does, refused, answered, moved_to, unless_refused, permitted}
 use Rattle.model.specs.Trees.Tree.{Tree, Node, DirEntry, is_directory_at, is_directory_node, is_directory, names_of, names_of_node, entry_of}
 use Rattle.model.proofs.Operations.RefusalLaws.{first-append, or_else}
 use Rattle.model.proofs.Facts.BooleanLaws.{alone}

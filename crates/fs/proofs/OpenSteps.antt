@@ -8,8 +8,8 @@ use Rattle.model.specs.Rights.Acl.{execute}
 use Rattle.model.specs.Operations.Context.{has_current}
 use Rattle.model.specs.Trees.Keyed.{at, is_key}
 use Rattle.model.specs.Attributes.Name.{name_refusals}
-use Rattle.model.specs.Rights.Need.{granted_on, here, opening_rights}
-use Rattle.model.specs.Operations.Open.{asked_open, late_at_open, name_opening_refusals, open_file, share_refusals}
+use Rattle.model.specs.Rights.Need.{granted_on, here}
+use Rattle.model.specs.Operations.Open.{asked_open, late_at_open, name_opening_refusals, open_file, share_refusals, opening_rights}
 use Rattle.model.specs.Operations.Operation.{Argument, OpenArguments, OpenType, Opens as Opening_of, ByName, ByHandle}
 use Rattle.model.specs.Operations.Refusal.{Refusals, first_refusal, refused_or}
 use Rattle.model.specs.Sessions.StateIds.{is_table_full}

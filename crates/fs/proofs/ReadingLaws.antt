@@ -12,7 +12,7 @@ use Rattle.model.specs.Trees.Keyed.{at}
 use Rattle.model.specs.Rights.Need.{granted_on}
 use Rattle.model.specs.Attributes.NodeAttributes.{node_attributes}
 use Rattle.model.specs.Operations.Operation.{Argument}
-use Rattle.model.specs.Operations.ReadDir.{asks_lists}
+use Rattle.model.specs.Operations.SetAttr.{asks_lists}
 use Rattle.model.specs.Operations.Step.{State, current, refusals, effect, does, refused, answered, moved_to}
 use Rattle.model.specs.Trees.Tree.{Tree, Node, is_directory, root}
 use Rattle.fs.specs.OnTree.{IsState}

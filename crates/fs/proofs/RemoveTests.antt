@@ -10,12 +10,11 @@ use Rattle.model.specs.Operations.Context.{has_current}
 use Rattle.model.specs.Operations.Directory.{is_named, number_named}
 use Rattle.model.specs.Trees.Keyed.{at, is_key}
 use Rattle.model.specs.Attributes.Name.{name_refusals}
-use Rattle.model.specs.Rights.Need.{need_first, need_then}
 use Rattle.model.specs.Operations.Operation.{Argument}
 use Rattle.model.specs.Operations.Refusal.{Refusals, first_refusal, refused_or}
 use Rattle.model.specs.Operations.Rename.{has_names, remove}
 use Rattle.model.specs.Trees.Stamp.{is_stamp_left}
-use Rattle.model.specs.Operations.Step.{State, current, late, without_rights, refusals, change_refusals, effect, does, refused, unless_refused}
+use Rattle.model.specs.Operations.Step.{State, current, late, without_rights, refusals, change_refusals, effect, does, refused, unless_refused, need_first, need_then}
 use Rattle.model.specs.Trees.Tree.{Tree, Node, is_directory, is_directory_node, is_directory_at}
 use Rattle.model.proofs.Operations.RefusalLaws.{first-append, or_else}
 use Rattle.model.proofs.Facts.BooleanLaws.{and_true}

@@ -13,11 +13,11 @@ use Rattle.model.specs.Trees.Ancestors.{parent_of, ancestors_in, is_below}
 use Rattle.model.specs.Operations.Directory.{is_named, number_named, number_of_entry}
 use Rattle.model.specs.Trees.Keyed.{Keyed, is_key}
 use Rattle.model.specs.Attributes.Name.{name_refusals}
-use Rattle.model.specs.Rights.Need.{Right, is_granted, rename_rights}
+use Rattle.model.specs.Rights.Need.{Right, is_granted}
 use Rattle.model.specs.Rights.Acl.{append_data, write_data, delete, delete_child}
 use Rattle.model.specs.Operations.Operation.{RenameArguments}
 use Rattle.model.specs.Operations.Refusal.{first_refusal}
-use Rattle.model.specs.Operations.Rename.{is_other, has_names}
+use Rattle.model.specs.Operations.Rename.{is_other, has_names, rename_rights}
 use Rattle.model.specs.Trees.Tree.{Tree, Node, Content, File, Directory, DirEntry, root, is_directory_at, names_at, names_of, entry_of}
 use Rattle.model.specs.Trees.WellFormed.{links_from, links_in}
 use Rattle.fs.specs.RenameTests.{moving_refusals, placing_refusals, may_rename, moved_in, target_in}

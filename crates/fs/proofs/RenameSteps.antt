@@ -12,12 +12,11 @@ use Rattle.model.specs.Operations.Context.{has_current, has_saved, is_same_name}
 use Rattle.model.specs.Operations.Directory.{is_named}
 use Rattle.model.specs.Trees.Keyed.{is_key}
 use Rattle.model.specs.Attributes.Name.{name_refusals}
-use Rattle.model.specs.Rights.Need.{rename_rights, need_first, need_then}
 use Rattle.model.specs.Operations.Operation.{Argument, RenameArguments}
 use Rattle.model.specs.Operations.Refusal.{Refusals, first_refusal, refused_or}
-use Rattle.model.specs.Operations.Rename.{late_at_rename, rename}
+use Rattle.model.specs.Operations.Rename.{late_at_rename, rename, rename_rights}
 use Rattle.model.specs.Trees.Stamp.{is_stamp_left}
-use Rattle.model.specs.Operations.Step.{State, current, saved, late, without_rights, refusals, effect, does, refused, unless_refused}
+use Rattle.model.specs.Operations.Step.{State, current, saved, late, without_rights, refusals, effect, does, refused, unless_refused, need_first, need_then}
 use Rattle.model.specs.Trees.Tree.{Tree, is_directory_at}
 use Rattle.model.proofs.Operations.RefusalLaws.{first-append, or_else}
 use Rattle.fs.specs.declared.renaming.Planned.{Planned}

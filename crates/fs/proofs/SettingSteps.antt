@@ -10,10 +10,10 @@ use Rattle.model.specs.Attributes.Attribute.{acl_number, attribute_refusals, att
 use Rattle.model.specs.Trees.Charge.{fits}
 use Rattle.model.specs.Operations.Context.{has_current}
 use Rattle.model.specs.Trees.Keyed.{at, is_key}
-use Rattle.model.specs.Rights.Need.{Right, granted_on, is_granted, right_if, setting_rights}
+use Rattle.model.specs.Rights.Need.{Right, granted_on, is_granted, right_if}
 use Rattle.model.specs.Operations.Operation.{Argument, Attributes, SetAttrArguments}
 use Rattle.model.specs.Operations.Refusal.{Refusals, first_refusal, refused_or}
-use Rattle.model.specs.Operations.SetAttr.{kind_at, set_attributes, sets, sets_size, size_refusals}
+use Rattle.model.specs.Operations.SetAttr.{kind_at, set_attributes, sets, sets_size, size_refusals, setting_rights}
 use Rattle.model.specs.Trees.Stamp.{is_stamp_left}
 use Rattle.model.specs.Sessions.StateIds.{state_refusals, write_access}
 use Rattle.model.specs.Operations.Step.{State, Stepped, current, refusals, change_refusals, without_rights, effect, does, refused, unless_refused}

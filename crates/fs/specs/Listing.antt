@@ -10,9 +10,9 @@ use Rattle.model.specs.Trees.Keyed.{at, is_key}
 use Rattle.model.specs.Rights.Need.{granted_on}
 use Rattle.model.specs.Attributes.NodeAttributes.{unreadable}
 use Rattle.model.specs.Operations.Operation.{Argument, Attributes, ReadDirArguments}
-use Rattle.model.specs.Operations.ReadDir.{asks_errors, asks_lists, cookie_refusals, fitting, may_read_list, names_after}
+use Rattle.model.specs.Operations.ReadDir.{asks_errors, cookie_refusals, fitting, may_read_list, names_after}
 use Rattle.model.specs.Operations.Refusal.{Refusals}
-use Rattle.model.specs.Operations.SetAttr.{attributes_at}
+use Rattle.model.specs.Operations.SetAttr.{attributes_at, asks_lists}
 use Rattle.model.specs.Operations.Step.{State, answered, refused}
 use Rattle.model.specs.Trees.Tree.{Tree, Node, DirEntry, is_directory_at, names_at}
 use Rattle.fs.specs.declared.fault.FsFault.{FsFault}

@@ -13,8 +13,8 @@ use Rattle.model.specs.Trees.Changes.{touch}
 use Rattle.model.specs.Operations.Directory.{is_named, number_named}
 use Rattle.model.specs.Trees.Edit.{SetSize, edited}
 use Rattle.model.specs.Trees.Keyed.{at, is_key}
-use Rattle.model.specs.Rights.Need.{access_rights, granted_on, opening_rights}
-use Rattle.model.specs.Operations.Open.{asked_open, at_opened, creates, cuts, file_opened, given_by, name_opening_refusals, opened_state, share_refusals, size_alone}
+use Rattle.model.specs.Rights.Need.{granted_on}
+use Rattle.model.specs.Operations.Open.{asked_open, at_opened, creates, cuts, file_opened, given_by, name_opening_refusals, opened_state, share_refusals, size_alone, access_rights, opening_rights}
 use Rattle.model.specs.Operations.Operation.{Argument, OpenArguments, OpenType, NoCreate, Unchecked, Guarded}
 use Rattle.model.specs.Operations.Operation as operation
 use Rattle.model.specs.Operations.Refusal.{Refusals, first_refusal}

@@ -9,10 +9,10 @@ use Rattle.model.specs.Operations.Answer.{Answer}
 use Rattle.model.specs.Operations.Directory.{is_named, number_named}
 use Rattle.model.specs.Trees.Keyed.{is_key}
 use Rattle.model.specs.Attributes.Name.{name_refusals}
-use Rattle.model.specs.Rights.Need.{is_granted, removable}
+use Rattle.model.specs.Rights.Need.{is_granted}
 use Rattle.model.specs.Operations.Operation.{Argument}
 use Rattle.model.specs.Operations.Refusal.{Refusals}
-use Rattle.model.specs.Operations.Rename.{has_names}
+use Rattle.model.specs.Operations.Rename.{has_names, removable}
 use Rattle.model.specs.Operations.State.{State, Stepped, answered}
 use Rattle.model.specs.Sessions.StateIds.{without_number}
 use Rattle.model.specs.Trees.Tree.{Tree, is_directory_at}

@@ -17,10 +17,10 @@ use Rattle.model.specs.Trees.Ancestors.{is_below}
 use Rattle.model.specs.Operations.Directory.{is_named, number_named}
 use Rattle.model.specs.Trees.Keyed.{at, is_key}
 use Rattle.model.specs.Attributes.Name.{name_refusals}
-use Rattle.model.specs.Rights.Need.{is_granted, granted_on, rename_rights}
+use Rattle.model.specs.Rights.Need.{is_granted, granted_on}
 use Rattle.model.specs.Operations.Operation.{RenameArguments}
 use Rattle.model.specs.Operations.Refusal.{Refusals}
-use Rattle.model.specs.Operations.Rename.{is_other, has_names}
+use Rattle.model.specs.Operations.Rename.{is_other, has_names, rename_rights}
 use Rattle.model.specs.Trees.Tree.{Tree, DirEntry, entry_of, is_directory_at, names_at}
 use Rattle.volume.specs.Nodes.{IsNodeOf}
 use Rattle.fs.specs.declared.renaming.Moving.{Moving}

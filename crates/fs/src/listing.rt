@@ -1,7 +1,8 @@
 //! READDIR.
 
 ghost use Rattle.std.specs.Prelude.{◌≡◌, ◌==◌, ◌&&◌, bytes_eq, not, replicate};
-ghost use Rattle.model.specs.Operations.ReadDir.{asks_errors, asks_lists};
+ghost use Rattle.model.specs.Operations.ReadDir.{asks_errors};
+ghost use Rattle.model.specs.Operations.SetAttr.{asks_lists};
 
 use crate::fault::FsFault;
 use crate::fs::Fs;

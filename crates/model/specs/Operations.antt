@@ -9,6 +9,10 @@ pub mod State
 pub mod Step
 pub mod StepLaws
 pub mod Directory
+pub mod Definition
+pub mod Handles
+pub mod Lookup
+pub mod Create
 pub mod Rename
 pub mod Access
 pub mod SetAttr
@@ -16,3 +20,4 @@ pub mod ReadDir
 pub mod PageLaws
 pub mod Open
 pub mod Files
+pub mod Clients

@@ -7,13 +7,13 @@ use Rattle.model.specs.declared.status.Status.{Status}
 use Rattle.model.specs.declared.status.Status.TheVariants as status
 use Rattle.model.specs.Trees.Charge.{fits}
 use Rattle.model.specs.Trees.Limits.{Limits}
-use Rattle.model.specs.Rights.Need.{Right, is_granted, need_first, need_then, are_granted, permitted}
+use Rattle.model.specs.Rights.Need.{Right, is_granted, are_granted}
 use Rattle.model.specs.Operations.Context.{Context}
 use Rattle.model.specs.Operations.Operation.{Argument}
 use Rattle.model.specs.Operations.Refusal.{first_refusal}
 use Rattle.model.specs.Trees.Stamp.{is_stamp_left}
 use Rattle.model.specs.Trees.Tree.{Tree}
-use Rattle.model.specs.Operations.Step.{State, Stepped, early, middle, late, without_rights, refusals, alters, effect, change_refusals, refused, unless_refused, does}
+use Rattle.model.specs.Operations.Step.{State, Stepped, early, middle, late, without_rights, refusals, alters, effect, change_refusals, refused, unless_refused, does, need_first, need_then, permitted}
 use Rattle.model.proofs.Operations.RefusalLaws.{none_in_front, none_in_both}
 use Rattle.model.proofs.Facts.BooleanLaws.{second_held}
 

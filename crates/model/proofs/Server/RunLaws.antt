@@ -4,7 +4,6 @@ use Rattle.model.specs.declared.status.Status.{Status}
 use Rattle.model.specs.declared.status.Status.TheVariants as status
 use Rattle.model.specs.Operations.Answer.{Answer, Outcome}
 use Rattle.model.specs.Operations.Context.{is_same_name}
-use Rattle.model.specs.Rights.Need.{permitted}
 use Rattle.model.proofs.Operations.FileStepLaws.{opening_leaves}
 use Rattle.model.proofs.Operations.StepCases.{passes_tests}
 use Rattle.model.specs.Operations.Files.{has_bytes, write}
@@ -13,7 +12,7 @@ use Rattle.model.specs.Operations.SetAttr.{sets, set_attributes}
 use Rattle.model.specs.Operations.Operation.{Argument, NewDirectory}
 use Rattle.model.specs.Operations.Refusal.{Refusals, first_refusal}
 use Rattle.model.specs.declared.limits.Limits.{Limits}
-use Rattle.model.specs.Operations.Step.{State, Stepped, alters, rename, effect, refusals, change_refusals, unless_refused, does}
+use Rattle.model.specs.Operations.Step.{State, Stepped, alters, rename, effect, refusals, change_refusals, unless_refused, does, permitted}
 use Rattle.model.specs.Trees.Tree.{Tree}
 use Rattle.model.specs.Operations.Answer.{ExchangeIdAnswer, CreateSessionAnswer}
 use Rattle.model.specs.Operations.Operation.{SequenceArguments, operation_of}

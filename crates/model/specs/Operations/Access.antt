@@ -5,7 +5,10 @@ use Rattle.model.specs.declared.acl.Cred.{Cred}
 use Rattle.model.specs.declared.node.NodeKind.{NodeKind}
 use Rattle.model.specs.declared.node.NodeKind.TheVariants as kind
 use Rattle.model.specs.Rights.Acl.{meets, granted, read_data, write_data, append_data, execute, delete_child}
-use Rattle.model.specs.Operations.Answer.{AccessAnswer}
+use Rattle.model.specs.Operations.Answer.{Answer, AccessAnswer}
+use Rattle.model.specs.Operations.Definition.{Definition, on_current}
+use Rattle.model.specs.Operations.State.{current, answered}
+use Rattle.model.specs.Trees.Keyed.{at}
 use Rattle.model.specs.Trees.Tree.{Node, kind_of}
 
 -- ACCESS4_READ 1, LOOKUP 2, MODIFY 4, EXTEND 8, DELETE 0x10, EXECUTE 0x20, those that a kind has,
@@ -33,3 +36,8 @@ access_of (Some node) cred asked = record {
   supported = asked_bits asked (access_masks (kind_of node.content));
   access = granted_bits node cred asked (access_masks (kind_of node.content));
 }
+
+-- ACCESS (section 18.1)
+abbrev pub ACCESS : (rights : ℕ) → Definition
+ACCESS rights = on_current (λ limits state now. answered state
+    (Answer.Access (access_of (at (current state) state.tree) state.context.cred rights)))

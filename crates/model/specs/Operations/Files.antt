@@ -1,6 +1,6 @@
 -- READ, WRITE and COMMIT: RFC 8881, sections 18.22, 18.32 and 18.3. How many bytes one of them
 -- moves is this server's profile.
-use Rattle.std.specs.Prelude.{ℕ, Bool, true, false, [], ◌∷◌, List, ◌+◌, ◌==◌, ◌&&◌, nat_lt, nat_le, length, take, drop, min, if◌then◌else◌, Option, Some, None}
+use Rattle.std.specs.Prelude.{ℕ, Bool, true, false, [], ◌∷◌, ◌++◌, List, ◌+◌, not, ◌==◌, ◌&&◌, nat_lt, nat_le, length, take, drop, min, if◌then◌else◌, Option, Some, None}
 use Rattle.std.specs.List.{list_all}
 use Rattle.std.specs.Int.{w64, to_be_bytes}
 use Rattle.model.specs.declared.status.Status.TheVariants as status
@@ -9,9 +9,13 @@ use Rattle.model.specs.Trees.Changes.{touch}
 use Rattle.model.specs.Trees.Edit.{PutBytes}
 use Rattle.model.specs.Trees.Keyed.{at}
 use Rattle.model.specs.Trees.Limits.{Limits}
-use Rattle.model.specs.Operations.Operation.{ReadArguments, WriteArguments}
+use Rattle.model.specs.Operations.Definition.{Definition, on_current}
+use Rattle.model.specs.Operations.Operation.{CommitArguments, ReadArguments, WriteArguments}
 use Rattle.model.specs.Operations.Refusal.{Refusals}
-use Rattle.model.specs.Operations.State.{State, Stepped, current, stamp_of, answered, changed}
+use Rattle.model.specs.Operations.State.{State, Stepped, current, stamp_of, current_refusals, answered, changed}
+use Rattle.model.specs.Rights.Acl.{read_data, write_data}
+use Rattle.model.specs.Rights.Need.{here}
+use Rattle.model.specs.Sessions.StateIds.{state_refusals, read_access, write_access}
 use Rattle.model.specs.Trees.Tree.{Tree, Node, bytes_of, is_directory_at}
 
 abbrev pub bytes_of_node : Option Node → List ℕ
@@ -41,6 +45,14 @@ read limits state arguments =
       is_end = nat_le (length bytes) (arguments.offset + length part);
       data_bytes = part;
     }))
+
+-- READ (section 18.22)
+abbrev pub READ : ReadArguments → Definition
+READ arguments = record (on_current (λ limits state now. read limits state arguments)) {
+  early = λ limits state. current_refusals state ++ (file_refusals state
+      ++ state_refusals state.opens state.context read_access arguments.state);
+  need_first = λ tree context. here context read_data;
+}
 
 -- WRITE takes the first bytes alone, and none is no change
 
@@ -83,6 +95,24 @@ write true limits state now arguments =
     ∷ touch state.tree (current state) (stamp_of state) now ∷ [])) (wrote limits state arguments)
 write false limits state now arguments = answered state (wrote limits state arguments)
 
+-- WRITE (section 18.32)
+abbrev pub WRITE : WriteArguments → Definition
+WRITE arguments = record (on_current (λ limits state now.
+    write (has_bytes arguments) limits state now arguments)) {
+      early = λ limits state. (not (are_bytes arguments.data_bytes), status.BadXdr)
+          ∷ (current_refusals state ++ (file_refusals state
+          ++ state_refusals state.opens state.context write_access arguments.state));
+      need_first = λ tree context. here context write_data;
+      late = λ limits state. write_refusals limits arguments;
+      alters = λ state. has_bytes arguments;
+    }
+
 -- COMMIT leaves the tree; that everything before it is kept from then on is said of runs
 abbrev pub commit : State → Stepped
 commit state = answered state (Answer.Commit (write_verifier state))
+
+-- COMMIT (section 18.3)
+abbrev pub COMMIT : CommitArguments → Definition
+COMMIT arguments = record (on_current (λ limits state now. commit state)) {
+  early = λ limits state. current_refusals state ++ file_refusals state;
+}

@@ -8,18 +8,21 @@ use Rattle.model.specs.declared.status.Status.TheVariants as status
 use Rattle.model.specs.Operations.Answer.{Answer}
 use Rattle.model.specs.Attributes.Attribute.{attribute_refusals, settable_at_open, is_empty, trimmed, size_given, mode_given, acl_given}
 use Rattle.model.specs.Trees.Changes.{touch, made_edits}
-use Rattle.model.specs.Operations.Context.{Context, without_stateid}
-use Rattle.model.specs.Operations.Directory.{number_named, change_of, acl_of}
+use Rattle.model.specs.Operations.Context.{Context, current_number, without_stateid}
+use Rattle.model.specs.Operations.Definition.{Definition, on_current}
+use Rattle.model.specs.Operations.Directory.{number_named, is_named, change_of, acl_of}
 use Rattle.model.specs.Trees.Edit.{SetSize}
+use Rattle.model.specs.Rights.Acl.{meets, execute, read_data, write_data}
 use Rattle.model.specs.Rights.Inherit.{created_list}
+use Rattle.model.specs.Rights.Need.{Right, here, right_if}
 use Rattle.model.specs.Trees.Keyed.{at}
 use Rattle.model.specs.Trees.Limits.{Limits}
 use Rattle.model.specs.Sessions.Opens.{Open, Opens}
 use Rattle.model.specs.Operations.Operation.{Attributes, ChangeInfo, OpenArguments, OpenType, NoCreate, Unchecked, Guarded, ByName, ByHandle, OtherClaim, Opening, Opens as Opening_of, Exclusive, StateId, CloseArguments}
 use Rattle.model.specs.Operations.Refusal.{Refusals}
-use Rattle.model.specs.Operations.State.{State, Stepped, current, stamp_of, named_refusals, is_name_there, answered, changed, change_to}
-use Rattle.model.specs.Sessions.StateIds.{Found, Anonymous, Refused, Names, found, close_refusals, new_open, opened, Opened, is_table_full, without_open, state_of, closed_state}
-use Rattle.model.specs.Trees.Tree.{Node, File, is_directory_at}
+use Rattle.model.specs.Operations.State.{State, Stepped, current, stamp_of, current_refusals, named_refusals, is_name_there, answered, changed, change_to}
+use Rattle.model.specs.Sessions.StateIds.{read_access, write_access, Found, Anonymous, Refused, Names, found, close_refusals, new_open, opened, Opened, is_table_full, without_open, state_of, closed_state}
+use Rattle.model.specs.Trees.Tree.{Tree, Node, File, is_directory_at}
 
 -- What an opening asks
 
@@ -74,6 +77,13 @@ open_refusals limits state arguments =
     opening_refusals arguments.opening
     ++ (share_refusals arguments ++ place_refusals limits state arguments.opening)
 
+-- The right to look a name up
+abbrev pub lookup_rights : Context → Opening → List (List Right)
+lookup_rights context (Exclusive mode) = []
+lookup_rights context (Opening_of how (OtherClaim claim)) = []
+lookup_rights context (Opening_of how (ByName name)) = here context execute
+lookup_rights context (Opening_of how ByHandle) = []
+
 -- Tests between the right to look a name up and the rights on the file
 
 -- the file is there
@@ -102,6 +112,27 @@ middle_at_open limits state (Opening_of how (OtherClaim claim)) = []
 middle_at_open limits state (Opening_of how (ByName name)) =
     name_opening_refusals limits state how name
 middle_at_open limits state (Opening_of how ByHandle) = []
+
+-- The rights on the file
+
+-- an open's access, on its file
+abbrev pub access_rights : (number access : ℕ) → List (List Right)
+access_rights number access =
+    right_if (meets access read_access) number read_data
+    ++ right_if (meets access write_access) number write_data
+
+-- a file by its name: its rights, and to write where it is cut; the right to add a file where the
+-- name is not there
+abbrev pub opening_rights : Tree → Context → (access : ℕ) → Opening → List (List Right)
+opening_rights tree context access (Exclusive mode) = []
+opening_rights tree context access (Opening_of how (OtherClaim claim)) = []
+opening_rights tree context access (Opening_of how (ByName name)) =
+    if is_named tree (current_number context) name
+    then access_rights (number_named tree (current_number context) name) access
+    ++ right_if (cuts how) (number_named tree (current_number context) name) write_data
+    else here context write_data
+opening_rights tree context access (Opening_of how ByHandle) =
+    access_rights (current_number context) access
 
 -- What is opened
 
@@ -223,6 +254,18 @@ open_file state now arguments =
     opens_in state (opening_done state now arguments.opening) arguments
     (opened state.opens (asked_open state arguments))
 
+-- OPEN (section 18.16)
+abbrev pub OPEN : OpenArguments → Definition
+OPEN arguments = record (on_current (λ limits state now. open_file state now arguments)) {
+  early = λ limits state. current_refusals state ++ open_refusals limits state arguments;
+  need_first = λ tree context. lookup_rights context arguments.opening;
+  middle = λ limits state. middle_at_open limits state arguments.opening;
+  need_then = λ tree context.
+      opening_rights tree context arguments.access arguments.opening;
+  late = λ limits state. late_at_open limits state arguments;
+  alters = λ state. makes_file state arguments.opening || cuts_file state arguments.opening;
+}
+
 -- CLOSE ends the open, and the current stateid
 
 abbrev pub closing_refusals : State → CloseArguments → Refusals
@@ -240,3 +283,9 @@ close_file state arguments = answered
       context = without_stateid state.context;
     })
     (Answer.Close closed_state)
+
+-- CLOSE (section 18.2)
+abbrev pub CLOSE : CloseArguments → Definition
+CLOSE arguments = record (on_current (λ limits state now. close_file state arguments)) {
+  early = λ limits state. current_refusals state ++ closing_refusals state arguments;
+}

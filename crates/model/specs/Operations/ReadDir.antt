@@ -1,27 +1,27 @@
 -- READDIR: RFC 8881, section 18.23. A cookie is an entry's stamp; which entries fit is this
 -- server's profile, and so is that dircount is not looked at.
-use Rattle.std.specs.Prelude.{ℕ, Bool, false, List, [], ◌∷◌, ◌-◌, ◌+◌, ◌==◌, ◌&&◌, not, nat_lt, nat_le, length, map, filter, min, replicate, if◌then◌else◌, bytes_eq, Option, Some, None}
+use Rattle.std.specs.Prelude.{ℕ, Bool, false, List, [], ◌∷◌, ◌++◌, ◌-◌, ◌+◌, ◌==◌, ◌&&◌, not, nat_lt, nat_le, length, map, filter, min, replicate, if◌then◌else◌, bytes_eq, Option, Some, None}
 use Rattle.model.specs.declared.acl.Cred.{Cred}
 use Rattle.model.specs.declared.status.Status.TheVariants as status
-use Rattle.model.specs.Rights.Acl.{granted, read_acl}
-use Rattle.model.specs.Operations.Answer.{Entry, ReadDirAnswer}
-use Rattle.model.specs.Attributes.Attribute.{attributes_of, is_among, acl_number}
+use Rattle.model.specs.Rights.Acl.{granted, read_data, read_acl}
+use Rattle.model.specs.Rights.Need.{Right, here}
+use Rattle.model.specs.Operations.Context.{Context, current_number}
+use Rattle.model.specs.Operations.Definition.{Definition, on_current}
+use Rattle.model.specs.Operations.Answer.{Answer, Entry, ReadDirAnswer}
+use Rattle.model.specs.Attributes.Attribute.{attributes_of, is_among}
 use Rattle.model.specs.Trees.Keyed.{Keyed, at}
 use Rattle.model.specs.Trees.Limits.{Limits}
 use Rattle.model.specs.Attributes.NodeAttributes.{unreadable}
 use Rattle.model.specs.Operations.Operation.{Attributes, ReadDirArguments}
 use Rattle.model.specs.Operations.Refusal.{Refusals}
-use Rattle.model.specs.Operations.SetAttr.{attributes_at}
-use Rattle.model.specs.Operations.State.{State, current}
-use Rattle.model.specs.Trees.Tree.{Tree, Node, DirEntry, names_at}
+use Rattle.model.specs.Operations.SetAttr.{attributes_at, asks_lists}
+use Rattle.model.specs.Operations.State.{State, current, current_refusals, answered}
+use Rattle.model.specs.Trees.Tree.{Tree, Node, DirEntry, names_at, is_directory_at}
 use Rattle.model.specs.Wire.WireAnswers as answers
 
 -- rdattr_error tells of an entry that its attributes may not be read
 abbrev pub rdattr_error_number : ℕ
 rdattr_error_number = 11
-
-abbrev pub asks_lists : (bitmap : List ℕ) → Bool
-asks_lists bitmap = is_among (attributes_of bitmap) acl_number
 
 abbrev pub asks_errors : (bitmap : List ℕ) → Bool
 asks_errors bitmap = is_among (attributes_of bitmap) rdattr_error_number
@@ -36,6 +36,14 @@ cookie_refusals arguments = (
   not (arguments.cookie == 0) && not (bytes_eq arguments.verifier (replicate 8 0)),
   status.NotSame,
 ) ∷ []
+
+-- each entry after the cookie, where lists are asked and nothing tells that one may not be read
+abbrev pub listing_rights : Tree → Context → ReadDirArguments → List (List Right)
+listing_rights tree context arguments =
+    if asks_lists arguments.bitmap && not (asks_errors arguments.bitmap)
+    then map (λ (name : ℕ × DirEntry). record { number = name.1.number; mask = read_acl } ∷ [])
+    (names_after arguments.cookie (names_at tree (current_number context)))
+    else []
 
 -- An entry, as it is answered
 
@@ -101,3 +109,15 @@ page_refusals limits state arguments =
       status.TooSmall,
     )
     ∷ []
+
+-- READDIR (section 18.23)
+abbrev pub READDIR : ReadDirArguments → Definition
+READDIR arguments = record (on_current (λ limits state now.
+    answered state (Answer.ReadDir (page limits state arguments)))) {
+      early = λ limits state. current_refusals state
+          ++ ((not (is_directory_at state.tree (current state)), status.NotDir) ∷ []);
+      need_first = λ tree context. here context read_data;
+      middle = λ limits state. cookie_refusals arguments;
+      need_then = λ tree context. listing_rights tree context arguments;
+      late = λ limits state. page_refusals limits state arguments;
+    }

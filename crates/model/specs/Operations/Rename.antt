@@ -5,14 +5,17 @@ use Rattle.model.specs.declared.status.Status.TheVariants as status
 use Rattle.model.specs.Trees.Ancestors.{is_below}
 use Rattle.model.specs.Operations.Answer.{Answer}
 use Rattle.model.specs.Trees.Changes.{removed_edits, renamed_edits}
-use Rattle.model.specs.Operations.Context.{has_saved}
+use Rattle.model.specs.Operations.Context.{current_number, saved_number, has_saved, is_same_name}
+use Rattle.model.specs.Operations.Definition.{Definition, on_current}
 use Rattle.model.specs.Operations.Directory.{number_named, is_named, change_of}
 use Rattle.model.specs.Trees.Keyed.{at, is_key}
 use Rattle.model.specs.Trees.Limits.{Limits}
 use Rattle.model.specs.Attributes.Name.{name_refusals}
 use Rattle.model.specs.Operations.Operation.{RenameArguments}
 use Rattle.model.specs.Operations.Refusal.{Refusals}
-use Rattle.model.specs.Operations.State.{State, Stepped, current, saved, stamp_of, named_refusals, is_name_there, answered, changed, change_to, without_opens}
+use Rattle.model.specs.Operations.State.{State, Stepped, current, saved, stamp_of, current_refusals, named_refusals, is_name_there, answered, changed, change_to, without_opens}
+use Rattle.model.specs.Rights.Acl.{append_data, write_data, delete, delete_child}
+use Rattle.model.specs.Rights.Need.{Right}
 use Rattle.model.specs.Trees.Tree.{Tree, names_at, is_directory_at}
 
 -- Tests before the caller's rights
@@ -30,6 +33,28 @@ rename_refusals limits state arguments =
     ++ (name_refusals limits arguments.old_name
     ++ (name_refusals limits arguments.new_name
     ++ ((not (is_named state.tree (saved state) arguments.old_name), status.NoEnt) ∷ [])))
+
+-- Rights
+
+-- a name is removable: the node may be deleted, or a child of the directory
+abbrev pub removable : Tree → (directory : ℕ) → (name : List ℕ) → List Right
+removable tree directory name =
+    record { number = number_named tree directory name; mask = delete }
+    ∷ record { number = directory; mask = delete_child } ∷ []
+
+abbrev pub rename_rights : Tree → (from to : ℕ) → RenameArguments → List (List Right)
+rename_rights tree from to arguments =
+    removable tree from arguments.old_name
+    ∷ ((if is_named tree to arguments.new_name
+    then removable tree to arguments.new_name ∷ []
+    else [])
+    ++ ((record {
+      number = to;
+      mask =
+          if is_directory_at tree (number_named tree from arguments.old_name)
+          then append_data
+          else write_data;
+    } ∷ []) ∷ []))
 
 -- Tests after them
 
@@ -88,3 +113,27 @@ rename false state now arguments =
       source = change_to state (saved state) (stamp_of state);
       target = change_to state (current state) (stamp_of state);
     }))
+
+-- REMOVE (section 18.25)
+abbrev pub REMOVE : (name : List ℕ) → Definition
+REMOVE name = record (on_current (λ limits state now. remove state now name)) {
+  early = λ limits state. current_refusals state ++ remove_refusals limits state name;
+  need_first = λ tree context. removable tree (current_number context) name ∷ [];
+  late = λ limits state.
+      (has_names state.tree (number_named state.tree (current state) name), status.NotEmpty) ∷ [];
+  alters = λ state. true;
+}
+
+-- RENAME (section 18.26)
+abbrev pub RENAME : RenameArguments → Definition
+RENAME arguments = record (on_current (λ limits state now.
+    rename (is_same_name state.context arguments) state now arguments)) {
+      early = λ limits state. current_refusals state ++ rename_refusals limits state arguments;
+      need_first = λ tree context.
+          if is_same_name context arguments
+          then []
+          else rename_rights tree (saved_number context) (current_number context) arguments;
+      late = λ limits state.
+          if is_same_name state.context arguments then [] else late_at_rename state arguments;
+      alters = λ state. not (is_same_name state.context arguments);
+    }

@@ -1,21 +1,25 @@
 -- SETATTR and GETATTR: RFC 8881, sections 18.30 and 18.7. A list that is set with a mode stands;
 -- the order of the tests is this server's profile.
-use Rattle.std.specs.Prelude.{ℕ, Bool, true, false, [], ◌∷◌, ◌++◌, List, not, Option, Some, None, unwrap_or, if◌then◌else◌, is_some}
+use Rattle.std.specs.Prelude.{ℕ, Bool, true, false, [], ◌∷◌, ◌++◌, List, not, ◌||◌, Option, Some, None, unwrap_or, if◌then◌else◌, is_some}
 use Rattle.model.specs.declared.acl.Ace.{Ace}
 use Rattle.model.specs.declared.node.NodeKind.{NodeKind}
 use Rattle.model.specs.declared.node.NodeKind.TheVariants as kind
 use Rattle.model.specs.declared.status.Status.TheVariants as status
 use Rattle.model.specs.Operations.Answer.{Answer}
-use Rattle.model.specs.Attributes.Attribute.{attribute_refusals, settable_at_setattr, is_empty, trimmed, size_given, acl_given, mode_given, owner_given, group_given}
+use Rattle.model.specs.Attributes.Attribute.{attributes_of, is_among, size_number, acl_number, mode_number, owner_number, owner_group_number, attribute_refusals, settable_at_setattr, is_empty, trimmed, size_given, acl_given, mode_given, owner_given, group_given}
 use Rattle.model.specs.Trees.Changes.{touched}
 use Rattle.model.specs.Trees.Edit.{Shown, Edit, Show, SetSize}
 use Rattle.model.specs.Trees.Keyed.{at}
 use Rattle.model.specs.Trees.Limits.{Limits}
+use Rattle.model.specs.Rights.Acl.{read_acl, write_data, write_acl, write_owner}
 use Rattle.model.specs.Rights.Mode.{moded}
+use Rattle.model.specs.Rights.Need.{Right, right_if}
 use Rattle.model.specs.Attributes.NodeAttributes.{node_attributes}
+use Rattle.model.specs.Operations.Context.{Context, current_number}
+use Rattle.model.specs.Operations.Definition.{Definition, on_current}
 use Rattle.model.specs.Operations.Operation.{Attributes, SetAttrArguments}
 use Rattle.model.specs.Operations.Refusal.{Refusals}
-use Rattle.model.specs.Operations.State.{State, Stepped, current, stamp_of, answered, changed}
+use Rattle.model.specs.Operations.State.{State, Stepped, current, stamp_of, current_refusals, answered, changed}
 use Rattle.model.specs.Sessions.StateIds.{state_refusals, write_access}
 use Rattle.model.specs.Trees.Tree.{Tree, Node, kind_of, is_directory_at}
 
@@ -38,6 +42,15 @@ set_refusals limits state arguments =
     attribute_refusals limits (kind_at state.tree (current state)) settable_at_setattr
     arguments.attributes
     ++ size_refusals state arguments
+
+-- what is set: the size is written, a mode is a list, and so on
+abbrev pub setting_rights : Context → (attributes : List ℕ) → List (List Right)
+setting_rights context attributes =
+    right_if (is_among attributes size_number) (current_number context) write_data
+    ++ right_if (is_among attributes mode_number || is_among attributes acl_number)
+    (current_number context) write_acl
+    ++ right_if (is_among attributes owner_number || is_among attributes owner_group_number)
+    (current_number context) write_owner
 
 -- The node as it shows afterwards
 
@@ -79,7 +92,28 @@ set_attributes true state now arguments =
     (was_set arguments)
 set_attributes false state now arguments = answered state (was_set arguments)
 
--- GETATTR
+-- SETATTR (section 18.30)
+abbrev pub SETATTR : SetAttrArguments → Definition
+SETATTR arguments = record (on_current (λ limits state now.
+    set_attributes (sets arguments) state now arguments)) {
+      early = λ limits state. current_refusals state ++ set_refusals limits state arguments;
+      need_first = λ tree context.
+          setting_rights context (attributes_of arguments.attributes.bitmap);
+      alters = λ state. sets arguments;
+    }
+
+-- What is shown
+
 abbrev pub attributes_at : Limits → (bitmap : List ℕ) → (number : ℕ) → Option Node → Attributes
 attributes_at limits bitmap number None = record { bitmap = []; values = [] }
 attributes_at limits bitmap number (Some node) = node_attributes limits bitmap number node
+
+abbrev pub asks_lists : (bitmap : List ℕ) → Bool
+asks_lists bitmap = is_among (attributes_of bitmap) acl_number
+
+-- GETATTR (section 18.7)
+abbrev pub GETATTR : (bitmap : List ℕ) → Definition
+GETATTR bitmap = record (on_current (λ limits state now. answered state (Answer.GetAttr
+    (attributes_at limits bitmap (current state) (at (current state) state.tree))))) {
+      need_first = λ tree context. right_if (asks_lists bitmap) (current_number context) read_acl;
+    }

@@ -5,9 +5,8 @@ use Rattle.model.specs.Operations.Answer.{Answer, Outcome}
 use Rattle.model.specs.Trees.Changes.{IsStamped}
 use Rattle.model.specs.Trees.Fresh.{fresh_tree}
 use Rattle.model.specs.Trees.Limits.{Limits}
-use Rattle.model.specs.Rights.Need.{permitted}
 use Rattle.model.specs.Operations.Operation.{Argument}
-use Rattle.model.specs.Operations.Step.{State, Stepped, alters, stamp_of, does}
+use Rattle.model.specs.Operations.Step.{State, Stepped, alters, stamp_of, does, permitted}
 use Rattle.model.specs.Trees.WellFormed.{IsWellFormed, IsBefore}
 
 -- the tree is well formed, all its stamps are from before the next one, each change had one, and

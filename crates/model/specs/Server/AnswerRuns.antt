@@ -3,7 +3,7 @@
 -- that it was answered from.
 use Rattle.std.specs.Prelude.{ℕ, ◌≡◌, Some, slice_get, IsTrue}
 use Rattle.model.specs.Sessions.Seats.{Seats}
-use Rattle.model.specs.Rights.Need.{permitted}
+use Rattle.model.specs.Operations.Step.{permitted}
 use Rattle.model.specs.Server.Runs.{Event, Serving, History, IsRun, mounted, executed, done_with, is_done}
 use Rattle.model.specs.Trees.Tree.{Tree}
 use Rattle.model.specs.Server.World.{ServerLimits, Entry}

@@ -10,11 +10,10 @@ use Rattle.model.specs.Trees.Charge.{fits}
 use Rattle.model.specs.Rights.Inherit.{inherited}
 use Rattle.model.specs.Rights.Mode.{mode_of, moded}
 use Rattle.model.specs.Attributes.Name.{name_refusals}
-use Rattle.model.specs.Rights.Need.{permitted}
 use Rattle.model.specs.Attributes.NodeAttributes.{node_attributes}
 use Rattle.model.specs.Operations.ReadDir.{page}
 use Rattle.model.specs.Sessions.StateIds.{found, opened}
-use Rattle.model.specs.Operations.Step.{refusals, effect, does}
+use Rattle.model.specs.Operations.Step.{refusals, effect, does, permitted}
 use Rattle.std.specs.Char.{encode_utf8}
 use Rattle.std.specs.Str.{is_utf8, chars}
 use Rattle.model.proofs.step.file_examples.Goals as goal

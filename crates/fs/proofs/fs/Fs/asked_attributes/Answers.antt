@@ -4,7 +4,7 @@ use Rattle.model.specs.Operations.Answer.{Answer}
 use Rattle.model.specs.Attributes.Attribute.{attributes_of, is_among}
 use Rattle.model.specs.Attributes.NodeAttributes.{node_attributes}
 use Rattle.model.specs.Operations.Operation.{Argument, Attributes}
-use Rattle.model.specs.Operations.ReadDir.{asks_lists}
+use Rattle.model.specs.Operations.SetAttr.{asks_lists}
 use Rattle.model.specs.Operations.Step.{answered, does}
 use Rattle.fs.specs.Views.{fs_of}
 use Rattle.fs.proofs.AttributeLaws.{attributes_are}

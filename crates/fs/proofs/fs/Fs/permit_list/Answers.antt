@@ -8,13 +8,14 @@ use Rattle.model.specs.Rights.Acl.{read_data}
 use Rattle.model.specs.Trees.Keyed.{at, is_key}
 use Rattle.model.specs.Rights.Need.{granted_on}
 use Rattle.model.specs.Operations.Operation.{ReadDirArguments}
-use Rattle.model.specs.Operations.ReadDir.{asks_errors, asks_lists}
+use Rattle.model.specs.Operations.ReadDir.{asks_errors}
 use Rattle.model.specs.Operations.Refusal.{first_refusal}
 use Rattle.model.specs.Trees.Tree.{Tree, Node, is_directory, is_directory_at, is_directory_node, names_at, names_of, names_of_node}
 use Rattle.fs.specs.Listing.{list_arguments, list_refusals, may_read_lists}
 use Rattle.fs.specs.Views.{fs_of}
 use Rattle.fs.proofs.CachedNodeViews.{granted_by, names_are}
 use Rattle.fs.proofs.fs.Fs.permit_list.Goals as goal
+use Rattle.model.specs.Operations.SetAttr.{asks_lists}
 
 -- where lists are asked and that of an entry may not be read, the last of the tests refuses
 unreadable : (tree : Tree) (cred : Cred) (number : ℕ) (asked : ReadDirArguments) → is_key number tree ≡ true → is_directory_at tree number ≡ true

@@ -1,0 +1,40 @@
+-- What the definition of one operation of a COMPOUND has: RFC 8881, sections 16.2 and 18. The order
+-- of the tests is this server's profile.
+use Rattle.std.specs.Prelude.{ℕ, Bool, false, List, []}
+use Rattle.model.specs.Operations.Context.{Context}
+use Rattle.model.specs.Operations.Refusal.{Refusals}
+use Rattle.model.specs.Operations.State.{State, Stepped, current_refusals}
+use Rattle.model.specs.Rights.Need.{Right}
+use Rattle.model.specs.Trees.Limits.{Limits}
+use Rattle.model.specs.Trees.Tree.{Tree}
+
+pub record Definition : Type 0 where
+  -- the tests and the rights, in the order in which they are looked at
+  pub early : Limits → State → Refusals
+  pub need_first : Tree → Context → List (List Right)
+  pub middle : Limits → State → Refusals
+  pub need_then : Tree → Context → List (List Right)
+  pub late : Limits → State → Refusals
+  -- whether it is a change: it alters the tree, and uses up a stamp
+  pub alters : State → Bool
+  -- what it does where nothing refuses it; `now` is the moment, in nanoseconds since 1970
+  pub effect : Limits → State → (now : ℕ) → Stepped
+
+-- The definition of an operation begins with one of these two, and adds its tests, its rights, and
+-- whether it is a change
+
+-- no test, no right, no change
+abbrev pub only : (effect : Limits → State → (now : ℕ) → Stepped) → Definition
+only effect = record {
+  early = λ limits state. [];
+  need_first = λ tree context. [];
+  middle = λ limits state. [];
+  need_then = λ tree context. [];
+  late = λ limits state. [];
+  alters = λ state. false;
+  effect = effect;
+}
+
+-- the same with a current filehandle, whose node is there
+abbrev pub on_current : (effect : Limits → State → (now : ℕ) → Stepped) → Definition
+on_current effect = record (only effect) { early = λ limits state. current_refusals state }
