@@ -337,26 +337,11 @@ module _ (modes : ModesKeepLimits) (inheritance : InheritanceKeepsLimits) where
   unfolding effect
   effect_refused limits state now (Argument.Create (NewDirectory name given)) number reason is = absurd (cc)
   effect_refused limits state now (Argument.Create (OtherType of)) number reason is = refl
-  effect_refused limits state now (Argument.Access rights) number reason is = absurd (cc)
-  effect_refused limits state now (Argument.Close arguments) number reason is = absurd (cc)
-  effect_refused limits state now (Argument.Commit arguments) number reason is = absurd (cc)
-  effect_refused limits state now (Argument.GetAttr bitmap) number reason is = absurd (cc)
-  effect_refused limits state now Argument.GetFh number reason is = absurd (cc)
-  effect_refused limits state now (Argument.Lookup name) number reason is = absurd (cc)
-  effect_refused limits state now Argument.LookupParent number reason is = absurd (cc)
-  effect_refused limits state now (Argument.Open arguments) number reason is = absurd (cc)
-  effect_refused limits state now (Argument.PutFh handle) number reason is = absurd (cc)
-  effect_refused limits state now Argument.PutRootFh number reason is = absurd (cc)
-  effect_refused limits state now (Argument.Read arguments) number reason is = absurd (cc)
-  effect_refused limits state now (Argument.ReadDir arguments) number reason is = absurd (cc)
-  effect_refused limits state now (Argument.Remove name) number reason is = absurd (cc)
   effect_refused limits state now (Argument.Rename arguments) number reason is = rename_answers (is_same_name state.context arguments) is
     where
       rename_answers : (same : Bool) → (rename same state now arguments).outcome ≡ Outcome.Refused number reason → (rename same state now arguments).state ≡ state
       rename_answers true is = absurd (cc)
       rename_answers false is = absurd (cc)
-  effect_refused limits state now Argument.RestoreFh number reason is = absurd (cc)
-  effect_refused limits state now Argument.SaveFh number reason is = absurd (cc)
   effect_refused limits state now (Argument.SetAttr arguments) number reason is = set_answers (sets arguments) is
     where
       set_answers : (some : Bool) → (set_attributes some state now arguments).outcome ≡ Outcome.Refused number reason
@@ -375,6 +360,7 @@ module _ (modes : ModesKeepLimits) (inheritance : InheritanceKeepsLimits) where
   effect_refused limits state now (Argument.Sequence arguments) number reason is = refl
   effect_refused limits state now (Argument.DestroyClientId client) number reason is = refl
   effect_refused limits state now (Argument.ReclaimComplete one_fs) number reason is = refl
+  effect_refused limits state now _ number reason is = absurd (cc)
 
   effect_sound : (limits : Limits) (state : State) (now : ℕ) (operation : Argument) → Passes limits state now operation
       → IsSound limits state → IsSound limits (effect limits state now operation).state
