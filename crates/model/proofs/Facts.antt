@@ -1,3 +1,3 @@
--- What the library does not say of truth values and options.
+-- Lemmas on Booleans and options that the standard library lacks.
 pub mod BooleanLaws
 pub mod OptionLaws

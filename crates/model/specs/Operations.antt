@@ -1,4 +1,5 @@
--- The operations of a COMPOUND on the tree, one after the other.
+-- What each operation of a COMPOUND tests, what rights it needs, and what it does: RFC 8881,
+-- sections 16.2.3 and 18. `Step` leads to the definition of each.
 pub mod Operation
 pub mod OperationNumber
 pub mod Answer

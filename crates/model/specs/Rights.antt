@@ -1,4 +1,4 @@
--- Access control lists: what they grant, and what a new node takes of one.
+-- Who may do what: RFC 8881, section 6. An access control list decides, and a mode is read from it.
 pub mod Acl
 pub mod AclEntries
 pub mod Mode

@@ -1,4 +1,5 @@
--- The tree of files and directories, its edits, and what of a volume it takes.
+-- A file system as a value: nodes with their names, bytes and metadata, the edits that every change
+-- is made of, and whether a volume has the space.
 pub mod Keyed
 pub mod KeyedChanges
 pub mod Tree

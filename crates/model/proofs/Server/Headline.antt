@@ -1,4 +1,4 @@
--- The headline, by induction over a run: what a stop may leave is the tree of a good prefix of what was executed.
+-- The headline, by induction over a run: what a crash may leave is the tree of a good prefix of what was executed.
 use Rattle.std.proofs.Common.{◌≡◌, ℕ, zero, suc, ◌<◌, ◌≤◌, ◌⊎◌, inl, inr, Bool, true, false, not, cond, ◌==◌, List, [], ◌∷◌, ◌++◌, length, take, get_or, slice_get, option_to_list, Option, None, Some, refl, sym, ap, ◌∙◌, subst, arith, append-nil, length-append, take_all}
 use Rattle.std.proofs.lemmas.List.{take-append-le}
 use Rattle.std.specs.List.{IsAmong, AllByRecursion}
@@ -399,7 +399,7 @@ holds start first serving history begins (Fails_at {old = old} {new = new} {hist
 holds start first serving history begins (Stays_down {old = old} {new = new} {history = earlier} connection run stays) =
     stays_down start old new connection earlier (holds start first old earlier begins run) stays
 
--- A stop
+-- A crash
 
 still_good : (start : Tree) (done : List Entry) (handed_out : List ℕ) (settled : ℕ) (tree : Tree) → AllLawful done → AreBelow settled handed_out
     → (stands : StandsFor start done settled tree) → IsGood done handed_out stands.k

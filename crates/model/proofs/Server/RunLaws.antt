@@ -1,4 +1,4 @@
--- The headline: what a stop may leave is the tree of a good prefix of what was executed.
+-- The headline: what a crash may leave is the tree of a good prefix of what was executed.
 use Rattle.std.proofs.Common.{◌≡◌, ◌≢◌, ℕ, Bool, true, false, not, cond, List, ◌++◌, Option, None, Some, Result, Ok, Err, refl, sym, ap, ◌||◌, find}
 use Rattle.model.specs.declared.status.Status.{Status}
 use Rattle.model.specs.declared.status.Status.TheVariants as status

@@ -319,7 +319,7 @@ module _ (limits : ServerLimits) (run : ℕ) (start : Tree) (first : Seats) (sma
   run_own serving history (Stays_down {old = old} {new = new} {history = earlier} connection is_run stays) =
       subst (AreOwn id slot run) (sym (taken_done earlier connection (reply_at old.world connection))) (run_own old earlier is_run)
 
--- Of a stopped run, with what was under way
+-- Of a run that ended in a crash, with what was under way
 
 module _ (limits : ServerLimits) (stop : Stop limits) (id : List ℕ) (slot : ℕ) where
   none_among : {A : Type 0} (x : A) → IsAmong [] x → ⊥

@@ -21,7 +21,7 @@ NoSkip = (start : Tree) (write change : Entry) (tree : Tree) → IsDurable chang
     → IsGoodPrefix start (write ∷ change ∷ []) (1 ∷ []) tree → tree ≡ change.after
 
 -- One that gives a reply before its change is kept: after the turn the tree before it is none that
--- a stop may leave.
+-- a crash may leave.
 abbrev pub NoEarlyReply : Type 0
 NoEarlyReply =
     (old new : Serving) (event : Event) (entry : Entry) → Happens old event new

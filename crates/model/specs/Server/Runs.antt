@@ -1,6 +1,7 @@
--- What users of the server can rely on when it stops: NFS asks it of a server in RFC 8881, sections
--- 18.3 (COMMIT), 18.32 (WRITE) and 2.10.6.2 (replies). A machine goes from event to event and may
--- be stopped at any moment; a stop leaves the tree that a good prefix of what was executed gives.
+-- What users of the server can rely on when it crashes: NFS asks it of a server in RFC 8881,
+-- sections 18.3 (COMMIT), 18.32 (WRITE) and 2.10.6.2 (replies). A machine goes from event to event
+-- and may crash at any moment; a crash leaves the tree that a good prefix of what was executed
+-- gives.
 use Rattle.std.specs.Prelude.{◌≡◌, ◌≢◌, ℕ, ◌+◌, ◌<◌, ◌≤◌, ◌⊎◌, Bool, true, false, not, ◌&&◌, ◌||◌, ◌==◌, List, [], ◌∷◌, ◌++◌, length, take, find, slice_get, option_to_list, Option, None, Some, if◌then◌else◌, bytes_eq}
 use Rattle.std.specs.List.{IsAmong}
 use Rattle.model.specs.Operations.Answer.{Outcome}
@@ -217,8 +218,8 @@ done_with history executed = history.done ++ option_to_list executed
 
 -- The machine
 
--- `recent` are the trees that a stop may leave now, as the volume keeps them: the one flushed last,
--- and the one after each later change
+-- `recent` are the trees that a crash may leave now, as the volume keeps them: the one flushed
+-- last, and the one after each later change
 -- `held` are the seats that it may leave, each beside each of these trees
 pub record Serving : Type 0 where
   pub world : World
@@ -246,7 +247,7 @@ abbrev pub IsAfter : Option Entry → Tree → Type 0
 IsAfter None tree = ⊥
 IsAfter (Some entry) tree = tree ≡ entry.after
 
--- what a stop may leave while an event happens
+-- what a crash may leave while an event happens
 abbrev pub MayLeave : Serving → Event → Tree → Type 0
 MayLeave serving event tree = IsAmong serving.recent tree ⊎ IsAfter (executed serving event) tree
 
@@ -341,7 +342,7 @@ pub record IsGoodPrefix (start : Tree) (done : List Entry) (handed_out : List �
   pub permitted : ArePermitted done k
   pub chain : IsChain start done
 
--- Whatever events happen, on whatever connections, and wherever the server is stopped, what a stop
+-- Whatever events happen, on whatever connections, and wherever the server crashes, what a crash
 -- may leave is the tree of a good prefix of the operations that were executed.
 abbrev pub EveryRun : Type 0
 EveryRun = (limits : ServerLimits) (run : ℕ) (start : Tree) (seats : Seats) (serving : Serving)
@@ -350,7 +351,7 @@ EveryRun = (limits : ServerLimits) (run : ℕ) (start : Tree) (seats : Seats) (s
     → MayLeave serving event tree
     → IsGoodPrefix start (done_with history (executed serving event)) history.handed_out tree
 
--- Stamps: a change takes the next one of its run, whether a stop takes it away or not
+-- Stamps: a change takes the next one of its run, whether a crash takes it away or not
 
 -- that of a change made in the state of this entry, by how many changes this run had before
 abbrev pub stamp_in : (run : ℕ) → Entry → ℕ
@@ -364,7 +365,7 @@ pub record AreStamped (run : ℕ) (done : List Entry) : Type 0 where
   pub of_run : (i : ℕ) (entry : Entry) → slice_get done i ≡ Some entry → before entry ≢ entry.after
       → (stamp run 0 < stamp_in run entry) × (stamp_in run entry < stamp (run + 1) 0)
 
--- of all that was executed, what a stop takes away and the one under way included
+-- of all that was executed, what a crash takes away and the one under way included
 abbrev pub EveryStamp : Type 0
 EveryStamp =
     (limits : ServerLimits) (run : ℕ) (start : Tree) (seats : Seats) (serving : Serving)

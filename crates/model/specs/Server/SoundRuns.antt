@@ -1,4 +1,4 @@
--- Whatever happens, and whenever the server stops: each tree that may be left is one that a later
+-- Whatever happens, and whenever the server crashes: each tree that may be left is one that a later
 -- run may begin with.
 use Rattle.std.specs.Prelude.{ℕ, ◌+◌, ◌<◌, ◌≤◌}
 use Rattle.model.specs.Sessions.Seats.{Seats}

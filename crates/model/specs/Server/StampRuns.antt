@@ -1,5 +1,5 @@
 -- Over every run: each change gives the next stamp of its own run to all that it makes or alters,
--- whether a stop takes it away or not (RFC 8881, section 5.8.1.4).
+-- whether a crash takes it away or not (RFC 8881, section 5.8.1.4).
 use Rattle.std.specs.Prelude.{ℕ, ◌≡◌, ◌≢◌, ◌≤◌, ◌+◌, List, Some, slice_get}
 use Rattle.model.specs.Trees.Changes.{IsStamped}
 use Rattle.model.specs.Server.Runs.{Event, Serving, History, IsRun, mounted, executed, done_with, before, stamp_in}

@@ -1,5 +1,5 @@
 -- Exactly once over restarts, on sessions that have a seat: RFC 8881, sections 2.10.6.1 and
--- 2.10.6.5. What a seat holds outlives a stop, and a session of an earlier run runs nothing.
+-- 2.10.6.5. What a seat holds outlives a crash, and a session of an earlier run runs nothing.
 use Rattle.std.specs.Prelude.{◌≡◌, ◌≢◌, ◌↔◌, ◌≤◌, ◌<◌, ◌^◌, ◌⊎◌, ℕ, Bool, true, false, List, [], ◌∷◌, ◌++◌, slice_get, option_to_list, find, Option, None, Some, if◌then◌else◌}
 use Rattle.std.specs.List.{IsAmong}
 use Rattle.model.specs.declared.status.Status.{Status}
@@ -22,7 +22,7 @@ pub record AreSeats (run : ℕ) (seats : Seats) : Type 0 where
   pub apart : AreApart seats
   pub earlier : (id : List ℕ) → has_seat id seats ≡ true → run_of id < run
 
--- A run that was stopped, and the seats that the stop left
+-- A run that ended in a crash, and the seats that the crash left
 
 pub record Stop (limits : ServerLimits) : Type 0 where
   pub run : ℕ
@@ -76,7 +76,7 @@ pub record IsFreed (seats : Seats) (freed : List (List ℕ)) (id : List ℕ) : T
   pub listed : IsAmong freed id
 
 -- Each reply that a seat held, and so each one that was made for a slot of a session with a seat, is
--- held by what a stop leaves, until the next of its slot is, or the seat is freed.
+-- held by what a crash leaves, until the next of its slot is, or the seat is freed.
 abbrev pub EveryReplyIsHeld : Type 0
 EveryReplyIsHeld =
     (limits : ServerLimits) (stop : Stop limits) (i : ℕ) (one : Stored)
@@ -90,7 +90,7 @@ EverySeatStays =
     → seat_of id stop.seats ≡ Some seat
     → (seat_of id stop.left ≡ Some seat) ⊎ IsFreed stop.left (freed_in stop) id
 
--- The seats that a stop leaves are ones that a later run may begin with.
+-- The seats that a crash leaves are ones that a later run may begin with.
 abbrev pub EveryRunCanFollow : Type 0
 EveryRunCanFollow =
     (limits : ServerLimits) (stop : Stop limits) (next : ℕ) → stop.run < next → AreSeats next stop.left
@@ -113,7 +113,7 @@ pub record AnswersDead (table : Table) (id : List ℕ) (uid count : ℕ)
       → begin uid count arguments table ≡ Refuses (dead_refusal id table.seats)
   pub never : begin uid count arguments table ≡ Runs → ⊥
 
--- while it is up the server has the seats that a stop would leave
+-- while it is up the server has the seats that a crash would leave
 pub record AnswersBySeats (serving : Serving) (run : ℕ) : Type 0 where
   pub dead : (id : List ℕ) → run_of id < run → (uid count : ℕ) (arguments : SequenceArguments)
       → arguments.session ≡ id → AnswersDead serving.world.table id uid count arguments
@@ -250,7 +250,7 @@ abbrev pub WasFreed : {limits : ServerLimits} → (id : List ℕ) → List (Stop
 WasFreed id [] = ⊥
 WasFreed id (stop ∷ lives) = IsFreed stop.left (freed_in stop) id ⊎ WasFreed id lives
 
--- What was held in a run is held at the stop of each later one, or its seat was freed on the way.
+-- What was held in a run is held at the crash of each later one, or its seat was freed on the way.
 abbrev pub EveryReplyStaysHeld : Type 0
 EveryReplyStaysHeld =
     (limits : ServerLimits) (first : Stop limits) (lives : List (Stop limits)) → AreLives first lives

@@ -1,5 +1,5 @@
 -- Seats: what a volume keeps of persistent sessions, so that the reply to the last request of each
--- of their slots outlives a stop: RFC 8881, section 2.10.6.5. How many there are is the volume's;
+-- of their slots outlives a crash: RFC 8881, section 2.10.6.5. How many there are is the volume's;
 -- which of them give way is told by CREATE_SESSION.
 use Rattle.std.specs.Prelude.{◌≡◌, ◌≤◌, ◌/◌, ◌^◌, ℕ, Bool, true, false, List, [], ◌∷◌, map, take, Option, None, Some, if◌then◌else◌, slice_index_or, slice_set, is_some, bytes_eq}
 use Rattle.std.specs.Int.{w64, from_be_bytes}
