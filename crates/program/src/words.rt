@@ -5,6 +5,7 @@ use clap::{Arg, ArgMatches, Command};
 use script::decimal;
 use std::alloc::{AllocError, Global};
 use std::convert::AsStr;
+use volume::superblock::{MAX_NODES, MAX_SECTORS, MIN_NODES, MIN_SECTORS};
 
 /// What the program is asked for.
 #[derive(Clone, Copy)]
@@ -138,7 +139,7 @@ fn format_of<'a>(words: &ArgMatches<'a>) -> Request<'a> {
 }
 
 fn is_size(sectors: u32, nodes: u32) -> bool {
-    (256..=65536).contains(&sectors) && (2..=16384).contains(&nodes)
+    (MIN_SECTORS..=MAX_SECTORS).contains(&sectors) && (MIN_NODES..=MAX_NODES).contains(&nodes)
 }
 
 fn run_of<'a>(words: &ArgMatches<'a>) -> Request<'a> {
