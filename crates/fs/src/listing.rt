@@ -42,23 +42,23 @@ pub struct Page<'a> {
     pub is_end: bool,
 }
 
-/// Whether lists are asked.
+/// Whether the ACL of each entry is asked for.
 fn asks_lists(asked: &[u32]) -> bool
     ensures { result ≡ asks_lists asked.now }
 {
     is_asked(asked, Attribute::Acl.number())
 }
 
-/// Whether the list of each entry has to be readable: lists are asked, and it is not to be told of
-/// an entry that its list may not be read.
+/// Whether the call is refused where the ACL of an entry after the cookie may not be read: ACLs are
+/// asked for, and rdattr_error, by which an entry would say so itself, is not.
 fn must_read_lists(asked: &[u32]) -> bool
     ensures { result ≡ (asks_lists asked.now && not (asks_errors asked.now)) }
 {
     asks_lists(asked) && !is_asked(asked, Attribute::RdattrError.number())
 }
 
-/// Whether an entry is listed without its attributes where its list may not be read. Where lists are
-/// asked and it is not to be told of an entry, each list after the cookie passed its test before.
+/// Whether an entry whose ACL may not be read shows rdattr_error alone: both are asked for. Where
+/// ACLs are and rdattr_error is not, there is no such entry, since `permit_list` refused the call.
 fn hides_unreadable(asked: &[u32]) -> bool
     ensures { result ≡ (asks_lists asked.now && asks_errors asked.now) }
 {
@@ -100,8 +100,8 @@ impl<D: Device> Fs<D> {
     ///
     /// Refused by the first of these that holds: STALE, NOTDIR, ACCESS without the right to list
     /// the directory, NOT_SAME where a cookie comes with a verifier that is not 0, ACCESS where
-    /// lists are asked without rdattr_error and that of an entry after the cookie may not be read,
-    /// and TOOSMALL where there is no room for the first entry, or for a page of none.
+    /// ACLs are asked for without rdattr_error and that of an entry after the cookie may not be
+    /// read, and TOOSMALL where there is no room for the first entry, or for a page of none.
     pub fn list<'a>(&'a self, cred: &Cred, listing: Listing<'a>) -> Result<Page<'a>, FsFault>
         ensures step { (state : State) (now dir_count : ℕ)
             → IsOn (fs_of self.entry.now) cred.now listing.entry.directory state
@@ -156,7 +156,7 @@ impl<D: Device> Fs<D> {
         Ok(card)
     }
 
-    /// Whether a caller may read the list of a node: where it is gone he may not.
+    /// Whether a caller may read the ACL of a node: where it is gone he may not.
     fn may_read_list(&self, cred: &Cred, number: u64) -> bool
         ensures { result ≡ may_read_list cred.now (at number (fs_of self.now).volume.tree) }
     {
@@ -166,7 +166,7 @@ impl<D: Device> Fs<D> {
         }
     }
 
-    /// Whether a caller may read the list of each of these.
+    /// Whether a caller may read the ACL of the node of each of these names.
     fn may_read_lists(&self, cred: &Cred, names: ListAfter<'_>) -> bool
         ensures { result ≡ list_all (λ name. may_read_list cred.now
             (at name.1.number (fs_of self.now).volume.tree)) (rest_of names.entry) }
@@ -180,7 +180,7 @@ impl<D: Device> Fs<D> {
     }
 
     /// The page of these names that has room in so many bytes. `hides` says whether an entry whose
-    /// list may not be read is listed without its attributes.
+    /// ACL may not be read shows rdattr_error alone.
     fn fill<'a>(
         &'a self,
         cred: &Cred,
