@@ -1,7 +1,7 @@
 -- A name that is dropped, as one edit.
 use Rattle.std.proofs.Common.{◌≡◌, ◌≢◌, ◌≤◌, ◌<◌, ◌+◌, ◌-◌, ◌/◌, ℕ, Bool, List, [], Option, Some, None, length, get_or, set, take, refl, sym, ap, ◌∙◌, arith, subst, inl, inr}
 use Rattle.std.proofs.lemmas.Bool.{cases_eq}
-use Rattle.std.proofs.lemmas.List.{length-take, length-set, get_or-take}
+use Rattle.std.proofs.lemmas.List.{length-take, length-set, get_or-take, take_all}
 use Rattle.disk.specs.Moments.{Image, applied}
 use Rattle.disk.specs.declared.update.Update.{Update}
 use Rattle.directory.specs.declared.names.TheConstants.Names.{MAX_NAMES}
@@ -30,9 +30,10 @@ use Rattle.tree_transaction.specs.Transactions.{Makes}
 use Rattle.tree_transaction.specs.Transactions.{HasNow}
 use Rattle.tree_transaction.specs.Laying.{CanBeLaid, HasEnough, IsRerun, sectors_for}
 use Rattle.tree_transaction.specs.Naming.{HasName, DropsNamed, Rewrites, renamed, without_name}
+use Rattle.tree_transaction.specs.Written.{HasItsRuns}
 use Rattle.tree_transaction.proofs.BackLaws.{IsMoved, makes, steps}
 use Rattle.tree_transaction.proofs.KnownLaws.{same_card, held_at}
-use Rattle.tree_transaction.proofs.NameLaws.{named_card, directory_is, names_here, blocks_here, named_here, can_lay_names, few_runs, named_stays, named_now, directories, still}
+use Rattle.tree_transaction.proofs.NameLaws.{named_card, directory_is, names_here, blocks_here, named_here, can_lay_names, few_runs, same_runs, named_stays, named_now, directories, still}
 use Rattle.tree_transaction.proofs.RunLaws.{enough}
 
 -- ---- two blocks of a list are written again
@@ -106,6 +107,13 @@ module _ (old : Transaction) (place : ℕ) (was : CachedNode) (name : List ℕ) 
     counted : length blocks ≡ count
     counted = omega (arith, length-take count was.blocks, blocks_here old place was known there directory, shorter)
 
+    stamped_now : AreStamped names
+    stamped_now = subst AreStamped (sym are) (stays_stamped was.names at within stamped_was)
+
+    -- no block is given back
+    pub drop_runs : length was.blocks ≤ count → IsDirectory names → HasItsRuns place (named_card was blocks names)
+    drop_runs long are_names = same_runs old place was known there directory blocks names (take_all count was.blocks long) counted are_names stamped_now
+
     pub drop_few : sectors_for (set_blocks blocks) ≤ 1
     drop_few = few_runs blocks (length names) counted (omega (arith, shorter, few_names))
 
@@ -144,14 +152,11 @@ module _ (old : Transaction) (place : ℕ) (was : CachedNode) (name : List ℕ) 
               second.others n (unnamed (length names / 15) n again) ∙ first_one.others n (unnamed (at / 15) n again);
         }
 
-        stamped : AreStamped names
-        stamped = subst AreStamped (sym are) (stays_stamped was.names at within stamped_was)
-
         pub drop_stays : StaysKnown old new
-        drop_stays = named_stays old place was known there directory new blocks names mid_places next_updates are_names stamped moved back
+        drop_stays = named_stays old place was known there directory new blocks names mid_places next_updates are_names stamped_now moved back
 
         pub drop_now : HasNow old new place (without_name name was)
-        drop_now = subst (λ (l : List Record). HasNow old new place (renamed was l)) are (named_now old place was known there directory new blocks names mid_places next_updates are_names stamped moved back)
+        drop_now = subst (λ (l : List Record). HasNow old new place (renamed was l)) are (named_now old place was known there directory new blocks names mid_places next_updates are_names stamped_now moved back)
 
         module _ (base : Image) (holds : HoldsNames (image_of base old) was) where
           abbrev is : CachedNode
@@ -167,7 +172,7 @@ module _ (old : Transaction) (place : ℕ) (was : CachedNode) (name : List ℕ) 
           now = applied next_updates base
 
           unmoved : (i : ℕ) → content_at (image_of base new) (get_or is.blocks i None) ≡ content_at now (get_or blocks i None)
-          unmoved i = still old place was known there directory new blocks names mid_places next_updates are_names stamped moved back base i
+          unmoved i = still old place was known there directory new blocks names mid_places next_updates are_names stamped_now moved back base i
 
           stood : (i : ℕ) → i < length blocks → get_or blocks i None ≡ get_or was.blocks i None
           stood i h = get_or-take count was.blocks i None (omega (arith, counted))
@@ -209,7 +214,7 @@ module _ (old : Transaction) (place : ℕ) (was : CachedNode) (name : List ℕ) 
             (drop_one_name old.nodes (image_of base old) (image_of base new) (mark_by first old.places) (mark_by first new.places) (cards_of old) place was is at stamp
             (steps old new place was (named_card was blocks names) mid_places next_updates known there moved back base transaction.laid)
             (record {
-              directories = directories old place was known there directory new blocks names mid_places next_updates are_names stamped moved back base holds;
+              directories = directories old place was known there directory new blocks names mid_places next_updates are_names stamped_now moved back base holds;
               within = within;
               names = rerun.names ∙ are;
               blocks = two_rewritten base holds;

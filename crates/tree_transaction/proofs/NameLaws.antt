@@ -11,6 +11,7 @@ use Rattle.directory.specs.Records.{Record, IsDirectory, AreStamped, with_record
 use Rattle.directory.specs.Spelling.{directory_sector}
 use Rattle.directory.proofs.Places.{with_record-push}
 use Rattle.inode.specs.Fields.{Fields}
+use Rattle.extents.specs.Runs.{AreRunsOf}
 use Rattle.model.specs.declared.node.NodeKind.{NodeKind}
 use Rattle.model.specs.declared.node.NodeKind.TheVariants as kind
 use Rattle.model.specs.Trees.Charge.{blocks_of, charge_of_blocks}
@@ -25,6 +26,7 @@ use Rattle.layout.specs.Marks.{times, times_set, mark_by}
 use Rattle.layout.specs.NodeEdits.{AreDirectories}
 use Rattle.layout.proofs.DirectoryLaws.{puts_stamped}
 use Rattle.layout.proofs.Frame.{content-kept}
+use Rattle.layout.proofs.MarkProofs.{mark-front}
 use Rattle.layout.proofs.NodeEditLaws.{put_one_name}
 use Rattle.node_table.specs.Tables.{charge_of, charge_of_all}
 use Rattle.tree_transaction.specs.Blocks.{HaveRegion, GetSectors, WritesOne, set_blocks}
@@ -33,6 +35,7 @@ use Rattle.tree_transaction.specs.Transactions.{cards_of, image_of, IsKnown, Sta
 use Rattle.tree_transaction.specs.Transactions.{HasNow}
 use Rattle.tree_transaction.specs.Laying.{CanBeLaid, IsRerun, sectors_for}
 use Rattle.tree_transaction.specs.Naming.{CanName, renamed, with_name, blocks_named}
+use Rattle.tree_transaction.specs.Written.{HasItsRuns}
 use Rattle.tree_transaction.proofs.BackLaws.{charged, IsMoved, stays, has_now, kept, makes, steps, shows_same, shows_sized}
 use Rattle.tree_transaction.proofs.CountLaws.{few_numbers, set_most}
 use Rattle.tree_transaction.proofs.KnownLaws.{same_card, in_table, card_at, named_once, held_at, directory_known, directory_blocks, content_of_directory, fields_fit}
@@ -87,6 +90,37 @@ module _ (old : Transaction) (place : ℕ) (was : CachedNode) (known : IsKnown o
     fits = (let is = directory_is in fields_fit was.form was.fields (length names) is.fits (omega arith));
     marked = marked;
   }
+
+  -- over the same blocks its runs are those that it had
+  pub same_runs : (blocks : List (Option ℕ)) (names : List Record) → blocks ≡ was.blocks → length blocks ≡ blocks_of kind.Directory (length names) → IsDirectory names → AreStamped names → HasItsRuns place (named_card was blocks names)
+  same_runs blocks names alike count are_names stamped =
+      let is = directory_is in
+      let fits = is.fits in
+      let within = in_table old.nodes (mark_by first old.places) (cards_of old) place was known.cards there in
+      record {
+        is_card = record {
+          fits = record {
+            number = fits.number;
+            owner = fits.owner;
+            group = fits.group;
+            change = fits.change;
+            time_modify = fits.time_modify;
+            size = omega (arith, are_names.few);
+            runs = fits.runs;
+            run_sectors = fits.run_sectors;
+            each_run_sector = fits.each_run_sector;
+            acl = fits.acl;
+            each_ace = fits.each_ace;
+          };
+          number = is.number;
+          each_run = is.each_run;
+          run_count = is.run_count;
+          runs = subst (AreRunsOf was.runs) (sym alike) is.runs;
+          blocks = count ∙ sym (ap (λ (k : NodeKind). blocks_of k (length names)) directory);
+          content = content_of_directory (named_card was blocks names) directory (record { count = refl; names = are_names; stamped = stamped });
+        };
+        apart = omega (arith, within, named_here (148 + place), mark-front first old.places (148 + place));
+      }
 
   module _ (new : Transaction) (blocks : List (Option ℕ)) (names : List Record) (mid_places : List Bool) (mid_updates : List Update) (are_names : IsDirectory names) (stamped : AreStamped names) (moved : IsMoved old was (named_card was blocks names) mid_places mid_updates)
       (back : StandsAgain old new place (named_card was blocks names) mid_places mid_updates) where
@@ -172,6 +206,9 @@ module _ (old : Transaction) (place : ℕ) (was : CachedNode) (name : List ℕ) 
     longer : length names ≡ length was.names + 1
     longer = ap length pushed ∙ length-append was.names (entry ∷ [])
 
+    stamped : AreStamped names
+    stamped = let here = names_here old place was known there directory in subst AreStamped (sym pushed) (puts_stamped was.names entry here.stamped can.above (stamp-new was.names entry.0 unused))
+
     module _ (blocks : List (Option ℕ)) (mid_places : List Bool) (mid_updates : List Update) (gets : GetSectors (148 + old.nodes) old.places mid_places was.blocks blocks)
         (writes : (image : Image) → WritesOne (applied old.updates image) (applied mid_updates image) was.blocks blocks block (directory_sector (names_of_block block names))) where
       counted : length blocks ≡ blocks_of kind.Directory (length names)
@@ -189,6 +226,10 @@ module _ (old : Transaction) (place : ℕ) (was : CachedNode) (name : List ℕ) 
           let all = charged old place was known there mid_places blocks gets.marks in
           omega (arith, all, gets.len, set_most blocks, counted, longer)
 
+      -- no block got a sector
+      pub named_runs : IsDirectory names → blocks ≡ was.blocks → HasItsRuns place (named_card was blocks names)
+      named_runs are_names alike = same_runs old place was known there directory blocks names alike counted are_names stamped
+
       module _ (new : Transaction) (are_names : IsDirectory names) (back : StandsAgain old new place (named_card was blocks names) mid_places mid_updates) where
         moved : IsMoved old was (named_card was blocks names) mid_places mid_updates
         moved = record {
@@ -200,9 +241,6 @@ module _ (old : Transaction) (place : ℕ) (was : CachedNode) (name : List ℕ) 
           len = gets.len;
           others = λ image n none again. let one = writes image in one.others n again;
         }
-
-        stamped : AreStamped names
-        stamped = let here = names_here old place was known there directory in subst AreStamped (sym pushed) (puts_stamped was.names entry here.stamped can.above (stamp-new was.names entry.0 unused))
 
         pub put_stays : StaysKnown old new
         put_stays = named_stays old place was known there directory new blocks names mid_places mid_updates are_names stamped moved back

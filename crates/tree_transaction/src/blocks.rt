@@ -1,6 +1,6 @@
 //! Bytes and names over a node's blocks.
 
-ghost use Rattle.std.specs.Prelude.{◌≡◌, ◌≤◌, ◌<◌, ◌+◌, ◌*◌, ◌/◌, ◌%◌, ◌^◌, ℕ, Some, None, length, replicate, max, ◌-◌, set, slice_index_or, IfOk, OnOk, IsErrOf};
+ghost use Rattle.std.specs.Prelude.{◌≡◌, ◌≤◌, ◌<◌, ◌+◌, ◌*◌, ◌/◌, ◌%◌, ◌^◌, ℕ, false, Some, None, length, replicate, max, ◌-◌, set, slice_index_or, IfOk, OnOk, IsErrOf};
 ghost use Rattle.disk.specs.Calls.{zero_sector};
 ghost use Rattle.sector.specs.Placed.{placed};
 ghost use Rattle.disk.specs.Moments.{Image, applied};
@@ -215,6 +215,8 @@ fn sector_for(
     requires within { block < length blocks.old }
     ensures gets { IfOk result (λ sector.
         GetsSector first places.old places.new blocks.old blocks.new block sector) }
+    ensures same { (sector : ℕ) → slice_index_or blocks.old block None ≡ Some sector
+        → blocks.new ≡ blocks.old }
     ensures full { IsErrOf result SpaceFault.Full → FindsNone places.old blocks.old block }
 {
     match blocks.at(block) {
@@ -223,7 +225,8 @@ fn sector_for(
     }
 }
 
-/// Writes the names of a block, which may be a new one after the last.
+/// Writes the names of a block, which may be a new one after the last. Tells whether it was one or
+/// a hole.
 pub(crate) fn write_names(
     updates: &mut Updates,
     places: &mut Places,
@@ -231,24 +234,26 @@ pub(crate) fn write_names(
     blocks: &mut BlockList,
     names: &Names,
     block: u32,
-) -> Result<(), SpaceFault>
+) -> Result<bool, SpaceFault>
     requires region { HaveRegion first places.old blocks.old }
     requires within { (block ≤ length blocks.old) × (block < BlockList.MAX_BLOCKS) }
     ensures names { OnOk result ((image : Image)
         → WritesOne (applied updates.old image) (applied updates.new image) blocks.old blocks.new
         block (directory_sector (names_of_block block names.now))) }
     ensures gets { OnOk result (GetSectors first places.old places.new blocks.old blocks.new) }
+    ensures same { IfOk result (λ filled. filled ≡ false → blocks.new ≡ blocks.old) }
     // What it takes
     ensures count { length updates.new ≤ length updates.old + 1 }
     ensures full { IsErrOf result SpaceFault.Full
         → free_places places.old + set_blocks blocks.old < max (length blocks.old) (block + 1) }
 {
+    let filled = blocks.at(block).is_none();
     blocks.grow(block + 1)?;
     let sector = sector_for(places, first, blocks, block)?;
     let mut spelled = [0; SECTOR];
     names.to_sector(RECORDS * block as usize, &mut spelled);
     updates.put(sector, &spelled)?;
-    Ok(())
+    Ok(filled)
 }
 
 /// Writes the names of a block again, where there is such a block.

@@ -58,7 +58,7 @@ pub struct PreparedTransaction {
     pub changes: Changes,
 }
 
-/// A file's cached node that was taken out, and whose blocks are written.
+/// A cached node that was taken out, and whose blocks are written.
 #[derive(Drop)]
 struct WrittenCard {
     card: CachedNode,
@@ -250,7 +250,7 @@ impl<'a> Transaction<'a> {
             return Err(SpaceFault::Memory);
         };
         card.inode.size = card.names.count() as u64;
-        write_names(
+        let filled = write_names(
             &mut self.updates,
             &mut self.places,
             NODES + self.nodes,
@@ -258,7 +258,7 @@ impl<'a> Transaction<'a> {
             &card.names,
             (at / RECORDS) as u32,
         )?;
-        self.store_node_and_runs(place, card)?;
+        self.store_written(place, WrittenCard { card, filled })?;
         Ok(())
     }
 
@@ -283,12 +283,13 @@ impl<'a> Transaction<'a> {
         card.inode.size = left as u64;
         let count = ((left + RECORDS - 1) / RECORDS) as u32;
         give_blocks(&mut self.places, NODES + self.nodes, &card.blocks, count)?;
+        let before = card.blocks.count();
         card.blocks.cut(count);
         let block = (at / RECORDS) as u32;
         let last = (left / RECORDS) as u32;
         rewrite_names(&mut self.updates, &card.blocks, &card.names, block)?;
         rewrite_names(&mut self.updates, &card.blocks, &card.names, last)?;
-        self.store_node_and_fewer_runs(place, card)?;
+        self.store_cut(place, card, before)?;
         Ok(())
     }
 
@@ -511,6 +512,28 @@ impl<'a> Transaction<'a> {
         } else {
             // The runs of its blocks are as they were.
             self.store_node(place, written.card)?;
+        }
+        Ok(())
+    }
+
+    /// Puts a cached node back that had so many blocks before. Its runs are laid anew only where it
+    /// has fewer.
+    fn store_cut(&mut self, place: u32, card: CachedNode, before: u32) -> Result<(), AllocError>
+        requires can { CanBeLaid self.old.nodes place self.old.places card }
+        requires within { place < length (cards_of self.old) }
+        requires enough { HasEnough card }
+        requires same { before ≤ length card.blocks → HasItsRuns place card }
+        ensures stands { OnOk result
+            (StandsAgain self.old self.new place card self.old.places self.old.updates) }
+        // In any case
+        ensures table { self.new.cards.table ≡ self.old.cards.table }
+        ensures count { length self.new.updates
+            ≤ length self.old.updates + 1 + sectors_for (set_blocks card.blocks) }
+    {
+        if card.blocks.count() < before {
+            self.store_node_and_fewer_runs(place, card)?;
+        } else {
+            self.store_node(place, card)?;
         }
         Ok(())
     }

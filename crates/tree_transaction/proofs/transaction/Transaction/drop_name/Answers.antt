@@ -1,5 +1,6 @@
 use Rattle.std.proofs.Common.{◌≡◌, ◌+◌, ◌-◌, ◌/◌, ◌∙◌, ℕ, Bool, List, Option, Some, None, length, set, get_or, take, ap, sym, subst, arith}
 use Rattle.std.specs.Prelude.{IfSome}
+use Rattle.std.proofs.lemmas.List.{length-take}
 use Rattle.disk.specs.Moments.{Image, applied}
 use Rattle.directory.specs.Listing.{by_stamp, without_entry}
 use Rattle.directory.specs.Records.{Record, AreStamped, without_place, place_of}
@@ -13,13 +14,13 @@ use Rattle.layout.specs.Laid.{names_of_block}
 use Rattle.layout.specs.Marks.{times_set, mark_by}
 use Rattle.node_table.specs.Seen.{seen}
 use Rattle.tree_transaction.specs.Blocks.{HaveMarks, set_blocks}
-use Rattle.tree_transaction.specs.Transactions.{IsBack, StandsAgain}
+use Rattle.tree_transaction.specs.Transactions.{StandsAgain}
 use Rattle.tree_transaction.specs.Laying.{CanBeLaid, HasEnough}
 use Rattle.tree_transaction.specs.Naming.{Rewrites, without_name}
-use Rattle.tree_transaction.proofs.BackLaws.{laid_again}
+use Rattle.tree_transaction.specs.Written.{HasItsRuns}
 use Rattle.tree_transaction.proofs.CutLaws.{blocks_marked}
-use Rattle.tree_transaction.proofs.DropLaws.{stamped_was, drop_few, drop_can, drop_enough, drop_stays, drop_now, drop_made, dropped}
-use Rattle.tree_transaction.proofs.KnownLaws.{turns}
+use Rattle.tree_transaction.proofs.DropLaws.{stamped_was, drop_few, drop_can, drop_enough, drop_runs, drop_stays, drop_now, drop_made, dropped}
+use Rattle.tree_transaction.proofs.KnownLaws.{put-back, turns}
 use Rattle.tree_transaction.proofs.NameLaws.{named_card}
 use Rattle.tree_transaction.proofs.transaction.Transaction.drop_name.Goals as goal
 
@@ -70,7 +71,7 @@ marks_left was card is names left first places mid_places left_is marks n =
     let front = ap (λ (k : ℕ). times_set n (take k card.blocks)) to ∙ ap (λ (one : CachedNode). times_set n (take (blocks_of kind.Directory (length names)) one.blocks)) is in
     omega (arith, all, front, marks n)
 
-module _ (c : goal.After-store_node_and_fewer_runs-arg-1) where
+module _ (c : goal.After-store_cut-arg-1) where
   abbrev card : CachedNode
   card = seen c.card.inside.form c.card.inside.inode c.card.inside.runs c.card.inside.blocks c.card.inside.names
 
@@ -82,25 +83,34 @@ module _ (c : goal.After-store_node_and_fewer_runs-arg-1) where
       ≡ mark_by (148 + c.args.self.now.nodes) c.args.self.now.places n + times_set n (take (blocks_of kind.Directory (length c.remove.new.self)) c.in_ok-card.card.blocks)
   marks_can = marks_left c.in_ok-card.card _ c.card.view_is c.remove.new.self c.count-left.result (148 + c.args.self.now.nodes) c.args.self.now.places c.give_blocks.new.places c.count-left.ensures.count c.in_ok-give_blocks.ensures.marks
 
-pub store_node_and_fewer_runs-requires-clause-can : goal.store_node_and_fewer_runs-requires-clause-can
-store_node_and_fewer_runs-requires-clause-can c =
+pub store_cut-requires-clause-can : goal.store_cut-requires-clause-can
+store_cut-requires-clause-can c =
     let it = left_can c in
     subst (λ (one : CachedNode). CanBeLaid c.args.self.now.nodes c.args.place c.give_blocks.new.places one) (sym it.now_is)
     (drop_can c.args.self.now c.args.place c.in_ok-card.card c.args.name.now c.requires.known c.in_ok-card.ensures.card c.requires.names c.remove.new.self it.are c.give_blocks.new.places (marks_can c) c.give_blocks.ensures.len)
 
-pub store_node_and_fewer_runs-requires-clause-enough : goal.store_node_and_fewer_runs-requires-clause-enough
-store_node_and_fewer_runs-requires-clause-enough c =
+pub store_cut-requires-clause-enough : goal.store_cut-requires-clause-enough
+store_cut-requires-clause-enough c =
     let it = left_can c in
     subst HasEnough (sym it.now_is)
     (drop_enough c.args.self.now c.args.place c.in_ok-card.card c.args.name.now c.requires.known c.in_ok-card.ensures.card c.requires.names c.remove.new.self it.are c.give_blocks.new.places (marks_can c) c.give_blocks.ensures.len)
 
-pub returns-in_err-store_node_and_fewer_runs-clause-count : goal.returns-in_err-store_node_and_fewer_runs-clause-count
-returns-in_err-store_node_and_fewer_runs-clause-count c =
+pub store_cut-requires-clause-same : goal.store_cut-requires-clause-same
+store_cut-requires-clause-same c more =
+    let it = left_can c in
+    let long = ap (λ (one : CachedNode). length one.blocks) c.card.view_is in
+    let left = ap length it.cut_is in
+    subst (HasItsRuns c.args.place) (sym it.now_is)
+    (drop_runs c.args.self.now c.args.place c.in_ok-card.card c.args.name.now c.requires.known c.in_ok-card.ensures.card c.requires.names c.remove.new.self it.are
+    (omega (arith, more, long, left, c.count-before.ensures, length-take (blocks_of kind.Directory (length c.remove.new.self)) c.in_ok-card.card.blocks)) c.count-left.ensures.names)
+
+pub returns-in_err-store_cut-clause-count : goal.returns-in_err-store_cut-clause-count
+returns-in_err-store_cut-clause-count c =
     let it = is_left c.in_ok-card.card _ c.card.view_is c.args.name.now c.remove.new.self c.unwrap-at.result.0 c.count-left.result c.cut.new.self (of_some _ c.in_ok-remove.field-0 c.unwrap-at.result c.unwrap-at.ensures c.in_ok-remove.ensures.place).0
     (of_some _ c.in_ok-remove.field-0 c.unwrap-at.result c.unwrap-at.ensures c.in_ok-remove.ensures.removed) c.count-left.ensures.count c.cut.ensures in
     let few = drop_few c.args.self.now c.args.place c.in_ok-card.card c.args.name.now c.requires.known c.in_ok-card.ensures.card c.requires.names c.remove.new.self it.are in
     let cut = ap (λ (b : List (Option ℕ)). set_blocks b) it.cut_is in
-    omega (arith, few, cut, c.rewrite_names.ensures.count, c.rewrite_names-2.ensures.count, c.store_node_and_fewer_runs.ensures.count)
+    omega (arith, few, cut, c.rewrite_names.ensures.count, c.rewrite_names-2.ensures.count, c.store_cut.ensures.count)
 
 -- a block that is written again
 written : (was is : Image) (blocks now : List (Option ℕ)) (block at : ℕ) (names : List Record) → blocks ≡ now → block ≡ at → Rewrites was is (get_or blocks block None) (directory_sector (names_of_block block names))
@@ -140,11 +150,20 @@ module _ (c : goal.After-drop-entry-2) where
   other image = written (applied c.rewrite_names.new.updates image) (applied c.rewrite_names-2.new.updates image) c.cut.new.self blocks (c.count-left.result / 15) (length names / 15) names it.cut_is
       (ap (λ (p : ℕ). p / 15) c.count-left.ensures.count) (c.in_ok-rewrite_names-2.ensures.names image)
 
-  back : StandsAgain c.args.self.now c.store_node_and_fewer_runs.new.self c.args.place (named_card was blocks names) c.give_blocks.new.places c.rewrite_names-2.new.updates
-  back = laid_again c.args.self.now c.store_node_and_fewer_runs.new.self c.args.place (named_card was blocks names) c.give_blocks.new.places c.rewrite_names-2.new.updates (
-      subst (λ (one : CachedNode). IsBack c.args.self.now.nodes c.args.place c.give_blocks.new.places c.rewrite_names-2.new.updates (set c.args.self.now.cards.cards c.args.place None) c.store_node_and_fewer_runs.new.self one) it.now_is
-      (subst (λ (l : List (Option CachedNode)). IsBack c.args.self.now.nodes c.args.place c.give_blocks.new.places c.rewrite_names-2.new.updates l c.store_node_and_fewer_runs.new.self
-      (record mid_card { fields = record mid_card.fields { size = c.count-left.result }; blocks = c.cut.new.self; names = names })) c.in_ok-card.ensures.cards c.in_ok-store_node_and_fewer_runs.ensures.back))
+  back : StandsAgain c.args.self.now c.store_cut.new.self c.args.place (named_card was blocks names) c.give_blocks.new.places c.rewrite_names-2.new.updates
+  back =
+      let stands = c.in_ok-store_cut.ensures.stands in
+      subst (λ (one : CachedNode). StandsAgain c.args.self.now c.store_cut.new.self c.args.place one c.give_blocks.new.places c.rewrite_names-2.new.updates) it.now_is (record {
+        is = stands.is;
+        put = stands.put ∙ ap (λ (l : List (Option CachedNode)). set l c.args.place (Some stands.is)) c.in_ok-card.ensures.cards ∙ put-back c.args.self.now.cards.cards c.args.place stands.is;
+        same = stands.same;
+        rerun = stands.rerun;
+        follow = stands.follow;
+        len = stands.len;
+        node = stands.node;
+        run_sectors = stands.run_sectors;
+        others = stands.others;
+      })
 
   map_is : (entry : Record) → entry_of name was.names ≡ Some entry → by_stamp names ≡ without (by_stamp was.names) entry.0
   map_is entry found =
@@ -158,18 +177,18 @@ pub returns-clause-known : goal.returns-clause-known
 returns-clause-known c =
     let it_is = it c in
     drop_stays c.args.self.now c.args.place (was c) (name c) c.requires.known c.in_ok-card.ensures.card c.requires.names (names c) it_is.are c.give_blocks.new.places (marks c) c.give_blocks.ensures.len
-    c.store_node_and_fewer_runs.new.self c.rewrite_names.new.updates c.rewrite_names-2.new.updates c.count-left.ensures.names (one c) (other c) (back c)
+    c.store_cut.new.self c.rewrite_names.new.updates c.rewrite_names-2.new.updates c.count-left.ensures.names (one c) (other c) (back c)
 
 pub returns-clause-cards : goal.returns-clause-cards
 returns-clause-cards c =
     let it_is = it c in
-    turns c.args.self.now c.store_node_and_fewer_runs.new.self c.args.place (was c) c.in_ok-card.ensures.card (without_name (name c))
+    turns c.args.self.now c.store_cut.new.self c.args.place (was c) c.in_ok-card.ensures.card (without_name (name c))
     (drop_now c.args.self.now c.args.place (was c) (name c) c.requires.known c.in_ok-card.ensures.card c.requires.names (names c) it_is.are c.give_blocks.new.places (marks c) c.give_blocks.ensures.len
-    c.store_node_and_fewer_runs.new.self c.rewrite_names.new.updates c.rewrite_names-2.new.updates c.count-left.ensures.names (one c) (other c) (back c))
+    c.store_cut.new.self c.rewrite_names.new.updates c.rewrite_names-2.new.updates c.count-left.ensures.names (one c) (other c) (back c))
 
 pub returns-clause-dropped : goal.returns-clause-dropped
 returns-clause-dropped c =
     let it_is = it c in
-    dropped c.args.self.now c.store_node_and_fewer_runs.new.self c.args.place (was c) (name c) c.in_ok-card.ensures.card
+    dropped c.args.self.now c.store_cut.new.self c.args.place (was c) (name c) c.in_ok-card.ensures.card
     (λ entry found base size. drop_made c.args.self.now c.args.place (was c) (name c) c.requires.known c.in_ok-card.ensures.card c.requires.names (names c) it_is.are c.give_blocks.new.places (marks c) c.give_blocks.ensures.len
-    c.store_node_and_fewer_runs.new.self c.rewrite_names.new.updates c.rewrite_names-2.new.updates c.count-left.ensures.names (one c) (other c) (back c) base size entry.0 (map_is c entry found))
+    c.store_cut.new.self c.rewrite_names.new.updates c.rewrite_names-2.new.updates c.count-left.ensures.names (one c) (other c) (back c) base size entry.0 (map_is c entry found))

@@ -1,4 +1,4 @@
-use Rattle.std.proofs.Common.{◌≡◌, ◌<◌, ◌+◌, ◌/◌, ◌∙◌, ℕ, Bool, List, Option, None, length, set, max, ap, sym, subst, arith}
+use Rattle.std.proofs.Common.{◌≡◌, ◌<◌, ◌+◌, ◌/◌, ◌∙◌, ℕ, Bool, List, Option, Some, None, length, set, max, ap, sym, subst, arith}
 use Rattle.std.specs.Prelude.{Err}
 use Rattle.disk.specs.Moments.{Image, applied}
 use Rattle.freemap.specs.Kept.{free_places}
@@ -14,13 +14,13 @@ use Rattle.node_table.specs.Seen.{seen}
 use Rattle.tree_transaction.specs.Blocks.{HaveRegion, GetSectors, WritesOne, set_blocks}
 use Rattle.tree_transaction.specs.declared.fault.SpaceFault.{SpaceFault}
 use Rattle.tree_transaction.specs.declared.fault.SpaceFault.TheVariants as space
-use Rattle.tree_transaction.specs.Transactions.{IsBack, StandsAgain}
+use Rattle.tree_transaction.specs.Transactions.{StandsAgain}
 use Rattle.tree_transaction.specs.Laying.{CanBeLaid, sectors_for}
 use Rattle.tree_transaction.specs.Naming.{with_name, blocks_named}
-use Rattle.tree_transaction.proofs.BackLaws.{laid_again}
+use Rattle.tree_transaction.specs.Written.{HasItsRuns}
 use Rattle.tree_transaction.proofs.FaultLaws.{told}
-use Rattle.tree_transaction.proofs.KnownLaws.{edits, turns, overcharged}
-use Rattle.tree_transaction.proofs.NameLaws.{named_card, unnamed, unused, stamped_was, named_region, block_within, named_first, can_be_named, named_few, named_last, put_stays, put_now, put_made}
+use Rattle.tree_transaction.proofs.KnownLaws.{put-back, edits, turns, overcharged}
+use Rattle.tree_transaction.proofs.NameLaws.{named_card, unnamed, unused, stamped_was, named_region, block_within, named_first, can_be_named, named_few, named_last, named_runs, put_stays, put_now, put_made}
 use Rattle.tree_transaction.proofs.transaction.Transaction.put_name.Goals as goal
 
 pub write_names-requires-clause-region : goal.write_names-requires-clause-region
@@ -40,10 +40,10 @@ write_names-requires-clause-within c =
     let at = at_block c.in-Ok.at c.args.name.now c.card.inside.names c.in_ok-card.card c.in-Ok.ensures.place (names_of _ _ c.card.view_is) in
     (omega (arith, h.0, at, long), omega (arith, h.1, at))
 
-pub returns-in_err-write_names-clause-full : goal.returns-in_err-write_names-clause-full
-returns-in_err-write_names-clause-full c full =
+pub returns-in_err-filled-clause-full : goal.returns-in_err-filled-clause-full
+returns-in_err-filled-clause-full c full =
     let at = at_block c.in-Ok.at c.args.name.now c.card.inside.names c.in_ok-card.card c.in-Ok.ensures.place (names_of _ _ c.card.view_is) in
-    let more = c.in_err-write_names.ensures.full (ap (λ (f : SpaceFault). Err f) (told c.from_residual-in_err-write_names.result c.in_err-write_names.field-0.0 space.Full c.from_residual-in_err-write_names.ensures.1 full)) in
+    let more = c.in_err-filled.ensures.full (ap (λ (f : SpaceFault). Err f) (told c.from_residual-in_err-filled.result c.in_err-filled.field-0.0 space.Full c.from_residual-in_err-filled.ensures.1 full)) in
     overcharged c.args.self.now c.args.place c.in_ok-card.card blocks_named c.in_ok-card.ensures.card
     (named_first c.args.self.now c.args.place c.in_ok-card.card c.args.name.now c.args.stamp c.args.number c.requires.known c.in_ok-card.ensures.card c.requires.names
     (subst (λ (b : ℕ). free_places c.args.self.now.places + set_blocks c.in_ok-card.card.blocks < max (length c.in_ok-card.card.blocks) (b + 1)) at
@@ -69,8 +69,8 @@ module _ (was card : CachedNode) (is : card ≡ was) (blocks : List (Option ℕ)
       subst (λ (b : ℕ). WritesOne old mid was.blocks blocks b (directory_sector (names_of_block b names))) same
       (subst (λ (c : CachedNode). WritesOne old mid c.blocks blocks block (directory_sector (names_of_block block names))) is one)
 
-pub store_node_and_runs-requires-clause-can : goal.store_node_and_runs-requires-clause-can
-store_node_and_runs-requires-clause-can c =
+pub store_written-requires-clause-can : goal.store_written-requires-clause-can
+store_written-requires-clause-can c =
     let old = c.args.self.now in
     let was : CachedNode = c.in_ok-card.card in
     let names : List Record = c.put.new.self in
@@ -79,26 +79,40 @@ store_node_and_runs-requires-clause-can c =
     let at = at_block c.in-Ok.at c.args.name.now c.card.inside.names was c.in-Ok.ensures.place (names_of _ _ c.card.view_is) in
     subst (λ (one : CachedNode). CanBeLaid old.nodes c.args.place c.write_names.new.places one) (sym (card_is was _ c.card.view_is blocks names c.count.result c.count.ensures.count))
     (can_be_named old c.args.place was c.args.name.now c.args.stamp c.args.number c.requires.known c.in_ok-card.ensures.card c.requires.names names (are was _ c.card.view_is blocks names entry c.in-Ok.ensures.ok) blocks c.write_names.new.places
-    c.write_names.new.updates (gets was _ c.card.view_is blocks names (148 + old.nodes) old.places c.write_names.new.places c.in_ok-write_names.ensures.gets)
-    (λ image. writes was _ c.card.view_is blocks names (applied old.updates image) (applied c.write_names.new.updates image) (c.in-Ok.at / 15) (place_of c.args.name.now was.names / 15) at (c.in_ok-write_names.ensures.names image)))
+    c.write_names.new.updates (gets was _ c.card.view_is blocks names (148 + old.nodes) old.places c.write_names.new.places c.in_ok-filled.ensures.gets)
+    (λ image. writes was _ c.card.view_is blocks names (applied old.updates image) (applied c.write_names.new.updates image) (c.in-Ok.at / 15) (place_of c.args.name.now was.names / 15) at (c.in_ok-filled.ensures.names image)))
 
-pub returns-in_err-store_node_and_runs-clause-full : goal.returns-in_err-store_node_and_runs-clause-full
-returns-in_err-store_node_and_runs-clause-full c full =
+pub store_written-requires-clause-same : goal.store_written-requires-clause-same
+store_written-requires-clause-same c none =
     let old = c.args.self.now in
     let was : CachedNode = c.in_ok-card.card in
     let names : List Record = c.put.new.self in
     let blocks : List (Option ℕ) = c.write_names.new.blocks in
     let entry : Record = record_from c.args.stamp c.args.name.now c.args.number in
     let at = at_block c.in-Ok.at c.args.name.now c.card.inside.names was c.in-Ok.ensures.place (names_of _ _ c.card.view_is) in
-    let more = c.in_err-store_node_and_runs.ensures.full (ap (λ (f : SpaceFault). Err f) (told c.from_residual-in_err-store_node_and_runs.result c.in_err-store_node_and_runs.field-0.0 space.Full c.from_residual-in_err-store_node_and_runs.ensures.1 full)) in
+    subst (HasItsRuns c.args.place) (sym (card_is was _ c.card.view_is blocks names c.count.result c.count.ensures.count))
+    (named_runs old c.args.place was c.args.name.now c.args.stamp c.args.number c.requires.known c.in_ok-card.ensures.card c.requires.names names (are was _ c.card.view_is blocks names entry c.in-Ok.ensures.ok) blocks c.write_names.new.places
+    c.write_names.new.updates (gets was _ c.card.view_is blocks names (148 + old.nodes) old.places c.write_names.new.places c.in_ok-filled.ensures.gets)
+    (λ image. writes was _ c.card.view_is blocks names (applied old.updates image) (applied c.write_names.new.updates image) (c.in-Ok.at / 15) (place_of c.args.name.now was.names / 15) at (c.in_ok-filled.ensures.names image))
+    c.count.ensures.names (c.in_ok-filled.ensures.same none ∙ ap (λ (one : CachedNode). one.blocks) c.card.view_is))
+
+pub returns-in_err-store_written-clause-full : goal.returns-in_err-store_written-clause-full
+returns-in_err-store_written-clause-full c full =
+    let old = c.args.self.now in
+    let was : CachedNode = c.in_ok-card.card in
+    let names : List Record = c.put.new.self in
+    let blocks : List (Option ℕ) = c.write_names.new.blocks in
+    let entry : Record = record_from c.args.stamp c.args.name.now c.args.number in
+    let at = at_block c.in-Ok.at c.args.name.now c.card.inside.names was c.in-Ok.ensures.place (names_of _ _ c.card.view_is) in
+    let more = c.in_err-store_written.ensures.full (ap (λ (f : SpaceFault). Err f) (told c.from_residual-in_err-store_written.result c.in_err-store_written.field-0.0 space.Full c.from_residual-in_err-store_written.ensures.1 full)) in
     overcharged old c.args.place was blocks_named c.in_ok-card.ensures.card
     (named_last old c.args.place was c.args.name.now c.args.stamp c.args.number c.requires.known c.in_ok-card.ensures.card c.requires.names names (are was _ c.card.view_is blocks names entry c.in-Ok.ensures.ok) blocks c.write_names.new.places
-    c.write_names.new.updates (gets was _ c.card.view_is blocks names (148 + old.nodes) old.places c.write_names.new.places c.in_ok-write_names.ensures.gets)
-    (λ image. writes was _ c.card.view_is blocks names (applied old.updates image) (applied c.write_names.new.updates image) (c.in-Ok.at / 15) (place_of c.args.name.now was.names / 15) at (c.in_ok-write_names.ensures.names image))
+    c.write_names.new.updates (gets was _ c.card.view_is blocks names (148 + old.nodes) old.places c.write_names.new.places c.in_ok-filled.ensures.gets)
+    (λ image. writes was _ c.card.view_is blocks names (applied old.updates image) (applied c.write_names.new.updates image) (c.in-Ok.at / 15) (place_of c.args.name.now was.names / 15) at (c.in_ok-filled.ensures.names image))
     (subst (λ (one : CachedNode). free_places c.write_names.new.places + length one.fields.run_sectors < sectors_for (set_blocks one.blocks)) (card_is was _ c.card.view_is blocks names c.count.result c.count.ensures.count) more))
 
-pub returns-in_err-store_node_and_runs-clause-count : goal.returns-in_err-store_node_and_runs-clause-count
-returns-in_err-store_node_and_runs-clause-count c =
+pub returns-in_err-store_written-clause-count : goal.returns-in_err-store_written-clause-count
+returns-in_err-store_written-clause-count c =
     let old = c.args.self.now in
     let was : CachedNode = c.in_ok-card.card in
     let names : List Record = c.put.new.self in
@@ -106,11 +120,11 @@ returns-in_err-store_node_and_runs-clause-count c =
     let entry : Record = record_from c.args.stamp c.args.name.now c.args.number in
     let at = at_block c.in-Ok.at c.args.name.now c.card.inside.names was c.in-Ok.ensures.place (names_of _ _ c.card.view_is) in
     let few = named_few old c.args.place was c.args.name.now c.args.stamp c.args.number c.requires.known c.in_ok-card.ensures.card c.requires.names names (are was _ c.card.view_is blocks names entry c.in-Ok.ensures.ok) blocks c.write_names.new.places
-    c.write_names.new.updates (gets was _ c.card.view_is blocks names (148 + old.nodes) old.places c.write_names.new.places c.in_ok-write_names.ensures.gets)
-    (λ image. writes was _ c.card.view_is blocks names (applied old.updates image) (applied c.write_names.new.updates image) (c.in-Ok.at / 15) (place_of c.args.name.now was.names / 15) at (c.in_ok-write_names.ensures.names image)) in
-    omega (arith, few, c.write_names.ensures.count, c.store_node_and_runs.ensures.count)
+    c.write_names.new.updates (gets was _ c.card.view_is blocks names (148 + old.nodes) old.places c.write_names.new.places c.in_ok-filled.ensures.gets)
+    (λ image. writes was _ c.card.view_is blocks names (applied old.updates image) (applied c.write_names.new.updates image) (c.in-Ok.at / 15) (place_of c.args.name.now was.names / 15) at (c.in_ok-filled.ensures.names image)) in
+    omega (arith, few, c.write_names.ensures.count, c.store_written.ensures.count)
 
-module _ (c : goal.In_ok-store_node_and_runs) where
+module _ (c : goal.In_ok-store_written) where
   abbrev was : CachedNode
   was = c.in_ok-card.card
 
@@ -130,12 +144,12 @@ module _ (c : goal.In_ok-store_node_and_runs) where
   are_now = are was card c.card.view_is blocks names entry c.in-Ok.ensures.ok
 
   gets_now : GetSectors (148 + c.args.self.now.nodes) c.args.self.now.places c.write_names.new.places was.blocks blocks
-  gets_now = gets was card c.card.view_is blocks names (148 + c.args.self.now.nodes) c.args.self.now.places c.write_names.new.places c.in_ok-write_names.ensures.gets
+  gets_now = gets was card c.card.view_is blocks names (148 + c.args.self.now.nodes) c.args.self.now.places c.write_names.new.places c.in_ok-filled.ensures.gets
 
   writes_now : (image : Image) → WritesOne (applied c.args.self.now.updates image) (applied c.write_names.new.updates image) was.blocks blocks (place_of c.args.name.now was.names / 15) (directory_sector (names_of_block (place_of c.args.name.now was.names / 15) names))
   writes_now image =
       let at = at_block c.in-Ok.at c.args.name.now c.card.inside.names was c.in-Ok.ensures.place (names_of _ _ c.card.view_is) in
-      writes was card c.card.view_is blocks names (applied c.args.self.now.updates image) (applied c.write_names.new.updates image) (c.in-Ok.at / 15) (place_of c.args.name.now was.names / 15) at (c.in_ok-write_names.ensures.names image)
+      writes was card c.card.view_is blocks names (applied c.args.self.now.updates image) (applied c.write_names.new.updates image) (c.in-Ok.at / 15) (place_of c.args.name.now was.names / 15) at (c.in_ok-filled.ensures.names image)
 
   map_is : by_stamp names ≡ with (by_stamp was.names) c.args.stamp entry.1
   map_is =
@@ -147,30 +161,40 @@ module _ (c : goal.In_ok-store_node_and_runs) where
       ∙ ap (λ (l : List Record). with (without_entry (by_stamp l) (entry_of c.args.name.now l)) c.args.stamp entry.1) inside
       ∙ ap (λ (found : Option Record). with (without_entry (by_stamp was.names) found) c.args.stamp entry.1) none
 
-  back : StandsAgain c.args.self.now c.store_node_and_runs.new.self c.args.place (named_card was blocks names) c.write_names.new.places c.write_names.new.updates
-  back = laid_again c.args.self.now c.store_node_and_runs.new.self c.args.place (named_card was blocks names) c.write_names.new.places c.write_names.new.updates (
-      subst (λ (one : CachedNode). IsBack c.args.self.now.nodes c.args.place c.write_names.new.places c.write_names.new.updates (set c.args.self.now.cards.cards c.args.place None) c.store_node_and_runs.new.self one)
+  back : StandsAgain c.args.self.now c.store_written.new.self c.args.place (named_card was blocks names) c.write_names.new.places c.write_names.new.updates
+  back =
+      let stands = c.in_ok-store_written.ensures.stands in
+      subst (λ (one : CachedNode). StandsAgain c.args.self.now c.store_written.new.self c.args.place one c.write_names.new.places c.write_names.new.updates)
       (card_is was card c.card.view_is blocks names c.count.result c.count.ensures.count)
-      (subst (λ (l : List (Option CachedNode)). IsBack c.args.self.now.nodes c.args.place c.write_names.new.places c.write_names.new.updates l c.store_node_and_runs.new.self
-      (record card { fields = record card.fields { size = c.count.result }; blocks = blocks; names = names })) c.in_ok-card.ensures.cards c.in_ok-store_node_and_runs.ensures.back))
+      (record {
+        is = stands.is;
+        put = stands.put ∙ ap (λ (l : List (Option CachedNode)). set l c.args.place (Some stands.is)) c.in_ok-card.ensures.cards ∙ put-back c.args.self.now.cards.cards c.args.place stands.is;
+        same = stands.same;
+        rerun = stands.rerun;
+        follow = stands.follow;
+        len = stands.len;
+        node = stands.node;
+        run_sectors = stands.run_sectors;
+        others = stands.others;
+      })
 
 pub returns-clause-known : goal.returns-clause-known
 returns-clause-known c =
     put_stays c.args.self.now c.args.place (was c) c.args.name.now c.args.stamp c.args.number c.requires.known c.in_ok-card.ensures.card c.requires.names (names c) (are_now c) (blocks c) c.write_names.new.places
-    c.write_names.new.updates (gets_now c) (writes_now c) c.store_node_and_runs.new.self c.count.ensures.names (back c)
+    c.write_names.new.updates (gets_now c) (writes_now c) c.store_written.new.self c.count.ensures.names (back c)
 
 pub returns-clause-cards : goal.returns-clause-cards
-returns-clause-cards c = turns c.args.self.now c.store_node_and_runs.new.self c.args.place (was c) c.in_ok-card.ensures.card (with_name (entry c))
+returns-clause-cards c = turns c.args.self.now c.store_written.new.self c.args.place (was c) c.in_ok-card.ensures.card (with_name (entry c))
     (put_now c.args.self.now c.args.place (was c) c.args.name.now c.args.stamp c.args.number c.requires.known c.in_ok-card.ensures.card c.requires.names (names c) (are_now c) (blocks c) c.write_names.new.places
-    c.write_names.new.updates (gets_now c) (writes_now c) c.store_node_and_runs.new.self c.count.ensures.names (back c))
+    c.write_names.new.updates (gets_now c) (writes_now c) c.store_written.new.self c.count.ensures.names (back c))
 
 pub returns-clause-put : goal.returns-clause-put
-returns-clause-put c = edits c.args.self.now c.store_node_and_runs.new.self c.args.place (was c) c.in_ok-card.ensures.card (λ to. PutName to c.args.stamp (record { name = c.args.name.now; number = c.args.number }))
+returns-clause-put c = edits c.args.self.now c.store_written.new.self c.args.place (was c) c.in_ok-card.ensures.card (λ to. PutName to c.args.stamp (record { name = c.args.name.now; number = c.args.number }))
     (λ base size. put_made c.args.self.now c.args.place (was c) c.args.name.now c.args.stamp c.args.number c.requires.known c.in_ok-card.ensures.card c.requires.names (names c) (are_now c) (blocks c) c.write_names.new.places
-    c.write_names.new.updates (gets_now c) (writes_now c) c.store_node_and_runs.new.self c.count.ensures.names (back c) base size (map_is c))
+    c.write_names.new.updates (gets_now c) (writes_now c) c.store_written.new.self c.count.ensures.names (back c) base size (map_is c))
 
 pub returns-clause-count : goal.returns-clause-count
 returns-clause-count c =
     let few = named_few c.args.self.now c.args.place (was c) c.args.name.now c.args.stamp c.args.number c.requires.known c.in_ok-card.ensures.card c.requires.names (names c) (are_now c) (blocks c) c.write_names.new.places
     c.write_names.new.updates (gets_now c) (writes_now c) in
-    omega (arith, few, c.write_names.ensures.count, c.store_node_and_runs.ensures.count)
+    omega (arith, few, c.write_names.ensures.count, c.store_written.ensures.count)
