@@ -40,7 +40,7 @@ words_written a0 a1 a2 a3 b0 b1 b2 b3 s s1 w2 d all n long e1 e2 e3 =
     (drop-drop (8 + 4 * n - 8) 8 s ∙ ap (λ (k : ℕ). drop k s) (omega arith))
     ∙ ap (λ (xs : List ℕ). a0 ∷ a1 ∷ a2 ∷ a3 ∷ b0 ∷ b1 ∷ b2 ∷ b3 ∷ (xs ++ drop (4 * suc (suc n)) s)) e3
 
--- an open gate's words, written over zeros
+-- the words of a set commit record, written over zeros
 pub gate_open : (to sector zeros : List ℕ) → (0 < length to) → zeros ≡ gate [] → sector ≡ words (gate_words to) ++ drop (4 * length (gate_words to)) zeros
     → sector ≡ gate to
 unfolding gate zero_sector

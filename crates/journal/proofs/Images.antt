@@ -104,7 +104,7 @@ pub low_out : (size : ℕ) (to : List ℕ) (n : ℕ) → Fit size to → n < 98 
 low_out size [] n f l = tt
 low_out size (t ∷ ts) n f l = ((λ e. omega (arith, f.0)), low_out size ts n f.3 l)
 
--- where a sector stands while the gate is open is no target
+-- where a sector stands while the commit record is set is no target
 pub home_out : (size : ℕ) (to : List ℕ) (n : ℕ) → Fit size to → length to ≤ 96 → Out to (home to 2 n)
 home_out size to n f few = ⊎_elim
     (λ (w : Out to n × (home to 2 n ≡ n)). let P : ℕ → Type 0 = λ m. Out to m in rw w.1 w.0)

@@ -67,7 +67,7 @@ gated_after h h1 h2 to q e names = record {
   gate_is = ap (λ (k : History). seen k.now 1) q ∙ names;
 }
 
--- a closed gate names no targets
+-- a cleared commit record names no targets
 pub closed_none : (size : ℕ) (sector to : List ℕ) → size < 2 ^ 32 → NamesTargets size sector to → sector ≡ gate [] → to ≡ []
 closed_none size sector to small names e =
     let none : NamesTargets size sector [] = record { few = omega arith; fit = no_targets size; gate_is = e } in
@@ -108,7 +108,7 @@ no_elements (x ∷ xs) e = absurd (omega arith)
 pub not_empty : (is_empty : Bool) (n : ℕ) → is_empty ≡ eqb n 0 → is_empty ≡ false → n ≡ 0 → ⊥
 not_empty is_empty n is filled zero = let w : true ≡ false = sym (eq-eqb n 0 zero) ∙ sym is ∙ filled in cc
 
--- a closed gate leaves nothing to copy
+-- a cleared commit record leaves nothing to copy
 pub recovers_closed : (size : ℕ) (h h2 : History) (to : List ℕ) → h2 ≡ synced h → length to ≡ 0 → IsGated to h2 → Recovers size h h2
 recovers_closed size h h2 to e none gated =
     let P : List ℕ → Type 0 = λ ts. IsGated ts h2 in

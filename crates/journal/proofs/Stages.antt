@@ -50,7 +50,7 @@ kept_out_of_payload size n us behind few k = ⊎_elim
     (λ (l : 98 ≤ n). placed_out_above us (2 + behind) n (omega arith))
     (kept_cases size n k)
 
--- where a sector stands while the gate is open is not behind what it shows
+-- where a sector stands while the commit record is set is not behind what it shows
 home_out_of_payload : (size n : ℕ) (to : List ℕ) (us : List Update) → length to + length us ≤ 96 → IsKept size n
     → Out (targets (placed (2 + length to) us)) (home to 2 n)
 home_out_of_payload size n to us few k = ⊎_elim
@@ -158,7 +158,7 @@ module _ (size : ℕ) (to : List ℕ) (F : Image) (few : length to ≤ 96) (fit 
   copies_out : (n : ℕ) → Out to n → Out (targets (copies F 2 to)) n
   copies_out n o = let P : List ℕ → Type 0 = λ ts. Out ts n in subst P (sym (targets_copies F 2 to)) o
 
-  -- where the gate is open and all is fixed
+  -- where the commit record is set and all is fixed
   pub gated_stage : (image : Image) → ((n : ℕ) → image n ≡ F n) → Settles size image (through to F)
   gated_stage image e = record {
     to = to;

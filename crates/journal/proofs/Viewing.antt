@@ -1,4 +1,4 @@
--- What is read through an open gate.
+-- What is read through a commit record that is set.
 use Rattle.std.proofs.Common.{◌≡◌, ◌≤◌, ◌<◌, ℕ, List, length, refl, sym, subst, arith, ⊎_elim}
 use Rattle.disk.specs.Moments.{History, IsSector, seen}
 use Rattle.journal.specs.Layout.{AreTargets, gate, home}

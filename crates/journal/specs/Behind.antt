@@ -1,4 +1,4 @@
--- What goes behind an open gate, beside what it shows.
+-- What goes behind a commit record that is set, beside what it names.
 use Rattle.std.specs.Prelude.{◌≤◌, ℕ, Bool, List, [], ◌+◌, ◌&&◌, not, leb, length, if◌then◌else◌}
 use Rattle.std.specs.List.{list_any}
 use Rattle.journal.specs.Layout.{AreTargets, payload_sectors}

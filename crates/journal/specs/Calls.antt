@@ -9,7 +9,7 @@ use Rattle.journal.specs.Phase.{FailsCounted}
 use Rattle.journal.specs.Settled.{AreSame}
 use Rattle.journal.specs.Transactions.{FitTogether, sectors_of}
 
--- However a call answers: a stop within it leaves a front, and where the journal is still up, one
+-- However a call answers: a crash within it leaves a front, and where the journal is still up, one
 -- after it leaves the base.
 pub record IsSafe (keeps_word : Type 0) (old new : Log) : Type 0 where
   pub size : new.size ≡ old.size
@@ -53,8 +53,8 @@ pub record GoesThroughFirst (keeps_word : Type 0) (updates : List Update) (was n
   pub kept : FitTogether (list_with old updates) → now ≡ was
   pub flushed : (FitTogether (list_with old updates) → ⊥) → GoesThrough keeps_word was now old new
 
--- What it costs to copy home what the gate names: each of its sectors, a sync, the closed gate, and a
--- sync. A closed gate costs nothing.
+-- What it costs to copy home what the gate names: each of its sectors, a sync, the closed gate, and
+-- a sync. A cleared one costs nothing.
 abbrev pub checkpoint_cost : List ℕ → ℕ
 checkpoint_cost [] = 0
 checkpoint_cost (sector ∷ sectors) = length (sector ∷ sectors) + 3
@@ -75,7 +75,7 @@ abbrev pub AddsFirst : List ℕ → Log → Log → Type 0
 AddsFirst content old new =
     AddsEither old.size (first_sector content ∷ []) old.base old.history new.history
 
--- Sector 0 was written, and no stop loses it.
+-- Sector 0 was written, and no crash loses it.
 pub record HasWritten (keeps_word : Type 0) (content : List ℕ) (old new : Log) : Type 0 where
   pub ok : keeps_word → AreSame old.size (put old.base (first_sector content)) new.base
   pub contents : keeps_word

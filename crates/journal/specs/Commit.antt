@@ -1,4 +1,4 @@
--- What opening and closing the gate do to a device.
+-- What setting and clearing the commit record do to a device.
 use Rattle.std.specs.Prelude.{◌≡◌, ◌≤◌, ◌⊎◌, ◌+◌, ◌++◌, ℕ, List, [], length, vec_capacity}
 use Rattle.std.specs.Global.{Vec}
 use Rattle.disk.specs.declared.update.Update.{Update}
@@ -20,8 +20,8 @@ abbrev pub AddsEither : ℕ → List Update → Image → History → History �
 AddsEither size updates base old new =
     AddsOnly (λ image. Settles size image base ⊎ Settles size image (applied updates base)) old new
 
--- The gate names the updates' sectors too, and through it the device reads as with them. The payload
--- has their contents behind what it had.
+-- The gate names the updates' sectors too, and through it the device reads as with them. The
+-- payload has their contents behind what it had.
 pub record IsRecorded (size : ℕ) (updates : List Update) (was shown : List ℕ) (old new : History)
     : Type 0 where
   pub gated : IsGated shown new
@@ -35,7 +35,7 @@ abbrev pub KeepsShown : ℕ → List ℕ → History → History → Type 0
 KeepsShown size to old new =
     AddsOnly (λ image. Settles size image (through to (seen old.now))) old new
 
--- the gate is closed, and the device reads as it did through it
+-- the commit record is cleared, and the device reads as it did through it
 pub record IsCopiedHome (size : ℕ) (to : List ℕ) (old new : History) : Type 0 where
   pub gated : IsGated [] new
   pub same : AreSame size (through to (seen old.now)) (seen new.now)
@@ -47,8 +47,8 @@ pub record MakesWay (size : ℕ) (to was shown : List ℕ) (old new : History) :
   pub same : AreSame size (through was (seen old.now)) (through shown (seen new.now))
   pub cost : moment new ≡ moment old + way_cost was to
 
--- Through the gate the device reads as with the updates. The payload has their contents behind those
--- of the updates that stay.
+-- Through the gate the device reads as with the updates. The payload has their contents behind
+-- those of the updates that stay.
 pub record IsCommitted (size : ℕ) (updates : List Update) (was shown : List ℕ) (stay : List Update)
     (old new : History) : Type 0 where
   pub gated : IsGated shown new

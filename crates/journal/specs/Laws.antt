@@ -13,14 +13,14 @@ pub record IsFront (size : ℕ) (base : Image) (list : List (List Update)) (foun
   pub within : count ≤ length list
   pub same : AreSame size (applied_all (take count list) base) found
 
--- what a stop leaves after a call is a front of what the journal was, one that holds all that was
+-- what a crash leaves after a call is a front of what the journal was, one that holds all that was
 -- flushed before
 abbrev pub EveryStop : Type 0
 EveryStop = (old new : Log) → IsSettled old → AddsFronts old new
     → (image : Image) → Left new.history.now image
     → StandsForFront old.size old.base old.list image
 
--- and a mount of the device as the call left it, without a stop, finds one too
+-- and a mount of the device as the call left it, without a crash, finds one too
 abbrev pub EveryMount : Type 0
 EveryMount = (old new found : Log) → old.size < 2 ^ 32 → IsSettled old → AddsFronts old new
     → HasMounted old.size new.history found

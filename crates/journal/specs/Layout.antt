@@ -45,7 +45,8 @@ gate (target ∷ targets) =
     words (gate_words (target ∷ targets))
     ++ replicate (4096 - 4 * length (gate_words (target ∷ targets))) 0
 
--- where sector n stands while the gate is open: its content is in the payload if it is a target
+-- where sector n stands while the commit record is set: its content is in the payload if it is a
+-- target
 abbrev pub home : List ℕ → ℕ → ℕ → ℕ
 home [] place n = n
 home (target ∷ targets) place n = if n == target then place else home targets (place + 1) n

@@ -1,4 +1,4 @@
--- What a journal is to its caller: a base, an ordered list of transactions that a stop may still
+-- What a journal is to its caller: a base, an ordered list of transactions that a crash may still
 -- take away from its end, and the moments of its device.
 use Rattle.std.specs.Prelude.{◌≡◌, ◌≤◌, ◌↔◌, ℕ, Bool, true, false, List, [], ◌∷◌, ◌++◌, ◌+◌, length, take, drop, Result, IsErrOf}
 use Rattle.disk.specs.declared.update.Update.{Update}

@@ -16,7 +16,7 @@ pub record IsNew (sectors before : ℕ) (log : Log) (after : ℕ) : Type 0 where
   pub size : log.size ≡ sectors
   pub failures : after ≡ before
 
--- The base is what the device settled to, sectors of bytes. Each map that a stop leaves within the
+-- The base is what the device settled to, sectors of bytes. Each map that a crash leaves within the
 -- mount settles as the device did, and from its first sync on no other is left. A closed gate asks
 -- for that sync alone.
 pub record HasMounted (size : ℕ) (old : History) (log : Log) : Type 0 where

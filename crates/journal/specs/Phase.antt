@@ -25,7 +25,7 @@ pub record FailsCounted {T E : Type 0} (before after : ℕ) (result : Result T E
   pub ok : OnOk result (after ≡ before)
   pub counted : OnErr result (IsCounted before after)
 
--- all is fixed, and the gate is open for these targets
+-- all is fixed, and the commit record is set for these targets
 pub record IsGated (to : List ℕ) (h : History) : Type 0 where
   pub rests : h.now.unsynced ≡ []
   pub gate_is : seen h.now 1 ≡ gate to

@@ -11,7 +11,7 @@ pub record FitsRecorded (size : ℕ) (recorded : Recorded) : Type 0 where
   pub fits : FitsGate size recorded.targets.items
   pub named : targets recorded.updates.items ≡ recorded.targets.items
 
--- all is fixed, the gate is open for these targets, and the payload has their contents
+-- all is fixed, the commit record is set for these targets, and the log has their contents
 pub record IsStored (recorded : Recorded) (h : History) : Type 0 where
   pub gated : IsGated recorded.targets.items h
   pub payload : copies (seen h.now) 2 recorded.targets.items ≡ recorded.updates.items

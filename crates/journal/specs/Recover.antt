@@ -8,15 +8,15 @@ use Rattle.journal.specs.Settled.{Settles, SettlesAs}
 use Rattle.journal.specs.Layout.{gate}
 use Rattle.journal.specs.Phase.{IsGated}
 
--- The gate is closed, and the device reads as what it settled to. From the first sync on each map
--- left settles to that.
+-- The commit record is cleared, and the device reads as what it settled to. From the first sync on
+-- each map left settles to that.
 pub record Recovers (size : ℕ) (old new : History) : Type 0 where
   pub gated : IsGated [] new
   pub settles : Settles size (seen old.now) (seen new.now)
   pub since_sync : AddsOnly (SettlesAs size (seen old.now)) (synced old) new
   pub cost : moment new ≤ moment old + 100
 
--- the gate of what a read gives is closed
+-- the commit record of what a read gives is cleared
 abbrev pub IsClosed : History → Type 0
 IsClosed h = seen h.now 1 ≡ gate []
 

@@ -1,4 +1,4 @@
--- What an image stands for: an open gate's payload counts as copied to its targets.
+-- What an image stands for: what a set commit record names counts as copied to its targets.
 use Rattle.std.specs.Prelude.{◌≡◌, ◌≤◌, ◌<◌, ◌⊎◌, ℕ, List, length}
 use Rattle.disk.specs.Moments.{Image}
 use Rattle.journal.specs.Layout.{payload_sectors, first_target, AreTargets, gate, through}

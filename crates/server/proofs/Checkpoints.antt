@@ -1,4 +1,4 @@
--- A checkpoint between two calls: the machine is as it was, and a stop leaves what it might have left.
+-- A checkpoint between two calls: the machine is as it was, and a crash leaves what it might have left.
 use Rattle.std.proofs.Common.{◌≡◌, ◌⊎◌, ℕ, List, [], ◌∷◌, Result, Ok, Err, refl, sym, ap, ◌∙◌, subst, inl, inr, ⊎_elim, true, false, true≢false, arith}
 use Rattle.std.specs.List.{IsAmong}
 use Rattle.disk.specs.Moments.{History, AddsOnly}

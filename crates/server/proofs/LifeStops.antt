@@ -1,4 +1,4 @@
--- A stopped run of a server, as one of the model's, with seats that its stop left.
+-- A crashed run of a server, as one of the model's, with seats that its crash left.
 use Rattle.std.specs.List.{IsAmong}
 use Rattle.std.proofs.Common.{true, is_some, ◌≡◌, ◌⊎◌, ℕ, ◌+◌, ◌<◌, Bool, List, [], ◌∷◌, ◌++◌, append-nil, None, Some, refl, sym, ap, ap₂, ◌∙◌, subst, inl, inr, arith}
 use Rattle.std.proofs.Math.Logic.{∥∥₁_elim, ∥∥₁_map, ∥∥₁_prop}
@@ -55,7 +55,7 @@ stop_of stopped left leaves = record {
   leaves = leaves;
 }
 
--- The seats that its stop left are such
+-- The seats that its crash left are such
 
 pub may_be_left : (stopped : Stopped) (left : Seats) → Leaves stopped left → ∥ MayBeLeft stopped left ∥₁
 may_be_left stopped _ (OnMap {image = image} {nodes = nodes} {run = run} {kept = kept} left stands) =
@@ -192,7 +192,7 @@ module _ (stored : List Stored) (i : ℕ) (one : Stored) where
         (subst (λ (place : ℕ). held_at one.session place (table_in last).seats ≡ Some now.reply.held) (sym slot) now.held) (number, refl);
   }
 
-  -- the seats of a server that is up are those that a stop would leave
+  -- the seats of a server that is up are those that a crash would leave
   up_left : (last : Stopped) → WasUp last → MayBeLeft last (table_in last).seats
   up_left last up = let held = held_now last in subst (MayBeLeft last) ((every_dead last up).seats held.0 held.1) (inl held.1)
 

@@ -1,4 +1,4 @@
--- What the calls of a server do to what a stop may leave.
+-- What the calls of a server do to what a crash may leave.
 use Rattle.std.proofs.Common.{◌≡◌, ◌<◌, ◌≤◌, ◌+◌, ◌^◌, ℕ, List, [], ◌∷◌, length, Bool, false, None, refl, sym, ap, ap₂, ◌∙◌, subst, inl, ⊎_elim, arith}
 use Rattle.std.specs.List.{IsAmong}
 use Rattle.std.proofs.Math.Logic.{∥∥₁_elim, ∥∥₁_map, ∥∥₁_prop}
@@ -70,7 +70,7 @@ leaves_now held recent leaves image left =
     let one = leaves image left in
     (one.0, (one.1.0, (0, (omega arith, one.1.1))), one.2)
 
--- after a failure a stop leaves one of the trees before the call, or the one after it, and so the seats
+-- after a failure a crash leaves one of the trees before the call, or the one after it, and so the seats
 pub broken_leaves : (held after_held : VolumeState) (after : Kept) (recent : List Tree) → IsRecent held recent → AddsTrees held after after_held.history → IsSameVolume held after_held
     → (image : Image) → Left after_held.history.now image → StandsForOne after_held (λ kept. IsAmong (after.tree ∷ recent) kept.tree × IsAmong (after.seats ∷ held.seats ∷ []) kept.seats) image
 broken_leaves held after_held after recent is adds same image left = ⊎_elim

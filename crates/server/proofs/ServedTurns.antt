@@ -97,7 +97,7 @@ gives_one state connections number now before is =
       lasting_is = ap (λ (t : world.Turned). lasts t.executed) same;
     }
 
--- what a stop within it may leave
+-- what a crash within it may leave
 
 abbrev pub serving_of : SharedState → Keyed world.Connection → List Tree → Serving
 serving_of state connections recent = serving_by (world_by state connections) recent (state.files.volume.seats ∷ []) state.files.volume.is_down

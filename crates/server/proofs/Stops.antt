@@ -1,4 +1,4 @@
--- The calls of a server are a run of the machine, and what a stop within one leaves stands for what the machine may leave.
+-- The calls of a server are a run of the machine, and what a crash within one leaves stands for what the machine may leave.
 use Rattle.std.proofs.Common.{◌≡◌, ◌<◌, ◌+◌, ◌^◌, ℕ, Bool, List, refl, sym, ap, ◌∙◌, subst, inl, ⊎_elim, arith}
 use Rattle.std.specs.List.{IsAmong}
 use Rattle.std.proofs.Math.Logic.{∥∥₁_elim, ∥∥₁_map}
@@ -28,7 +28,7 @@ use Rattle.server.specs.Seen.{Seen, LeavesNow, MayKeep, Moves, Call, IsServed, B
 use Rattle.server.specs.Views.{server_limits}
 use Rattle.server.proofs.Moves.{left_now}
 
--- a stop within a call
+-- a crash within a call
 stopped_in : (old new : Seen) (event : Event) → LeavesNow old → Moves old event new → (image : Image) → LeftSince new.volume.history (moment old.volume.history) image
     → StandsForOne old.volume (MayKeep old.serving event) image
 stopped_in old new event leaves moves image left = ⊎_elim

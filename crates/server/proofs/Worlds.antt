@@ -57,7 +57,7 @@ may_leave_from old recent kept down event newest up =
     let made = each_event_happens (serving_by old recent kept false) event refl newest in
     subst (MayLeave (serving_by old recent kept false) event) (ap (λ (w : World). w.tree) made.1.world) (made.1.no_others made.0.world.tree made.2))
 
--- an event that leaves a stop some of the trees before and the one after it, and after what has to last that one alone
+-- an event that leaves a crash some of the trees before and the one after it, and after what has to last that one alone
 pub happened_leaving : (held : VolumeState) (after : Kept) (old new : World) (recent left : List Tree) (kept : List Seats) (old_down new_down : Bool) (event : Event) → IsAmong recent old.tree → old_down ≡ false → new_down ≡ false
     → new ≡ effect_of old event → new.table.seats ≡ held.seats → after.tree ≡ (effect_of old event).tree → Leaves held after (lasts (executed_of old event)) recent left
     → Happens (serving_by old recent kept old_down) event (serving_by new left (held.seats ∷ []) new_down)

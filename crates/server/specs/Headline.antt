@@ -1,4 +1,5 @@
--- What users of the server can rely on, from the bytes that come to the sectors that a stop leaves.
+-- What users of the server can rely on, from the bytes that come to the sectors that a crash
+-- leaves.
 use Rattle.std.specs.Prelude.{ℕ, Bool, List, [], ◌∷◌, slice_get, Some, ◌≡◌, ◌≢◌, ◌<◌, ◌≤◌, ◌+◌, ◌^◌}
 use Rattle.disk.specs.Moments.{Image, History, LeftSince, at_rest, moment, seen}
 use Rattle.layout.specs.Stands.{Kept, bare}
@@ -22,8 +23,8 @@ use Rattle.server.specs.declared.server.Server.{Server}
 use Rattle.disk.specs.declared.device.Device.{Ghosts}
 
 -- a server that was just mounted, and begins a run with this tree, which is well formed and from
--- before its stamps, and with these seats, which are of sessions of earlier runs: a stop now leaves
--- them
+-- before its stamps, and with these seats, which are of sessions of earlier runs: a crash now
+-- leaves them
 pub record IsMounted (persistent : Bool) (run : ℕ) (start : Kept) (first : Seen) : Type 0 where
   pub serves : first.serving
       ≡ mounted (server_limits first.volume.limits persistent) run start.tree start.seats
@@ -56,12 +57,12 @@ pub record Stopped : Type 0 where
   pub served : IsServed first calls old
   pub moves : Moves old event new
 
--- a map that the stop left
+-- a map that the crash left
 abbrev pub LeftBy : Stopped → Image → Type 0
 LeftBy stopped image =
     LeftSince stopped.new.volume.history (moment stopped.old.volume.history) image
 
--- What may have become of its device, and from which moment of that on a stop counts: power came
+-- What may have become of its device, and from which moment of that on a crash counts: power came
 -- back to such a map, or stayed on, and mounts were begun.
 abbrev pub IsMountedAfter : Stopped → History → ℕ → Type 0
 IsMountedAfter stopped device from =
@@ -89,7 +90,7 @@ pub record IsGood (stopped : Stopped) (kept : Kept) : Type 0 where
   pub tree : IsGoodTree stopped kept.tree
   pub seats : MayHold stopped.old.serving stopped.event kept.seats
 
--- What a stop leaves holds exactly such a pair.
+-- What a crash leaves holds exactly such a pair.
 pub record IsKept (stopped : Stopped) (image : Image) : Type 0 where
   pub kept : Kept
   pub good : IsGood stopped kept
@@ -109,23 +110,23 @@ pub record HasGoodTree (stopped : Stopped) (again : VolumeState) : Type 0 where
   pub counted : stopped.run < again.run
 
 -- The headline: however often the volume was mounted since, in the same power cycle or after
--- further stops, the next mount that serves has such a pair.
+-- further crashes, the next mount that serves has such a pair.
 abbrev pub EveryRun : Type 0
 EveryRun =
     (stopped : Stopped) (device : History) (from : ℕ) (again : VolumeState)
     → IsMountedAfter stopped device from
     → IsFound stopped.first.volume.sectors device again → HasGoodTree stopped again
 
--- A new volume, and from which moment of its device on a stop counts: what a format leaves that was
--- answered Ok, or a map that a stop left of one.
+-- A new volume, and from which moment of its device on a crash counts: what a format leaves that
+-- was answered Ok, or a map that a crash left of one.
 pub data IsNewVolume (sectors nodes : ℕ) : History → ℕ → Type 0 where
   Formatted : {device : History} → LeavesFresh sectors nodes device
       → IsNewVolume sectors nodes device (moment device)
   Powers : {image : Image} → IsFresh sectors nodes image
       → IsNewVolume sectors nodes (at_rest image) 0
 
--- Before the first run: however often a new volume was mounted, and those mounts refused or stopped,
--- the next one that serves has the empty root and no seats, under a count above 0.
+-- Before the first run: however often a new volume was mounted, and those mounts refused or
+-- stopped, the next one that serves has the empty root and no seats, under a count above 0.
 pub record BeginsFresh (nodes : ℕ) (first : VolumeState) : Type 0 where
   pub empty : kept_of first ≡ bare fresh_tree
   pub nodes_are : first.limits.nodes ≡ nodes
@@ -138,7 +139,7 @@ EveryFirst =
     → IsNewVolume sectors nodes new since → Remounts sectors new since device from
     → IsFound sectors device first → BeginsFresh nodes first
 
--- Each map that a stop leaves stands for one of these, under this count or a greater one. So a
+-- Each map that a crash leaves stands for one of these, under this count or a greater one. So a
 -- mount that is refused for what is there is refused as Worn, under the greatest count.
 pub record IsNotLost (sectors nodes run : ℕ) (good : Kept → Type 0) (device : History)
     (from : ℕ) : Type 0 where
@@ -159,8 +160,8 @@ pub record NeverLost : Type 0 where
       → IsNotLost stopped.first.volume.sectors stopped.first.volume.limits.nodes stopped.run
       (IsGood stopped) device from
 
--- The runs of a volume: one follows after the stop of another, and however many mounts that did not
--- serve.
+-- The runs of a volume: one follows after the crash of another, and however many mounts that did
+-- not serve.
 pub record Follows (old new : Stopped) : Type 0 where
   pub device : History
   pub from : ℕ
@@ -177,8 +178,8 @@ pub record EveryLife : Type 0 where
   pub begins : (old new : Stopped) → Follows old new → ∥ IsGood old new.start ∥₁
   pub rises : (old new : Stopped) → IsLater old new → old.run < new.run
 
--- Each change gives the next stamp of its run to all that it makes or alters, one that a stop takes
--- away and the one under way too. These stamps rise, and those of a later run are above.
+-- Each change gives the next stamp of its run to all that it makes or alters, one that a crash
+-- takes away and the one under way too. These stamps rise, and those of a later run are above.
 pub record EveryStamping : Type 0 where
   pub given : (stopped : Stopped) → ∥ AreGiven stopped.run (executed_in stopped) ∥₁
   pub within : (stopped : Stopped) → AreStamped stopped.run (executed_in stopped)

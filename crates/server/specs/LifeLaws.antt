@@ -1,5 +1,5 @@
 -- Exactly once over restarts, of a server on its device: RFC 8881, sections 2.10.6.1 and 2.10.6.5.
--- The seats that a stop leaves hold what was answered, and a session of an earlier run runs
+-- The seats that a crash leaves hold what was answered, and a session of an earlier run runs
 -- nothing.
 use Rattle.std.specs.Prelude.{ℕ, false, true, ◌↔◌, List, [], ◌∷◌, ◌++◌, option_to_list, slice_get, Some, ◌≡◌, ◌<◌, ◌⊎◌}
 use Rattle.disk.specs.Moments.{Image, History}
@@ -38,7 +38,7 @@ abbrev pub freed_in : Stopped → List (List ℕ)
 freed_in stopped = (history_in stopped).freed
     ++ freeing stopped.old.serving stopped.event stopped.old.serving.is_down
 
--- Seats that its stop left: those for which a map of it stands, or that a mount since then serves
+-- Seats that its crash left: those for which a map of it stands, or that a mount since then serves
 pub data Leaves (stopped : Stopped) : Seats → Type 0 where
   OnMap : {image : Image} {nodes run : ℕ} {kept : Kept} → LeftBy stopped image
       → StandsFor stopped.first.volume.sectors nodes run kept image → Leaves stopped kept.seats
@@ -59,14 +59,14 @@ EveryStays = (stopped : Stopped) (left : Seats) → Leaves stopped left → (id 
     → seat_of id stopped.start.seats ≡ Some seat
     → ∥ ((seat_of id left ≡ Some seat) ⊎ IsFreed left (freed_in stopped) id) ∥₁
 
--- What the stop leaves are seats of this run's sessions and of those before: a later run may begin
+-- What the crash leaves are seats of this run's sessions and of those before: a later run may begin
 -- with them.
 abbrev pub EveryFollows : Type 0
 EveryFollows = (stopped : Stopped) (left : Seats) → Leaves stopped left → (next : ℕ)
     → stopped.run < next → AreSeats next left
 
 -- A session of an earlier run is answered by what its seat holds and is refused all else, and it
--- runs nothing; and while the server is up a stop would leave the seats that it answers by.
+-- runs nothing; and while the server is up a crash would leave the seats that it answers by.
 abbrev pub EveryDead : Type 0
 EveryDead = (stopped : Stopped) → WasUp stopped → AnswersBySeats stopped.old.serving stopped.run
 
@@ -96,7 +96,7 @@ EveryAsked = (stopped : Stopped) → WasUp stopped → (event : Event) (id : Lis
 
 -- Runs, one after another
 
--- each follows after the stop of the one before it, and however many mounts that did not serve
+-- each follows after the crash of the one before it, and however many mounts that did not serve
 abbrev pub AreRuns : Stopped → List Stopped → Type 0
 AreRuns first [] = Unit {0}
 AreRuns first (next ∷ rest) = Follows first next × AreRuns next rest
@@ -125,8 +125,8 @@ WasFreed id first [] left = IsFreed left (freed_in first) id
 WasFreed id first (next ∷ rest) left =
     IsFreed next.start.seats (freed_in first) id ⊎ WasFreed id next rest left
 
--- Each reply that a seat held in the first is held by what the stop of the last leaves, or the next
--- one of its slot is, or the seat was freed on the way.
+-- Each reply that a seat held in the first is held by what the crash of the last leaves, or the
+-- next one of its slot is, or the seat was freed on the way.
 abbrev pub EveryHeld : Type 0
 EveryHeld = (first : Stopped) (rest : List Stopped) → AreRuns first rest
     → (left : Seats) → Leaves (last_of first rest) left → (i : ℕ) (one : Stored)

@@ -20,7 +20,7 @@ HangUpIsCalls =
     → IsTurned connection now old new
     → ((more : List Call) × IsServed first more new) × (IsReady old → IsReady new)
 
--- one that claims that a stop leaves nothing
+-- one that claims that a crash leaves nothing
 abbrev pub NeverEmpty : Type 0
 NeverEmpty =
     (persistent : Bool) (run : ℕ) (start : Kept) (first last : Seen) (calls : List Call)

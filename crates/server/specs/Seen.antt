@@ -18,7 +18,7 @@ pub record Seen : Type 0 where
 abbrev pub IsLeftBy : Serving → Kept → Type 0
 IsLeftBy serving kept = IsAmong serving.recent kept.tree × IsAmong serving.held kept.seats
 
--- each map that a stop leaves now stands for such a pair
+-- each map that a crash leaves now stands for such a pair
 abbrev pub LeavesNow : Seen → Type 0
 LeavesNow seen = (image : Image) → Left seen.volume.history.now image
     → StandsForOne seen.volume (IsLeftBy seen.serving) image
@@ -27,8 +27,8 @@ LeavesNow seen = (image : Image) → Left seen.volume.history.now image
 abbrev pub MayKeep : Serving → Event → Kept → Type 0
 MayKeep serving event kept = MayLeave serving event kept.tree × MayHold serving event kept.seats
 
--- what a call adds to what a stop may leave, at each moment of it: what the machine may leave while
--- the event happens
+-- what a call adds to what a crash may leave, at each moment of it: what the machine may leave
+-- while the event happens
 pub record Moves (old : Seen) (event : Event) (new : Seen) : Type 0 where
   pub moments : AddsOnly (StandsForOne old.volume (MayKeep old.serving event)) old.volume.history
       new.volume.history
@@ -78,8 +78,8 @@ pub record GivesDown (old : Seen) (connection : ℕ) (said : Said) (new : Seen) 
   pub says : said ≡ told old.serving.world (Takes connection)
   pub moves : Moves old (Takes connection) new
 
--- A checkpoint is no event: content was moved on the device. A stop within it leaves what it may have
--- left before, whatever event it is taken for, and a stop after it no other tree.
+-- A checkpoint is no event: content was moved on the device. A crash within it leaves what it may
+-- have left before, whatever event it is taken for, and a crash after it no other tree.
 pub record Checkpoints (old new : Seen) : Type 0 where
   pub serving : new.serving ≡ old.serving
   pub moves : (event : Event) → Moves old event new

@@ -55,7 +55,7 @@ world_of server =
 unfoldable pub files_of : {D : Type 0} {g : Ghosts D} → Server D g → FileSystem
 files_of server = fs_of server.fs
 
--- and the volume below it: whether that is down, and what a stop may leave
+-- and the volume below it: whether that is down, and what a crash may leave
 unfoldable pub volume_of : {D : Type 0} {g : Ghosts D} → Server D g → VolumeState
 volume_of server = (fs_of server.fs).volume
 
@@ -70,7 +70,7 @@ BeginsEmpty persistent server = world_of server
 unfoldable pub failures_of : {D : Type 0} {g : Ghosts D} → Server D g → ℕ
 failures_of server = fs_failures server.fs
 
--- the machine of the headline: a stop may leave these trees now, each with any of these seats
+-- the machine of the headline: a crash may leave these trees now, each with any of these seats
 abbrev pub serving_by : World → List Tree → (held : List Seats) → (is_down : Bool) → Serving
 serving_by world recent held is_down = record {
   world = world;
@@ -89,7 +89,7 @@ abbrev pub seen_with : {D : Type 0} {g : Ghosts D} → Server D g → List Tree 
 seen_with server recent = record { serving = serving server recent; volume = volume_of server }
 
 -- and one that is down: what its volume shows since it failed is left open, and its world has the
--- tree that it had; a stop may leave any of these seats
+-- tree that it had; a crash may leave any of these seats
 abbrev pub seen_down : {D : Type 0} {g : Ghosts D} → Server D g → Tree → List Tree → List Seats
     → Seen
 seen_down server tree recent held = record {
@@ -102,13 +102,13 @@ seen_down server tree recent held = record {
 abbrev pub gave : Option (Vec ℕ) → Said
 gave output = Gave (option_map (λ reply. reply.items) output)
 
--- Whichever trees a stop may leave before a call: it does the event, and a stop may leave these
+-- Whichever trees a crash may leave before a call: it does the event, and a crash may leave these
 -- trees after it.
 abbrev pub Serves : {D : Type 0} {g : Ghosts D} → (old new : Server D g) → Event → Said → Type 0
 Serves old new event said = (recent : List Tree) → IsRecent (volume_of old) recent
     → (after : List Tree) × Does (seen_with old recent) event said (seen_with new after)
 
--- a checkpoint: whichever trees a stop may leave before it, a stop may leave after it
+-- a checkpoint: whichever trees a crash may leave before it, a crash may leave after it
 abbrev pub Keeps : {D : Type 0} {g : Ghosts D} → (old new : Server D g) → Type 0
 Keeps old new = (recent : List Tree) → IsRecent (volume_of old) recent
     → Checkpoints (seen_with old recent) (seen_with new recent)

@@ -71,7 +71,7 @@ returns-then-is_empty g c =
       failures = counted_after _ _ _ _ refl c.in_ok-read_gate.ensures.failures;
     }
 
--- a closed gate names nothing
+-- a cleared commit record names nothing
 none_named : (g : Over) (c : In_ok-read_gate g) → g.D.Device.keeps_word → (before : History) → g.D.Device.history c.args.device.now ≡ synced before
     → IsClosed before → vec_len c.read_gate.new.named ≡ 0
 none_named g c k before e closed =
