@@ -6,7 +6,7 @@ use Rattle.model.specs.declared.node.NodeKind.{NodeKind}
 use Rattle.model.specs.declared.node.NodeKind.TheVariants as kind
 use Rattle.model.specs.Rights.Acl.{meets, granted, read_data, write_data, append_data, execute, delete_child}
 use Rattle.model.specs.Operations.Answer.{Answer, AccessAnswer}
-use Rattle.model.specs.Operations.Definition.{Definition, on_current}
+use Rattle.model.specs.Operations.Definition.{Definition, on_current, needs_nothing}
 use Rattle.model.specs.Operations.State.{current, answered}
 use Rattle.model.specs.Trees.Keyed.{at}
 use Rattle.model.specs.Trees.Tree.{Node, kind_of}
@@ -39,5 +39,5 @@ access_of (Some node) cred asked = record {
 
 -- ACCESS (section 18.1)
 abbrev pub ACCESS : (rights : ℕ) → Definition
-ACCESS rights = on_current (λ limits state now. answered state
+ACCESS rights = on_current needs_nothing (λ limits state now. answered state
     (Answer.Access (access_of (at (current state) state.tree) state.context.cred rights)))

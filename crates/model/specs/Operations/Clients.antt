@@ -2,7 +2,7 @@
 -- (CREATE_SESSION), 18.37 (DESTROY_SESSION), 18.46 (SEQUENCE), 18.50 (DESTROY_CLIENTID) and 18.51
 -- (RECLAIM_COMPLETE). They are not on the tree: `World` has what they do.
 use Rattle.model.specs.declared.status.Status.TheVariants as status
-use Rattle.model.specs.Operations.Definition.{Definition, only}
+use Rattle.model.specs.Operations.Definition.{Definition, only, needs_nothing}
 use Rattle.model.specs.Operations.Operation.{Argument}
 use Rattle.model.specs.Operations.State.{State, Stepped, refused}
 
@@ -11,4 +11,4 @@ abbrev pub not_here : State → Argument → Stepped
 not_here state operation = refused state operation status.NotSupp
 
 abbrev pub off_tree : Argument → Definition
-off_tree operation = only (λ limits state now. not_here state operation)
+off_tree operation = only needs_nothing (λ limits state now. not_here state operation)

@@ -4,13 +4,12 @@ use Rattle.model.specs.declared.node.NodeKind.TheVariants as kind
 use Rattle.model.specs.declared.status.Status.TheVariants as status
 use Rattle.model.specs.Attributes.Attribute.{trimmed, attribute_refusals, settable_at_creation}
 use Rattle.model.specs.Operations.Answer.{Answer}
-use Rattle.model.specs.Operations.Definition.{Definition, on_current}
+use Rattle.model.specs.Operations.Definition.{Definition, on_current, needs}
 use Rattle.model.specs.Operations.Directory.{change_of, acl_of, new_directory}
 use Rattle.model.specs.Operations.Operation.{Argument, Attributes, CreateArguments, NewDirectory, OtherType}
 use Rattle.model.specs.Operations.Refusal.{Refusals}
 use Rattle.model.specs.Operations.State.{State, Stepped, current, stamp_of, current_refusals, named_refusals, is_name_there, answered, refused, moved_to, changed}
 use Rattle.model.specs.Rights.Acl.{append_data}
-use Rattle.model.specs.Rights.Need.{here}
 use Rattle.model.specs.Trees.Changes.{made_edits}
 use Rattle.model.specs.Trees.Keyed.{at}
 use Rattle.model.specs.Trees.Limits.{Limits}
@@ -51,9 +50,9 @@ create state now (OtherType number) =
 
 -- CREATE (section 18.4)
 abbrev pub CREATE : CreateArguments → Definition
-CREATE arguments = record (on_current (λ limits state now. create state now arguments)) {
-  early = λ limits state. current_refusals state ++ create_refusals limits state arguments;
-  need_first = λ tree context. here context append_data;
-  late = λ limits state. late_at_create state arguments;
-  alters = λ state. true;
-}
+CREATE arguments = record (on_current (needs append_data)
+    (λ limits state now. create state now arguments)) {
+      early = λ limits state. current_refusals state ++ create_refusals limits state arguments;
+      late = λ limits state. late_at_create state arguments;
+      alters = λ state. true;
+    }

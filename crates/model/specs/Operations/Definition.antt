@@ -4,7 +4,7 @@ use Rattle.std.specs.Prelude.{ℕ, Bool, false, List, []}
 use Rattle.model.specs.Operations.Context.{Context}
 use Rattle.model.specs.Operations.Refusal.{Refusals}
 use Rattle.model.specs.Operations.State.{State, Stepped, current_refusals}
-use Rattle.model.specs.Rights.Need.{Right}
+use Rattle.model.specs.Rights.Need.{Right, here}
 use Rattle.model.specs.Trees.Limits.{Limits}
 use Rattle.model.specs.Trees.Tree.{Tree}
 
@@ -20,21 +20,32 @@ pub record Definition : Type 0 where
   -- what it does where nothing refuses it; `now` is the moment, in nanoseconds since 1970
   pub effect : Limits → State → (now : ℕ) → Stepped
 
--- The definition of an operation begins with one of these two, and adds its tests, its rights, and
--- whether it is a change
+-- What the caller has to be granted first: this mask on the current node, or nothing
 
--- no test, no right, no change
-abbrev pub only : (effect : Limits → State → (now : ℕ) → Stepped) → Definition
-only effect = record {
+abbrev pub needs : (mask : ℕ) → Tree → Context → List (List Right)
+needs mask tree context = here context mask
+
+abbrev pub needs_nothing : Tree → Context → List (List Right)
+needs_nothing tree context = []
+
+-- The definition of an operation begins with one of these two, and adds its tests, and whether it is
+-- a change. It always says what it needs first: a forgotten right is a missing argument.
+
+-- no test, no change
+abbrev pub only : (need_first : Tree → Context → List (List Right))
+    → (effect : Limits → State → (now : ℕ) → Stepped) → Definition
+only need_first effect = record {
   early = λ limits state. [];
-  need_first = λ tree context. [];
+  need_first = need_first;
   middle = λ limits state. [];
-  need_then = λ tree context. [];
+  need_then = needs_nothing;
   late = λ limits state. [];
   alters = λ state. false;
   effect = effect;
 }
 
 -- the same with a current filehandle, whose node is there
-abbrev pub on_current : (effect : Limits → State → (now : ℕ) → Stepped) → Definition
-on_current effect = record (only effect) { early = λ limits state. current_refusals state }
+abbrev pub on_current : (need_first : Tree → Context → List (List Right))
+    → (effect : Limits → State → (now : ℕ) → Stepped) → Definition
+on_current need_first effect =
+    record (only need_first effect) { early = λ limits state. current_refusals state }

@@ -9,12 +9,11 @@ use Rattle.model.specs.Trees.Changes.{touch}
 use Rattle.model.specs.Trees.Edit.{PutBytes}
 use Rattle.model.specs.Trees.Keyed.{at}
 use Rattle.model.specs.Trees.Limits.{Limits}
-use Rattle.model.specs.Operations.Definition.{Definition, on_current}
+use Rattle.model.specs.Operations.Definition.{Definition, on_current, needs_nothing, needs}
 use Rattle.model.specs.Operations.Operation.{CommitArguments, ReadArguments, WriteArguments}
 use Rattle.model.specs.Operations.Refusal.{Refusals}
 use Rattle.model.specs.Operations.State.{State, Stepped, current, stamp_of, current_refusals, answered, changed}
 use Rattle.model.specs.Rights.Acl.{read_data, write_data}
-use Rattle.model.specs.Rights.Need.{here}
 use Rattle.model.specs.Sessions.StateIds.{state_refusals, read_access, write_access}
 use Rattle.model.specs.Trees.Tree.{Tree, Node, bytes_of, is_directory_at}
 
@@ -48,11 +47,11 @@ read limits state arguments =
 
 -- READ (section 18.22)
 abbrev pub READ : ReadArguments → Definition
-READ arguments = record (on_current (λ limits state now. read limits state arguments)) {
-  early = λ limits state. current_refusals state ++ (file_refusals state
-      ++ state_refusals state.opens state.context read_access arguments.state);
-  need_first = λ tree context. here context read_data;
-}
+READ arguments = record (on_current (needs read_data)
+    (λ limits state now. read limits state arguments)) {
+      early = λ limits state. current_refusals state ++ (file_refusals state
+          ++ state_refusals state.opens state.context read_access arguments.state);
+    }
 
 -- WRITE takes the first bytes alone, and none is no change
 
@@ -97,12 +96,11 @@ write false limits state now arguments = answered state (wrote limits state argu
 
 -- WRITE (section 18.32)
 abbrev pub WRITE : WriteArguments → Definition
-WRITE arguments = record (on_current (λ limits state now.
-    write (has_bytes arguments) limits state now arguments)) {
+WRITE arguments = record (on_current (needs write_data)
+    (λ limits state now. write (has_bytes arguments) limits state now arguments)) {
       early = λ limits state. (not (are_bytes arguments.data_bytes), status.BadXdr)
           ∷ (current_refusals state ++ (file_refusals state
           ++ state_refusals state.opens state.context write_access arguments.state));
-      need_first = λ tree context. here context write_data;
       late = λ limits state. write_refusals limits arguments;
       alters = λ state. has_bytes arguments;
     }
@@ -113,6 +111,6 @@ commit state = answered state (Answer.Commit (write_verifier state))
 
 -- COMMIT (section 18.3)
 abbrev pub COMMIT : CommitArguments → Definition
-COMMIT arguments = record (on_current (λ limits state now. commit state)) {
+COMMIT arguments = record (on_current needs_nothing (λ limits state now. commit state)) {
   early = λ limits state. current_refusals state ++ file_refusals state;
 }

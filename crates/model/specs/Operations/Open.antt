@@ -9,7 +9,7 @@ use Rattle.model.specs.Operations.Answer.{Answer}
 use Rattle.model.specs.Attributes.Attribute.{attribute_refusals, settable_at_open, is_empty, trimmed, size_given, mode_given, acl_given}
 use Rattle.model.specs.Trees.Changes.{touch, made_edits}
 use Rattle.model.specs.Operations.Context.{Context, current_number, without_stateid}
-use Rattle.model.specs.Operations.Definition.{Definition, on_current}
+use Rattle.model.specs.Operations.Definition.{Definition, on_current, needs_nothing}
 use Rattle.model.specs.Operations.Directory.{number_named, is_named, change_of, acl_of}
 use Rattle.model.specs.Trees.Edit.{SetSize}
 use Rattle.model.specs.Rights.Acl.{meets, execute, read_data, write_data}
@@ -256,15 +256,15 @@ open_file state now arguments =
 
 -- OPEN (section 18.16)
 abbrev pub OPEN : OpenArguments → Definition
-OPEN arguments = record (on_current (λ limits state now. open_file state now arguments)) {
-  early = λ limits state. current_refusals state ++ open_refusals limits state arguments;
-  need_first = λ tree context. lookup_rights context arguments.opening;
-  middle = λ limits state. middle_at_open limits state arguments.opening;
-  need_then = λ tree context.
-      opening_rights tree context arguments.access arguments.opening;
-  late = λ limits state. late_at_open limits state arguments;
-  alters = λ state. makes_file state arguments.opening || cuts_file state arguments.opening;
-}
+OPEN arguments = record (on_current (λ tree context. lookup_rights context arguments.opening)
+    (λ limits state now. open_file state now arguments)) {
+      early = λ limits state. current_refusals state ++ open_refusals limits state arguments;
+      middle = λ limits state. middle_at_open limits state arguments.opening;
+      need_then = λ tree context.
+          opening_rights tree context arguments.access arguments.opening;
+      late = λ limits state. late_at_open limits state arguments;
+      alters = λ state. makes_file state arguments.opening || cuts_file state arguments.opening;
+    }
 
 -- CLOSE ends the open, and the current stateid
 
@@ -286,6 +286,7 @@ close_file state arguments = answered
 
 -- CLOSE (section 18.2)
 abbrev pub CLOSE : CloseArguments → Definition
-CLOSE arguments = record (on_current (λ limits state now. close_file state arguments)) {
-  early = λ limits state. current_refusals state ++ closing_refusals state arguments;
-}
+CLOSE arguments = record (on_current needs_nothing
+    (λ limits state now. close_file state arguments)) {
+      early = λ limits state. current_refusals state ++ closing_refusals state arguments;
+    }

@@ -4,9 +4,9 @@ use Rattle.std.specs.Prelude.{ℕ, Bool, false, List, [], ◌∷◌, ◌++◌, �
 use Rattle.model.specs.declared.acl.Cred.{Cred}
 use Rattle.model.specs.declared.status.Status.TheVariants as status
 use Rattle.model.specs.Rights.Acl.{granted, read_data, read_acl}
-use Rattle.model.specs.Rights.Need.{Right, here}
+use Rattle.model.specs.Rights.Need.{Right}
 use Rattle.model.specs.Operations.Context.{Context, current_number}
-use Rattle.model.specs.Operations.Definition.{Definition, on_current}
+use Rattle.model.specs.Operations.Definition.{Definition, on_current, needs}
 use Rattle.model.specs.Operations.Answer.{Answer, Entry, ReadDirAnswer}
 use Rattle.model.specs.Attributes.Attribute.{attributes_of, is_among}
 use Rattle.model.specs.Trees.Keyed.{Keyed, at}
@@ -112,11 +112,10 @@ page_refusals limits state arguments =
 
 -- READDIR (section 18.23)
 abbrev pub READDIR : ReadDirArguments → Definition
-READDIR arguments = record (on_current (λ limits state now.
-    answered state (Answer.ReadDir (page limits state arguments)))) {
+READDIR arguments = record (on_current (needs read_data)
+    (λ limits state now. answered state (Answer.ReadDir (page limits state arguments)))) {
       early = λ limits state. current_refusals state
           ++ ((not (is_directory_at state.tree (current state)), status.NotDir) ∷ []);
-      need_first = λ tree context. here context read_data;
       middle = λ limits state. cookie_refusals arguments;
       need_then = λ tree context. listing_rights tree context arguments;
       late = λ limits state. page_refusals limits state arguments;

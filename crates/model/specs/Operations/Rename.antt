@@ -5,7 +5,7 @@ use Rattle.model.specs.declared.status.Status.TheVariants as status
 use Rattle.model.specs.Trees.Ancestors.{is_below}
 use Rattle.model.specs.Operations.Answer.{Answer}
 use Rattle.model.specs.Trees.Changes.{removed_edits, renamed_edits}
-use Rattle.model.specs.Operations.Context.{current_number, saved_number, has_saved, is_same_name}
+use Rattle.model.specs.Operations.Context.{Context, current_number, saved_number, has_saved, is_same_name}
 use Rattle.model.specs.Operations.Definition.{Definition, on_current}
 use Rattle.model.specs.Operations.Directory.{number_named, is_named, change_of}
 use Rattle.model.specs.Trees.Keyed.{at, is_key}
@@ -55,6 +55,13 @@ rename_rights tree from to arguments =
           then append_data
           else write_data;
     } ∷ []) ∷ []))
+
+-- of a name that is given to itself none
+abbrev pub renaming_rights : Tree → Context → RenameArguments → List (List Right)
+renaming_rights tree context arguments =
+    if is_same_name context arguments
+    then []
+    else rename_rights tree (saved_number context) (current_number context) arguments
 
 -- Tests after them
 
@@ -116,23 +123,20 @@ rename false state now arguments =
 
 -- REMOVE (section 18.25)
 abbrev pub REMOVE : (name : List ℕ) → Definition
-REMOVE name = record (on_current (λ limits state now. remove state now name)) {
-  early = λ limits state. current_refusals state ++ remove_refusals limits state name;
-  need_first = λ tree context. removable tree (current_number context) name ∷ [];
-  late = λ limits state.
-      (has_names state.tree (number_named state.tree (current state) name), status.NotEmpty) ∷ [];
-  alters = λ state. true;
-}
+REMOVE name = record (on_current
+    (λ tree context. removable tree (current_number context) name ∷ [])
+    (λ limits state now. remove state now name)) {
+      early = λ limits state. current_refusals state ++ remove_refusals limits state name;
+      late = λ limits state.
+          (has_names state.tree (number_named state.tree (current state) name), status.NotEmpty) ∷ [];
+      alters = λ state. true;
+    }
 
 -- RENAME (section 18.26)
 abbrev pub RENAME : RenameArguments → Definition
-RENAME arguments = record (on_current (λ limits state now.
-    rename (is_same_name state.context arguments) state now arguments)) {
+RENAME arguments = record (on_current (λ tree context. renaming_rights tree context arguments)
+    (λ limits state now. rename (is_same_name state.context arguments) state now arguments)) {
       early = λ limits state. current_refusals state ++ rename_refusals limits state arguments;
-      need_first = λ tree context.
-          if is_same_name context arguments
-          then []
-          else rename_rights tree (saved_number context) (current_number context) arguments;
       late = λ limits state.
           if is_same_name state.context arguments then [] else late_at_rename state arguments;
       alters = λ state. not (is_same_name state.context arguments);

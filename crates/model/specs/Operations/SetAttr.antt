@@ -94,11 +94,10 @@ set_attributes false state now arguments = answered state (was_set arguments)
 
 -- SETATTR (section 18.30)
 abbrev pub SETATTR : SetAttrArguments → Definition
-SETATTR arguments = record (on_current (λ limits state now.
-    set_attributes (sets arguments) state now arguments)) {
+SETATTR arguments = record (on_current
+    (λ tree context. setting_rights context (attributes_of arguments.attributes.bitmap))
+    (λ limits state now. set_attributes (sets arguments) state now arguments)) {
       early = λ limits state. current_refusals state ++ set_refusals limits state arguments;
-      need_first = λ tree context.
-          setting_rights context (attributes_of arguments.attributes.bitmap);
       alters = λ state. sets arguments;
     }
 
@@ -113,7 +112,7 @@ asks_lists bitmap = is_among (attributes_of bitmap) acl_number
 
 -- GETATTR (section 18.7)
 abbrev pub GETATTR : (bitmap : List ℕ) → Definition
-GETATTR bitmap = record (on_current (λ limits state now. answered state (Answer.GetAttr
-    (attributes_at limits bitmap (current state) (at (current state) state.tree))))) {
-      need_first = λ tree context. right_if (asks_lists bitmap) (current_number context) read_acl;
-    }
+GETATTR bitmap = on_current
+    (λ tree context. right_if (asks_lists bitmap) (current_number context) read_acl)
+    (λ limits state now. answered state (Answer.GetAttr
+    (attributes_at limits bitmap (current state) (at (current state) state.tree))))
