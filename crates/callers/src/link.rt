@@ -82,7 +82,7 @@ pub fn hangup<D: Device>(server: &mut Server<D>, conn: usize, now: u64) -> Resul
     Ok(server.hangup(conn, now)?)
 }
 
-/// Copies home what the journal's open gate names, while no reply is due.
+/// Makes a checkpoint, while no reply is due.
 pub fn checkpoint<D: Device>(server: &mut Server<D>) -> Result<(), Refused> {
     Ok(server.checkpoint()?)
 }

@@ -169,8 +169,7 @@ impl<D: Device> Fs<D> {
         self.volume.is_down()
     }
 
-    /// Copies home what the journal's open gate names, and closes it: `Volume::checkpoint`. It is
-    /// no change, and keeps none.
+    /// Makes a checkpoint of the journal: `Volume::checkpoint`. It is no change, and keeps none.
     ///
     /// # Errors
     ///

@@ -130,7 +130,6 @@ pub(crate) fn read_bytes<S: Sectors>(
     ensures count { OnOk result (GetsMore out.old.items out.new.items
         (min len (card.now.fields.size - offset))) }
     ensures err { OnErr result (out.new.items ≡ out.old.items) }
-    // It only reads
     // It only reads the base
     ensures kept { S.kept base.new ≡ S.kept base.old }
     ensures health { Reads (S.health base.old) (S.health base.new)

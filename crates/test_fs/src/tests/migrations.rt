@@ -325,7 +325,7 @@ fn try_crashes(alloc: Global, image: &Image, nodes: u8) -> Result<(), Fail> {
     expect_marks(&trial, nodes)
 }
 
-/// The root stands behind an open gate at first, and its place holds something else.
+/// A set commit record has the root at first, and its place holds something else.
 fn hide_root(image: &mut Image) {
     if image.len() > NODES {
         image.swap(2, NODES);

@@ -32,7 +32,7 @@ const NEW: u8 = 8;
 // the sectors in use before it, each with what fills it: two of the payload among them
 const IN_USE: [(u32, u8); 6] = [(0, OLD), (2, 3), (3, 4), (98, 1), (150, 6), (255, 1)];
 
-// the device as it stands where nothing unsynced lands, up to a stop
+// the device as it stands where nothing unsynced lands, up to a crash
 fn restarted(alloc: Global, device: &CrashDevice, stop: Stop) -> Result<CrashDevice, DiskFault> {
     Ok(CrashDevice::new(landed(device, alloc, &[])?, stop))
 }
@@ -70,7 +70,7 @@ fn whole(alloc: Global, unsynced: &[Unsynced]) -> Result<Vec<Landed>, AllocError
     Ok(all)
 }
 
-// The old contents and the new ones, and whether after some stop the old ones were found, a sector 0 of zeros, and the new
+// The old contents and the new ones, and whether after some crash the old ones were found, a sector 0 of zeros, and the new
 // ones.
 #[derive(Drop)]
 struct Trial {
