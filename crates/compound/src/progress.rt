@@ -11,8 +11,8 @@ use xdr::Writer;
 /// which a slot keeps in the memory of the operations' results.
 pub(crate) const RESULT_BUFFER: usize = 16_384;
 
-/// The bytes of a reply's record before the result of its COMPOUND: the header, the xid, the message
-/// type and four words up to the accept status.
+/// The bytes of a reply's record before the result of its COMPOUND: the header, the xid, the
+/// message type and four words up to the accept status.
 pub(crate) const BEFORE_RESULT: usize = 28;
 
 /// Those of the longest reply's record.

@@ -10,7 +10,7 @@ use Rattle.model.specs.Server.World.{World, InProgress, Turned, Answered, Busy, 
 use Rattle.server.specs.declared.connection.Connection.{Connection}
 use Rattle.server.specs.Stages.{CanGoOn, IsLeftInRun, in_progress_at, stage_view, turn_by, left_by, can_follow}
 use Rattle.server.specs.declared.begun.Begun.{Begun}
-use Rattle.server.specs.declared.begun.Left.{Left}
+use Rattle.server.specs.declared.begun.TurnEnd.{TurnEnd}
 use Rattle.server.specs.declared.request.Opened.{Opened}
 use Rattle.server.specs.declared.request.Opened.TheVariants as opened
 use Rattle.server.specs.declared.turn.Turn.{Turn}
@@ -69,13 +69,13 @@ HasGoneOn (Some (Busy request)) _ = ⊥
 HasGoneOn _ _ = Unit {0}
 
 -- a turn of a COMPOUND whose call stands in this record, by the definition
-abbrev pub Steps : (now : ℕ) → (old new : SharedState) → (request : List ℕ) → Begun → Left → Type 0
+abbrev pub Steps : (now : ℕ) → (old new : SharedState) → (request : List ℕ) → Begun → TurnEnd → Type 0
 Steps now old new request begun done =
     Leads (λ world number. stepped_on world number now (in_progress_at request begun)) old new
     (left_by (Some request) done) (turn_by done)
 
 -- what it leaves, on any device
-pub record GoesOn (run : ℕ) (request : List ℕ) (begun : Begun) (done : Left) : Type 0 where
+pub record GoesOn (run : ℕ) (request : List ℕ) (begun : Begun) (done : TurnEnd) : Type 0 where
   pub stays : IsLeftInRun run done
   pub further : HasGoneOn (Some (Busy (in_progress_at request begun)))
       (Some (left_by (Some request) done))

@@ -11,22 +11,22 @@ use Rattle.model.specs.Server.World.{Connection, InProgress, Busy, Replied, Clos
 use Rattle.rpc.specs.Assembly.{Assembly, Gathers, Holds, Refuses, connection_of}
 use Rattle.rpc.specs.Places.{compound_at, is_within}
 use Rattle.server.specs.declared.begun.Begun.{Begun}
-use Rattle.server.specs.declared.begun.Left.{Left}
-use Rattle.server.specs.declared.begun.Left.TheVariants as left
-use Rattle.server.specs.declared.begun.ReadCall.{ReadCall}
+use Rattle.server.specs.declared.begun.TurnEnd.{TurnEnd}
+use Rattle.server.specs.declared.begun.TurnEnd.TheVariants as left
+use Rattle.server.specs.declared.begun.KeptCall.{KeptCall}
 use Rattle.server.specs.declared.begun.Undone.{Undone}
 use Rattle.server.specs.declared.stage.Stage.{Stage}
 use Rattle.server.specs.declared.stage.Stage.TheVariants as stage
 
 -- the COMPOUND that a call asks for, and whose it is, where the call stands in this record
-abbrev pub asked_at : (request : List ℕ) → ReadCall → Asked
+abbrev pub asked_at : (request : List ℕ) → KeptCall → Asked
 asked_at request call = asks call.xid call.cred (compound_at request call.place)
 
 abbrev pub in_progress_at : (request : List ℕ) → Begun → InProgress
 in_progress_at request begun = resumed (asked_at request begun.call) begun.progress
 
 -- it stands there, and can go on so
-abbrev pub fits_in : (request : List ℕ) → ReadCall → Progress → Bool
+abbrev pub fits_in : (request : List ℕ) → KeptCall → Progress → Bool
 fits_in request call progress =
     is_within request call.place && fits (asked_at request call) progress
 
@@ -68,25 +68,25 @@ is_ready (stage.Replied reply) assembly = is_fresh assembly
 
 -- A turn of a call
 
-abbrev pub left_of : ReadCall → Stepped → Left
+abbrev pub left_of : KeptCall → Stepped → TurnEnd
 left_of call (stepped.Ran progress) = left.Begun (record { call = call; progress = progress })
 left_of call (stepped.Answered reply) = left.Answered reply
 
-abbrev pub turn_by : Left → world.Turn
+abbrev pub turn_by : TurnEnd → world.Turn
 turn_by (left.Begun begun) = world.Ran
 turn_by (left.Answered reply) = world.Answered
 
 -- the connection after it
-abbrev pub left_by : Option (List ℕ) → Left → Connection
+abbrev pub left_by : Option (List ℕ) → TurnEnd → Connection
 left_by request (left.Begun begun) = busy_with request begun
 left_by request (left.Answered reply) = Replied reply.items
 
-abbrev pub can_follow : Option (List ℕ) → Left → Bool
+abbrev pub can_follow : Option (List ℕ) → TurnEnd → Bool
 can_follow request (left.Begun begun) = can_go_on request begun
 can_follow request (left.Answered reply) = true
 
 -- the request goes on in the same run of the server
-abbrev pub IsLeftInRun : (run : ℕ) → Left → Type 0
+abbrev pub IsLeftInRun : (run : ℕ) → TurnEnd → Type 0
 IsLeftInRun run (left.Begun begun) = begun.progress.run ≡ run
 IsLeftInRun run (left.Answered reply) = Unit {0}
 

@@ -12,7 +12,7 @@ use xdr::Writer;
 
 /// What a call says, which its first turn reads. The COMPOUND's bytes stand in the record.
 #[derive(Drop)]
-pub struct ReadCall {
+pub struct KeptCall {
     pub(crate) xid: u32,
     pub(crate) cred: Cred,
     pub(crate) place: CompoundPlace,
@@ -21,13 +21,13 @@ pub struct ReadCall {
 /// A COMPOUND that has begun: its call, and how far it has come.
 #[derive(Drop)]
 pub struct Begun {
-    pub(crate) call: ReadCall,
+    pub(crate) call: KeptCall,
     pub(crate) progress: Progress,
 }
 
 /// What a turn of a call leaves.
 #[derive(Drop)]
-pub enum Left {
+pub enum TurnEnd {
     /// The COMPOUND goes on.
     Begun(Begun),
     /// The whole record of the reply.
@@ -65,7 +65,7 @@ impl Begun {
         opens: &mut Opens,
         now: u64,
         spare: &mut Writer,
-    ) -> Result<Left, Undone>
+    ) -> Result<TurnEnd, Undone>
         requires goes_on { CanGoOn (fs_of fs.old).volume.run request.now self }
         requires up { (fs_of fs.old).volume.is_down ≡ false }
         requires agrees { D.keeps_word → Agrees (fs_of fs.old) (table_of table.old) }
@@ -100,7 +100,7 @@ impl Begun {
     }
 }
 
-impl ReadCall {
+impl KeptCall {
     ghost use Rattle.std.specs.Prelude.{◌≡◌, true};
     ghost use Rattle.compound.specs.Views.{in_progress_of, asked_of, resumed};
     ghost use Rattle.server.specs.Stages.{asked_at, fits_in, left_of};
@@ -117,15 +117,15 @@ impl ReadCall {
     }
 
     /// What a step of its COMPOUND leaves.
-    fn left(self, done: Stepped) -> Left
+    fn left(self, done: Stepped) -> TurnEnd
         ensures { result ≡ left_of self done }
     {
         match done {
-            Stepped::Ran(progress) => Left::Begun(Begun {
+            Stepped::Ran(progress) => TurnEnd::Begun(Begun {
                 call: self,
                 progress,
             }),
-            Stepped::Answered(reply) => Left::Answered(reply),
+            Stepped::Answered(reply) => TurnEnd::Answered(reply),
         }
     }
 }

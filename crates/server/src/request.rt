@@ -15,7 +15,7 @@ ghost use Rattle.compound.specs.declared.fault.Fault.TheVariants.{Memory};
 ghost use Rattle.server.specs.Connections.{OpensTo, Leads};
 ghost use Rattle.server.specs.Stages.{IsLeftInRun, turn_by, left_by, can_follow};
 
-use crate::begun::{Begun, Left, ReadCall};
+use crate::begun::{Begun, KeptCall, TurnEnd};
 use compound::{Fault, Progress};
 use disk::Device;
 use fs::Fs;
@@ -47,7 +47,7 @@ pub fn first_turn<D: Device>(
     opens: &mut Opens,
     now: u64,
     spare: &mut Writer,
-) -> Result<Left, Fault>
+) -> Result<TurnEnd, Fault>
     requires up { (fs_of fs.old).volume.is_down ≡ false }
     requires call { is_call_read (rpc.read_call request.now) ≡ true }
     requires agrees { D.keeps_word → Agrees (fs_of fs.old) (table_of table.old) }
@@ -66,7 +66,7 @@ pub fn first_turn<D: Device>(
         (λ world number. called world number now (rpc.read_call request.now))) (ending result) }
 {
     match open(alloc, fs.restart_count(), request, spare)? {
-        Opened::Answers(reply) => Ok(Left::Answered(reply)),
+        Opened::Answers(reply) => Ok(TurnEnd::Answered(reply)),
         Opened::Begins(begun) => match begun.step(alloc, request, fs, table, opens, now, spare) {
             Ok(done) => Ok(done),
             Err(undone) => {
@@ -97,7 +97,7 @@ pub fn open(alloc: Global, run: u32, request: &[u8], spare: &mut Writer) -> Resu
         Request::Runs(cred, compound) => {
             let progress = Progress::begin(alloc, run, spare)?;
             let place = CompoundPlace::of(request, call.body, &compound);
-            let call = ReadCall {
+            let call = KeptCall {
                 xid: call.xid,
                 cred,
                 place,

@@ -2,7 +2,7 @@
 
 ghost use Rattle.std.specs.Prelude.{◌≡◌};
 
-use crate::begun::{Begun, Left};
+use crate::begun::{Begun, TurnEnd};
 use crate::connection::Connection;
 use crate::request::first_turn;
 use crate::stage::Stage;
@@ -125,18 +125,18 @@ impl Connection {
     }
 
     /// Goes on after a step, and says what the turn was. With the reply the record goes.
-    fn settle(&mut self, done: Left) -> Turn
+    fn settle(&mut self, done: TurnEnd) -> Turn
         requires holds { (request : List ℕ) × (self.old.assembler ≡ Holds request) }
         requires follows { can_follow (held_by self.old.assembler) done ≡ true }
         ensures turn { turn_view result ≡ turn_by done }
         ensures state { connection_view self.new ≡ left_by (held_by self.old.assembler) done }
     {
         match done {
-            Left::Begun(begun) => {
+            TurnEnd::Begun(begun) => {
                 self.stage = Stage::Running(begun);
                 Turn::Ran
             }
-            Left::Answered(reply) => {
+            TurnEnd::Answered(reply) => {
                 self.assembler.release();
                 self.stage = Stage::Replied(reply);
                 Turn::Answered

@@ -204,7 +204,8 @@ struct Write<'e, 'a> {
     shown: &'e Shown,
 }
 
-/// These edits as those of a WRITE, if they are so.
+/// These edits as those of a WRITE, if they are so. None is always safe: then each edit encodes the
+/// node.
 fn as_write<'e, 'a>(edits: &'e [Edit<'a>]) -> Option<Write<'e, 'a>>
     ensures { IfSome result (λ write. edits.now
         ≡ edit.PutBytes write.file write.offset write.bytes
@@ -353,7 +354,7 @@ fn edit_each<S: Sectors>(
     base: &mut S,
     edits: &[Edit<'_>],
 ) -> Result<(), TransactionFault>
-    // An edit that can be done
+    // Edits that can be done
     requires known { IsKnown transaction.old × (end_of transaction.old ≤ S.size (S.kept base.old)) }
     requires forms { HaveCurrentForms (cards_of transaction.old) }
     requires can { AreDoable (tree_without_data (cards_of transaction.old)) edits.now }
@@ -390,7 +391,7 @@ pub(crate) fn edit_all<S: Sectors>(
     base: &mut S,
     edits: &[Edit<'_>],
 ) -> Result<(), TransactionFault>
-    // An edit that can be done
+    // Edits that can be done
     requires known { IsKnown transaction.old × (end_of transaction.old ≤ S.size (S.kept base.old)) }
     requires forms { HaveCurrentForms (cards_of transaction.old) }
     requires can { AreDoable (tree_without_data (cards_of transaction.old)) edits.now }

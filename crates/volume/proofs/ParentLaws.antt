@@ -26,9 +26,8 @@ use Rattle.model.specs.Trees.Tree.{Tree, Node, DirEntry, File, bytes_of, names_o
 use Rattle.model.specs.Trees.WellFormed.{links_in, links_from, one_if}
 use Rattle.model.proofs.Trees.KeyedLaws.{at-with_same, at-with_other, at-without_same, at-without_other}
 use Rattle.directory.specs.declared.names.TheConstants.Names.{MAX_NAMES}
-use Rattle.volume.specs.ParentMoves.{KeepsNames, MovesName}
 use Rattle.volume.specs.ParentIndex.{HasName, AreParents}
-use Rattle.volume.proofs.ParentMoves.{each_kept, each_move}
+use Rattle.volume.proofs.ParentMoves.{KeepsNames, MovesName, each_kept, each_move}
 use Rattle.volume.proofs.ParentLinks.{own-places, no_other}
 use Rattle.volume.proofs.ParentTrees.{name_of_card, card_of_name}
 use Rattle.tree_check.specs.Trees.{IsOneTree}

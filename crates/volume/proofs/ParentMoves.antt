@@ -8,9 +8,38 @@ use Rattle.node_table.proofs.TableLaws.{within-numbered}
 use Rattle.layout.specs.CachedNodes.{CachedNode}
 use Rattle.model.specs.Trees.Tree.{root}
 use Rattle.tree_check.specs.Trees.{IsOneTree}
-use Rattle.volume.specs.ParentMoves.{MovesName, EachMove, EachKept}
 use Rattle.volume.specs.ParentIndex.{LeadsTo, HasName, AreParents}
 use Rattle.volume.proofs.ParentLinks.{no_root, one_name}
+
+-- One node's name comes to stand in a directory: the node was made, or was moved there. Other nodes
+-- may go with their names.
+pub record MovesName (old new : List (Option CachedNode)) (moved place directory : ℕ) : Type 0 where
+  pub count : length new ≡ length old
+  -- the node is there, and the directory has its name
+  pub node : number_at new place ≡ Some moved
+  pub name : HasName new directory moved
+  -- each other node was where it is, and each other name in the directory in which it is
+  pub nodes : (other number : ℕ) → number ≢ moved → number_at new other ≡ Some number
+      → number_at old other ≡ Some number
+  pub names : (of number : ℕ) → number ≢ moved → HasName new of number → HasName old of number
+
+-- No name comes to stand in a directory, and no node is made. Nodes may go with their names.
+pub record KeepsNames (old new : List (Option CachedNode)) : Type 0 where
+  pub count : length new ≡ length old
+  pub nodes : (place number : ℕ) → number_at new place ≡ Some number
+      → number_at old place ≡ Some number
+  pub names : (of number : ℕ) → HasName new of number → HasName old of number
+
+-- so the parents stay, but for that node's
+abbrev pub EachMove : Type 0
+EachMove = (old new : List (Option CachedNode)) (parents : List ℕ) (moved place directory : ℕ)
+    → AreParents old parents → HaveOwnPlaces new → IsOneTree new
+    → MovesName old new moved place directory
+    → AreParents new (set parents place directory)
+
+abbrev pub EachKept : Type 0
+EachKept = (old new : List (Option CachedNode)) (parents : List ℕ)
+    → AreParents old parents → KeepsNames old new → AreParents new parents
 
 module _ (old new : List (Option CachedNode)) (parents : List ℕ) (moved place directory : ℕ) (are : AreParents old parents) (own : HaveOwnPlaces new) (tree : IsOneTree new)
     (moves : MovesName old new moved place directory) where

@@ -21,7 +21,6 @@ use Rattle.layout.proofs.Knowing.{AreEach, each_above, each_card}
 use Rattle.layout.proofs.Summing.{known_sum, links-card}
 use Rattle.tree_check.specs.Trees.{led_at, led_by, IsOneTree}
 use Rattle.tree_check.proofs.TreeLaws.{find, There, Nowhere, numbered}
-use Rattle.volume.specs.ParentMoves.{EachParent}
 use Rattle.volume.specs.ParentIndex.{LeadsTo, HasName, AreParents}
 use Rattle.volume.proofs.ParentLinks.{no_root, no_other, has_name}
 
@@ -123,9 +122,6 @@ module _ (nodes : ℕ) (mark : ℕ → ℕ) (cards : List (Option CachedNode)) (
 
       pub parent-nowhere : HasNot cards number → parent_of (tree_of image cards) number ≡ 0
       parent-nowhere lack = no-parent (λ p leads. no_other cards tree number p lack leads)
-
-pub each_parent : EachParent
-each_parent nodes mark cards parents known tree are image place number there = parent-there nodes mark cards known image number tree parents are place there
 
 -- How many nodes the tree has
 

@@ -14,7 +14,6 @@ pub mod MountAnswers
 pub mod Mounts
 pub mod Nodes
 pub mod ParentIndex
-pub mod ParentMoves
 pub mod ParentNotes
 pub mod ParentProps
 pub mod Parents

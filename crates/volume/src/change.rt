@@ -3,8 +3,8 @@
 ghost use Rattle.std.specs.Prelude.{◌≡◌};
 ghost use Rattle.volume.specs.Refusals.{transaction_fault};
 
-use crate::ancestry::{put_by, put_parent};
 use crate::fault::VolumeFault;
+use crate::parent_calls::{put_by, put_parent};
 use crate::volume::Volume;
 use disk::Device;
 use model::node::NodeKind;

@@ -3,8 +3,8 @@
 ghost use Rattle.std.specs.Prelude.{◌≡◌};
 ghost use Rattle.volume.specs.Reading.{reading_fault};
 
+use crate::block_reads::read_bytes;
 use crate::fault::{ReadingFault, VolumeFault};
-use crate::file_parts::read_bytes;
 use crate::volume::Volume;
 use disk::Device;
 

@@ -3,16 +3,16 @@
 #![tactic(auto)]
 
 mod ancestors;
-mod ancestry;
+mod block_reads;
 mod change;
 mod checking;
 mod fault;
 mod file_bytes;
-mod file_parts;
 mod formatting;
 mod laws;
 mod load;
 mod mount;
+mod parent_calls;
 mod parents;
 mod seat_edits;
 mod seat_places;

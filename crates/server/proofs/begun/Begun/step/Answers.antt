@@ -9,7 +9,7 @@ use Rattle.volume.specs.Changes.{Done}
 use Rattle.fs.specs.Views.{fs_of}
 use Rattle.model.specs.Server.World.{InProgress}
 use Rattle.server.specs.declared.begun.Begun.{Begun}
-use Rattle.server.specs.declared.begun.Left.{Left}
+use Rattle.server.specs.declared.begun.TurnEnd.{TurnEnd}
 use Rattle.server.specs.Connections.{GoesOn, Steps}
 use Rattle.server.specs.Stages.{in_progress_at}
 use Rattle.server.proofs.Resumptions.{stands_within, steps_on}
@@ -24,7 +24,7 @@ returns-in-Ok-clause-step g c = λ keeps.
     let request = c.args.request.now in
     let old = shared_of c.args.fs.now c.args.table.now c.args.opens.now in
     let new = shared_of c.step.new.fs c.step.new.table c.step.new.opens in
-    subst (λ (left : Left). Steps c.args.now old new request c.args.self left) (sym c.left.ensures)
+    subst (λ (left : TurnEnd). Steps c.args.now old new request c.args.self left) (sym c.left.ensures)
     (step_leads c.args.now request c.args.self c.in-Ok.done old new
     (subst (λ (asked : Asked). compound.Steps c.args.now old new asked (in_progress_at request c.args.self) c.in-Ok.done) c.resume.ensures.asked
     (subst (λ (r : InProgress). compound.Steps c.args.now old new (asked_of c.resume.result) r c.in-Ok.done) c.resume.ensures.request (c.in-Ok.ensures.step keeps))))
@@ -33,7 +33,7 @@ pub returns-in-Ok-clause-goes_on : goal.returns-in-Ok-clause-goes_on
 returns-in-Ok-clause-goes_on g c =
     let request = c.args.request.now in
     let run = (fs_of c.args.fs.now).volume.run in
-    subst (λ (left : Left). GoesOn run request c.args.self left) (sym c.left.ensures)
+    subst (λ (left : TurnEnd). GoesOn run request c.args.self left) (sym c.left.ensures)
     (steps_on run request c.args.self c.in-Ok.done (stands_within request c.args.self c.requires.goes_on.can)
     (subst (λ (asked : Asked). compound.GoesOn run asked (in_progress_at request c.args.self) c.in-Ok.done) c.resume.ensures.asked
     (subst (λ (r : InProgress). compound.GoesOn run (asked_of c.resume.result) r c.in-Ok.done) c.resume.ensures.request c.in-Ok.ensures.goes_on)))

@@ -2,7 +2,7 @@ use Rattle.std.proofs.Common.{sym, subst}
 use Rattle.layout.specs.CachedNodes.{CachedNode}
 use Rattle.volume.specs.FileBlocks.{AreWithin}
 use Rattle.volume.proofs.PartLaws.{read_whole, read_more, on_ok}
-use Rattle.volume.proofs.file_parts.read_bytes.Goals as goal
+use Rattle.volume.proofs.block_reads.read_bytes.Goals as goal
 
 pub read_blocks-read-requires-clause-within : goal.read_blocks-read-requires-clause-within
 read_blocks-read-requires-clause-within g c =

@@ -1,7 +1,7 @@
 use Rattle.std.proofs.Common.{◌+◌, ◌*◌, ◌/◌, ◌%◌, ℕ, List, subst, ◌∙◌, arith}
 use Rattle.volume.specs.FileParts.{Appends}
 use Rattle.volume.proofs.PartLaws.{part_on}
-use Rattle.volume.proofs.file_parts.read_blocks.Goals as goal
+use Rattle.volume.proofs.block_reads.read_blocks.Goals as goal
 
 pub loop-done-preserved : goal.loop-done-preserved
 loop-done-preserved g c =

@@ -4,7 +4,7 @@ use Rattle.compound.specs.Views.{asks, resumed, fits}
 use Rattle.model.specs.Wire.Rpc.{Compound}
 use Rattle.rpc.specs.Places.{is_within}
 use Rattle.server.specs.Stages.{asked_at}
-use Rattle.server.proofs.begun.ReadCall.resume.Goals as goal
+use Rattle.server.proofs.begun.KeptCall.resume.Goals as goal
 
 pub compound-compound-requires : goal.compound-compound-requires
 compound-compound-requires c =

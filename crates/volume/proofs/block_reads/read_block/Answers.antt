@@ -1,6 +1,6 @@
 use Rattle.std.proofs.Common.{◌+◌, ℕ, List, sym, ◌∙◌, arith}
 use Rattle.volume.proofs.PartLaws.{set_part, hole_part, filled}
-use Rattle.volume.proofs.file_parts.read_block.Goals as goal
+use Rattle.volume.proofs.block_reads.read_block.Goals as goal
 
 pub returns-in_ok-append_part-in-Some-clause-bytes : goal.returns-in_ok-append_part-in-Some-clause-bytes
 returns-in_ok-append_part-in-Some-clause-bytes g c =

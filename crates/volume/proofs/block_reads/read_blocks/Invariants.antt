@@ -1,6 +1,6 @@
 use Rattle.std.proofs.Common.{◌-◌, ◌≡◌, ◌≤◌}
 use Rattle.volume.specs.FileParts.{Appends}
-use Rattle.volume.proofs.file_parts.read_blocks.Given as goal
+use Rattle.volume.proofs.block_reads.read_blocks.Given as goal
 
 -- the first bytes are there
 abbrev pub invariant-loop-done : goal.invariant-loop-done
