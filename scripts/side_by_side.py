@@ -96,7 +96,8 @@ def keep_awake():
     def take_idle_class():
         os.sched_setscheduler(0, os.SCHED_IDLE, os.sched_param(0))
 
-    words = [sys.executable, "-c", "while True: pass"]
+    code = f"import os\nwhile os.getppid() == {os.getpid()}: pass"
+    words = [sys.executable, "-c", code]
     count = os.cpu_count() or 1
     return [subprocess.Popen(words, preexec_fn=take_idle_class) for _ in range(count)]
 
