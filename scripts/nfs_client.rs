@@ -624,9 +624,18 @@ impl Client {
     pub fn ask(&mut self, ops: &Ops) -> Result<Results, Trouble> {
         let (record, xid) = self.request(0, ops);
         let mut results = Results::of(self.carry(&record)?, xid)?;
+        pause();
         results.ok(Op::Sequence)?;
         skip_sequence(&mut results)?;
         Ok(results)
+    }
+}
+
+/// Waits as many milliseconds as PAUSE has in the environment.
+fn pause() {
+    let words = std::env::var("PAUSE").ok();
+    if let Some(length) = words.and_then(|word| word.parse().ok()) {
+        std::thread::sleep(std::time::Duration::from_millis(length));
     }
 }
 
