@@ -22,35 +22,6 @@ use xdr::{Reader, Refusal};
 /// The number of a result whose operation is none (RFC 8881, section 15.2).
 const OP_ILLEGAL: u32 = 10044;
 
-/// The operations that are served; another one of the standard's is answered NOTSUPP.
-const SERVED: [Operation; 25] = [
-    Operation::Access,
-    Operation::Close,
-    Operation::Commit,
-    Operation::Create,
-    Operation::GetAttr,
-    Operation::GetFh,
-    Operation::Lookup,
-    Operation::LookupParent,
-    Operation::Open,
-    Operation::PutFh,
-    Operation::PutRootFh,
-    Operation::Read,
-    Operation::ReadDir,
-    Operation::Remove,
-    Operation::Rename,
-    Operation::RestoreFh,
-    Operation::SaveFh,
-    Operation::SetAttr,
-    Operation::Write,
-    Operation::ExchangeId,
-    Operation::CreateSession,
-    Operation::DestroySession,
-    Operation::Sequence,
-    Operation::DestroyClientId,
-    Operation::ReclaimComplete,
-];
-
 /// What comes next of a COMPOUND.
 #[derive(Drop)]
 pub(crate) enum Next<'a> {
@@ -229,10 +200,11 @@ fn stands_alone(number: u32) -> bool
         || number == Operation::DestroyClientId.number()
 }
 
+/// Whether an operation is served; another one of the standard's is answered NOTSUPP.
 fn is_served(number: u32) -> bool
     ensures { result ≡ is_served number }
 {
-    is_one_of(&SERVED, number)
+    is_one_of(&Operation::ALL, number)
 }
 
 fn is_one_of(operations: &[Operation], number: u32) -> bool

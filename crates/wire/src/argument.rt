@@ -53,35 +53,36 @@ pub enum Operation {
     ReclaimComplete = 58,
 }
 
-const ALL: [Operation; 25] = [
-    Operation::Access,
-    Operation::Close,
-    Operation::Commit,
-    Operation::Create,
-    Operation::GetAttr,
-    Operation::GetFh,
-    Operation::Lookup,
-    Operation::LookupParent,
-    Operation::Open,
-    Operation::PutFh,
-    Operation::PutRootFh,
-    Operation::Read,
-    Operation::ReadDir,
-    Operation::Remove,
-    Operation::Rename,
-    Operation::RestoreFh,
-    Operation::SaveFh,
-    Operation::SetAttr,
-    Operation::Write,
-    Operation::ExchangeId,
-    Operation::CreateSession,
-    Operation::DestroySession,
-    Operation::Sequence,
-    Operation::DestroyClientId,
-    Operation::ReclaimComplete,
-];
-
 impl Operation {
+    /// All of them.
+    pub const ALL: [Operation; 25] = [
+        Operation::Access,
+        Operation::Close,
+        Operation::Commit,
+        Operation::Create,
+        Operation::GetAttr,
+        Operation::GetFh,
+        Operation::Lookup,
+        Operation::LookupParent,
+        Operation::Open,
+        Operation::PutFh,
+        Operation::PutRootFh,
+        Operation::Read,
+        Operation::ReadDir,
+        Operation::Remove,
+        Operation::Rename,
+        Operation::RestoreFh,
+        Operation::SaveFh,
+        Operation::SetAttr,
+        Operation::Write,
+        Operation::ExchangeId,
+        Operation::CreateSession,
+        Operation::DestroySession,
+        Operation::Sequence,
+        Operation::DestroyClientId,
+        Operation::ReclaimComplete,
+    ];
+
     /// The number on the wire.
     pub fn number(self) -> u32
         ensures { result ≡ number_of self }
@@ -96,7 +97,7 @@ impl Operation {
         ensures none { IfNone result ((bytes : List ℕ) → arguments_at number bytes ≡ Err Value) }
         ensures other { IfNone result ((operation : Operation) → number_of operation ≢ number) }
     {
-        numbered_so(&ALL, number)
+        numbered_so(&Operation::ALL, number)
     }
 }
 
