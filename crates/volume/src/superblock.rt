@@ -8,6 +8,7 @@ ghost use Rattle.volume.specs.Superblock.{is_volume, verdict, version_in, superb
 use disk::SECTOR;
 use freemap::Bitmap;
 pub use journal::MIN_SECTORS;
+use layout::places::NODES;
 use layout::versions::VersionNumber;
 use node_table::Table;
 use sector::{put_bytes, put_u32, put_zeros, u32_at};
@@ -20,6 +21,9 @@ pub const MIN_NODES: u32 = 2;
 
 /// The most nodes of a volume.
 pub const MAX_NODES: u32 = Table::MAX_NODES;
+
+/// The fewest sectors behind those of the nodes.
+const MIN_DATA: u32 = 16;
 
 /// What the first sector begins with.
 const MAGIC: [u8; 8] = *b"NFS41VOL";
@@ -45,7 +49,7 @@ pub fn is_volume_size(sectors: u32, nodes: u32) -> bool
         && sectors <= MAX_SECTORS
         && MIN_NODES <= nodes
         && nodes <= MAX_NODES
-        && 164 + nodes <= sectors
+        && NODES + MIN_DATA + nodes <= sectors
 }
 
 /// Writes the fields of the first sector.
