@@ -5,11 +5,12 @@ use Rattle.std.specs.List.{IsAmong}
 use Rattle.disk.specs.Moments.{Image}
 use Rattle.node_table.specs.Tables.{number_at}
 use Rattle.tree_transaction.specs.declared.transaction.Transaction.{Transaction}
-use Rattle.tree_transaction.specs.Transactions.{cards_of, tree_of, IsTransaction, StaysKnown}
+use Rattle.tree_transaction.specs.Transactions.{cards_of, end_of, tree_of, IsKnown, IsTransaction, StaysKnown}
 use Rattle.tree_edits.specs.declared.edit.Edit.{Edit}
 use Rattle.tree_edits.specs.declared.edit.Edit.TheVariants as declared
-use Rattle.tree_edits.specs.Edits.{edits_of}
+use Rattle.tree_edits.specs.Edits.{edits_of, AreDoable, StayFew}
 use Rattle.tree_edits.specs.Outlines.{without_data, tree_without_data}
+use Rattle.tree_edits.specs.Parts.{PartsAreBytes}
 use Rattle.layout.specs.CachedNodes.{CachedNode}
 use Rattle.layout.specs.Stands.{HaveCurrentForms}
 use Rattle.model.specs.Trees.Charge.{charge}
@@ -62,6 +63,21 @@ pub record Does (word : Type 0) (base : Image) (size : ℕ) (old new : Transacti
   pub tree : word → IsTransaction base size old → IsTransaction base size new
       × (tree_of base new ≡ edited (edits_of edits) (tree_of base old))
   pub count : length new.updates ≤ length old.updates + updates_of_all edits
+
+-- Edits can be done one after the other, over so many sectors.
+pub record CanDoAll (size : ℕ) (transaction : Transaction) (edits : List Edit) : Type 0 where
+  pub known : IsKnown transaction
+  pub within : end_of transaction ≤ size
+  pub forms : HaveCurrentForms (cards_of transaction)
+  pub can : AreDoable (tree_without_data (cards_of transaction)) edits
+  pub few : StayFew (tree_without_data (cards_of transaction)) edits
+
+-- such edits are done
+pub record DoesAll (word : Type 0) (base : Image) (size : ℕ) (old new : Transaction)
+    (edits : List Edit)
+    : Type 0 where
+  pub does : Does word base size old new edits
+  pub parts : PartsAreBytes edits
 
 -- what reads nothing does its edit over any base
 abbrev pub DoesAnywhere : (old new : Transaction) → Edit → Type 0

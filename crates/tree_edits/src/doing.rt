@@ -6,12 +6,12 @@ ghost use Rattle.node_table.specs.Tables.{number_at};
 ghost use Rattle.tree_transaction.specs.Transactions.{cards_of, end_of, IsKnown};
 ghost use Rattle.tree_transaction.specs.Nodes.{shown_of, new_card, HasNode};
 ghost use Rattle.tree_edits.specs.declared.edit.Edit.TheVariants as edit;
-ghost use Rattle.tree_edits.specs.Doing.{Does, DoesAnywhere, Overfills};
+ghost use Rattle.tree_edits.specs.Doing.{Does, DoesAll, DoesAnywhere, CanDoAll, Overfills};
 ghost use Rattle.tree_edits.specs.Edits.{IsNewNode, IsShown, IsNewName, IsName, IsFileTo};
-ghost use Rattle.tree_edits.specs.Edits.{CanDo, AreDoable, StayFew, edit_of, fresh_node};
+ghost use Rattle.tree_edits.specs.Edits.{CanDo, AreDoable, edit_of, fresh_node};
 ghost use Rattle.tree_edits.specs.Edits.{fresh_fields};
 ghost use Rattle.tree_edits.specs.Outlines.{tree_without_data};
-ghost use Rattle.tree_edits.specs.Parts.{PutsBytes, PartsAreBytes};
+ghost use Rattle.tree_edits.specs.Parts.{PutsBytes};
 ghost use Rattle.inode.specs.declared.node.Form.TheVariants.{Two};
 ghost use Rattle.layout.specs.Stands.{HaveCurrentForms};
 ghost use Rattle.layout.specs.CachedNodes.{CachedNode as LaidCard};
@@ -354,13 +354,9 @@ fn edit_each<S: Sectors>(
     base: &mut S,
     edits: &[Edit<'_>],
 ) -> Result<(), TransactionFault>
-    // Edits that can be done
-    requires known { IsKnown transaction.old × (end_of transaction.old ≤ S.size (S.kept base.old)) }
-    requires forms { HaveCurrentForms (cards_of transaction.old) }
-    requires can { AreDoable (tree_without_data (cards_of transaction.old)) edits.now }
-    requires few { StayFew (tree_without_data (cards_of transaction.old)) edits.now }
+    requires can { CanDoAll (S.size (S.kept base.old)) transaction.old edits.now }
     // Done, or full
-    ensures done { OnOk result (Does S.keeps_word (S.image (S.kept base.old))
+    ensures done { OnOk result (DoesAll S.keeps_word (S.image (S.kept base.old))
         (S.size (S.kept base.old)) transaction.old transaction.new edits.now) }
     ensures full { IsErrOf result TransactionFault.Full
         → Overfills transaction.old edits.now }
@@ -369,7 +365,6 @@ fn edit_each<S: Sectors>(
         × (transaction.new.cards.table ≡ transaction.old.cards.table) }
     ensures health { Reads (S.health base.old) (S.health base.new)
         (IsErrOf result TransactionFault.Device) }
-    ensures parts { OnOk result (PartsAreBytes edits.now) }
 {
     for edit in edits {
         edit_one(transaction, base, edit)?;
@@ -391,13 +386,9 @@ pub(crate) fn edit_all<S: Sectors>(
     base: &mut S,
     edits: &[Edit<'_>],
 ) -> Result<(), TransactionFault>
-    // Edits that can be done
-    requires known { IsKnown transaction.old × (end_of transaction.old ≤ S.size (S.kept base.old)) }
-    requires forms { HaveCurrentForms (cards_of transaction.old) }
-    requires can { AreDoable (tree_without_data (cards_of transaction.old)) edits.now }
-    requires few { StayFew (tree_without_data (cards_of transaction.old)) edits.now }
+    requires can { CanDoAll (S.size (S.kept base.old)) transaction.old edits.now }
     // Done, or full
-    ensures done { OnOk result (Does S.keeps_word (S.image (S.kept base.old))
+    ensures done { OnOk result (DoesAll S.keeps_word (S.image (S.kept base.old))
         (S.size (S.kept base.old)) transaction.old transaction.new edits.now) }
     ensures full { IsErrOf result TransactionFault.Full
         → Overfills transaction.old edits.now }
@@ -406,7 +397,6 @@ pub(crate) fn edit_all<S: Sectors>(
         × (transaction.new.cards.table ≡ transaction.old.cards.table) }
     ensures health { Reads (S.health base.old) (S.health base.new)
         (IsErrOf result TransactionFault.Device) }
-    ensures parts { OnOk result (PartsAreBytes edits.now) }
 {
     match as_write(edits) {
         Some(write) => put_bytes_showing(

@@ -55,10 +55,9 @@ returns-clause-done g c =
     let S = g.S.Sectors in
     let kept = S.kept c.args.base.now in
     let so_far = c.loop-edit.invariant in
-    so_far.does c.loop-edit.transaction (subst (λ (l : List Edit). Does S.keeps_word (S.image kept) (S.size kept) c.loop-edit.transaction c.loop-edit.transaction l)
-    (sym (drop_of_length-le c.args.edits.now (omega (arith, c.loop-edit-test.false))))
-    (does_nothing S.keeps_word (S.image kept) (S.size kept) c.loop-edit.transaction so_far.known))
-
-pub returns-clause-parts : goal.returns-clause-parts
-returns-clause-parts g c = c.loop-edit.invariant.parts (subst PartsAreBytes
-    (sym (drop_of_length-le c.args.edits.now (omega (arith, c.loop-edit-test.false)))) tt)
+    let none_left : drop c.loop-edit.edit-index c.args.edits.now ≡ [] = drop_of_length-le c.args.edits.now (omega (arith, c.loop-edit-test.false)) in
+    record {
+      does = so_far.does c.loop-edit.transaction (subst (λ (l : List Edit). Does S.keeps_word (S.image kept) (S.size kept) c.loop-edit.transaction c.loop-edit.transaction l)
+          (sym none_left) (does_nothing S.keeps_word (S.image kept) (S.size kept) c.loop-edit.transaction so_far.known));
+      parts = so_far.parts (subst PartsAreBytes (sym none_left) tt);
+    }
