@@ -8,7 +8,8 @@ use Rattle.model.specs.declared.status.Status.TheVariants as status
 use Rattle.model.specs.Operations.Access.{ACCESS}
 use Rattle.model.specs.Operations.Clients.{off_tree}
 use Rattle.model.specs.Operations.Context.{Context}
-pub use Rattle.model.specs.Operations.Create.{made, create, CREATE}
+use Rattle.model.specs.Operations.Create.{CREATE}
+pub use Rattle.model.specs.Operations.Create.{made, create}
 use Rattle.model.specs.Operations.Definition.{Definition}
 use Rattle.model.specs.Operations.Files.{READ, WRITE, COMMIT}
 use Rattle.model.specs.Operations.Handles.{PUTFH, PUTROOTFH, GETFH, SAVEFH, RESTOREFH}
@@ -17,7 +18,8 @@ use Rattle.model.specs.Operations.Open.{OPEN, CLOSE}
 use Rattle.model.specs.Operations.Operation.{Argument}
 use Rattle.model.specs.Operations.ReadDir.{READDIR}
 use Rattle.model.specs.Operations.Refusal.{Refusals, first_refusal}
-pub use Rattle.model.specs.Operations.Rename.{remove_refusals, rename_refusals, has_names, moved_number, target_number, late_at_rename, remove, rename, REMOVE, RENAME}
+use Rattle.model.specs.Operations.Rename.{REMOVE, RENAME}
+pub use Rattle.model.specs.Operations.Rename.{remove_refusals, rename_refusals, has_names, moved_number, target_number, late_at_rename, rename}
 use Rattle.model.specs.Operations.SetAttr.{GETATTR, SETATTR}
 pub use Rattle.model.specs.Operations.State.{State, Stepped, current, saved, stamp_of, current_refusals, named_refusals, is_name_there, answered, refused, moved_to, changed, change_to}
 use Rattle.model.specs.Rights.Need.{Right, are_granted}
