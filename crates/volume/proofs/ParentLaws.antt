@@ -32,12 +32,13 @@ use Rattle.volume.proofs.ParentLinks.{own-places, no_other}
 use Rattle.volume.proofs.ParentTrees.{name_of_card, card_of_name}
 use Rattle.tree_check.specs.Trees.{IsOneTree}
 use Rattle.tree_check.proofs.TreeLaws.{find, Finds, There, Nowhere, numbered}
-use Rattle.volume.specs.Edits.{edited_by, named_by, put_by, HasPut, IsChange}
+use Rattle.volume.specs.Edits.{edited_by, put_by, IsChange}
 use Rattle.volume.specs.Parents.{PutsParent}
 use Rattle.volume.specs.Formed.{IsFormed}
 use Rattle.volume.specs.VolumeState.{VolumeState}
 use Rattle.volume.proofs.FormedLaws.{formed_tree}
-use Rattle.volume.proofs.EditLaws.{one_number, edited_alike, outline_alike}
+use Rattle.volume.proofs.EditLaws.{edited_alike, outline_alike}
+use Rattle.volume.proofs.FormLaws.{HasPut, made, named, named_by, one_number, put}
 
 -- How much names come to, with one more and with one less
 
@@ -200,7 +201,7 @@ others_none (first ∷ []) number other few among off =
 -- Over a change of cached nodes
 
 module _ (held : VolumeState) (edits : List Edit) (change : IsChange held edits) (image : Image) (nodes : ℕ) (mark marked : ℕ → ℕ) (old new : List (Option CachedNode)) (tree_is : held.tree ≡ tree_of image old)
-    (known : AreCards nodes mark old) (new_known : AreCards nodes marked new) (made : AreMade old new (made_by edits))
+    (known : AreCards nodes mark old) (new_known : AreCards nodes marked new) (are_made : AreMade old new (made_by edits))
     (outline : tree_without_data new
     ≡ without_data (edited (edits_of edits) (tree_without_data old))) where
   -- the names of the outline are those of the tree after the edits
@@ -234,9 +235,9 @@ module _ (held : VolumeState) (edits : List Edit) (change : IsChange held edits)
   node_was place number there off = ⊎_elim (λ (stood : number_at old place ≡ Some number). stood)
       (λ (among : IsAmong (made_by edits) number). absurd (⊎_elim
       (λ (none : made_by edits ≡ []). (let count : length (made_by edits) ≡ 0 = ap (λ (numbers : List ℕ). length numbers) none in (let ⊥_is : ⊥ = absurd (omega (arith, count, among.1.0)) in ⊥_is)))
-      (λ (named : made_by edits ≡ named_by edits). off (subst (λ (numbers : List ℕ). IsAmong numbers number) named among))
-      change.made))
-      (made place number there)
+      (λ (is : made_by edits ≡ named_by edits). off (subst (λ (numbers : List ℕ). IsAmong numbers number) is among))
+      (made held edits change)))
+      (are_made place number there)
 
   keeps_names : put_by edits ≡ None → KeepsNames old new
   keeps_names none =
@@ -250,7 +251,7 @@ module _ (held : VolumeState) (edits : List Edit) (change : IsChange held edits)
 
   module _ (number directory : ℕ) (some : put_by edits ≡ Some (number, directory)) where
     put_is : IsPut (edited_by held edits) edits number directory
-    put_is = put_some (edited_by held edits) edits number directory some change.put
+    put_is = put_some (edited_by held edits) edits number directory some (put held edits change)
 
     name_put_there : HasName new directory number
     name_put_there = by_node (at directory (tree_without_data new)) refl (omega (arith, links_behind directory number, put_is.leads))
@@ -264,8 +265,8 @@ module _ (held : VolumeState) (edits : List Edit) (change : IsChange held edits)
       count = count_is;
       node = there;
       name = name_put_there;
-      nodes = λ other of off stands. node_was other of stands (λ among. off (one_number (named_by edits) change.named of number among put_is.among));
-      names = λ of other off has. name_was of other (others_none (named_by edits) number other change.named put_is.among off) has;
+      nodes = λ other of off stands. node_was other of stands (λ among. off (one_number (named_by edits) (named held edits change) of number among put_is.among));
+      names = λ of other off has. name_was of other (others_none (named_by edits) number other (named held edits change) put_is.among off) has;
     }
 
   module _ (limits : Limits) (most : MAX_NAMES ≤ limits.names) (stamp : ℕ) (formed : IsFormed limits stamp (tree_without_data new)) (parents : List ℕ) (are : AreParents old parents) where

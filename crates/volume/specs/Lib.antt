@@ -5,6 +5,7 @@ pub mod FileBlocks
 pub mod FileParts
 pub mod Formats
 pub mod Formed
+pub mod Forms
 pub mod Fronts
 pub mod Kept
 pub mod Known

@@ -22,6 +22,8 @@ use Rattle.volume.specs.Views.{volume_state_by, volume_state, volume_failures}
 use Rattle.volume.proofs.ApplyLaws.{applied_serves, applied_tree, apply_done, apply_refused}
 use Rattle.volume.proofs.ChangeLaws.{behind_serving, formed_after, journal_targets, known_after, log_same, may_settle, outline_after, parents_behind}
 use Rattle.volume.proofs.EditLaws.{front_room, outline_doable, outline_few}
+use Rattle.volume.proofs.FormLaws.{few}
+use Rattle.volume.proofs.FormedLaws.{tree_formed}
 use Rattle.volume.proofs.ServeLaws.{told_err}
 use Rattle.model.specs.Trees.Stamp.{stamp}
 use Rattle.tree_edits.specs.Outlines.{tree_without_data}
@@ -51,6 +53,7 @@ outcome_of-requires-clause-few g c =
     let log : Log = log_of volume.store.journal in
     let held = volume_state_by volume.limits volume.run volume.table log in
     outline_few held c.args.edits.now c.requires (contents log) volume.table refl log.size volume.limits.nodes _ volume.limited volume.known.whole
+    (stamp (volume.run + 1) 0) (tree_formed volume.limits (stamp (volume.run + 1) 0) (contents log) volume.table volume.formed)
     (sym c.fits.ensures ∙ c.if-not-fits.false)
 
 pub outcome_of-requires-clause-room : goal.outcome_of-requires-clause-room
@@ -60,6 +63,7 @@ outcome_of-requires-clause-room g c = λ count within.
     let log : Log = log_of volume.store.journal in
     let held = volume_state_by volume.limits volume.run volume.table log in
     let room = front_room held c.args.edits.now c.requires (contents log) volume.table refl log.size volume.limits.nodes _ volume.limited volume.known.whole
+    (stamp (volume.run + 1) 0) (tree_formed volume.limits (stamp (volume.run + 1) 0) (contents log) volume.table volume.formed)
     (sym c.fits.ensures ∙ c.if-not-fits.false) count in
     let nodes = room.1 in
     record { charge = room.0; nodes = omega (arith, nodes, volume.known.are_cards.count) }
@@ -93,11 +97,11 @@ returns-in_err-apply-clause-volume g c =
     let failed : failures_of c.outcome_of.new.base.journal ≡ failures_of volume.store.journal = ap (λ (h : Health). h.failed) health in
     let told = told_err c.from_residual-in_err-apply.result (fault_of fault) c.from_residual-in_err-apply.ensures.1 in
     let up : old.is_down ≡ false = sym c.is_down.ensures ∙ c.if-is_down.false in
-    let few : length c.in_ok-outcome.outcome.updates.items ≤ 48 = omega (arith, c.requires.few, c.in_ok-outcome.ensures.done.count) in
+    let short : length c.in_ok-outcome.outcome.updates.items ≤ 48 = omega (arith, few (volume_state_by volume.limits volume.run volume.table old) c.args.edits.now c.requires, c.in_ok-outcome.ensures.done.count) in
     rw told (apply_refused word volume.limits volume.run volume.table old new (edited_by (volume_state_by volume.limits volume.run volume.table old) c.args.edits.now) _ _ fault
     (subst (λ (log : Log). IsSafe word log new) same c.in_err-apply.ensures.safe)
     up
-    (λ many. (let bound = (c.in_err-apply.ensures.too_many (ap (λ (log : Log). log.is_down) same ∙ up)).0 (ap (λ x. Err x) many) in omega (arith, bound, few)))
+    (λ many. (let bound = (c.in_err-apply.ensures.too_many (ap (λ (log : Log). log.is_down) same ∙ up)).0 (ap (λ x. Err x) many) in omega (arith, bound, short)))
     (subst (λ (log : Log). Answers {T = Unit {0}} log new (failures_of volume.store.journal) (failures_of c.apply.new.self) (Err fault)) same
     (subst (λ (n : ℕ). Answers {T = Unit {0}} mid new n (failures_of c.apply.new.self) (Err fault)) failed c.in_err-apply.ensures.answers))
     c.in_err-apply.ensures.refuses)

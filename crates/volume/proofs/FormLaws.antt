@@ -1,0 +1,305 @@
+-- What each form of a change makes sure of, of whichever tree its edits can be done in: they are few, one name is put at most and is there after them, and what fits before the first and after the last fits after each.
+use Rattle.std.proofs.Common.{◌≡◌, ◌≤◌, ◌<◌, ◌⊎◌, ℕ, zero, suc, true, List, [], ◌∷◌, Option, Some, None, length, take, get_or, refl, sym, ap, ◌∙◌, arith, inl, inr, subst}
+use Rattle.std.proofs.Math.Logic.{∥∥₁_elim}
+use Rattle.std.proofs.Props.{props}
+use Rattle.std.proofs.lemmas.Bool.{cases_eq}
+use Rattle.std.specs.Prelude.{IsTrue}
+use Rattle.std.specs.List.{IsAmong}
+use Rattle.tree_transaction.specs.Nodes.{shown_of}
+use Rattle.tree_edits.specs.declared.edit.Edit.{Edit}
+use Rattle.tree_edits.specs.declared.edit.Edit.TheVariants as edit
+use Rattle.tree_edits.specs.Doing.{made_by, updates_of_all}
+use Rattle.tree_edits.specs.Edits.{AreDoable, edit_of, edits_of, fresh_node}
+use Rattle.tree_edits.proofs.FitLaws.{fits-without_data}
+use Rattle.model.specs.declared.limits.Limits.{Limits}
+use Rattle.model.specs.declared.node.NodeKind.{NodeKind}
+use Rattle.model.specs.declared.node.NodeKind.TheVariants as kind
+use Rattle.model.specs.Trees.Charge.{charge, fits}
+use Rattle.model.specs.Trees.Edit.{Show, PutNode, PutName, DropName, DropNode, PutBytes, SetSize, done, edited, altered_at, showing, name_put, with_content, overwritten, resized}
+use Rattle.model.specs.Trees.Edit as model
+use Rattle.model.specs.Trees.Keyed.{at, with, IsAbove}
+use Rattle.model.specs.Trees.Tree.{Tree, Node, DirEntry, File, bytes_of, names_of, names_of_node, names_at, is_directory_at}
+use Rattle.model.proofs.Trees.EditLaws.{directory_at}
+use Rattle.model.proofs.Trees.KeyedLaws.{at-with_same, at-with_other, IsAbove-with}
+use Rattle.volume.specs.Edits.{IsAboveAll, IsChange, IsAllowed, edited_by}
+use Rattle.volume.specs.Formed.{IsFormed}
+use Rattle.volume.specs.Forms.{Change, Place, Making, Removing, Moving, Writing, Setting, edits_by, moving}
+use Rattle.volume.specs.VolumeState.{VolumeState}
+use Rattle.volume.proofs.RoomLaws.{above_altered, above_flat, above_name_dropped, above_node_dropped, above_shown, drop_name_room, drop_node_room, put_name_room_back, set_size_room_back, show_room}
+
+-- the tree after so many of them
+abbrev pub front_of : VolumeState → List Edit → (count : ℕ) → Tree
+front_of held edits count = edited (take count (edits_of edits)) held.tree
+
+-- the numbers that names are put for
+abbrev pub named_by : List Edit → List ℕ
+named_by [] = []
+named_by (edit.PutNode number kind shown ∷ edits) = named_by edits
+named_by (edit.DropNode number ∷ edits) = named_by edits
+named_by (edit.Show number shown ∷ edits) = named_by edits
+named_by (edit.PutName directory stamp name number ∷ edits) = number ∷ named_by edits
+named_by (edit.DropName directory stamp name ∷ edits) = named_by edits
+named_by (edit.PutBytes file offset bytes ∷ edits) = named_by edits
+named_by (edit.SetSize file size ∷ edits) = named_by edits
+
+-- each name that edits put is in its directory of this tree
+abbrev pub HasPut : Tree → List Edit → Type 0
+HasPut tree [] = Unit {0}
+HasPut tree (edit.PutNode number kind shown ∷ edits) = HasPut tree edits
+HasPut tree (edit.DropNode number ∷ edits) = HasPut tree edits
+HasPut tree (edit.Show number shown ∷ edits) = HasPut tree edits
+HasPut tree (edit.PutName directory stamp name number ∷ edits) =
+    (at stamp (names_at tree directory) ≡ Some (record { name = name.now; number = number }))
+    × HasPut tree edits
+HasPut tree (edit.DropName directory stamp name ∷ edits) = HasPut tree edits
+HasPut tree (edit.PutBytes file offset bytes ∷ edits) = HasPut tree edits
+HasPut tree (edit.SetSize file size ∷ edits) = HasPut tree edits
+
+-- Its edits are few, and put one name at most
+
+few_updates : (held : VolumeState) (change : Change) → IsAllowed held change → updates_of_all (edits_by change) ≤ 46
+few_updates held (Making number of zero shown directory name directory_shown) above = omega arith
+few_updates held (Making number of (suc size) shown directory name directory_shown) above = omega arith
+few_updates held (Removing place number directory_shown) any = omega arith
+few_updates held (Moving number old new None old_shown new_shown) any = omega arith
+few_updates held (Moving number old new (Some target) old_shown new_shown) any = omega arith
+few_updates held (Writing file offset bytes shown) less = omega (arith, less)
+few_updates held (Setting number None shown) any = omega arith
+few_updates held (Setting number (Some size) shown) any = omega arith
+
+names_one : (change : Change) → length (named_by (edits_by change)) ≤ 1
+names_one (Making number of zero shown directory name directory_shown) = omega arith
+names_one (Making number of (suc size) shown directory name directory_shown) = omega arith
+names_one (Removing place number directory_shown) = omega arith
+names_one (Moving number old new None old_shown new_shown) = omega arith
+names_one (Moving number old new (Some target) old_shown new_shown) = omega arith
+names_one (Writing file offset bytes shown) = omega arith
+names_one (Setting number None shown) = omega arith
+names_one (Setting number (Some size) shown) = omega arith
+
+-- a node that is made has it
+made_named : (change : Change) → (made_by (edits_by change) ≡ []) ⊎ (made_by (edits_by change) ≡ named_by (edits_by change))
+made_named (Making number of zero shown directory name directory_shown) = inr refl
+made_named (Making number of (suc size) shown directory name directory_shown) = inr refl
+made_named (Removing place number directory_shown) = inl refl
+made_named (Moving number old new None old_shown new_shown) = inl refl
+made_named (Moving number old new (Some target) old_shown new_shown) = inl refl
+made_named (Writing file offset bytes shown) = inl refl
+made_named (Setting number None shown) = inl refl
+made_named (Setting number (Some size) shown) = inl refl
+
+-- and a number above all others
+
+only_one : (first : ℕ) (rest : List ℕ) → length (first ∷ rest) ≤ 1 → (number i : ℕ) → i < length (first ∷ rest) → number ≡ get_or (first ∷ rest) i number → number ≡ first
+only_one first rest one number zero less is = is
+only_one first rest one number (suc i) less is = absurd (omega (arith, one, less))
+
+pub one_number : (numbers : List ℕ) → length numbers ≤ 1 → (number other : ℕ) → IsAmong numbers number → IsAmong numbers other → number ≡ other
+one_number [] one number other among too = absurd (omega (arith, among.1.0))
+one_number (first ∷ rest) one number other among too =
+    only_one first rest one number among.0 among.1.0 among.1.1 ∙ sym (only_one first rest one other too.0 too.1.0 too.1.1)
+
+alone : (held : VolumeState) (number other : ℕ) → IsAboveAll held number → IsAmong (number ∷ []) other → IsAboveAll held other
+alone held number other above among = subst (IsAboveAll held) (one_number (number ∷ []) (omega arith) number other (0, (omega arith, refl)) among) above
+
+none : (other : ℕ) → IsAmong [] other → ⊥
+none other among = omega (arith, among.1.0)
+
+made_fresh : (held : VolumeState) (change : Change) → IsAllowed held change → (number : ℕ) → IsAmong (made_by (edits_by change)) number → IsAboveAll held number
+made_fresh held (Making number of zero shown directory name directory_shown) fresh other among = alone held number other fresh among
+made_fresh held (Making number of (suc size) shown directory name directory_shown) fresh other among = alone held number other fresh among
+made_fresh held (Removing place number directory_shown) fresh other among = absurd (none other among)
+made_fresh held (Moving number old new None old_shown new_shown) fresh other among = absurd (none other among)
+made_fresh held (Moving number old new (Some target) old_shown new_shown) fresh other among = absurd (none other among)
+made_fresh held (Writing file offset bytes shown) fresh other among = absurd (none other among)
+made_fresh held (Setting number None shown) fresh other among = absurd (none other among)
+made_fresh held (Setting number (Some size) shown) fresh other among = absurd (none other among)
+
+-- The name is there after them: what follows shows something else
+
+names-shown : (tree : Tree) (number : ℕ) (shown : model.Shown) (other : ℕ) → names_at (done (Show number shown) tree) other ≡ names_at tree other
+names-shown tree number shown other = by_node (at number tree) refl
+  where
+    by_node : (o : Option Node) → at number tree ≡ o → names_at (altered_at (showing shown) tree number o) other ≡ names_at tree other
+    by_node None is = refl
+    by_node (Some node) is = elim (cases_eq other number) [
+      | inl same ↦ ap (names_at (with tree number (showing shown node))) same ∙ ap names_of_node (at-with_same tree number (showing shown node))
+          ∙ sym (ap names_of_node is) ∙ ap (names_at tree) (sym same)
+      | inr apart ↦ ap names_of_node (at-with_other tree number other (showing shown node) apart)
+    ]
+
+names-put : (tree : Tree) (number stamp : ℕ) (entry : DirEntry) → is_directory_at tree number ≡ true → at stamp (names_at (done (PutName number stamp entry) tree) number) ≡ Some entry
+names-put tree number stamp entry is =
+    let found = directory_at (at number tree) is in
+    ap (λ (o : Option Node). at stamp (names_at (altered_at (name_put stamp entry) tree number o) number)) found.1
+    ∙ ap (λ (o : Option Node). at stamp (names_of_node o)) (at-with_same tree number (name_put stamp entry found.0))
+    ∙ at-with_same (names_of found.0.content) stamp entry
+
+shown_behind : (tree : Tree) (directory stamp : ℕ) (entry : DirEntry) (shown : model.Shown) → is_directory_at tree directory ≡ true
+    → at stamp (names_at (done (Show directory shown) (done (PutName directory stamp entry) tree)) directory) ≡ Some entry
+shown_behind tree directory stamp entry shown there = ap (at stamp) (names-shown (done (PutName directory stamp entry) tree) directory shown directory) ∙ names-put tree directory stamp entry there
+
+both_behind : (tree : Tree) (from to stamp : ℕ) (entry : DirEntry) (one other : model.Shown) → is_directory_at tree to ≡ true
+    → at stamp (names_at (done (Show to other) (done (Show from one) (done (PutName to stamp entry) tree))) to) ≡ Some entry
+both_behind tree from to stamp entry one other there =
+    let put = done (PutName to stamp entry) tree in
+    ap (at stamp) (names-shown (done (Show from one) put) to other to ∙ names-shown put from one to) ∙ names-put tree to stamp entry there
+
+name_there : (tree : Tree) (change : Change) → AreDoable tree (edits_by change) → HasPut (edited (edits_of (edits_by change)) tree) (edits_by change)
+name_there tree (Making number of zero shown directory name directory_shown) can =
+    (shown_behind (done (edit_of (edit.PutNode number of shown)) tree) directory number (record { name = name.now; number = number }) (shown_of directory_shown) can.1.0.there, tt)
+name_there tree (Making number of (suc size) shown directory name directory_shown) can =
+    (shown_behind (done (SetSize number (suc size)) (done (edit_of (edit.PutNode number of shown)) tree)) directory number (record { name = name.now; number = number }) (shown_of directory_shown) can.1.1.0.there, tt)
+name_there tree (Removing place number directory_shown) can = tt
+name_there tree (Moving number old new None old_shown new_shown) can =
+    (both_behind (done (DropName old.directory old.stamp) tree) old.directory new.directory new.stamp (record { name = new.name.now; number = number }) (shown_of old_shown) (shown_of new_shown) can.1.0.there, tt)
+name_there tree (Moving number old new (Some target) old_shown new_shown) can = (
+  both_behind (done (DropName old.directory old.stamp) (done (DropNode target.1) (done (DropName new.directory target.0) tree))) old.directory new.directory new.stamp
+      (record { name = new.name.now; number = number }) (shown_of old_shown) (shown_of new_shown) can.1.1.1.0.there,
+  tt,
+)
+name_there tree (Writing file offset bytes shown) can = tt
+name_there tree (Setting number None shown) can = tt
+name_there tree (Setting number (Some size) shown) can = tt
+
+-- What fits before the first and after the last fits after each: what lowers the charge stands first, then one edit of any kind, and then what raises it
+
+-- where there is room after each of these edits, there was before it
+abbrev AreRaising : Limits → Tree → List model.Edit → Type 0
+AreRaising limits tree [] = Unit {0}
+AreRaising limits tree (one ∷ rest) = (IsTrue (fits limits (done one tree)) → IsTrue (fits limits tree)) × AreRaising limits (done one tree) rest
+
+fits_before : (limits : Limits) (tree : Tree) (edits : List model.Edit) → AreRaising limits tree edits → IsTrue (fits limits (edited edits tree)) → IsTrue (fits limits tree)
+fits_before limits tree [] raising all = all
+fits_before limits tree (one ∷ rest) raising all = raising.0 (fits_before limits (done one tree) rest raising.1 all)
+
+fits_within : (limits : Limits) (tree : Tree) (edits : List model.Edit) → AreRaising limits tree edits → IsTrue (fits limits (edited edits tree))
+    → (count : ℕ) → IsTrue (fits limits (edited (take count edits) tree))
+fits_within limits tree [] raising all zero = all
+fits_within limits tree [] raising all (suc count) = all
+fits_within limits tree (one ∷ rest) raising all zero = fits_before limits tree (one ∷ rest) raising all
+fits_within limits tree (one ∷ rest) raising all (suc count) = fits_within limits (done one tree) rest raising.1 all count
+
+fits_behind : (limits : Limits) (tree : Tree) (one : model.Edit) (rest : List model.Edit) → IsTrue (fits limits tree) → ((count : ℕ) → IsTrue (fits limits (edited (take count rest) (done one tree))))
+    → (count : ℕ) → IsTrue (fits limits (edited (take count (one ∷ rest)) tree))
+fits_behind limits tree one rest fit each zero = fit
+fits_behind limits tree one rest fit each (suc count) = each count
+
+module _ (limits : Limits) where
+  shows : (tree : Tree) (number : ℕ) (shown : model.Shown) → IsAbove 0 tree → IsTrue (fits limits (done (Show number shown) tree)) → IsTrue (fits limits tree)
+  shows tree number shown above all = sym (show_room limits tree number shown above) ∙ all
+
+  -- a new node takes nothing before its size is set
+  no_charge : (of : NodeKind) (shown : model.Shown) → charge (fresh_node of shown) ≡ 0
+  no_charge kind.File shown = refl
+  no_charge kind.Directory shown = refl
+
+  no_names : (of : NodeKind) (shown : model.Shown) → length (names_of (fresh_node of shown).content) ≡ 0
+  no_names kind.File shown = refl
+  no_names kind.Directory shown = refl
+
+  naming_raises : (tree : Tree) (directory stamp : ℕ) (entry : DirEntry) (shown : model.Shown) → IsAbove 0 tree → is_directory_at tree directory ≡ true
+      → AreRaising limits tree (PutName directory stamp entry ∷ Show directory shown ∷ [])
+  naming_raises tree directory stamp entry shown above there = (
+    put_name_room_back tree directory stamp entry above there limits,
+    (shows (done (PutName directory stamp entry) tree) directory shown (above_altered (name_put stamp entry) tree directory above), tt),
+  )
+
+  moved_fronts : (tree : Tree) → IsAbove 0 tree → IsTrue (fits limits tree) → (number : ℕ) (old new : Place) (one other : model.Shown)
+      → (let edits = DropName old.directory old.stamp ∷ PutName new.directory new.stamp (record { name = new.name.now; number = number }) ∷ Show old.directory one ∷ Show new.directory other ∷ [] in
+      IsTrue (fits limits (edited edits tree)) → (count : ℕ) → IsTrue (fits limits (edited (take count edits) tree)))
+  moved_fronts tree above fit number old new one other all count =
+      let put = PutName new.directory new.stamp (record { name = new.name.now; number = number }) in
+      let first = done (DropName old.directory old.stamp) tree in
+      let second = done put first in
+      let third = done (Show old.directory one) second in
+      let first_above = above_name_dropped tree old.directory old.stamp above in
+      let second_above = above_altered (name_put new.stamp (record { name = new.name.now; number = number })) first new.directory first_above in
+      fits_behind limits tree (DropName old.directory old.stamp) (put ∷ Show old.directory one ∷ Show new.directory other ∷ []) fit
+      (fits_behind limits first put (Show old.directory one ∷ Show new.directory other ∷ []) (drop_name_room tree old.directory old.stamp above limits fit)
+      (fits_within limits second (Show old.directory one ∷ Show new.directory other ∷ [])
+      (shows second old.directory one second_above, (shows third new.directory other (above_shown second old.directory one second_above), tt)) all))
+      count
+
+  each_fits : (tree : Tree) → IsAbove 0 tree → IsTrue (fits limits tree) → (change : Change) → AreDoable tree (edits_by change) → IsTrue (fits limits (edited (edits_of (edits_by change)) tree))
+      → (count : ℕ) → IsTrue (fits limits (edited (take count (edits_of (edits_by change))) tree))
+  each_fits tree above fit (Making number of zero shown directory name directory_shown) can all count =
+      let put = fresh_node of (shown_of shown) in
+      let entry : DirEntry = record { name = name.now; number = number } in
+      fits_behind limits tree (PutNode number put) (PutName directory number entry ∷ Show directory (shown_of directory_shown) ∷ []) fit
+      (fits_within limits (with tree number put) (PutName directory number entry ∷ Show directory (shown_of directory_shown) ∷ [])
+      (naming_raises (with tree number put) directory number entry (shown_of directory_shown) (IsAbove-with tree number 0 put above can.0.some) can.1.0.there) all)
+      count
+  each_fits tree above fit (Making number of (suc size) shown directory name directory_shown) can all count =
+      let put = fresh_node of (shown_of shown) in
+      let entry : DirEntry = record { name = name.now; number = number } in
+      let sized : Node → Node = λ node. with_content node (File (resized (bytes_of node.content) (suc size))) in
+      let first = with tree number put in
+      let first_above = IsAbove-with tree number 0 put above can.0.some in
+      fits_behind limits tree (PutNode number put) (SetSize number (suc size) ∷ PutName directory number entry ∷ Show directory (shown_of directory_shown) ∷ []) fit
+      (fits_within limits first (SetSize number (suc size) ∷ PutName directory number entry ∷ Show directory (shown_of directory_shown) ∷ []) (
+        set_size_room_back first number (suc size) put first_above (at-with_same tree number put) (no_charge of (shown_of shown)) (no_names of (shown_of shown)) limits,
+        naming_raises (done (SetSize number (suc size)) first) directory number entry (shown_of directory_shown) (above_altered sized first number first_above) can.1.1.0.there,
+      ) all)
+      count
+  each_fits tree above fit (Removing place number directory_shown) can all count =
+      let first = done (DropName place.directory place.stamp) tree in
+      let second = done (DropNode number) first in
+      let first_above = above_name_dropped tree place.directory place.stamp above in
+      fits_behind limits tree (DropName place.directory place.stamp) (DropNode number ∷ Show place.directory (shown_of directory_shown) ∷ []) fit
+      (fits_behind limits first (DropNode number) (Show place.directory (shown_of directory_shown) ∷ []) (drop_name_room tree place.directory place.stamp above limits fit)
+      (fits_within limits second (Show place.directory (shown_of directory_shown) ∷ []) (shows second place.directory (shown_of directory_shown) (above_node_dropped first number first_above), tt) all))
+      count
+  each_fits tree above fit (Moving number old new None old_shown new_shown) can all count =
+      moved_fronts tree above fit number old new (shown_of old_shown) (shown_of new_shown) all count
+  each_fits tree above fit (Moving number old new (Some target) old_shown new_shown) can all count =
+      let behind = edits_of (moving number old new old_shown new_shown) in
+      let first = done (DropName new.directory target.0) tree in
+      let first_above = above_name_dropped tree new.directory target.0 above in
+      let first_fits = drop_name_room tree new.directory target.0 above limits fit in
+      fits_behind limits tree (DropName new.directory target.0) (DropNode target.1 ∷ behind) fit
+      (fits_behind limits first (DropNode target.1) behind first_fits
+      (moved_fronts (done (DropNode target.1) first) (above_node_dropped first target.1 first_above) (drop_node_room first target.1 first_above limits first_fits)
+      number old new (shown_of old_shown) (shown_of new_shown) all))
+      count
+  each_fits tree above fit (Writing file offset bytes shown) can all count =
+      let put : Node → Node = λ node. with_content node (File (overwritten (bytes_of node.content) offset bytes.now)) in
+      let first = done (PutBytes file offset bytes.now) tree in
+      fits_behind limits tree (PutBytes file offset bytes.now) (Show file (shown_of shown) ∷ []) fit
+      (fits_within limits first (Show file (shown_of shown) ∷ []) (shows first file (shown_of shown) (above_altered put tree file above), tt) all)
+      count
+  each_fits tree above fit (Setting number None shown) can all count =
+      fits_within limits tree (Show number (shown_of shown) ∷ []) (shows tree number (shown_of shown) above, tt) all count
+  each_fits tree above fit (Setting number (Some size) shown) can all count =
+      let sized : Node → Node = λ node. with_content node (File (resized (bytes_of node.content) size)) in
+      let first = done (SetSize number size) tree in
+      fits_behind limits tree (SetSize number size) (Show number (shown_of shown) ∷ []) fit
+      (fits_within limits first (Show number (shown_of shown) ∷ []) (shows first number (shown_of shown) (above_altered sized tree number above), tt) all)
+      count
+
+-- A change
+
+module _ (held : VolumeState) (edits : List Edit) (change : IsChange held edits) where
+  pub few : updates_of_all edits ≤ 46
+  few = subst (λ (l : List Edit). updates_of_all l ≤ 46) (sym change.is) (few_updates held change.change change.allowed)
+
+  -- one name is put at most; a node that is made has it, and a number above all others
+  pub named : length (named_by edits) ≤ 1
+  named = subst (λ (l : List Edit). length (named_by l) ≤ 1) (sym change.is) (names_one change.change)
+
+  pub made : (made_by edits ≡ []) ⊎ (made_by edits ≡ named_by edits)
+  made = subst (λ (l : List Edit). (made_by l ≡ []) ⊎ (made_by l ≡ named_by l)) (sym change.is) (made_named change.change)
+
+  pub fresh : (number : ℕ) → IsAmong (made_by edits) number → IsAboveAll held number
+  fresh = subst (λ (l : List Edit). (number : ℕ) → IsAmong (made_by l) number → IsAboveAll held number) (sym change.is) (made_fresh held change.change change.allowed)
+
+  -- a name that is put is there after all of them
+  pub put : HasPut (edited_by held edits) edits
+  put = subst (λ (l : List Edit). HasPut (edited_by held l) l) (sym change.is) (name_there held.tree change.change (subst (AreDoable held.tree) change.is change.doable))
+
+  -- what fits after the last of them fits after each, in a tree that is well formed
+  pub fronts : (before : ℕ) → IsFormed held.limits before held.tree → IsTrue (fits held.limits (edited_by held edits)) → (count : ℕ) → IsTrue (fits held.limits (front_of held edits count))
+  fronts before formed all count = ∥∥₁_elim formed.well_formed (Prim.hlevel props) (λ well.
+      subst (λ (l : List Edit). IsTrue (fits held.limits (edited_by held l)) → IsTrue (fits held.limits (front_of held l count))) (sym change.is)
+      (λ whole. each_fits held.limits held.tree (above_flat 0 held.tree well.numbered) (sym (fits-without_data held.limits held.tree) ∙ well.fitting) change.change
+      (subst (AreDoable held.tree) change.is change.doable) whole count) all)

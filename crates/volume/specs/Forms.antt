@@ -1,0 +1,71 @@
+-- The changes that there are of a volume's tree, and the edits that each is made of.
+use Rattle.std.specs.Prelude.{ℕ, zero, suc, List, [], ◌∷◌, ◌++◌, Option, Some, None}
+use denote.Ref.{Bor}
+use Rattle.tree_transaction.specs.declared.nodes.Shown.{Shown}
+use Rattle.tree_edits.specs.declared.edit.Edit.{Edit}
+use Rattle.tree_edits.specs.declared.edit.Edit.TheVariants as edit
+use Rattle.model.specs.declared.node.NodeKind.{NodeKind}
+
+-- where a name stands: its directory, and the stamp and the name of its entry
+pub record Place : Type 0 where
+  pub directory : ℕ
+  pub stamp : ℕ
+  pub name : Bor (List ℕ)
+
+-- The changes that there are, and what each is made of
+pub data Change : Type 0 where
+  -- a node, and of a file its size where it has one; its name, whose entry has its number for a
+  -- stamp; and what its directory shows then
+  Making : (number : ℕ) → NodeKind → (size : ℕ) → Shown
+      → (directory : ℕ) → (name : Bor (List ℕ)) → (directory_shown : Shown) → Change
+  -- a name and the node of this number are gone, and what the directory shows then
+  Removing : Place → (number : ℕ) → (directory_shown : Shown) → Change
+  -- what stands under the new name is gone, where something does (its entry's stamp and number);
+  -- the old name of the node is gone, the new one is there; and what both directories show then
+  Moving : (number : ℕ) → (old new : Place) → (target : Option (ℕ × ℕ))
+      → (old_shown new_shown : Shown) → Change
+  -- bytes of a file from a place on, and what it shows then
+  Writing : (file offset : ℕ) → (bytes : Bor (List ℕ)) → Shown → Change
+  -- the size of a file, where one is set, and what the node shows then
+  Setting : (number : ℕ) → (size : Option ℕ) → Shown → Change
+
+-- Their edits
+
+-- a new file has the size 0
+abbrev pub sizing : (number size : ℕ) → List Edit
+sizing number zero = []
+sizing number (suc size) = edit.SetSize number (suc size) ∷ []
+
+abbrev pub resizing : (number : ℕ) → Option ℕ → List Edit
+resizing number None = []
+resizing number (Some size) = edit.SetSize number size ∷ []
+
+abbrev pub replacing : (directory : ℕ) → (name : Bor (List ℕ)) → Option (ℕ × ℕ) → List Edit
+replacing directory name None = []
+replacing directory name (Some target) =
+    edit.DropName directory target.0 name ∷ edit.DropNode target.1 ∷ []
+
+abbrev pub moving : (number : ℕ) → (old new : Place) → (old_shown new_shown : Shown) → List Edit
+moving number old new old_shown new_shown =
+    edit.DropName old.directory old.stamp old.name
+    ∷ edit.PutName new.directory new.stamp new.name number
+    ∷ edit.Show old.directory old_shown
+    ∷ edit.Show new.directory new_shown
+    ∷ []
+
+-- in their order
+abbrev pub edits_by : Change → List Edit
+edits_by (Making number of size shown directory name directory_shown) =
+    edit.PutNode number of shown
+    ∷ (sizing number size
+    ++ (edit.PutName directory number name number ∷ edit.Show directory directory_shown ∷ []))
+edits_by (Removing place number directory_shown) =
+    edit.DropName place.directory place.stamp place.name
+    ∷ edit.DropNode number
+    ∷ edit.Show place.directory directory_shown
+    ∷ []
+edits_by (Moving number old new target old_shown new_shown) =
+    replacing new.directory new.name target ++ moving number old new old_shown new_shown
+edits_by (Writing file offset bytes shown) =
+    edit.PutBytes file offset bytes ∷ edit.Show file shown ∷ []
+edits_by (Setting number size shown) = resizing number size ++ (edit.Show number shown ∷ [])
