@@ -1,16 +1,16 @@
--- A file whose size is set, and what it shows then, on the tree with zeros for the bytes of files: the tree after it may stand, and what fits after both edits fits after each.
-use Rattle.std.proofs.Common.{◌≡◌, ◌≤◌, ◌<◌, ◌+◌, ℕ, zero, suc, true, false, List, [], ◌∷◌, Some, length, take, refl, sym, ap, ◌∙◌, arith, subst}
+-- A file whose size is set, and what it shows then, on the tree with zeros for the bytes of files: the tree after it may stand.
+use Rattle.std.proofs.Common.{◌≡◌, ◌≤◌, ◌<◌, ◌+◌, ℕ, true, false, List, [], ◌∷◌, Some, length, refl, sym, ap, ◌∙◌, arith, subst}
 use Rattle.std.proofs.Math.Logic.{∥∥₁_map, ∥∥₁_elim}
 use Rattle.std.proofs.Props.{props}
-use Rattle.std.specs.Prelude.{IsTrue, option_map, All}
+use Rattle.std.specs.Prelude.{option_map, All}
 use Rattle.tree_edits.specs.Outlines.{blank, blank_node, without_data, zeros}
-use Rattle.tree_edits.proofs.BlankLaws.{at-without_data, without_data-with, edits_blanked}
+use Rattle.tree_edits.proofs.BlankLaws.{at-without_data, without_data-with}
 use Rattle.tree_edits.proofs.BlankLaws.{length-zeros}
 use Rattle.tree_edits.proofs.FitLaws.{fits-without_data}
 use Rattle.model.specs.declared.limits.Limits.{Limits}
 use Rattle.model.specs.declared.node.NodeKind.TheVariants as kind
 use Rattle.model.specs.Trees.Charge.{fits}
-use Rattle.model.specs.Trees.Edit.{Edit, SetSize, Show, Shown, edited, done, showing, with_content, resized}
+use Rattle.model.specs.Trees.Edit.{Edit, SetSize, Show, Shown, edited, showing, with_content, resized}
 use Rattle.model.specs.Trees.Keyed.{at, with}
 use Rattle.model.specs.Trees.Stamp.{next_stamp}
 use Rattle.model.specs.Trees.Tree.{Tree, Node, Content, File, Directory, bytes_of, names_of, is_directory}
@@ -21,9 +21,7 @@ use Rattle.fs.specs.FileSystem.{FileSystem}
 use Rattle.fs.specs.Planned.{IsList}
 use Rattle.fs.specs.Ready.{MayStand}
 use Rattle.fs.proofs.FlatWrites.{bytes_blank, resized_zeros}
-use Rattle.fs.proofs.RoomLaws.{above_altered, show_room}
 use Rattle.volume.specs.Formed.{IsFormed}
-use Rattle.volume.proofs.EditLaws.{fits_alike}
 
 -- of a tree with zeros as many zeros are left
 resized_blank : (content : Content) (size : ℕ) → resized (bytes_of (blank content)) size ≡ zeros (length (resized (bytes_of content) size))
@@ -82,9 +80,6 @@ module _ (fs : FileSystem) (formed : MayStand fs.volume fs.changes) (number : �
   after_is : after ≡ with tree number last
   after_is = altered-twice sized (showing shown) tree number node there
 
-  flat_is : edited wanted flat ≡ with flat number last_flat
-  flat_is = altered-twice sized (showing shown) flat number (blank_node node) flat_there
-
   same_node : last_flat ≡ blank_node last
   same_node = ap (λ (bytes : List ℕ). showing shown (with_content node (File bytes))) (resized_blank node.content size)
 
@@ -119,27 +114,12 @@ module _ (fs : FileSystem) (formed : MayStand fs.volume fs.changes) (number : �
     few_now : length (bytes_of node.content) ≤ limits.file_bytes
     few_now = (let most = was.1 in omega (arith, most, ap (λ (l : List ℕ). length l) (bytes_blank node.content), length-zeros (length (bytes_of node.content))))
 
-    front_flat : (count : ℕ) → IsTrue (fits limits (edited wanted flat)) → IsTrue (fits limits (edited (take count wanted) flat))
-    front_flat zero fit = well.fitting
-    front_flat (suc zero) fit = sym (show_room limits (done (SetSize number size) flat) number shown (above_altered sized flat number well.numbered)) ∙ fit
-    front_flat (suc (suc zero)) fit = fit
-    front_flat (suc (suc (suc count))) fit = fit
-
   pub formed_after : fits limits after ≡ true → IsFormed limits (next_stamp fs.volume.run (fs.changes + 1)) after
   formed_after fit = record {
     well_formed = ∥∥₁_map formed.well_formed (λ well. subst (IsWellFormed limits) seen ((keeps well).well_formed (fits_flat ∙ fit)));
     before = ∥∥₁_elim formed.well_formed (Prim.hlevel props)
         (λ well. subst (IsBefore (next_stamp fs.volume.run (fs.changes + 1))) seen ((keeps well).before (next_stamp fs.volume.run (fs.changes + 1)) (omega arith)));
   }
-
-  -- Fronts
-
-  alike : (edits : List Edit) → fits limits (edited edits flat) ≡ fits limits (edited edits tree)
-  alike edits = fits_alike limits (edited edits tree) (edited edits flat) (edits_blanked edits tree)
-
-  pub fronts : (count : ℕ) → IsTrue (fits limits after) → IsTrue (fits limits (edited (take count wanted) tree))
-  fronts count fit = ∥∥₁_elim formed.well_formed (Prim.hlevel props) (λ well.
-      sym (alike (take count wanted)) ∙ front_flat well count (alike wanted ∙ fit))
 
   pub small : length (bytes_of node.content) ≤ limits.file_bytes
   small = ∥∥₁_elim formed.well_formed (Prim.hlevel props) few_now

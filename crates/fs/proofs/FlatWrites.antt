@@ -1,12 +1,12 @@
 -- WRITE of bytes that passed its tests, on the tree with zeros for the bytes of files: there it is WRITE of as many zeros. So the tree after it may stand.
-use Rattle.std.proofs.Common.{◌≡◌, ◌≤◌, ◌<◌, ◌+◌, ◌-◌, ◌^◌, ℕ, zero, suc, Bool, true, false, List, [], ◌∷◌, ◌++◌, Option, Some, None, length, take, drop, replicate, refl, sym, ap, ap₂, ◌∙◌, arith, subst, not}
+use Rattle.std.proofs.Common.{◌≡◌, ◌≤◌, ◌<◌, ◌+◌, ◌-◌, ◌^◌, ℕ, zero, suc, Bool, true, false, List, [], ◌∷◌, ◌++◌, Option, Some, None, length, drop, replicate, refl, sym, ap, ap₂, ◌∙◌, arith, subst, not}
 use Rattle.std.proofs.Math.Logic.{∥∥₁_elim}
 use Rattle.std.proofs.Props.{props}
 use Rattle.std.proofs.lemmas.Bool.{lt-ltb, le-ltb, leb-true, leb-false}
 use Rattle.std.proofs.lemmas.List.{take-replicate, drop-replicate, take_all, append-nil, replicate-append-replicate}
-use Rattle.std.specs.Prelude.{IsTrue, Result, Ok, option_map, nat_le}
+use Rattle.std.specs.Prelude.{Result, Ok, option_map, nat_le}
 use Rattle.tree_edits.specs.Outlines.{blank, blank_node, without_data, zeros}
-use Rattle.tree_edits.proofs.BlankLaws.{at-without_data, without_data-with, key-without_data, directory-without_data, edits_blanked, length-zeros, overwritten-length}
+use Rattle.tree_edits.proofs.BlankLaws.{at-without_data, without_data-with, key-without_data, directory-without_data, length-zeros, overwritten-length}
 use Rattle.tree_edits.proofs.FitLaws.{fits-without_data}
 use Rattle.model.specs.declared.acl.Cred.{Cred}
 use Rattle.model.specs.declared.limits.Limits.{Limits}
@@ -15,7 +15,7 @@ use Rattle.model.specs.declared.status.Status.TheVariants as status
 use Rattle.model.specs.Rights.Acl.{write_data}
 use Rattle.model.specs.Trees.Changes.{touched}
 use Rattle.model.specs.Trees.Charge.{fits}
-use Rattle.model.specs.Trees.Edit.{Edit, PutBytes, Show, Shown, edited, done, showing, with_content, overwritten, resized}
+use Rattle.model.specs.Trees.Edit.{Edit, PutBytes, Show, Shown, edited, showing, with_content, overwritten, resized}
 use Rattle.model.specs.Operations.Files.{are_bytes, taken_bytes, write}
 use Rattle.model.specs.Trees.Keyed.{at, with, is_key}
 use Rattle.model.specs.Trees.Limits.{limits_of}
@@ -27,7 +27,7 @@ use Rattle.model.specs.Trees.Stamp.{next_stamp, is_stamp_left}
 use Rattle.model.specs.Sessions.StateIds.{found, state_refusals, write_access}
 use Rattle.model.specs.Operations.Step.{State, does}
 use Rattle.model.specs.Trees.Tree.{Tree, Node, Content, File, Directory, bytes_of, is_directory_at}
-use Rattle.model.specs.Trees.WellFormed.{IsWellFormed, IsContent}
+use Rattle.model.specs.Trees.WellFormed.{IsContent}
 use Rattle.model.proofs.Trees.NodeChangeLaws.{altered-twice}
 use Rattle.model.proofs.Operations.RefusalLaws.{none_in_front, none_in_both}
 use Rattle.fs.specs.FileSystem.{FileSystem}
@@ -35,9 +35,7 @@ use Rattle.fs.specs.Files.{permit_refusals, verdict_refusals}
 use Rattle.fs.specs.Ready.{MayStand}
 use Rattle.fs.proofs.FileSteps as steps
 use Rattle.fs.proofs.KeptLaws.{formed_by}
-use Rattle.fs.proofs.RoomLaws.{above_altered, show_room}
 use Rattle.volume.specs.Formed.{IsFormed}
-use Rattle.volume.proofs.EditLaws.{fits_alike}
 
 -- Zeros that are written over zeros are zeros
 
@@ -196,22 +194,6 @@ module _ (fs : FileSystem) (formed : MayStand fs.volume fs.changes) (counted : f
 
     pub formed_after : IsFormed limits (next_stamp fs.volume.run (fs.changes + 1)) after
     formed_after = formed_by fs formed counted limited on now (Argument.Write flat_arguments) (write true limits on now flat_arguments) after refl refl refl goes refl (step_tree ∙ seen)
-
-  -- Fronts
-
-  front_flat : IsWellFormed limits flat → (count : ℕ) → IsTrue (fits limits (edited wanted flat)) → IsTrue (fits limits (edited (take count wanted) flat))
-  front_flat well zero fit = well.fitting
-  front_flat well (suc zero) fit =
-      sym (show_room limits (done (PutBytes number offset part) flat) number shown (above_altered (put part) flat number well.numbered)) ∙ fit
-  front_flat well (suc (suc zero)) fit = fit
-  front_flat well (suc (suc (suc count))) fit = fit
-
-  alike : (edits : List Edit) → fits limits (edited edits flat) ≡ fits limits (edited edits tree)
-  alike edits = fits_alike limits (edited edits tree) (edited edits flat) (edits_blanked edits tree)
-
-  pub fronts : (count : ℕ) → IsTrue (fits limits after) → IsTrue (fits limits (edited (take count wanted) tree))
-  fronts count fit = ∥∥₁_elim formed.well_formed (Prim.hlevel props) (λ well.
-      sym (alike (take count wanted)) ∙ front_flat well count (alike wanted ∙ fit))
 
   -- the file has few bytes before it
   pub small : (bytes : List ℕ) → node.content ≡ File bytes → length bytes ≤ limits.file_bytes

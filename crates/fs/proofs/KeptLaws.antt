@@ -1,11 +1,8 @@
 -- What every change asks of its edits, said once for all operations: the tree after it may stand, and so it may be kept.
-use Rattle.std.proofs.Common.{◌≡◌, ◌≤◌, ◌<◌, ◌+◌, ◌^◌, ◌⊎◌, ℕ, List, [], length, sym, ap, ap₂, ◌∙◌, arith, subst}
+use Rattle.std.proofs.Common.{◌≡◌, ◌≤◌, ◌<◌, ◌+◌, ◌^◌, ℕ, refl, sym, ap, ap₂, ◌∙◌, arith, subst}
 use Rattle.std.proofs.Math.Logic.{∥∥₁_map, ∥∥₁_elim}
 use Rattle.std.proofs.Props.{props}
 use Rattle.std.specs.Prelude.{IsTrue}
-use Rattle.std.specs.List.{IsAmong}
-use Rattle.tree_edits.specs.declared.edit.Edit.{Edit}
-use Rattle.tree_edits.specs.Doing.{made_by, updates_of_all}
 use Rattle.tree_edits.specs.Edits.{AreDoable}
 use Rattle.tree_edits.specs.Outlines.{without_data}
 use Rattle.model.specs.declared.limits.Limits.{Limits}
@@ -23,8 +20,9 @@ use Rattle.model.proofs.Operations.StepProofs.{every_step, before_later}
 use Rattle.fs.specs.FileSystem.{FileSystem}
 use Rattle.fs.specs.Planned.{IsPlanned}
 use Rattle.fs.specs.Ready.{MayStand}
-use Rattle.volume.specs.Edits.{IsAboveAll, HasPut, edited_by, front_of, named_by}
+use Rattle.volume.specs.Edits.{IsAllowed, edited_by}
 use Rattle.volume.specs.Formed.{IsFormed}
+use Rattle.volume.specs.Forms.{Change, edits_by}
 
 module _ (fs : FileSystem) (formed : MayStand fs.volume fs.changes) (counted : fs.changes < 2 ^ 32) (limited : fs.volume.limits ≡ limits_of fs.volume.sectors fs.volume.limits.nodes) where
   abbrev limits : Limits
@@ -59,29 +57,24 @@ module _ (fs : FileSystem) (formed : MayStand fs.volume fs.changes) (counted : f
             (subst (λ (n : ℕ). IsBefore n stepped.state.tree) (ap₂ next_stamp run_then more) (kept well).before));
       }
 
-  -- edits that are a change, whose tree has room and may stand after it
-  pub planned_by : (edits : List Edit) → updates_of_all edits ≤ 46 → AreDoable fs.volume.tree edits
-      → length (named_by edits) ≤ 1 → (made_by edits ≡ []) ⊎ (made_by edits ≡ named_by edits)
-      → ((number : ℕ) → IsAmong (made_by edits) number → IsAboveAll fs.volume number)
-      → HasPut (edited_by fs.volume edits) edits
-      → ((count : ℕ) → IsTrue (fits limits (edited_by fs.volume edits)) → IsTrue (fits limits (front_of fs.volume edits count)))
-      → IsTrue (fits limits (edited_by fs.volume edits)) → fs.changes + 1 < 2 ^ 32
-      → IsFormed limits (next_stamp fs.volume.run (fs.changes + 1)) (edited_by fs.volume edits) → IsPlanned fs edits
-  planned_by edits few doable named made fresh put fronts fit left stands = record {
-    change = record {
-      few = few;
-      doable = doable;
-      named = named;
-      made = made;
-      fresh = fresh;
-      put = put;
-      fronts = fronts;
-      formed = λ all. record {
-        well_formed = stands.well_formed;
-        before = before_later (next_stamp fs.volume.run (fs.changes + 1)) (stamp (fs.volume.run + 1) 0) (without_data (edited_by fs.volume edits)) stands.before (omega (arith, left));
-      };
-    };
-    fitting = fit;
-    left = left;
-    formed = stands;
-  }
+  -- a change of one of the forms, whose tree has room and may stand after it
+  pub planned_by : (change : Change) → IsAllowed fs.volume change → AreDoable fs.volume.tree (edits_by change)
+      → IsTrue (fits limits (edited_by fs.volume (edits_by change))) → fs.changes + 1 < 2 ^ 32
+      → IsFormed limits (next_stamp fs.volume.run (fs.changes + 1)) (edited_by fs.volume (edits_by change)) → IsPlanned fs (edits_by change)
+  planned_by change allowed doable fit left stands =
+      let after = edited_by fs.volume (edits_by change) in
+      record {
+        change = record {
+          change = change;
+          is = refl;
+          allowed = allowed;
+          doable = doable;
+          formed = λ all. record {
+            well_formed = stands.well_formed;
+            before = before_later (next_stamp fs.volume.run (fs.changes + 1)) (stamp (fs.volume.run + 1) 0) (without_data after) stands.before (omega (arith, left));
+          };
+        };
+        fitting = fit;
+        left = left;
+        formed = stands;
+      }

@@ -4,7 +4,7 @@ use Rattle.std.proofs.Math.Logic.{∥∥₁_elim}
 use Rattle.std.proofs.Props.{props}
 use Rattle.std.specs.Prelude.{option_map, if◌then◌else◌}
 use Rattle.tree_edits.specs.Edits.{AreDoable, IsFileTo, size_of}
-use Rattle.tree_edits.specs.Outlines.{blank, blank_node, without_data}
+use Rattle.tree_edits.specs.Outlines.{blank, blank_node}
 use Rattle.tree_edits.proofs.BlankLaws.{at-without_data, length-zeros}
 use Rattle.layout.specs.CachedNodes.{CachedNode}
 use Rattle.model.specs.declared.limits.Limits.{Limits}
@@ -24,11 +24,11 @@ use Rattle.model.specs.Trees.WellFormed.{IsContent}
 use Rattle.fs.specs.FileSystem.{FileSystem}
 use Rattle.fs.specs.Making.{last_refusal, room_tests}
 use Rattle.fs.specs.Ready.{MayStand}
-use Rattle.fs.specs.Setting.{resizing}
 use Rattle.fs.proofs.NodePlans.{no_room, no_stamp}
-use Rattle.fs.proofs.RoomLaws.{above_altered, show_room}
 use Rattle.volume.specs.Edits.{edited_by}
+use Rattle.volume.specs.Forms.{resizing}
 use Rattle.volume.specs.Nodes.{IsNodeOf, IsFile, ShowsContent}
+use Rattle.volume.proofs.RoomLaws.{above_altered, above_flat, show_room}
 
 -- What refuses it, where a tree that is asked for has room as the one after it has
 
@@ -54,11 +54,6 @@ pub file_of : (tree : Tree) (number : ℕ) (card : CachedNode) → IsNodeOf tree
 file_of tree number card node file =
     let is : IsFile card.fields.size node.node.content = subst (λ (of : NodeKind). ShowsContent of card node.node.content) file node.content in
     ap is_directory_node node.there ∙ ap is_directory is.file
-
--- numbers rise in a tree where they do in the one with zeros for the bytes of files
-pub above_flat : (least : ℕ) (tree : Tree) → IsAbove least (without_data tree) → IsAbove least tree
-above_flat least [] above = tt
-above_flat least (entry ∷ rest) above = (above.0, above_flat entry.0 rest above.1)
 
 few_bytes : (limits : Limits) (content : Content) → IsContent limits (blank content) → length (bytes_of content) ≤ limits.file_bytes
 few_bytes limits (File bytes) is = (let low = is.1 in omega (arith, low, length-zeros (length bytes)))

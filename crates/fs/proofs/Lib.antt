@@ -13,7 +13,6 @@ pub mod FirstFiles
 pub mod FlatLaws
 pub mod FlatSizes
 pub mod FlatWrites
-pub mod FrontLaws
 pub mod HandleLaws
 pub mod KeptLaws
 pub mod LastPlans
@@ -37,7 +36,6 @@ pub mod RenameDoable
 pub mod RenameFlat
 pub mod RenamePlans
 pub mod RenameSteps
-pub mod RoomLaws
 pub mod SettingFlat
 pub mod SettingLaws
 pub mod SettingPlans

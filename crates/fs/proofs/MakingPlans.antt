@@ -1,19 +1,13 @@
 -- The edits that make a node and its name, as they stand in memory: they are a change that may be kept, and leave the tree that the definition says.
 use denote.Ref.{Bor}
-use Rattle.std.proofs.Common.{◌≡◌, ◌≢◌, ◌≤◌, ◌<◌, ◌+◌, ◌-◌, ◌^◌, ◌++◌, ℕ, zero, suc, false, List, [], ◌∷◌, Option, Some, None, length, take, replicate, refl, sym, ap, ◌∙◌, arith, subst, is_some, inr, get_or}
-use Rattle.std.proofs.Math.Logic.{∥∥₁_elim}
-use Rattle.std.proofs.Props.{props}
+use Rattle.std.proofs.Common.{◌≡◌, ◌≢◌, ◌≤◌, ◌<◌, ◌+◌, ◌-◌, ◌^◌, ◌++◌, ℕ, zero, suc, false, List, [], ◌∷◌, Option, Some, None, length, replicate, refl, sym, ap, ◌∙◌, arith, subst, is_some}
 use Rattle.std.specs.Prelude.{IsTrue, nat_lt, ◌==◌}
 use Rattle.std.proofs.lemmas.Bool.{ltb-false}
-use Rattle.std.specs.List.{IsAmong}
 use Rattle.tree_transaction.specs.declared.nodes.Shown.{Shown}
 use Rattle.tree_transaction.specs.Nodes.{shown_of}
 use Rattle.tree_edits.specs.declared.edit.Edit.{Edit}
 use Rattle.tree_edits.specs.declared.edit.Edit.TheVariants as edit
-use Rattle.tree_edits.specs.Doing.{made_by as made_in, updates_of_all}
 use Rattle.tree_edits.specs.Edits.{AreEntries, AreDoable, edits_of, fresh_node, size_of}
-use Rattle.tree_edits.specs.Outlines.{without_data}
-use Rattle.tree_edits.proofs.BlankLaws.{edits_blanked}
 use Rattle.model.specs.declared.limits.Limits.{Limits}
 use Rattle.model.specs.declared.node.NodeKind.{NodeKind}
 use Rattle.model.specs.declared.node.NodeKind.TheVariants as kind
@@ -27,21 +21,21 @@ use Rattle.model.specs.Attributes.Name.{name_refusals}
 use Rattle.model.specs.Operations.Refusal.{first_refusal}
 use Rattle.model.specs.declared.status.Status.TheVariants as status
 use Rattle.model.specs.Trees.Stamp.{next_stamp}
-use Rattle.model.specs.Trees.Tree.{Tree, Node, File, Directory, DirEntry, bytes_of, names_at, names_of, names_of_node, is_directory, is_directory_node, entry_of}
-use Rattle.model.specs.Trees.WellFormed.{IsWellFormed}
+use Rattle.model.specs.Trees.Tree.{Tree, Node, File, Directory, DirEntry, bytes_of, names_of, names_of_node, is_directory, is_directory_node, entry_of}
 use Rattle.model.proofs.Trees.KeyedLaws.{at-with_same, with-with_same}
 use Rattle.model.proofs.Trees.NodeChangeLaws.{altered-once}
 use Rattle.model.proofs.Operations.RefusalLaws.{none_in_front}
 use Rattle.fs.specs.FileSystem.{FileSystem}
-use Rattle.fs.specs.Making.{first_node, sizing, tree_with, IsSizeOf, MayBeMade}
+use Rattle.fs.specs.Making.{first_node, tree_with, IsSizeOf, MayBeMade}
 use Rattle.fs.specs.Planned.{IsPlanned}
 use Rattle.fs.specs.Ready.{MayStand}
-use Rattle.fs.proofs.FrontLaws.{parent_there, named_there, name_is_there, second_is}
 use Rattle.fs.proofs.KeptLaws.{planned_by}
+use Rattle.fs.proofs.MakingLaws.{parent_there, named_there, second_is}
 use Rattle.fs.proofs.MakingLaws as laws
-use Rattle.volume.specs.Edits.{HasPut, edited_by, named_by}
+use Rattle.volume.specs.Edits.{edited_by}
 use Rattle.volume.specs.Formed.{IsFormed}
-use Rattle.volume.proofs.EditLaws.{fits_alike}
+use Rattle.volume.specs.Forms.{sizing}
+use Rattle.volume.specs.Forms as form
 
 -- a name that passes its tests has 1 to 255 bytes
 pub name_some : (limits : Limits) (name : List ℕ) → first_refusal (name_refusals limits name) ≡ None → 0 < length name
@@ -58,10 +52,6 @@ name_short limits name passes =
     let first = none_in_front (length name == 0) status.Inval _ passes in
     let second = none_in_front (nat_lt limits.name_bytes (length name)) status.NameTooLong _ first.1 in
     not_less limits.name_bytes (length name) second.0
-
-only_one : (one number i : ℕ) → i < 1 → number ≡ get_or (one ∷ []) i number → number ≡ one
-only_one one number zero less is = is
-only_one one number (suc i) less is = absurd (omega (arith, less))
 
 -- a new node whose size is set is the one that is wanted
 grown : (of : NodeKind) (size : ℕ) (made : model.Shown) → IsSizeOf of (suc size)
@@ -189,89 +179,13 @@ module _ (fs : FileSystem) (formed : MayStand fs.volume fs.changes) (counted : f
       ),
     )
 
-    -- What stands after each of them fits
-
-    abbrev flat : Tree
-    flat = without_data tree
-
-    alike : (edits : List model.Edit) → fits limits (edited edits flat) ≡ fits limits (edited edits tree)
-    alike edits = fits_alike limits (edited edits tree) (edited edits flat) (edits_blanked edits tree)
-
-    abbrev front : (size count : ℕ) → List model.Edit
-    front size count = take count (edits_of (list size))
-
-    all_flat : (size : ℕ) → IsSizeOf of size → IsTrue (fits limits (edited_by fs.volume (list size))) → IsTrue (fits limits (edited (wanted size) flat))
-    all_flat size has fit = alike (wanted size)
-        ∙ ap (fits limits) (sym (laws.after_wanted fs formed now number spelled.now parent names there content of size made) ∙ sym (list_after size has)) ∙ fit
-
-    module _ (well : IsWellFormed limits flat) where
-      name_front : (size : ℕ) → IsTrue (fits limits (edited (wanted size) flat)) → IsTrue (fits limits (edited (PutNode own (child size) ∷ PutName number own entry ∷ []) flat))
-      name_front size all = ap (fits limits) (second_is flat own number (child size) parent entry (shown_of parent_shown) off
-          (laws.flat_there fs formed now number spelled.now parent names there content))
-          ∙ laws.name_room fs formed now number spelled.now parent names there content of size made well all
-
-      grown_flat : (size : ℕ) → IsSizeOf of (suc size) → done (SetSize own (suc size)) (with flat own first) ≡ with flat own (child (suc size))
-      grown_flat size has =
-          let grow : Node → Node = λ node. with_content node (File (resized (bytes_of node.content) (suc size))) in
-          altered-once grow (with flat own first) own first (at-with_same flat own first)
-          ∙ with-with_same flat own first (grow first) ∙ ap (with flat own) (grown of size made has)
-
-      front_flat : (size : ℕ) → IsSizeOf of size → (count : ℕ) → IsTrue (fits limits (edited (wanted size) flat)) → IsTrue (fits limits (edited (edits_of (list size)) flat))
-          → IsTrue (fits limits (edited (front size count) flat))
-      front_flat size has zero all whole = well.fitting
-      front_flat size has (suc zero) all whole = laws.first_room fs formed now number spelled.now parent names there content of size made well all
-      front_flat zero has (suc (suc zero)) all whole = ap (λ (t : Node). fits limits (done (PutName number own entry) (with flat own t))) (no_size of made) ∙ name_front 0 all
-      front_flat zero has (suc (suc (suc count))) all whole = subst (λ (l : List model.Edit). IsTrue (fits limits (edited l flat))) (sym (rest count)) whole
-        where
-          rest : (n : ℕ) → front 0 (suc (suc (suc n))) ≡ edits_of (list 0)
-          rest zero = refl
-          rest (suc n) = refl
-      front_flat (suc size) has (suc (suc zero)) all whole = ap (fits limits) (grown_flat size has)
-          ∙ laws.child_room fs formed now number spelled.now parent names there content of (suc size) made well all
-      front_flat (suc size) has (suc (suc (suc zero))) all whole = ap (λ (t : Tree). fits limits (done (PutName number own entry) t)) (grown_flat size has) ∙ name_front (suc size) all
-      front_flat (suc size) has (suc (suc (suc (suc count)))) all whole = subst (λ (l : List model.Edit). IsTrue (fits limits (edited l flat))) (sym (rest count)) whole
-        where
-          rest : (n : ℕ) → front (suc size) (suc (suc (suc (suc n)))) ≡ edits_of (list (suc size))
-          rest zero = refl
-          rest (suc n) = refl
-
-    fronts : (size : ℕ) → IsSizeOf of size → (count : ℕ) → IsTrue (fits limits (edited_by fs.volume (list size))) → IsTrue (fits limits (edited (front size count) tree))
-    fronts size has count fit = ∥∥₁_elim formed.well_formed (Prim.hlevel props) (λ well.
-        sym (alike (front size count)) ∙ front_flat well size has count (all_flat size has fit) (alike (edits_of (list size)) ∙ fit))
-
-    -- The name is there after all of them
-
-    put_there : (size : ℕ) → at own (names_at (tree_with fs number spelled.now (child size) now) number) ≡ Some entry
-    put_there size = ap (λ (t : Tree). at own (names_at t number)) (laws.after_wanted fs formed now number spelled.now parent names there content of size made)
-        ∙ name_is_there tree own number (child size) parent entry (touched (Some parent) own now) off there
-
-    has_put : (size : ℕ) → IsSizeOf of size → HasPut (edited_by fs.volume (list size)) (list size)
-    has_put zero has = (ap (λ (t : Tree). at own (names_at t number)) (list_after 0 has) ∙ put_there 0, tt)
-    has_put (suc size) has = (ap (λ (t : Tree). at own (names_at t number)) (list_after (suc size) has) ∙ put_there (suc size), tt)
-
-    few : (size : ℕ) → updates_of_all (list size) ≤ 46
-    few zero = omega arith
-    few (suc size) = omega arith
-
-    one_made : (size : ℕ) → made_in (list size) ≡ own ∷ []
-    one_made zero = refl
-    one_made (suc size) = refl
-
-    one_named : (size : ℕ) → named_by (list size) ≡ own ∷ []
-    one_named zero = refl
-    one_named (suc size) = refl
-
     pub planned : (size : ℕ) (has : IsSizeOf of size) → MayBeMade fs number spelled.now (child size) → AreEntries made.acl → AreEntries (shown_of parent_shown).acl
         → IsTrue (fits limits (edited_by fs.volume (list size))) → fs.changes + 1 < 2 ^ 32 → IsPlanned fs (list size)
     planned size has may child_entries parent_entries fit left =
         let is = list_after size has in
         let after = laws.after_wanted fs formed now number spelled.now parent names there content of size made in
-        planned_by fs formed counted limited (list size) (few size) (list_doable size has may child_entries parent_entries)
-        (omega (arith, ap (λ (l : List ℕ). length l) (one_named size))) (inr (one_made size ∙ sym (one_named size)))
-        (λ n among other key. subst (λ (k : ℕ). other < k)
-        (sym (let one = subst (λ (l : List ℕ). IsAmong l n) (one_made size) among in only_one own n one.0 one.1.0 one.1.1))
-        (laws.below fs formed now number spelled.now parent names there content other key))
-        (has_put size has) (λ count all. fronts size has count all) fit left
+        planned_by fs formed counted limited (form.Making own of size child_shown number spelled parent_shown)
+        (λ other key. laws.below fs formed now number spelled.now parent names there content other key) (list_doable size has may child_entries parent_entries) fit left
         (subst (IsFormed limits (next_stamp fs.volume.run (fs.changes + 1))) (sym after ∙ sym is)
         (laws.formed_after fs formed now number spelled.now parent names there content of size made may
         (sym (ap (fits limits) (is ∙ after)) ∙ fit)))

@@ -22,7 +22,7 @@ use Rattle.model.specs.Trees.Stamp.{next_stamp, is_stamp_left}
 use Rattle.model.specs.Trees.Tree.{Tree, Node, Directory, is_directory, is_directory_at, is_directory_node, names_of_node}
 use Rattle.model.proofs.Operations.RefusalLaws.{none_in_front}
 use Rattle.fs.specs.FileSystem.{FileSystem}
-use Rattle.fs.specs.Making.{first_node, room_tests, sizing, tree_with, IsDirectoryOf, IsSizeOf, MayBeMade}
+use Rattle.fs.specs.Making.{first_node, room_tests, tree_with, IsDirectoryOf, IsSizeOf, MayBeMade}
 use Rattle.fs.specs.Planned.{IsPlanned, shown_by}
 use Rattle.fs.specs.Ready.{MayStand}
 use Rattle.fs.proofs.CachedNodeViews.{names_are}
@@ -30,6 +30,7 @@ use Rattle.fs.proofs.MakingLaws as laws
 use Rattle.fs.proofs.MakingPlans as plans
 use Rattle.fs.proofs.RemovalPlans.{shown_touched, entries_shown}
 use Rattle.volume.specs.Edits.{edited_by}
+use Rattle.volume.specs.Forms.{sizing}
 
 -- What the tests of room and stamps come to
 

@@ -1,24 +1,25 @@
--- A name in place of another one, in a well-formed tree: its edits can be done one after the other, and the name is there after them.
+-- A name in place of another one, in a well-formed tree: its edits can be done one after the other.
 use Rattle.std.proofs.Common.{◌≡◌, ◌≢◌, ◌≤◌, ◌<◌, ◌+◌, ◌⊎◌, ℕ, Bool, true, false, List, [], ◌∷◌, Option, Some, None, length, eqb, refl, sym, ap, ◌∙◌, arith, is_some, inl, inr, bytes_eq, lt_irrefl, true≢false}
 use Rattle.std.proofs.lemmas.Bool.{cases_eq, cases_Bool, eqb-true}
 use Rattle.directory.specs.Records.{record_from}
 use Rattle.tree_transaction.specs.declared.nodes.Shown.{Shown}
 use Rattle.tree_transaction.specs.Nodes.{shown_of}
-use Rattle.tree_edits.specs.Edits.{AreEntries, AreDoable, edits_of}
+use Rattle.tree_edits.specs.declared.edit.Edit.{Edit}
+use Rattle.tree_edits.specs.Edits.{AreEntries, AreDoable}
 use Rattle.model.specs.declared.limits.Limits.{Limits}
-use Rattle.model.specs.Trees.Edit.{DropName, DropNode, PutName, Show, done, edited, name_put, name_dropped, showing, altered_at}
-use Rattle.model.specs.Trees.Edit as model
-use Rattle.model.specs.Trees.Keyed.{Keyed, at, is_key, with, without, kept_or_not, worth_at}
-use Rattle.model.specs.Trees.Tree.{Tree, Node, DirEntry, names_of, names_of_node, names_at, is_directory_node, is_directory_at, entry_of, found_or}
+use Rattle.model.specs.Trees.Edit.{DropName, DropNode, PutName, done, name_put, name_dropped, showing, altered_at}
+use Rattle.model.specs.Trees.Keyed.{Keyed, at, is_key, without, kept_or_not, worth_at}
+use Rattle.model.specs.Trees.Tree.{Tree, Node, DirEntry, names_of_node, names_at, is_directory_node, is_directory_at, entry_of, found_or}
 use Rattle.model.specs.Trees.WellFormed.{one_if, is_stamped, times_named, AreNames, IsWellFormed, IsBefore}
 use Rattle.model.proofs.Trees.ChangeLaws.{entry_found, names_in, led_to, never_named, directory_key}
 use Rattle.model.proofs.Trees.EditLaws.{IsForest, forest_of, directory_at}
 use Rattle.model.proofs.Trees.EditViews.{entry_before, NameDropped, name_is_dropped, NodeDropped, node_is_dropped}
-use Rattle.model.proofs.Trees.KeyedLaws.{at-above, at-with_same, at-with_other, at-without_same, at-without_other, total-without, IsAbove-without}
+use Rattle.model.proofs.Trees.KeyedLaws.{at-above, at-with_same, at-without_same, at-without_other, total-without, IsAbove-without}
 use Rattle.model.proofs.Facts.OptionLaws.{none_unless, some≢none}
 use Rattle.fs.specs.declared.renaming.Renaming.{Renaming}
-use Rattle.fs.specs.RenameTests.{moving_edits}
+use Rattle.fs.specs.RenameTests.{new_place, old_place}
 use Rattle.fs.proofs.FlatLaws.{key-altered}
+use Rattle.volume.specs.Forms.{moving}
 
 -- Names of a directory
 
@@ -51,30 +52,12 @@ entry_stays name (entry ∷ rest) stamp found is apart =
         ∙ others is
 
 -- names after edits
-pub names-shown : (tree : Tree) (number : ℕ) (shown : model.Shown) (other : ℕ) → names_at (done (Show number shown) tree) other ≡ names_at tree other
-names-shown tree number shown other = by_node (at number tree) refl
-  where
-    by_node : (o : Option Node) → at number tree ≡ o → names_at (altered_at (showing shown) tree number o) other ≡ names_at tree other
-    by_node None is = refl
-    by_node (Some node) is = elim (cases_eq other number) [
-      | inl same ↦ ap (names_at (with tree number (showing shown node))) same ∙ ap names_of_node (at-with_same tree number (showing shown node))
-          ∙ sym (ap names_of_node is) ∙ ap (names_at tree) (sym same)
-      | inr apart ↦ ap names_of_node (at-with_other tree number other (showing shown node) apart)
-    ]
-
 names-dropped : (tree : Tree) (number stamp : ℕ) → is_directory_at tree number ≡ true → names_at (done (DropName number stamp) tree) number ≡ without (names_at tree number) stamp
 names-dropped tree number stamp is =
     let found = directory_at (at number tree) is in
     ap (λ (o : Option Node). names_at (altered_at (name_dropped stamp) tree number o) number) found.1
     ∙ ap names_of_node (at-with_same tree number (name_dropped stamp found.0))
     ∙ sym (ap (λ (o : Option Node). without (names_of_node o) stamp) found.1)
-
-pub names-put : (tree : Tree) (number stamp : ℕ) (entry : DirEntry) → is_directory_at tree number ≡ true → at stamp (names_at (done (PutName number stamp entry) tree) number) ≡ Some entry
-names-put tree number stamp entry is =
-    let found = directory_at (at number tree) is in
-    ap (λ (o : Option Node). at stamp (names_at (altered_at (name_put stamp entry) tree number o) number)) found.1
-    ∙ ap (λ (o : Option Node). at stamp (names_of_node o)) (at-with_same tree number (name_put stamp entry found.0))
-    ∙ at-with_same (names_of found.0.content) stamp entry
 
 -- What stands before the name goes to its place: nothing under the new name, and the old one still
 
@@ -156,6 +139,9 @@ module _ (limits : Limits) (tree : Tree) (well : IsWellFormed limits tree) (own 
 
 -- What its edits ask of the tree, in equalities alone
 
+abbrev pub moving_edits : Renaming → (old_stamp number stamp : ℕ) → (from_shown to_shown : Shown) → List Edit
+moving_edits asked old_stamp number stamp from_shown to_shown = moving number (old_place asked old_stamp) (new_place asked stamp) from_shown to_shown
+
 pub record CanMove (tree : Tree) (asked : Renaming) (old_stamp number own : ℕ) : Type 0 where
   pub from_directory : is_directory_at tree asked.from ≡ true
   pub entry : entry_of asked.old_name.now (names_at tree asked.from) ≡ Some (record_from old_stamp asked.old_name.now number)
@@ -229,9 +215,6 @@ module _ (tree : Tree) (own number old_stamp : ℕ) (asked : Renaming) (from_sho
   abbrev second : Tree
   second = done (PutName asked.to own put) first
 
-  abbrev third : Tree
-  third = done (Show asked.from (shown_of from_shown)) second
-
   pub moved_doable : AreDoable tree (moving_edits asked old_stamp number own from_shown to_shown)
   moved_doable = (
     record { there = can.from_directory; number = number; named = can.entry },
@@ -253,7 +236,3 @@ module _ (tree : Tree) (own number old_stamp : ℕ) (asked : Renaming) (from_sho
       ),
     ),
   )
-
-  pub name_there : at own (names_at (edited (edits_of (moving_edits asked old_stamp number own from_shown to_shown)) tree) asked.to) ≡ Some put
-  name_there = ap (at own) (names-shown third asked.to (shown_of to_shown) asked.to ∙ names-shown second asked.from (shown_of from_shown) asked.to)
-      ∙ names-put first asked.to own put can.to_directory

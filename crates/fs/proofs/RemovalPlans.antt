@@ -1,8 +1,7 @@
 -- The edits that remove a name, as they stand in memory: a change that may be kept, which comes to what the definition says.
 use denote.Ref.{Bor}
-use Rattle.std.proofs.Common.{◌≡◌, ◌<◌, ◌+◌, ◌^◌, ℕ, true, false, List, [], ◌∷◌, Option, Some, None, take, refl, sym, ap, ◌∙◌, arith, subst, inl}
+use Rattle.std.proofs.Common.{◌≡◌, ◌<◌, ◌+◌, ◌^◌, ℕ, true, false, List, [], ◌∷◌, Option, Some, None, sym, ap, ◌∙◌, subst}
 use Rattle.std.proofs.lemmas.Bool.{lt-ltb}
-use Rattle.std.specs.Prelude.{IsTrue}
 use Rattle.directory.specs.Records.{Record, record_from}
 use Rattle.tree_transaction.specs.declared.nodes.Shown.{Shown}
 use Rattle.tree_transaction.specs.Nodes.{shown_of}
@@ -33,8 +32,9 @@ use Rattle.fs.specs.Ready.{MayStand}
 use Rattle.fs.specs.Removing.{removal_refusals, removed}
 use Rattle.fs.proofs.KeptLaws.{planned_by}
 use Rattle.fs.proofs.RemovedLaws as laws
-use Rattle.volume.specs.Edits.{edited_by, front_of}
+use Rattle.volume.specs.Edits.{edited_by}
 use Rattle.volume.specs.Formed.{IsFormed}
+use Rattle.volume.specs.Forms as form
 use Rattle.volume.specs.Nodes.{IsNodeOf}
 use Rattle.fs.proofs.EntryLaws.{few_listed}
 
@@ -104,17 +104,14 @@ module _ (fs : FileSystem) (formed : MayStand fs.volume fs.changes) (counted : f
     ),
   )
 
-  doable : AreDoable fs.volume.tree edits
-  doable = subst (AreDoable fs.volume.tree) (sym edits_are) doable_list
-
-  fronts : (count : ℕ) → IsTrue (fits fs.volume.limits (front_of fs.volume list count))
-  fronts count = ap (λ (l : List model.Edit). fits fs.volume.limits (edited (take count l) fs.volume.tree)) list_is
-      ∙ laws.fronts fs formed counted limited cred now number spelled.now entry found passed count
+  list_after : edited_by fs.volume list ≡ laws.after fs formed counted limited cred now number spelled.now entry found passed
+  list_after = ap (λ (l : List model.Edit). edited l fs.volume.tree) list_is
 
   pub planned : fs.changes + 1 < 2 ^ 32 → IsPlanned fs edits
-  planned left = subst (IsPlanned fs) (sym edits_are) (planned_by fs formed counted limited list (omega arith) doable_list (omega arith) (inl refl)
-      (λ n among. absurd (let less = among.1.0 in omega (arith, less))) tt (λ count all. fronts count) (fronts 3) left
-      (subst (IsFormed fs.volume.limits (next_stamp fs.volume.run (fs.changes + 1))) (sym (ap (λ (l : List model.Edit). edited l fs.volume.tree) list_is))
+  planned left = subst (IsPlanned fs) (sym edits_are) (planned_by fs formed counted limited
+      (form.Removing (record { directory = number; stamp = entry_stamp; name = spelled }) target shown) tt doable_list
+      (ap (fits fs.volume.limits) list_after ∙ laws.fit fs formed counted limited cred now number spelled.now entry found passed) left
+      (subst (IsFormed fs.volume.limits (next_stamp fs.volume.run (fs.changes + 1))) (sym list_after)
       (laws.formed_after fs formed counted limited cred now number spelled.now entry found passed (lt-ltb (fs.changes + 1) (2 ^ 32) left))))
 
   module _ (state : State) (on : IsOn fs cred number state) where

@@ -1,5 +1,5 @@
 -- REMOVE of a name that passed its tests: its edits can be done, the tree after them always has room, and it may stand.
-use Rattle.std.proofs.Common.{◌≡◌, ◌≢◌, ◌<◌, ◌+◌, ◌^◌, ℕ, zero, suc, Bool, true, false, not, List, [], ◌∷◌, ◌++◌, Option, Some, None, take, length, refl, sym, ap, ◌∙◌, is_some, true≢false, arith}
+use Rattle.std.proofs.Common.{◌≡◌, ◌≢◌, ◌<◌, ◌+◌, ◌^◌, ℕ, Bool, true, false, not, List, [], ◌∷◌, ◌++◌, Option, Some, None, length, refl, sym, ap, ◌∙◌, is_some, true≢false, arith}
 use Rattle.std.proofs.Math.Logic.{∥∥₁_elim}
 use Rattle.std.proofs.Props.{props}
 use Rattle.std.proofs.lemmas.Bool.{not-false, lt-ltb}
@@ -33,6 +33,7 @@ use Rattle.model.proofs.Operations.RefusalLaws.{none_in_front, none_in_both}
 use Rattle.model.proofs.Facts.OptionLaws.{some≢none}
 use Rattle.volume.specs.Formed.{IsFormed}
 use Rattle.volume.proofs.EditLaws.{fits_alike}
+use Rattle.volume.proofs.RoomLaws.{above_name_dropped, drop_name_room, above_node_dropped, drop_node_room, show_room}
 use Rattle.fs.specs.FileSystem.{FileSystem}
 use Rattle.fs.specs.Operations.{IsOn}
 use Rattle.fs.specs.Ready.{MayStand}
@@ -40,7 +41,6 @@ use Rattle.fs.specs.Removing.{may_remove, removal_refusals, removed}
 use Rattle.fs.proofs.FlatLaws.{touched-without_data, removable-without_data, flat_shown, flat_name_dropped, flat_node_dropped, key-altered, key-dropped}
 use Rattle.fs.proofs.KeptLaws.{formed_by}
 use Rattle.fs.proofs.RemoveTests as tests
-use Rattle.fs.proofs.RoomLaws.{above_name_dropped, drop_name_room, above_node_dropped, drop_node_room, show_room}
 
 pub no_names : {A : Type 0} (names : Keyed A) → nat_lt 0 (length names) ≡ false → names ≡ []
 no_names [] told = refl
@@ -129,12 +129,9 @@ module _ (fs : FileSystem) (formed : MayStand fs.volume fs.changes) (counted : f
   directory_there = key-dropped (done (DropName number entry.0) tree) entry.1.number number apart
       ∙ key-altered (name_dropped entry.0) tree number number ∙ directory_key (is_key number tree) is.directory refl
 
-  -- The tree after each of them has room
+  -- The tree after them has room
 
   module _ (well : IsWellFormed limits flat) where
-    first : Tree
-    first = done (DropName number entry.0) flat
-
     first_room : IsTrue (fits limits (done (DropName number entry.0) flat))
     first_room = drop_name_room flat number entry.0 well.numbered limits well.fitting
 
@@ -145,19 +142,9 @@ module _ (fs : FileSystem) (formed : MayStand fs.volume fs.changes) (counted : f
     last_room = show_room limits (done (DropNode entry.1.number) (done (DropName number entry.0) flat)) number (touched (at number tree) own now)
         (above_node_dropped (done (DropName number entry.0) flat) entry.1.number (above_name_dropped flat number entry.0 well.numbered)) ∙ second_room
 
-    front_room : (count : ℕ) → IsTrue (fits limits (edited (take count wanted) flat))
-    front_room zero = well.fitting
-    front_room (suc zero) = first_room
-    front_room (suc (suc zero)) = second_room
-    front_room (suc (suc (suc zero))) = last_room
-    front_room (suc (suc (suc (suc count)))) = last_room
-
-  pub fronts : (count : ℕ) → IsTrue (fits limits (edited (take count wanted) tree))
-  fronts count = ∥∥₁_elim formed.well_formed (Prim.hlevel props) (λ well.
-      sym (fits_alike limits (edited (take count wanted) tree) (edited (take count wanted) flat) (edits_blanked (take count wanted) tree)) ∙ front_room well count)
-
   pub fit : IsTrue (fits limits after)
-  fit = fronts 3
+  fit = ∥∥₁_elim formed.well_formed (Prim.hlevel props) (λ well.
+      sym (fits_alike limits after (edited wanted flat) (edits_blanked wanted tree)) ∙ last_room well)
 
   -- A COMPOUND on the tree with zeros
 

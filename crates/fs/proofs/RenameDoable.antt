@@ -1,5 +1,5 @@
 -- The edits of a rename can be done one after the other, under the next stamp or under that of the entry which goes, and there is room for the one where there is for the other.
-use Rattle.std.proofs.Common.{◌≡◌, ◌≤◌, ◌<◌, ◌+◌, ◌^◌, ◌++◌, ℕ, true, false, List, [], ◌∷◌, Option, Some, None, length, refl, sym, ap, ◌∙◌, arith, subst}
+use Rattle.std.proofs.Common.{◌≡◌, ◌≤◌, ◌<◌, ◌^◌, ◌++◌, ℕ, true, false, List, [], ◌∷◌, Option, Some, None, length, refl, sym, ap, ◌∙◌, arith, subst}
 use denote.Ref.{Bor}
 use Rattle.std.proofs.Math.Logic.{∥∥₁_elim}
 use Rattle.std.proofs.Props.{props}
@@ -17,7 +17,6 @@ use Rattle.tree_edits.proofs.BlankLaws.{names-without_data}
 use Rattle.tree_edits.proofs.DoableLaws.{doable_alike}
 use Rattle.model.specs.declared.acl.Cred.{Cred}
 use Rattle.model.specs.declared.limits.Limits.{Limits}
-use Rattle.model.specs.declared.status.Status.TheVariants as status
 use Rattle.model.specs.Trees.Charge.{fits}
 use Rattle.model.specs.Trees.Edit.{DropName, PutName, Show, done, edited, name_dropped, name_put, showing}
 use Rattle.model.specs.Trees.Edit as model
@@ -25,7 +24,6 @@ use Rattle.model.specs.Trees.Keyed.{at, is_key, IsAbove}
 use Rattle.model.specs.Trees.Limits.{limits_of}
 use Rattle.model.specs.Operations.Refusal.{first_refusal}
 use Rattle.model.specs.Trees.Stamp.{next_stamp}
-use Rattle.model.specs.Operations.Step.{does}
 use Rattle.model.specs.Trees.Tree.{Tree, DirEntry, entry_of, names_at, is_directory_at}
 use Rattle.model.specs.Trees.WellFormed.{IsWellFormed}
 use Rattle.model.proofs.Trees.ChangeLaws.{names_in}
@@ -35,14 +33,14 @@ use Rattle.fs.specs.declared.renaming.Renaming.{Renaming}
 use Rattle.fs.specs.FileSystem.{FileSystem}
 use Rattle.fs.specs.Ready.{MayStand}
 use Rattle.fs.specs.Renaming.{arguments_of, is_itself}
-use Rattle.fs.specs.RenameTests.{moving_refusals, placing_refusals, IsTarget, replacing, moving_edits}
+use Rattle.fs.specs.RenameTests.{moving_refusals, placing_refusals, IsTarget}
 use Rattle.fs.proofs.FlatLaws.{key-altered}
-use Rattle.fs.proofs.LastPlans.{above_flat}
-use Rattle.fs.proofs.PlacedLaws.{CanMove, can_move, moved_doable, stamp_goes, target_there}
-use Rattle.fs.proofs.RoomLaws.{above_altered, show_room}
+use Rattle.fs.proofs.PlacedLaws.{CanMove, can_move, moved_doable, moving_edits, stamp_goes, target_there}
 use Rattle.fs.proofs.SizesAlike.{AlikeEdits, same_room}
 use Rattle.fs.proofs.MakingPlans.{name_some, name_short}
 use Rattle.fs.proofs.RenamedLaws as laws
+use Rattle.volume.specs.Forms.{replacing}
+use Rattle.volume.proofs.RoomLaws.{above_altered, above_flat, show_room}
 
 module _ (fs : FileSystem) (formed : MayStand fs.volume fs.changes) (counted : fs.changes < 2 ^ 32) (limited : fs.volume.limits ≡ limits_of fs.volume.sectors fs.volume.limits.nodes)
     (cred : Cred) (now : ℕ) (asked : Renaming) (old_stamp number : ℕ) (target : Option (ℕ × ℕ))

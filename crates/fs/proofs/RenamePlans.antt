@@ -1,5 +1,5 @@
 -- The edits of a rename, as they stand in memory: a change that may be kept where it fits, which comes to what the definition says.
-use Rattle.std.proofs.Common.{◌≡◌, ◌≤◌, ◌<◌, ◌+◌, ◌^◌, ℕ, true, false, List, [], ◌∷◌, ◌++◌, Option, Some, None, take, length, refl, sym, ap, ap₂, ◌∙◌, arith, subst, inl, inr, ◌⊎◌, true≢false}
+use Rattle.std.proofs.Common.{◌≡◌, ◌<◌, ◌+◌, ◌^◌, ℕ, true, false, List, [], ◌∷◌, ◌++◌, Option, Some, None, refl, sym, ap, ap₂, ◌∙◌, subst, inl, inr, ◌⊎◌, true≢false}
 use denote.Ref.{Bor}
 use Rattle.std.proofs.Math.Logic.{∥∥₁_elim}
 use Rattle.std.proofs.Props.{props}
@@ -10,10 +10,7 @@ use Rattle.directory.specs.Records.{Record, AreStamped, record_from}
 use Rattle.tree_transaction.specs.declared.nodes.Shown.{Shown}
 use Rattle.tree_transaction.specs.Nodes.{shown_of}
 use Rattle.tree_edits.specs.declared.edit.Edit.{Edit}
-use Rattle.tree_edits.specs.Doing.{made_by, updates_of_all}
 use Rattle.tree_edits.specs.Edits.{AreEntries, AreDoable, edits_of}
-use Rattle.tree_edits.specs.Outlines.{without_data}
-use Rattle.tree_edits.proofs.BlankLaws.{names-without_data, edits_blanked}
 use Rattle.model.specs.declared.acl.Cred.{Cred}
 use Rattle.layout.specs.CachedNodes.{CachedNode}
 use Rattle.layout.specs.Known.{IsCard}
@@ -35,41 +32,22 @@ use Rattle.fs.specs.FileSystem.{FileSystem}
 use Rattle.fs.specs.Planned.{IsPlanned, shown_by}
 use Rattle.fs.specs.Ready.{MayStand}
 use Rattle.fs.specs.Renaming.{IsOnBoth, arguments_of, is_itself, renamed}
-use Rattle.fs.specs.RenameTests.{HasMoved, moving_refusals, placing_refusals, record_under, IsTarget, replacing, moving_edits}
+use Rattle.fs.specs.RenameTests.{HasMoved, moving_refusals, placing_refusals, record_under, IsTarget, new_place, old_place}
 use Rattle.fs.proofs.CachedNodeViews.{entry_at, kind_told}
 use Rattle.fs.proofs.KeptLaws.{planned_by}
-use Rattle.fs.proofs.PlacedLaws.{CanMove, name_there}
-use Rattle.fs.proofs.RenameDoable.{can_move_there, doable_old, doable_own, moved_room, name_high, name_is_short, name_is_some, rising_by, shown_room}
+use Rattle.fs.proofs.PlacedLaws.{moving_edits}
+use Rattle.fs.proofs.RenameDoable.{doable_old, doable_own, moved_room, rising_by, shown_room}
 use Rattle.fs.proofs.RemovalPlans.{shown_touched, change_shown, entries_shown}
 use Rattle.fs.proofs.RenamedLaws as laws
-use Rattle.volume.specs.Edits.{HasPut, edited_by, named_by}
+use Rattle.volume.specs.Edits.{edited_by}
 use Rattle.volume.specs.Formed.{IsFormed}
+use Rattle.volume.specs.Forms.{replacing}
+use Rattle.volume.specs.Forms as form
 use Rattle.volume.specs.Nodes.{IsNodeOf}
 
 edits_are_of : (to : ℕ) (name : Bor (List ℕ)) (target : Option (ℕ × ℕ)) (rest : List Edit) → edits_of (replacing to name target ++ rest) ≡ laws.dropping to target ++ edits_of rest
 edits_are_of to name None rest = refl
 edits_are_of to name (Some found) rest = refl
-
-few : (to : ℕ) (name : Bor (List ℕ)) (target : Option (ℕ × ℕ)) (asked : Renaming) (old_stamp number own : ℕ) (from_shown to_shown : Shown)
-    → updates_of_all (replacing to name target ++ moving_edits asked old_stamp number own from_shown to_shown) ≤ 46
-few to name None asked old_stamp number own from_shown to_shown = omega arith
-few to name (Some found) asked old_stamp number own from_shown to_shown = omega arith
-
-one_named : (to : ℕ) (name : Bor (List ℕ)) (target : Option (ℕ × ℕ)) (asked : Renaming) (old_stamp number own : ℕ) (from_shown to_shown : Shown)
-    → length (named_by (replacing to name target ++ moving_edits asked old_stamp number own from_shown to_shown)) ≤ 1
-one_named to name None asked old_stamp number own from_shown to_shown = omega arith
-one_named to name (Some found) asked old_stamp number own from_shown to_shown = omega arith
-
-none_made : (to : ℕ) (name : Bor (List ℕ)) (target : Option (ℕ × ℕ)) (asked : Renaming) (old_stamp number own : ℕ) (from_shown to_shown : Shown)
-    → made_by (replacing to name target ++ moving_edits asked old_stamp number own from_shown to_shown) ≡ []
-none_made to name None asked old_stamp number own from_shown to_shown = refl
-none_made to name (Some found) asked old_stamp number own from_shown to_shown = refl
-
-has_put : (tree : Tree) (to : ℕ) (name : Bor (List ℕ)) (target : Option (ℕ × ℕ)) (asked : Renaming) (old_stamp number own : ℕ) (from_shown to_shown : Shown)
-    → at own (names_at tree asked.to) ≡ Some (record { name = asked.new_name.now; number = number })
-    → HasPut tree (replacing to name target ++ moving_edits asked old_stamp number own from_shown to_shown)
-has_put tree to name None asked old_stamp number own from_shown to_shown is = (is, tt)
-has_put tree to name (Some found) asked old_stamp number own from_shown to_shown is = (is, tt)
 
 module _ (fs : FileSystem) (formed : MayStand fs.volume fs.changes) (counted : fs.changes < 2 ^ 32) (limited : fs.volume.limits ≡ limits_of fs.volume.sectors fs.volume.limits.nodes)
     (cred : Cred) (now : ℕ) (asked : Renaming) (old_stamp number : ℕ) (target : Option (ℕ × ℕ))
@@ -82,9 +60,6 @@ module _ (fs : FileSystem) (formed : MayStand fs.volume fs.changes) (counted : f
     (from_entries : AreEntries (shown_of from_shown).acl) (to_entries : AreEntries (shown_of to_shown).acl) where
   abbrev own : ℕ
   own = next_stamp fs.volume.run fs.changes
-
-  abbrev flat : Tree
-  flat = without_data fs.volume.tree
 
   abbrev pub list : List Edit
   list = replacing asked.to asked.new_name target ++ moving_edits asked old_stamp number own from_shown to_shown
@@ -105,35 +80,15 @@ module _ (fs : FileSystem) (formed : MayStand fs.volume fs.changes) (counted : f
   pub after_is : edited_by fs.volume list ≡ after
   after_is = ap (λ (l : List model.Edit). edited l fs.volume.tree) wanted_is
 
-  -- What it asks of the tree
-
-  can : CanMove (laws.cleared asked.to target flat) asked old_stamp number own
-  can = can_move_there fs formed counted limited cred now asked old_stamp number target found under passed placed other from_shown to_shown from_entries to_entries
-
   pub doable : AreDoable fs.volume.tree list
   doable = doable_own fs formed counted limited cred now asked old_stamp number target found under passed placed other from_shown to_shown from_entries to_entries
-
-  -- the name is there after them
-  put_flat : at own (names_at (edited (edits_of list) flat) asked.to) ≡ Some put
-  put_flat = ap (λ (l : List model.Edit). at own (names_at (edited l flat) asked.to)) (edits_are_of asked.to asked.new_name target (moving_edits asked old_stamp number own from_shown to_shown))
-      ∙ ap (λ (t : Tree). at own (names_at t asked.to)) (laws.cleared_is asked.to target (edits_of (moving_edits asked old_stamp number own from_shown to_shown)) flat)
-      ∙ name_there (laws.cleared asked.to target flat) own number old_stamp asked from_shown to_shown can (name_high fs formed counted limited cred now asked old_stamp number target found under passed placed other from_shown to_shown from_entries to_entries) (name_is_some fs formed counted limited cred now asked old_stamp number target found under passed placed other from_shown to_shown from_entries to_entries) (name_is_short fs formed counted limited cred now asked old_stamp number target found under passed placed other from_shown to_shown from_entries to_entries) from_entries to_entries
-
-  put_there : at own (names_at (edited_by fs.volume list) asked.to) ≡ Some put
-  put_there = ap (at own) (sym (names-without_data (edited_by fs.volume list) asked.to) ∙ sym (ap (λ (t : Tree). names_at t asked.to) (edits_blanked (edits_of list) fs.volume.tree))
-      ∙ names-without_data (edited (edits_of list) flat) asked.to) ∙ put_flat
 
   module _ (fit : IsTrue (fits fs.volume.limits (edited_by fs.volume list))) (left : fs.changes + 1 < 2 ^ 32) where
     fit_after : IsTrue (fits fs.volume.limits after)
     fit_after = sym (ap (fits fs.volume.limits) after_is) ∙ fit
 
     pub planned : IsPlanned fs list
-    planned = planned_by fs formed counted limited list (few asked.to asked.new_name target asked old_stamp number own from_shown to_shown) doable
-        (one_named asked.to asked.new_name target asked old_stamp number own from_shown to_shown) (inl (none_made asked.to asked.new_name target asked old_stamp number own from_shown to_shown))
-        (λ n among. absurd (let less = among.1.0 in omega (arith, less, ap length (none_made asked.to asked.new_name target asked old_stamp number own from_shown to_shown))))
-        (has_put (edited_by fs.volume list) asked.to asked.new_name target asked old_stamp number own from_shown to_shown put_there)
-        (λ count all. ap (λ (l : List model.Edit). fits fs.volume.limits (edited (take count l) fs.volume.tree)) wanted_is
-        ∙ laws.fronts fs formed counted limited cred now asked old_stamp number target found under passed placed other count (sym (ap (fits fs.volume.limits) after_is) ∙ all))
+    planned = planned_by fs formed counted limited (form.Moving number (old_place asked old_stamp) (new_place asked own) target from_shown to_shown) tt doable
         fit left
         (subst (IsFormed fs.volume.limits (next_stamp fs.volume.run (fs.changes + 1))) (sym after_is)
         (laws.formed_after fs formed counted limited cred now asked old_stamp number target found under passed placed other fit_after (lt-ltb (fs.changes + 1) (2 ^ 32) left)))

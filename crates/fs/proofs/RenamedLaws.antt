@@ -1,7 +1,5 @@
 -- RENAME of a name that passed its tests, and is not given to itself: its edits can be done, and the tree after them may stand where it fits.
-use Rattle.std.proofs.Common.{◌≡◌, ◌<◌, ◌+◌, ◌^◌, ◌&&◌, ℕ, zero, suc, Bool, true, false, List, [], ◌∷◌, ◌++◌, Option, Some, None, take, eq-eqb, refl, sym, ap, ap₂, ◌∙◌, arith, is_some, bytes_eq}
-use Rattle.std.proofs.Math.Logic.{∥∥₁_elim}
-use Rattle.std.proofs.Props.{props}
+use Rattle.std.proofs.Common.{◌≡◌, ◌<◌, ◌+◌, ◌^◌, ◌&&◌, ℕ, Bool, true, false, List, [], ◌∷◌, ◌++◌, Option, Some, None, eq-eqb, refl, sym, ap, ap₂, ◌∙◌, is_some, bytes_eq}
 use Rattle.std.proofs.lemmas.Bool.{not-false}
 use Rattle.std.specs.Prelude.{IsTrue, option_map, ◌==◌}
 use Rattle.directory.specs.Records.{record_from}
@@ -16,8 +14,8 @@ use Rattle.model.specs.declared.status.Status.TheVariants as status
 use Rattle.model.specs.Trees.Changes.{touched, removal, moving, renamed_edits}
 use Rattle.model.specs.Trees.Charge.{fits}
 use Rattle.model.specs.Operations.Directory.{is_named, number_of_entry, change_of}
-use Rattle.model.specs.Trees.Edit.{Edit, Shown, DropName, DropNode, PutName, Show, done, edited, name_put}
-use Rattle.model.specs.Trees.Keyed.{at, IsAbove}
+use Rattle.model.specs.Trees.Edit.{Edit, Shown, DropName, DropNode, PutName, Show, done, edited}
+use Rattle.model.specs.Trees.Keyed.{at}
 use Rattle.model.specs.Trees.Limits.{limits_of}
 use Rattle.model.specs.Attributes.Name.{name_refusals}
 use Rattle.model.specs.Operations.Operation.{Argument, RenameArguments}
@@ -47,7 +45,6 @@ use Rattle.fs.proofs.PlacedLaws.{IsFree, free_there, free_then}
 use Rattle.fs.proofs.RemovedLaws.{no_names}
 use Rattle.fs.proofs.RenameFlat.{moving-without_data, placing-without_data}
 use Rattle.fs.proofs.RenameSteps as steps
-use Rattle.fs.proofs.RoomLaws.{above_name_dropped, drop_name_room, above_node_dropped, drop_node_room, show_room, above_altered, above_shown}
 
 -- In each state of the operation
 
@@ -153,52 +150,6 @@ pub removal_is : (to : ℕ) (name : List ℕ) (target : Option (ℕ × ℕ)) →
 removal_is to name None = refl
 removal_is to name (Some found) = refl
 
--- Room: what is dropped takes none, and what shows something else takes as much
-
-module _ (limits : Limits) (tree : Tree) (above : IsAbove 0 tree) (from to old_stamp own : ℕ) (put : DirEntry) (from_shown to_shown : Shown) where
-  abbrev rest : List Edit
-  rest = DropName from old_stamp ∷ PutName to own put ∷ Show from from_shown ∷ Show to to_shown ∷ []
-
-  abbrev first : Tree
-  first = done (DropName from old_stamp) tree
-
-  abbrev second : Tree
-  second = done (PutName to own put) first
-
-  abbrev third : Tree
-  third = done (Show from from_shown) second
-
-  second_above : IsAbove 0 second
-  second_above = above_altered (name_put own put) first to (above_name_dropped tree from old_stamp above)
-
-  third_room : fits limits (edited rest tree) ≡ fits limits third
-  third_room = show_room limits third to to_shown (above_shown second from from_shown second_above)
-
-  second_room : fits limits third ≡ fits limits second
-  second_room = show_room limits second from from_shown second_above
-
-  rest_fronts : IsTrue (fits limits tree) → (count : ℕ) → IsTrue (fits limits (edited rest tree)) → IsTrue (fits limits (edited (take count rest) tree))
-  rest_fronts fit zero all = fit
-  rest_fronts fit (suc zero) all = drop_name_room tree from old_stamp above limits fit
-  rest_fronts fit (suc (suc zero)) all = sym second_room ∙ sym third_room ∙ all
-  rest_fronts fit (suc (suc (suc zero))) all = sym third_room ∙ all
-  rest_fronts fit (suc (suc (suc (suc zero)))) all = all
-  rest_fronts fit (suc (suc (suc (suc (suc count))))) all = all
-
-module _ (limits : Limits) (tree : Tree) (above : IsAbove 0 tree) (from to old_stamp own : ℕ) (put : DirEntry) (from_shown to_shown : Shown) (fit : IsTrue (fits limits tree)) where
-  abbrev behind : List Edit
-  behind = DropName from old_stamp ∷ PutName to own put ∷ Show from from_shown ∷ Show to to_shown ∷ []
-
-  all_fronts : (target : Option (ℕ × ℕ)) (count : ℕ) → IsTrue (fits limits (edited (dropping to target ++ behind) tree)) → IsTrue (fits limits (edited (take count (dropping to target ++ behind)) tree))
-  all_fronts None count all = rest_fronts limits tree above from to old_stamp own put from_shown to_shown fit count all
-  all_fronts (Some found) zero all = fit
-  all_fronts (Some found) (suc zero) all = drop_name_room tree to found.0 above limits fit
-  all_fronts (Some found) (suc (suc count)) all =
-      let one = done (DropName to found.0) tree in
-      let one_above = above_name_dropped tree to found.0 above in
-      rest_fronts limits (done (DropNode found.1) one) (above_node_dropped one found.1 one_above) from to old_stamp own put from_shown to_shown
-      (drop_node_room one found.1 one_above limits (drop_name_room tree to found.0 above limits fit)) count all
-
 module _ (fs : FileSystem) (formed : MayStand fs.volume fs.changes) (counted : fs.changes < 2 ^ 32) (limited : fs.volume.limits ≡ limits_of fs.volume.sectors fs.volume.limits.nodes)
     (cred : Cred) (now : ℕ) (asked : Renaming) (old_stamp number : ℕ) (target : Option (ℕ × ℕ))
     (found : entry_of asked.old_name.now (names_at fs.volume.tree asked.from) ≡ Some (record_from old_stamp asked.old_name.now number)) (under : IsTarget fs.volume.tree asked target)
@@ -232,9 +183,6 @@ module _ (fs : FileSystem) (formed : MayStand fs.volume fs.changes) (counted : f
   pub places : HasPlaces limits tree asked
   places = places_by limits tree asked passed
 
-  pub high : 0 < own
-  high = omega arith
-
   pub differs : asked.from ≡ asked.to → bytes_eq asked.new_name.now asked.old_name.now ≡ false
   differs same = other_way asked.old_name.now asked.new_name.now (second_false _ (bytes_eq asked.old_name.now asked.new_name.now) other (eq-eqb asked.from asked.to same))
 
@@ -260,15 +208,8 @@ module _ (fs : FileSystem) (formed : MayStand fs.volume fs.changes) (counted : f
 
   -- Room
 
-  flat_fit : IsWellFormed limits flat → (count : ℕ) → IsTrue (fits limits (edited wanted flat)) → IsTrue (fits limits (edited (take count wanted) flat))
-  flat_fit well count all = all_fronts limits flat well.numbered asked.from asked.to old_stamp own put (touched (at asked.from tree) own now) (touched (at asked.to tree) own now) well.fitting target count all
-
   fits_flat : fits limits (edited wanted flat) ≡ fits limits after
   fits_flat = fits_alike limits after (edited wanted flat) (edits_blanked wanted tree)
-
-  pub fronts : (count : ℕ) → IsTrue (fits limits after) → IsTrue (fits limits (edited (take count wanted) tree))
-  fronts count fit = ∥∥₁_elim formed.well_formed (Prim.hlevel props) (λ well.
-      sym (fits_alike limits (edited (take count wanted) tree) (edited (take count wanted) flat) (edits_blanked (take count wanted) tree)) ∙ flat_fit well count (fits_flat ∙ fit))
 
   -- A COMPOUND on the tree with zeros
 

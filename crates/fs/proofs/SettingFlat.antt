@@ -1,8 +1,6 @@
 -- SETATTR that passed its tests, on the tree with zeros for the bytes of files: there it sets the same, with as many zeros. So the tree after it may stand.
-use Rattle.std.proofs.Common.{◌≡◌, ◌<◌, ◌+◌, ◌^◌, ℕ, zero, suc, Bool, true, false, List, [], ◌∷◌, ◌++◌, Option, Some, None, length, take, refl, sym, ap, ◌∙◌, not}
-use Rattle.std.proofs.Math.Logic.{∥∥₁_elim}
-use Rattle.std.proofs.Props.{props}
-use Rattle.std.specs.Prelude.{IsTrue, Result, Ok, option_map, if◌then◌else◌}
+use Rattle.std.proofs.Common.{◌≡◌, ◌<◌, ◌+◌, ◌^◌, ℕ, Bool, true, false, List, [], ◌∷◌, ◌++◌, Option, Some, None, length, refl, sym, ap, ◌∙◌, not}
+use Rattle.std.specs.Prelude.{Result, Ok, option_map, if◌then◌else◌}
 use Rattle.tree_edits.specs.Outlines.{blank_node, without_data, zeros}
 use Rattle.tree_edits.proofs.BlankLaws.{at-without_data, without_data-twice, key-without_data, directory-without_data, edits_blanked}
 use Rattle.tree_edits.proofs.FitLaws.{fits-without_data}
@@ -24,7 +22,6 @@ use Rattle.model.specs.Operations.SetAttr.{kind_at, set_attributes, sets, sets_s
 use Rattle.model.specs.Trees.Stamp.{next_stamp, is_stamp_left}
 use Rattle.model.specs.Operations.Step.{State, does}
 use Rattle.model.specs.Trees.Tree.{Tree, Node, File, bytes_of, is_directory_at}
-use Rattle.model.specs.Trees.WellFormed.{IsWellFormed}
 use Rattle.model.proofs.Operations.RefusalLaws.{none_in_front, none_in_both}
 use Rattle.model.proofs.Trees.NodeChangeLaws.{length-resized}
 use Rattle.fs.specs.FileSystem.{FileSystem}
@@ -34,11 +31,9 @@ use Rattle.fs.specs.Setting.{may_set, setting_tests, sized_refusals}
 use Rattle.fs.proofs.FlatLaws.{flat_altered, flat_shown}
 use Rattle.fs.proofs.FlatWrites.{anonymous, anonymous_passes, bytes_blank, on_flat, resized_zeros}
 use Rattle.fs.proofs.KeptLaws.{formed_by}
-use Rattle.fs.proofs.RoomLaws.{above_altered, show_room}
 use Rattle.fs.proofs.SettingSteps as steps
 use Rattle.fs.proofs.SettingTests.{tests_are}
 use Rattle.volume.specs.Formed.{IsFormed}
-use Rattle.volume.proofs.EditLaws.{fits_alike}
 use Rattle.volume.proofs.SoundLaws.{kind_blank}
 
 -- Sizes that are set of zeros leave zeros
@@ -145,25 +140,3 @@ module _ (fs : FileSystem) (formed : MayStand fs.volume fs.changes) (counted : f
 
     pub formed_after : IsFormed limits (next_stamp fs.volume.run (fs.changes + 1)) after
     formed_after = formed_by fs formed counted limited on now (Argument.SetAttr flat_arguments) (set_attributes true on now flat_arguments) after refl refl refl goes refl (step_tree ∙ seen)
-
-  -- Fronts
-
-  abbrev edits_with : Option ℕ → List Edit
-  edits_with size = size_edits number size ++ (Show number shown ∷ [])
-
-  front_flat : IsWellFormed limits flat → (size : Option ℕ) (count : ℕ) → IsTrue (fits limits (edited (edits_with size) flat)) → IsTrue (fits limits (edited (take count (edits_with size)) flat))
-  front_flat well None zero fit = well.fitting
-  front_flat well None (suc zero) fit = fit
-  front_flat well None (suc (suc count)) fit = fit
-  front_flat well (Some size) zero fit = well.fitting
-  front_flat well (Some size) (suc zero) fit =
-      sym (show_room limits (done (SetSize number size) flat) number shown (above_altered (sizing size) flat number well.numbered)) ∙ fit
-  front_flat well (Some size) (suc (suc zero)) fit = fit
-  front_flat well (Some size) (suc (suc (suc count))) fit = fit
-
-  alike : (edits : List Edit) → fits limits (edited edits flat) ≡ fits limits (edited edits tree)
-  alike edits = fits_alike limits (edited edits tree) (edited edits flat) (edits_blanked edits tree)
-
-  pub fronts : (count : ℕ) → IsTrue (fits limits after) → IsTrue (fits limits (edited (take count wanted) tree))
-  fronts count fit = ∥∥₁_elim formed.well_formed (Prim.hlevel props) (λ well.
-      sym (alike (take count wanted)) ∙ front_flat well (size_given given) count (alike wanted ∙ fit))

@@ -1,5 +1,5 @@
 -- SETATTR that passed its tests: its edits are a change that may be kept, and what they leave is what it comes to by the definition.
-use Rattle.std.proofs.Common.{◌≡◌, ◌≤◌, ◌<◌, ◌+◌, ◌^◌, ℕ, Bool, true, false, List, [], ◌∷◌, ◌++◌, Option, Some, None, length, take, refl, sym, ap, ◌∙◌, arith, subst, not, inl, is_some}
+use Rattle.std.proofs.Common.{◌≡◌, ◌≤◌, ◌<◌, ◌+◌, ◌^◌, ℕ, Bool, true, false, List, [], ◌∷◌, ◌++◌, Option, Some, None, length, refl, sym, ap, ◌∙◌, arith, subst, not, is_some}
 use Rattle.std.proofs.Math.Logic.{∥∥₁_elim}
 use Rattle.std.proofs.Props.{props}
 use Rattle.std.proofs.lemmas.Bool.{lt-ltb}
@@ -47,13 +47,15 @@ use Rattle.fs.specs.Making.{last_refusal}
 use Rattle.fs.specs.Operations.{IsOn, does_on}
 use Rattle.fs.specs.Planned.{IsList, IsPlanned}
 use Rattle.fs.specs.Ready.{MayStand}
-use Rattle.fs.specs.Setting.{IsSet, IsSetting, after_setting, may_set, resizing, setting_tests, shown_with, sized_refusals}
+use Rattle.fs.specs.Setting.{IsSet, IsSetting, after_setting, may_set, setting_tests, shown_with, sized_refusals}
 use Rattle.fs.proofs.KeptLaws.{planned_by}
 use Rattle.fs.proofs.LastPlans.{resized_room, resizing_doable, told_as}
 use Rattle.fs.proofs.SettingFlat as flat
 use Rattle.fs.proofs.SettingLaws as laws
 use Rattle.volume.specs.Edits.{edited_by}
 use Rattle.volume.specs.Formed.{IsFormed}
+use Rattle.volume.specs.Forms.{resizing}
+use Rattle.volume.specs.Forms as form
 use Rattle.volume.specs.Nodes.{IsNodeOf, ShowsContent}
 use Rattle.volume.proofs.SoundLaws.{kind_blank}
 
@@ -226,24 +228,12 @@ module _ (fs : FileSystem) (formed : MayStand fs.volume fs.changes) (counted : f
   fit_there : fits limits (edited_by fs.volume edits) ≡ true → fits limits (edited (wanted (size_given given)) tree) ≡ true
   fit_there fit = ap (fits limits) (sym after_is) ∙ fit
 
-  fronts_by : (l : List Edit) → edits_of l ≡ wanted (size_given given) → (count : ℕ) → IsTrue (fits limits (edited_by fs.volume l)) → IsTrue (fits limits (edited (take count (edits_of l)) tree))
-  fronts_by l same count all =
-      ap (λ (k : List model.Edit). fits limits (edited (take count k) tree)) same
-      ∙ flat.fronts fs formed counted limited cred now number asked.verdict given node is_node.there passed count (ap (λ (k : List model.Edit). fits limits (edited k tree)) (sym same) ∙ all)
-
-  planned_with : (size : Option ℕ) → size_given given ≡ size → AreDoable tree (list size) → edits_of (list size) ≡ wanted (size_given given)
-      → IsTrue (fits limits (edited_by fs.volume (list size))) → fs.changes + 1 < 2 ^ 32 → stands (edited_by fs.volume (list size)) → IsPlanned fs (list size)
-  planned_with None said can same fit left stand = planned_by fs formed counted limited (list None) (omega arith) can (omega arith) (inl refl) (λ n among. absurd (omega (arith, among.1.0))) tt
-      (fronts_by (list None) same) fit left stand
-  planned_with (Some size) said can same fit left stand = planned_by fs formed counted limited (list (Some size)) (omega arith) can (omega arith) (inl refl) (λ n among. absurd (omega (arith, among.1.0))) tt
-      (fronts_by (list (Some size)) same) fit left stand
-
-  pub planned : IsTrue (fits limits (edited_by fs.volume edits)) → fs.changes + 1 < 2 ^ 32 → IsPlanned fs edits
+  pub planned : IsTrue (fits fs.volume.limits (edited_by fs.volume edits)) → fs.changes + 1 < 2 ^ 32 → IsPlanned fs edits
   planned fit left =
       let whole = subst stands (sym after_is)
       (flat.formed_after fs formed counted limited cred now number asked.verdict given node is_node.there passed (ap not not_empty) (fit_there fit) (lt-ltb (fs.changes + 1) (2 ^ 32) left)) in
-      subst (IsPlanned fs) (sym edits_is) (planned_with (size_given given) refl (doable_with (size_given given) refl) (same_edits (size_given given))
-      (ap (λ (l : List Edit). fits limits (edited_by fs.volume l)) (sym edits_is) ∙ fit) left (subst (λ (l : List Edit). stands (edited_by fs.volume l)) edits_is whole))
+      subst (IsPlanned fs) (sym edits_is) (planned_by fs formed counted limited (form.Setting number (size_given given) shown) tt (doable_with (size_given given) refl)
+      (ap (λ (l : List Edit). fits fs.volume.limits (edited_by fs.volume l)) (sym edits_is) ∙ fit) left (subst (λ (l : List Edit). stands (edited_by fs.volume l)) edits_is whole))
 
   -- In each state of the operation
   module _ (state : State) (arguments : SetAttrArguments) (on : IsOn fs cred number state) (is : IsSetting state asked arguments) where

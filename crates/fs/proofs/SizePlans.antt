@@ -1,5 +1,5 @@
 -- The edits of a file whose size is set, as they stand in memory: they are a change that may be kept.
-use Rattle.std.proofs.Common.{◌≡◌, ◌≤◌, ◌<◌, ◌+◌, ◌^◌, ℕ, true, false, List, [], ◌∷◌, length, refl, sym, ap, ◌∙◌, arith, subst, inl, is_some}
+use Rattle.std.proofs.Common.{◌≡◌, ◌≤◌, ◌<◌, ◌+◌, ◌^◌, ℕ, true, false, List, [], ◌∷◌, Some, length, sym, ap, ◌∙◌, arith, subst, is_some}
 use Rattle.std.specs.Prelude.{IsTrue, option_map}
 use Rattle.tree_transaction.specs.declared.nodes.Shown.{Shown}
 use Rattle.tree_transaction.specs.Nodes.{shown_of}
@@ -33,6 +33,7 @@ use Rattle.fs.proofs.FlatSizes as flat
 use Rattle.fs.proofs.KeptLaws.{planned_by}
 use Rattle.fs.proofs.RemovalPlans.{shown_touched, entries_shown}
 use Rattle.volume.specs.Edits.{edited_by}
+use Rattle.volume.specs.Forms as form
 use Rattle.volume.specs.Nodes.{IsNodeOf, IsFile, ShowsContent}
 
 module _ (fs : FileSystem) (formed : MayStand fs.volume fs.changes) (counted : fs.changes < 2 ^ 32) (limited : fs.volume.limits ≡ limits_of fs.volume.sectors fs.volume.limits.nodes)
@@ -69,9 +70,6 @@ module _ (fs : FileSystem) (formed : MayStand fs.volume fs.changes) (counted : f
   abbrev list : List Edit
   list = edit.SetSize number size ∷ edit.Show number shown ∷ []
 
-  abbrev wanted : List model.Edit
-  wanted = SetSize number size ∷ Show number (shown_of shown) ∷ []
-
   most : fs.volume.limits.file_bytes ≡ 16777216
   most = ap (λ (l : Limits). l.file_bytes) limited
 
@@ -107,8 +105,7 @@ module _ (fs : FileSystem) (formed : MayStand fs.volume fs.changes) (counted : f
   after = ap (edited_by fs.volume) edits_are ∙ ap (λ (s : model.Shown). edited (SetSize number size ∷ Show number s ∷ []) tree) shown_then
 
   list_planned : IsTrue (fits fs.volume.limits (edited_by fs.volume list)) → fs.changes + 1 < 2 ^ 32 → IsPlanned fs list
-  list_planned fit left = planned_by fs formed counted limited list (omega arith) list_doable (omega arith) (inl refl) (λ n among. absurd (omega (arith, among.1.0))) tt
-      (λ count all. flat.fronts fs formed number node.node node.there no_directory size low (shown_of shown) stamped listed count all)
+  list_planned fit left = planned_by fs formed counted limited (form.Setting number (Some size) shown) tt list_doable
       fit left (flat.formed_after fs formed number node.node node.there no_directory size low (shown_of shown) stamped listed fit)
 
   pub planned : IsTrue (fits fs.volume.limits (edited_by fs.volume edits)) → fs.changes + 1 < 2 ^ 32 → IsPlanned fs edits

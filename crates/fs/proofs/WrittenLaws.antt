@@ -1,6 +1,6 @@
 -- WRITE that was permitted: what it comes to by the definition, and that its edits are a change that may be kept.
 use denote.Ref.{Bor}
-use Rattle.std.proofs.Common.{◌≡◌, ◌≤◌, ◌<◌, ◌+◌, ◌^◌, ℕ, Bool, true, false, List, [], ◌∷◌, Some, None, length, take, refl, sym, ap, ap₂, ◌∙◌, arith, subst, not, inl, is_some, ◌&&◌, ◌||◌}
+use Rattle.std.proofs.Common.{◌≡◌, ◌≤◌, ◌<◌, ◌+◌, ◌^◌, ℕ, Bool, true, false, List, [], ◌∷◌, Some, None, length, take, refl, sym, ap, ap₂, ◌∙◌, arith, subst, not, is_some, ◌&&◌, ◌||◌}
 use Rattle.std.proofs.lemmas.Bool.{lt-ltb, le-ltb}
 use Rattle.std.proofs.lemmas.List.{length-take}
 use Rattle.std.specs.Prelude.{IsTrue, Result, nat_lt, ◌==◌}
@@ -8,7 +8,6 @@ use Rattle.tree_transaction.specs.declared.nodes.Shown.{Shown}
 use Rattle.tree_transaction.specs.Nodes.{shown_of}
 use Rattle.tree_edits.specs.declared.edit.Edit.{Edit}
 use Rattle.tree_edits.specs.declared.edit.Edit.TheVariants as edit
-use Rattle.tree_edits.specs.Doing.{updates_of_all}
 use Rattle.tree_edits.specs.Edits.{AreEntries, AreDoable, edits_of, size_of}
 use Rattle.layout.specs.CachedNodes.{CachedNode}
 use Rattle.layout.specs.Known.{IsCard}
@@ -50,6 +49,7 @@ use Rattle.fs.proofs.KeptLaws.{planned_by}
 use Rattle.fs.proofs.LastPlans.{file_to, put_room, told_as}
 use Rattle.volume.specs.Edits.{edited_by}
 use Rattle.volume.specs.Formed.{IsFormed}
+use Rattle.volume.specs.Forms as form
 use Rattle.volume.specs.Nodes.{IsNodeOf, IsFile, ShowsContent}
 use Rattle.volume.specs.VolumeState.{with_tree}
 use Rattle.fs.proofs.EntryLaws.{few_listed}
@@ -257,8 +257,8 @@ module _ (fs : FileSystem) (formed : MayStand fs.volume fs.changes) (counted : f
     ),
   )
 
-  few_updates : updates_of_all (edit.PutBytes number place spelled ∷ edit.Show number shown ∷ []) ≤ 46
-  few_updates =
+  few_bytes : length spelled.now ≤ 8192
+  few_bytes =
       let count : length spelled.now ≡ length part = ap (λ (l : List ℕ). length l) spelled_is in
       let few = part_few in
       omega (arith, few, count, transfer)
@@ -272,9 +272,7 @@ module _ (fs : FileSystem) (formed : MayStand fs.volume fs.changes) (counted : f
   planned_list : AreDoable fs.volume.tree list → edits_of list ≡ wanted → IsTrue (fits fs.volume.limits (edited_by fs.volume list)) → fs.changes + 1 < 2 ^ 32 → IsPlanned fs list
   planned_list can same fit left =
       let tree_is : edited_by fs.volume list ≡ edited wanted fs.volume.tree = ap (λ (l : List model.Edit). edited l fs.volume.tree) same in
-      planned_by fs formed counted limited list few_updates can (omega arith) (inl refl) (λ n among. absurd (omega (arith, among.1.0))) tt
-      (λ count all. ap (λ (l : List model.Edit). fits fs.volume.limits (edited (take count l) fs.volume.tree)) same
-      ∙ flat.fronts fs formed counted limited cred now number verdict node.node node.there passed asked.offset part part_some part_few low count (sym (ap (fits fs.volume.limits) tree_is) ∙ all))
+      planned_by fs formed counted limited (form.Writing number place spelled shown) few_bytes can
       fit left
       (subst stands (sym tree_is)
       (flat.formed_after fs formed counted limited cred now number verdict node.node node.there passed asked.offset part part_some part_few low

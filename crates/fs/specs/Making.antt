@@ -1,7 +1,5 @@
 -- A node and its name more, whichever operation makes them.
-use Rattle.std.specs.Prelude.{◌≡◌, ◌≤◌, ◌∷◌, [], ℕ, zero, suc, not, List, None, if◌then◌else◌}
-use Rattle.tree_edits.specs.declared.edit.Edit.{Edit}
-use Rattle.tree_edits.specs.declared.edit.Edit.TheVariants as edit
+use Rattle.std.specs.Prelude.{◌≡◌, ◌≤◌, ◌∷◌, [], ℕ, not, List, None, if◌then◌else◌}
 use Rattle.tree_edits.specs.Making.{first_content}
 use Rattle.layout.specs.CachedNodes.{CachedNode}
 use Rattle.layout.specs.Known.{IsCard}
@@ -57,11 +55,6 @@ pub record MayBeMade (fs : FileSystem) (directory : ℕ) (name : List ℕ) (node
 pub record IsSizeOf (of : NodeKind) (size : ℕ) : Type 0 where
   pub none : of ≡ kind.Directory → size ≡ 0
   pub low : size ≤ 16777216
-
--- a size is set where it is not 0
-abbrev pub sizing : (number size : ℕ) → List Edit
-sizing number zero = []
-sizing number (suc size) = edit.SetSize number (suc size) ∷ []
 
 -- the directory of this number, as its cached node tells
 pub record IsDirectoryOf (tree : Tree) (number : ℕ) (card : CachedNode) : Type 0 where

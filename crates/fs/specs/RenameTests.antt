@@ -1,12 +1,8 @@
--- RENAME's tests, and its edits.
+-- RENAME's tests, and what it moves.
 use Rattle.std.specs.Prelude.{ℕ, Bool, true, false, List, [], ◌∷◌, ◌++◌, Option, Some, None}
 use Rattle.std.specs.Prelude.{not, ◌&&◌, ◌||◌, ◌≡◌}
 use Rattle.std.specs.List.{list_any, list_all}
-use denote.Ref.{Bor}
 use Rattle.directory.specs.Records.{record_from}
-use Rattle.tree_transaction.specs.declared.nodes.Shown.{Shown}
-use Rattle.tree_edits.specs.declared.edit.Edit.{Edit}
-use Rattle.tree_edits.specs.declared.edit.Edit.TheVariants as edit
 use Rattle.layout.specs.CachedNodes.{CachedNode}
 use Rattle.layout.specs.Known.{IsCard}
 use Rattle.model.specs.declared.acl.Cred.{Cred}
@@ -22,6 +18,7 @@ use Rattle.model.specs.Operations.Operation.{RenameArguments}
 use Rattle.model.specs.Operations.Refusal.{Refusals}
 use Rattle.model.specs.Operations.Rename.{is_other, has_names, rename_rights}
 use Rattle.model.specs.Trees.Tree.{Tree, DirEntry, entry_of, is_directory_at, names_at}
+use Rattle.volume.specs.Forms.{Place}
 use Rattle.volume.specs.Nodes.{IsNodeOf}
 use Rattle.fs.specs.declared.renaming.Moving.{Moving}
 use Rattle.fs.specs.declared.renaming.Renaming.{Renaming}
@@ -109,17 +106,10 @@ may_replace tree cred directory None = true
 may_replace tree cred directory (Some found) = granted_on (at found.1 tree) cred delete
     || granted directory.fields.acl directory.fields.owner directory.fields.group cred delete_child
 
--- The edits
+-- Where the name stands, and where it is to stand
 
-abbrev pub replacing : (to : ℕ) → (name : Bor (List ℕ)) → Option (ℕ × ℕ) → List Edit
-replacing to name None = []
-replacing to name (Some found) = edit.DropName to found.0 name ∷ edit.DropNode found.1 ∷ []
+abbrev pub old_place : Renaming → (stamp : ℕ) → Place
+old_place asked stamp = record { directory = asked.from; stamp = stamp; name = asked.old_name }
 
-abbrev pub moving_edits : Renaming → (old_stamp number stamp : ℕ) → (from_shown to_shown : Shown)
-    → List Edit
-moving_edits asked old_stamp number stamp from_shown to_shown =
-    edit.DropName asked.from old_stamp asked.old_name
-    ∷ edit.PutName asked.to stamp asked.new_name number
-    ∷ edit.Show asked.from from_shown
-    ∷ edit.Show asked.to to_shown
-    ∷ []
+abbrev pub new_place : Renaming → (stamp : ℕ) → Place
+new_place asked stamp = record { directory = asked.to; stamp = stamp; name = asked.new_name }

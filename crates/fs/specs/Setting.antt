@@ -1,9 +1,8 @@
 -- SETATTR, as calls on a file system.
-use Rattle.std.specs.Prelude.{ℕ, Bool, true, false, List, [], ◌∷◌, ◌++◌, Option, Some, None, Result, Ok, Err}
+use Rattle.std.specs.Prelude.{ℕ, Bool, true, false, List, [], ◌∷◌, ◌++◌, Option, Result, Ok, Err}
 use Rattle.std.specs.Prelude.{MatchOption, ◌+◌, ◌&&◌, ◌||◌, ◌≡◌, not, is_some, unwrap_or, if◌then◌else◌}
 use Rattle.std.specs.Global.{Vec}
 use Rattle.tree_edits.specs.declared.edit.Edit.{Edit}
-use Rattle.tree_edits.specs.declared.edit.Edit.TheVariants as edit
 use Rattle.inode.specs.Fields.{Fields}
 use Rattle.layout.specs.Stands.{Kept}
 use Rattle.model.specs.declared.acl.Cred.{Cred}
@@ -111,8 +110,6 @@ setting_tests limits tree cred number verdict given =
       status.Access,
     ) ∷ [])))
 
--- Its edits
-
 -- what a node shows after it
 abbrev pub shown_with : Fields → Settings → (stamp now : ℕ) → Shown
 shown_with fields settings stamp now = record {
@@ -122,7 +119,3 @@ shown_with fields settings stamp now = record {
   change = stamp;
   time_modify = if is_some settings.size then now else fields.time_modify;
 }
-
-abbrev pub resizing : (number : ℕ) → Option ℕ → List Edit
-resizing number None = []
-resizing number (Some size) = edit.SetSize number size ∷ []

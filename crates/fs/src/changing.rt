@@ -1,11 +1,10 @@
 //! Changes of the tree: the edits that they are made of, and keeping them.
 
-ghost use Rattle.std.specs.Prelude.{◌≡◌, ◌⊎◌, ◌+◌, ◌<◌, ◌∷◌, [], ◌++◌, false, IfOk, IfErr, OnOk, MatchOption, ◌≤◌, ◌^◌};
+ghost use Rattle.std.specs.Prelude.{◌≡◌, ◌⊎◌, ◌+◌, ◌<◌, false, IfOk, IfErr, OnOk, MatchOption, ◌≤◌, ◌^◌};
 ghost use Rattle.tree_transaction.specs.Nodes.{shown_of};
-ghost use Rattle.tree_edits.specs.declared.edit.Edit.TheVariants as edit;
-ghost use Rattle.fs.specs.Making.{sizing};
 ghost use Rattle.fs.specs.Planned.{shown_by};
-ghost use Rattle.fs.specs.Setting.{resizing};
+ghost use Rattle.volume.specs.Forms.{edits_by, resizing};
+ghost use Rattle.volume.specs.Forms as form;
 
 use crate::fault::FsFault;
 use crate::fs::Fs;
@@ -55,10 +54,9 @@ pub(crate) fn made_edits<'a>(
     shown: Shown,
     directory_shown: Shown,
 ) -> Result<Vec<Edit<'a>>, AllocError>
-    ensures { IfOk result (λ edits. edits.items ≡ edit.PutNode stamp new.entry.kind shown
-        ∷ (sizing stamp new.entry.size
-        ++ (edit.PutName new.entry.directory stamp new.entry.name stamp
-        ∷ edit.Show new.entry.directory directory_shown ∷ []))) }
+    ensures { IfOk result (λ edits. edits.items
+        ≡ edits_by (form.Making stamp new.entry.kind new.entry.size shown new.entry.directory
+        new.entry.name directory_shown)) }
 {
     let node = Edit::PutNode {
         number: stamp,
@@ -94,9 +92,9 @@ pub(crate) fn removed_edits<'a>(
     number: u64,
     directory_shown: Shown,
 ) -> Result<Vec<Edit<'a>>, AllocError>
-    ensures { IfOk result (λ edits. edits.items ≡ edit.DropName directory stamp name.entry
-        ∷ edit.DropNode number
-        ∷ edit.Show directory directory_shown ∷ []) }
+    ensures { IfOk result (λ edits. edits.items ≡ edits_by (form.Removing
+        (record { directory = directory; stamp = stamp; name = name.entry }) number
+        directory_shown)) }
 {
     let name_gone = Edit::DropName {
         directory,
@@ -117,7 +115,7 @@ pub(crate) fn written_edits<'a>(
     bytes: &'a [u8],
     shown: Shown,
 ) -> [Edit<'a>; 2]
-    ensures { result ≡ edit.PutBytes file offset bytes.entry ∷ edit.Show file shown ∷ [] }
+    ensures { result ≡ edits_by (form.Writing file offset bytes.entry shown) }
 {
     let put = Edit::PutBytes {
         file,
@@ -138,8 +136,7 @@ pub(crate) fn set_edits<'a>(
     size: Option<u64>,
     shown: Shown,
 ) -> Result<Vec<Edit<'a>>, AllocError>
-    ensures { IfOk result (λ edits. edits.items
-        ≡ resizing number size ++ (edit.Show number shown ∷ [])) }
+    ensures { IfOk result (λ edits. edits.items ≡ edits_by (form.Setting number size shown)) }
 {
     let shows = Edit::Show { number, shown };
     match size {

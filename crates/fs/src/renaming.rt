@@ -1,8 +1,10 @@
 //! RENAME.
 
-ghost use Rattle.std.specs.Prelude.{◌≡◌, ◌++◌, IfOk, option_map};
+ghost use Rattle.std.specs.Prelude.{◌≡◌, IfOk, option_map};
 ghost use Rattle.fs.specs.Renaming.{arguments_of, is_itself};
-ghost use Rattle.fs.specs.RenameTests.{replacing, moving_edits};
+ghost use Rattle.fs.specs.RenameTests.{old_place, new_place};
+ghost use Rattle.volume.specs.Forms.{edits_by};
+ghost use Rattle.volume.specs.Forms as form;
 
 use crate::changing::metadata_with_change;
 use crate::fault::FsFault;
@@ -94,10 +96,9 @@ fn renamed_edits<'a>(
     from_shown: Shown,
     to_shown: Shown,
 ) -> Result<Vec<Edit<'a>>, AllocError>
-    ensures { IfOk result (λ edits. edits.items
-        ≡ replacing asked.entry.to asked.entry.new_name target
-        ++ moving_edits asked.entry moving.entry.stamp moving.entry.number stamp from_shown
-        to_shown) }
+    ensures { IfOk result (λ edits. edits.items ≡ edits_by (form.Moving moving.entry.number
+        (old_place asked.entry moving.entry.stamp) (new_place asked.entry stamp) target
+        from_shown to_shown)) }
 {
     let old_gone = Edit::DropName {
         directory: asked.from,

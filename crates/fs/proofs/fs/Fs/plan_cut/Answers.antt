@@ -10,7 +10,7 @@ use Rattle.set_attributes.specs.Given.{IsRefusedBy}
 use Rattle.fs.specs.Views.{fs_of}
 use Rattle.fs.specs.Making.{room_tests}
 use Rattle.fs.specs.Opening.{tree_cut}
-use Rattle.fs.specs.Setting.{resizing}
+use Rattle.volume.specs.Forms.{resizing}
 use Rattle.fs.proofs.LastPlans.{file_of, file_to, refused_as, resized_room}
 use Rattle.fs.proofs.NodePlans.{no_room, has_room}
 use Rattle.fs.proofs.SizePlans as plans
