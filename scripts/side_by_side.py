@@ -9,7 +9,8 @@ than the one that `rt run` leaves. Both servers keep their files in memory
 (/dev/shm), are asked over one connection, one request at a time (scripts/nfsload.rs), and take
 turns, so that what else runs on the machine takes from both. A process of the idle class keeps each
 processor awake, since to wake one takes longer than a request, and not as long each time. `echo` is
-the time of the socket alone: a call is sent to a thread that sends it back.
+the time of the socket alone: a call is sent to a thread that sends it back. `echo_read` and
+`echo_write` have 8,192 bytes more in the reply, or in the call, as a READ and a WRITE have.
 """
 import os
 import pathlib
@@ -22,9 +23,9 @@ import sys
 import tempfile
 import time
 
-OPERATIONS = """echo null getattr lookup read readdir write_unstable long_write_unstable write_sync
-    long_write_sync mkdir_rmdir full_mkdir_rmdir create_remove full_create_remove rename
-    full_rename""".split()
+OPERATIONS = """echo echo_read echo_write null getattr lookup read readdir write_unstable
+    long_write_unstable write_sync long_write_sync mkdir_rmdir full_mkdir_rmdir
+    create_remove full_create_remove rename full_rename""".split()
 TOP = pathlib.Path(__file__).resolve().parent.parent
 PROGRAM = os.environ.get("NFS41") or TOP / "crates/nfs41/out/nfs41"
 CONFIGURATION = """
