@@ -1,6 +1,6 @@
 -- What calls do to a file system.
 use Rattle.std.proofs.Common.{◌≡◌, ◌⊎◌, ℕ, Bool, true, false, inl, inr, ⊎_elim, refl, arith}
-use Rattle.std.specs.Prelude.{Err, IsErrOf}
+use Rattle.std.specs.Prelude.{Result, Ok, Err, IfErr, IsErrOf}
 use Rattle.disk.proofs.MomentLemmas.{AddsOnly-same}
 use Rattle.layout.specs.Stands.{Kept}
 use Rattle.model.specs.declared.not_done.NotDone.{NotDone}
@@ -12,7 +12,7 @@ use Rattle.fs.specs.declared.fault.FsFault.TheVariants as fault
 use Rattle.fs.specs.Changes.{Changes, fs_ending}
 use Rattle.fs.specs.FileSystem.{FileSystem}
 use Rattle.fs.specs.Operations.{IsNotDone}
-use Rattle.fs.specs.Refusals.{fault_of}
+use Rattle.fs.specs.Refusals.{MindsRoom, fault_of}
 use Rattle.volume.specs.Changes.{Given, Ending, Done, Nothing, Broken, EndsAs}
 use Rattle.volume.specs.Shown.{ShowsAs}
 
@@ -84,6 +84,12 @@ down_no_device same = cc
 pub down_no_memory : {T : Type 0} → IsErrOf {T = T} (Err fault.Down) fault.Memory → ⊥
 down_no_memory same = cc
 
+full_no_device : {T : Type 0} → IsErrOf {T = T} (Err fault.NoRoom) fault.Device → ⊥
+full_no_device same = cc
+
+done_not_refused : {T : Type 0} (value : T) (why : FsFault) → IsErrOf (Ok value) why → ⊥
+done_not_refused value why same = cc
+
 pub up_not_down : (told is_down : Bool) → told ≡ is_down → told ≡ false → is_down ≡ true → ⊥
 up_not_down told is_down same up down = cc
 
@@ -96,3 +102,53 @@ not_known fs state now operation told only =
 
 pub kept_no_room : {T : Type 0} (told : FsFault) → (told ≡ fault.Memory) ⊎ (told ≡ fault.Device) → IsErrOf {T = T} (Err told) fault.NoRoom → ⊥
 kept_no_room told only same = ⊎_elim (λ (is : told ≡ fault.Memory). cc) (λ (is : told ≡ fault.Device). cc) only
+
+-- What a change says of its reply's room, at each of its exits
+
+pub down_room : {T : Type 0} (has_room is_down : Bool) → MindsRoom {T = T} has_room is_down (Err fault.Down)
+down_room has_room is_down = record {
+  done = tt;
+  refused = λ same. absurd (down_no_room same);
+  device = λ same. absurd (down_no_device same);
+  down = λ is. refl;
+}
+
+module _ {T : Type 0} (has_room is_down told : Bool) (same : told ≡ is_down) (up : told ≡ false) where
+  pub planned_room : (refused : NotDone) → MindsRoom {T = T} has_room is_down (Err (fault_of refused))
+  planned_room refused = record {
+    done = tt;
+    refused = λ is. absurd (never_no_room refused is);
+    device = λ is. absurd (never_device refused is);
+    down = λ is. absurd (up_not_down told is_down same up is);
+  }
+
+  pub full_room : has_room ≡ false → MindsRoom {T = T} has_room is_down (Err fault.NoRoom)
+  full_room none = record {
+    done = tt;
+    refused = λ is. none;
+    device = λ is. absurd (full_no_device is);
+    down = λ is. absurd (up_not_down told is_down same up is);
+  }
+
+  pub kept_room : (why : FsFault) → (why ≡ fault.Memory) ⊎ (why ≡ fault.Device) → has_room ≡ true
+      → MindsRoom {T = T} has_room is_down (Err why)
+  kept_room why only some = record {
+    done = tt;
+    refused = λ is. absurd (kept_no_room why only is);
+    device = λ is. some;
+    down = λ is. absurd (up_not_down told is_down same up is);
+  }
+
+  pub done_room : (value : T) → has_room ≡ true → MindsRoom has_room is_down (Ok value)
+  done_room value some = record {
+    done = some;
+    refused = λ is. absurd (done_not_refused value fault.NoRoom is);
+    device = λ is. absurd (done_not_refused value fault.Device is);
+    down = λ is. absurd (up_not_down told is_down same up is);
+  }
+
+  -- whether it was kept
+  pub told_room : (result : Result T FsFault) → IfErr result (λ why. (why ≡ fault.Memory) ⊎ (why ≡ fault.Device))
+      → has_room ≡ true → MindsRoom has_room is_down result
+  told_room (Ok value) only some = done_room value some
+  told_room (Err why) only some = kept_room why only some

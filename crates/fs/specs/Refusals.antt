@@ -1,4 +1,5 @@
--- How a refusal of a layer below is answered.
+-- How a refusal of a layer below is answered, and what each change says of its reply's room.
+use Rattle.std.specs.Prelude.{◌≡◌, Bool, true, false, Result, OnOk, IsErrOf}
 use Rattle.fs.specs.declared.fault.FsFault.{FsFault}
 use Rattle.fs.specs.declared.fault.FsFault.TheVariants as fault
 use Rattle.model.specs.declared.status.Status.TheVariants as status
@@ -16,3 +17,11 @@ volume_fault volumes.NoSpace = fault.Status status.NoSpc
 volume_fault volumes.Memory = fault.Memory
 volume_fault volumes.Device = fault.Device
 volume_fault volumes.Down = fault.Down
+
+-- A caller tells whether the reply to a change has room: only then is it done, or the device asked.
+-- A file system that is down answers so.
+pub record MindsRoom {T : Type 0} (has_room is_down : Bool) (result : Result T FsFault) : Type 0 where
+  pub done : OnOk result (has_room ≡ true)
+  pub refused : IsErrOf result fault.NoRoom → has_room ≡ false
+  pub device : IsErrOf result fault.Device → has_room ≡ true
+  pub down : is_down ≡ true → IsErrOf result fault.Down

@@ -55,7 +55,7 @@ impl<D: Device> Fs<D> {
     ghost use Rattle.fs.specs.Making.{IsDirectoryOf, IsSizeOf, MayBeMade, first_node, room_tests};
     ghost use Rattle.fs.specs.Making.{tree_with};
     ghost use Rattle.fs.specs.Planned.{IsList, IsPlanned, child_shown, list_by};
-    ghost use Rattle.fs.specs.Refusals.{fault_of};
+    ghost use Rattle.fs.specs.Refusals.{MindsRoom, fault_of};
     ghost use Rattle.volume.specs.Edits.{edited_by};
     ghost use Rattle.volume.specs.Nodes.{IsNodeOf};
 
@@ -84,11 +84,8 @@ impl<D: Device> Fs<D> {
             (MakesTree (fs_of self.old) cred.now asked.entry.parent now
             (new_directory asked.entry.name.now (given_of asked.entry.attributes)))
             (fs_ending result) }
-        // Refused
-        ensures room { OnOk result (has_room ≡ true) }
-        ensures no_room { IsErrOf result FsFault.NoRoom → has_room ≡ false }
-        ensures down { (fs_of self.old).volume.is_down ≡ true → IsErrOf result FsFault.Down }
-        ensures device_room { IsErrOf result FsFault.Device → has_room ≡ true }
+        // Room, and refusals
+        ensures room { MindsRoom has_room (fs_of self.old).volume.is_down result }
     {
         if self.is_down() {
             return Err(FsFault::Down);

@@ -47,7 +47,7 @@ impl<D: Device> Fs<D> {
     ghost use Rattle.fs.specs.Opening.{file_tests, has_room, place_tests, tree_cut, type_of};
     ghost use Rattle.fs.specs.Operations.{IsOn, IsNotDone};
     ghost use Rattle.fs.specs.Planned.{IsPlanned};
-    ghost use Rattle.fs.specs.Refusals.{fault_of};
+    ghost use Rattle.fs.specs.Refusals.{MindsRoom, fault_of};
     ghost use Rattle.volume.specs.Edits.{edited_by};
     ghost use Rattle.volume.specs.Nodes.{IsNodeOf};
 
@@ -85,13 +85,9 @@ impl<D: Device> Fs<D> {
         // Opened
         ensures opened { IfOk result (IsOpened (fs_of self.old) asked.entry) }
         ensures full { OnOk result (is_full ≡ false) }
-        ensures room { OnOk result (has_room (fs_of self.old) asked.entry room ≡ true) }
-        // Refused
-        ensures no_room { IsErrOf result FsFault.NoRoom
-            → has_room (fs_of self.old) asked.entry room ≡ false }
-        ensures down { (fs_of self.old).volume.is_down ≡ true → IsErrOf result FsFault.Down }
-        ensures device_room { IsErrOf result FsFault.Device
-            → has_room (fs_of self.old) asked.entry room ≡ true }
+        // Room, and refusals
+        ensures room { MindsRoom (has_room (fs_of self.old) asked.entry room)
+            (fs_of self.old).volume.is_down result }
     {
         if self.is_down() {
             return Err(FsFault::Down);

@@ -56,7 +56,7 @@ impl<D: Device> Fs<D> {
     ghost use Rattle.fs.specs.Views.{fs_of, Alters};
     ghost use Rattle.fs.specs.Operations.{IsOn, MakesTree, IsNotDone};
     ghost use Rattle.fs.specs.Planned.{IsPlanned};
-    ghost use Rattle.fs.specs.Refusals.{fault_of};
+    ghost use Rattle.fs.specs.Refusals.{MindsRoom, fault_of};
     ghost use Rattle.fs.specs.Removing.{Removes, RemovesBy, removal_refusals};
     ghost use Rattle.volume.specs.Nodes.{IsNodeOf};
 
@@ -85,11 +85,8 @@ impl<D: Device> Fs<D> {
         ensures volume { Alters self.old self.new
             (MakesTree (fs_of self.old) cred.now directory now (Argument.Remove name.now))
             (fs_ending result) }
-        // Refused
-        ensures room { OnOk result (has_room ≡ true) }
-        ensures no_room { IsErrOf result FsFault.NoRoom → has_room ≡ false }
-        ensures down { (fs_of self.old).volume.is_down ≡ true → IsErrOf result FsFault.Down }
-        ensures device_room { IsErrOf result FsFault.Device → has_room ≡ true }
+        // Room, and refusals
+        ensures room { MindsRoom has_room (fs_of self.old).volume.is_down result }
         ensures memory { is_stamp_left (fs_of self.old).changes ≡ false
             → ¬ IsErrOf result FsFault.Memory }
     {

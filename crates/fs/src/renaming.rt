@@ -145,7 +145,7 @@ impl<D: Device> Fs<D> {
     ghost use Rattle.fs.specs.Making.{IsDirectoryOf};
     ghost use Rattle.fs.specs.Operations.{IsNotDone};
     ghost use Rattle.fs.specs.Planned.{IsPlanned};
-    ghost use Rattle.fs.specs.Refusals.{fault_of};
+    ghost use Rattle.fs.specs.Refusals.{MindsRoom, fault_of};
     ghost use Rattle.fs.specs.Renaming.{IsOnBoth, Renames, RenamesAsPlanned, RenamesTree, arguments_of, replaced_in};
     ghost use Rattle.fs.specs.Renaming.{IsMoved, is_itself, number_under};
     ghost use Rattle.fs.specs.RenameTests.{HasMoved, IsTarget, directory_refusals};
@@ -184,11 +184,8 @@ impl<D: Device> Fs<D> {
         ensures volume { Alters self.old self.new
             (RenamesTree (fs_of self.old) cred.now asked.entry.from asked.entry.to now
             (arguments_of asked.entry)) (fs_ending result) }
-        // Refused
-        ensures room { OnOk result (has_room ≡ true) }
-        ensures no_room { IsErrOf result FsFault.NoRoom → has_room ≡ false }
-        ensures down { (fs_of self.old).volume.is_down ≡ true → IsErrOf result FsFault.Down }
-        ensures device_room { IsErrOf result FsFault.Device → has_room ≡ true }
+        // Room, and refusals
+        ensures room { MindsRoom has_room (fs_of self.old).volume.is_down result }
     {
         if self.is_down() {
             return Err(FsFault::Down);

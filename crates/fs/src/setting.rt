@@ -81,7 +81,7 @@ impl<D: Device> Fs<D> {
     ghost use Rattle.fs.specs.Views.{fs_of, Alters};
     ghost use Rattle.fs.specs.Operations.{IsOn, IsNotDone};
     ghost use Rattle.fs.specs.Planned.{IsList, IsPlanned};
-    ghost use Rattle.fs.specs.Refusals.{fault_of};
+    ghost use Rattle.fs.specs.Refusals.{MindsRoom, fault_of};
     ghost use Rattle.fs.specs.Setting.{IsSetting, SetsAsPlanned, SetsAttributes, SetsTree};
     ghost use Rattle.fs.specs.Setting.{setting_tests, shown_with};
     ghost use Rattle.fs.specs.Verdicts.{IsPossible};
@@ -116,11 +116,8 @@ impl<D: Device> Fs<D> {
             result }
         ensures volume { Alters self.old self.new
             (SetsTree (fs_of self.old) cred.now now asked.entry) (fs_ending result) }
-        ensures room { OnOk result (has_room ≡ true) }
-        // Refused
-        ensures no_room { IsErrOf result FsFault.NoRoom → has_room ≡ false }
-        ensures down { (fs_of self.old).volume.is_down ≡ true → IsErrOf result FsFault.Down }
-        ensures device_room { IsErrOf result FsFault.Device → has_room ≡ true }
+        // Room, and refusals
+        ensures room { MindsRoom has_room (fs_of self.old).volume.is_down result }
     {
         if self.is_down() {
             return Err(FsFault::Down);

@@ -30,7 +30,7 @@ impl<D: Device> Fs<D> {
     ghost use Rattle.fs.specs.Views.{fs_of, Alters};
     ghost use Rattle.fs.specs.Operations.{IsOn, IsNotDone};
     ghost use Rattle.fs.specs.Planned.{IsPlanned};
-    ghost use Rattle.fs.specs.Refusals.{fault_of};
+    ghost use Rattle.fs.specs.Refusals.{MindsRoom, fault_of};
     ghost use Rattle.fs.specs.Verdicts.{IsPossible};
     ghost use Rattle.fs.specs.Writing.{Commits, IsPut, IsWriting, Writes, WritesBy, WritesTree, bytes_taken};
     ghost use Rattle.volume.specs.Changes.{IsTree};
@@ -68,11 +68,8 @@ impl<D: Device> Fs<D> {
         ensures volume { Alters self.old self.new
             (WritesTree (fs_of self.old) cred.now number now verdict asked.entry)
             (fs_ending result) }
-        ensures room { OnOk result (has_room ≡ true) }
-        // Refused
-        ensures no_room { IsErrOf result FsFault.NoRoom → has_room ≡ false }
-        ensures down { (fs_of self.old).volume.is_down ≡ true → IsErrOf result FsFault.Down }
-        ensures device_room { IsErrOf result FsFault.Device → has_room ≡ true }
+        // Room, and refusals
+        ensures room { MindsRoom has_room (fs_of self.old).volume.is_down result }
         ensures memory { is_stamp_left (fs_of self.old).changes ≡ false
             → ¬ IsErrOf result FsFault.Memory }
     {
@@ -204,11 +201,8 @@ impl<D: Device> Fs<D> {
             → Commits D.keeps_word (fs_of self.old) (fs_of self.new) state now arguments result }
         ensures volume { Alters self.old self.new
             (IsTree (fs_of self.old).volume (fs_of self.old).volume.tree) (fs_ending result) }
-        ensures room { OnOk result (has_room ≡ true) }
-        // Refused
-        ensures no_room { IsErrOf result FsFault.NoRoom → has_room ≡ false }
-        ensures down { (fs_of self.old).volume.is_down ≡ true → IsErrOf result FsFault.Down }
-        ensures device_room { IsErrOf result FsFault.Device → has_room ≡ true }
+        // Room, and refusals
+        ensures room { MindsRoom has_room (fs_of self.old).volume.is_down result }
     {
         if self.is_down() {
             return Err(FsFault::Down);

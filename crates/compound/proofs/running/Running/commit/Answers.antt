@@ -51,7 +51,7 @@ returns-in-Ok-commit-clause-gives g c = λ arguments now opens keeps table.
     let kind = Argument.Commit arguments in
     subst (λ (outcome : Outcome). GivesIn now (shared fs table opens) (shared new table opens) request request kind outcome) (sym c.committed.ensures.is)
     (gives_in_room now (shared fs table opens) (shared new table opens) request request kind (committed_answer request.context.run)
-    (committed_room request request.context.run true (sym c.in-Ok-commit.ensures.room ∙ c.has_committed_room-has_room.ensures))
+    (committed_room request request.context.run true (sym c.in-Ok-commit.ensures.room.done ∙ c.has_committed_room-has_room.ensures))
     (done_runs now fs request kind (commit_on_tree now fs request arguments) new table opens opens request.context (committed_answer request.context.run)
     (λ state there known. does_commit now fs request arguments new opens state there known
     (c.in-Ok-commit.ensures.step state now arguments (is_on fs request _ state c.requires.run c.in-Ok.ensures.ok.0 c.in-Ok.ensures.ok.1 there) keeps))))
@@ -65,7 +65,7 @@ returns-in-Ok-commit-clause-answered g c =
       small = c.committed.ensures.small;
       room = subst (HasRoom request) (sym c.committed.ensures.is)
           (is_short request (committed_answer request.context.run)
-          (committed_room request request.context.run true (sym c.in-Ok-commit.ensures.room ∙ c.has_committed_room-has_room.ensures)));
+          (committed_room request request.context.run true (sym c.in-Ok-commit.ensures.room.done ∙ c.has_committed_room-has_room.ensures)));
     }
 
 pub returns-in-Ok-commit-clause-volume : goal.returns-in-Ok-commit-clause-volume
@@ -74,7 +74,7 @@ returns-in-Ok-commit-clause-volume g c = λ arguments now table opens.
     let fs = fs_of c.args.fs.now in
     let request = in_progress_of c.args.self.now in
     changes_by g.D.Device.keeps_word _ _
-    (commit_makes now fs request arguments table opens _ c.has_committed_room-has_room.ensures c.in-Ok-commit.ensures.room)
+    (commit_makes now fs request arguments table opens _ c.has_committed_room-has_room.ensures c.in-Ok-commit.ensures.room.done)
     _ _ _ _ _ c.in-Ok-commit.ensures.volume
 
 -- Where it is not
@@ -99,7 +99,7 @@ returns-in-Err-commit-clause-gives g c = λ arguments now opens keeps.
     (told_gives now fs request kind (commit_on_tree now fs request arguments) _ (commit_sized now fs request arguments _ c.has_committed_room-has_room.ensures)
     g.D.Device.keeps_word _ new _ _ c.requires.up _ opens opens c.in-Err-commit.fault refl
     (λ state there known. commit_not_done g.D.Device.keeps_word fs (fs_of c.commit.new.self) state now arguments c.in-Err-commit.fault (c.in-Err-commit.ensures.step state now arguments (is_on fs request _ state c.requires.run c.in-Ok.ensures.ok.0 c.in-Ok.ensures.ok.1 there)))
-    c.in-Err-commit.ensures.no_room c.in-Err-commit.ensures.volume)
+    c.in-Err-commit.ensures.room.refused c.in-Err-commit.ensures.volume)
 
 pub returns-in-Err-commit-clause-answered : goal.returns-in-Err-commit-clause-answered
 unfolding in_progress_of
@@ -128,6 +128,6 @@ returns-in-Err-commit-clause-volume g c = λ arguments now table opens.
     (told_changes now fs request kind (commit_on_tree now fs request arguments) _ (commit_sized now fs request arguments _ c.has_committed_room-has_room.ensures)
     g.D.Device.keeps_word _ new _ _ c.requires.up _ table opens c.in-Err-commit.fault
     step
-    (commit_up now fs request arguments opens c.in-Err-commit.fault c.requires.up step) c.in-Err-commit.ensures.no_room c.in-Err-commit.ensures.device_room
+    (commit_up now fs request arguments opens c.in-Err-commit.fault c.requires.up step) c.in-Err-commit.ensures.room.refused c.in-Err-commit.ensures.room.device
     (commit_makes now fs request arguments table opens _ c.has_committed_room-has_room.ensures)
     c.in-Err-commit.ensures.volume)

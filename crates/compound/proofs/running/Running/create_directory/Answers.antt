@@ -57,7 +57,7 @@ returns-in-Ok-make_dir-clause-gives g c = λ keeps table opens.
     let step = rw c.as_slice.ensures.numbers at c.in-Ok-make_dir.ensures.step in
     subst (λ (outcome : Outcome). GivesIn c.args.now (shared fs table opens) (shared new table opens) request (record request { context = at_node request.context made.number }) kind outcome) (sym c.created.ensures.is)
     (gives_in_room c.args.now (shared fs table opens) (shared new table opens) request (record request { context = at_node request.context made.number }) kind _
-    (made_room request made.before made.number _ (sym c.in-Ok-make_dir.ensures.room ∙ c.has_created_room-has_room.ensures))
+    (made_room request made.before made.number _ (sym c.in-Ok-make_dir.ensures.room.done ∙ c.has_created_room-has_room.ensures))
     (made_runs c.args.now fs table opens request c.args.name.now given new made
     (λ state there. step state (is_on fs request _ _ c.requires.run c.in-Ok.ensures.ok.0 c.in-Ok.ensures.ok.1 there) keeps)))
 
@@ -70,7 +70,7 @@ returns-in-Ok-make_dir-clause-answered g c =
       fits = c.created.ensures.fits;
       small = c.created.ensures.small;
       room = subst (HasRoom request) (sym c.created.ensures.is)
-          (made_short request made.before made.number _ (sym c.in-Ok-make_dir.ensures.room ∙ c.has_created_room-has_room.ensures));
+          (made_short request made.before made.number _ (sym c.in-Ok-make_dir.ensures.room.done ∙ c.has_created_room-has_room.ensures));
     }
 
 pub returns-in-Err-Status-clause-gives : goal.returns-in-Err-Status-clause-gives
@@ -99,7 +99,7 @@ returns-in-Err-NoRoom-clause-gives g c = λ keeps table opens.
     let kind = new_directory c.args.name.now given in
     let step = rw (c.in-Err-NoRoom.field-0-is, c.as_slice.ensures.numbers) at c.in-Err-NoRoom.ensures.step in
     let same = left_all _ _ _ _ _ _ (rw c.in-Err-NoRoom.field-0-is at c.in-Err-NoRoom.ensures.volume) in
-    let no_room = rw c.in-Err-NoRoom.field-0-is at c.in-Err-NoRoom.ensures.no_room in
+    let no_room = rw c.in-Err-NoRoom.field-0-is at c.in-Err-NoRoom.ensures.room.refused in
     c.refuse-in-Err-NoRoom.ensures.gives c.args.now (shared fs table opens) (shared new table opens) kind
     (subst (λ (after : FileSystem). GivesIn c.args.now (shared fs table opens) (shared after table opens) request request kind (Refused 6 status.RepTooBig)) (sym same)
     (full c.args.now fs table opens request c.args.name.now given (sym (no_room refl) ∙ c.has_created_room-has_room.ensures)
@@ -122,7 +122,7 @@ returns-in-Ok-make_dir-clause-volume g c = λ table opens.
     let volume = rw c.as_slice.ensures.numbers at c.in-Ok-make_dir.ensures.volume in
     changes_by g.D.Device.keeps_word _ _
     (made_gives fs table opens request c.args.now _ c.args.name.now (attributes_view c.args.attributes.now) c.requires.run c.in-Ok.ensures.ok.0 c.in-Ok.ensures.ok.1
-    (sym c.in-Ok-make_dir.ensures.room ∙ c.has_created_room-has_room.ensures))
+    (sym c.in-Ok-make_dir.ensures.room.done ∙ c.has_created_room-has_room.ensures))
     _ _ _ _ _ volume
 
 pub returns-in-Err-Status-clause-volume : goal.returns-in-Err-Status-clause-volume
@@ -153,7 +153,7 @@ returns-in-Err-NoRoom-clause-volume g c = λ table opens.
     let step = rw (c.in-Err-NoRoom.field-0-is, c.as_slice.ensures.numbers) at c.in-Err-NoRoom.ensures.step in
     let volume = rw c.in-Err-NoRoom.field-0-is at c.in-Err-NoRoom.ensures.volume in
     let same = left_all _ _ _ _ _ _ volume in
-    let no_room = rw c.in-Err-NoRoom.field-0-is at c.in-Err-NoRoom.ensures.no_room in
+    let no_room = rw c.in-Err-NoRoom.field-0-is at c.in-Err-NoRoom.ensures.room.refused in
     refusal_changes g.D.Device.keeps_word fs new table opens _ _ request c.args.now kind 6 status.RepTooBig same (volume.volume_changes.none (λ broken. cc)) c.requires.up
     (subst (λ (after : FileSystem). GivesIn c.args.now (shared fs table opens) (shared after table opens) request request kind (Refused 6 status.RepTooBig)) (sym same)
     (full c.args.now fs table opens request c.args.name.now given (sym (no_room refl) ∙ c.has_created_room-has_room.ensures)
@@ -170,7 +170,7 @@ returns-in-Err-Device-clause-volume g c = λ table opens.
     let fs = fs_of c.args.fs.now in
     let request = in_progress_of c.args.self.now in
     let volume = rw (c.in-Err-Device.field-0-is, c.as_slice.ensures.numbers) at c.in-Err-Device.ensures.volume in
-    let device_room = rw c.in-Err-Device.field-0-is at c.in-Err-Device.ensures.device_room in
+    let device_room = rw c.in-Err-Device.field-0-is at c.in-Err-Device.ensures.room.device in
     changes_by g.D.Device.keeps_word _ _
     (made_gives fs table opens request c.args.now _ c.args.name.now (attributes_view c.args.attributes.now) c.requires.run c.in-Ok.ensures.ok.0 c.in-Ok.ensures.ok.1
     (sym (device_room refl) ∙ c.has_created_room-has_room.ensures))

@@ -120,7 +120,7 @@ returns-in-Ok-open_file-clause-volume g c = λ table.
     c.in-Some.ensures)
     (has_room fs (record { directory = c.in-Ok.number; name = c.args.name; share = c.share_of.result; how = c.how_of.result }) c.open_room-room.result) (sized c.args.now fs request arguments how c.args.name.now c.in-Ok.number c.requires.opening c.in-Ok.ensures.ok.1 (has_room fs (record { directory = c.in-Ok.number; name = c.args.name; share = c.share_of.result; how = c.how_of.result }) c.open_room-room.result)
     (c.open_room-room.ensures (effect_of fs.volume.tree c.in-Ok.number c.args.name.now (type_of c.how_of.result))
-    ∙ ap (λ (of : OpenType). has_opened_room request (set_by (effect_of fs.volume.tree c.in-Ok.number c.args.name.now of) how)) c.how_of.ensures.is)) c.in-Ok-open_file.ensures.room)
+    ∙ ap (λ (of : OpenType). has_opened_room request (set_by (effect_of fs.volume.tree c.in-Ok.number c.args.name.now of) how)) c.how_of.ensures.is)) c.in-Ok-open_file.ensures.room.done)
     _ _ _ _ _ c.in-Ok-open_file.ensures.volume
 
 -- Where it is not
@@ -165,7 +165,7 @@ returns-in-Err-open_file-clause-gives g c = λ keeps.
     (record { directory = c.in-Ok.number; name = c.args.name; share = c.share_of.result; how = c.how_of.result }) c.in-Ok.ensures.ok.1 (sym c.share_of.ensures.access) (sym c.share_of.ensures.deny)
     (c.requires.opening ∙ ap (λ (of : OpenType). Opens_as of (ByName c.args.name.now)) (sym c.how_of.ensures.is))
     c.in-Some.ensures) state there known))
-    c.in-Err-open_file.ensures.no_room c.in-Err-open_file.ensures.volume)
+    c.in-Err-open_file.ensures.room.refused c.in-Err-open_file.ensures.volume)
 
 pub returns-in-Err-open_file-clause-answered : goal.returns-in-Err-open_file-clause-answered
 unfolding in_progress_of
@@ -215,7 +215,7 @@ returns-in-Err-open_file-clause-volume g c = λ table.
     (record { directory = c.in-Ok.number; name = c.args.name; share = c.share_of.result; how = c.how_of.result }) c.in-Ok.ensures.ok.1 (sym c.share_of.ensures.access) (sym c.share_of.ensures.deny)
     (c.requires.opening ∙ ap (λ (of : OpenType). Opens_as of (ByName c.args.name.now)) (sym c.how_of.ensures.is))
     c.in-Some.ensures) state there known)))
-    c.in-Err-open_file.ensures.no_room c.in-Err-open_file.ensures.device_room
+    c.in-Err-open_file.ensures.room.refused c.in-Err-open_file.ensures.room.device
     (open_makes c.args.now fs request arguments table opens (record { directory = c.in-Ok.number; name = c.args.name; share = c.share_of.result; how = c.how_of.result }) c.is_full-is_full.result c.requires.run c.in-Ok.ensures.ok.0 c.in-Ok.ensures.ok.1
     (is_opening c.args.now fs request arguments opens c.requires.run c.in-Ok.ensures.ok.0 c.in-Some.number c.limits.result.now.opens c.is_full-is_full.result (open_of c.in_ok-asked.asked)
     (ap (λ (limits : Limits). limits.opens) c.limits.ensures) c.in_ok-asked.ensures.ok

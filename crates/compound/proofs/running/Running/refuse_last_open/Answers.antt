@@ -102,7 +102,7 @@ returns-clause-gives g c = λ keeps.
     (λ state there known. c.in-Err.ensures.step state arguments (is_on fs request c.args.opening.directory state c.requires.run c.requires.asked.has c.requires.asked.at there)
     (opening_by c.args.now fs request arguments opens how c.args.opening c.requires.run c.requires.asked number c.limits.result.now.opens c.has_no_room-is_full.result
     c.requires.high.2 (ap (λ (limits : Limits). limits.opens) c.limits.ensures) (c.has_no_room-is_full.ensures.high asked c.requires.high.1) state there known))
-    c.in-Err.ensures.no_room c.in-Err.ensures.volume)
+    c.in-Err.ensures.room.refused c.in-Err.ensures.volume)
 
 pub returns-clause-volume : goal.returns-clause-volume
 unfolding in_progress_of
@@ -128,6 +128,6 @@ returns-clause-volume g c = λ table.
     subst (λ (r : Result Executed Fault). Changes g.D.Device.keeps_word (OperationGives (shared fs table opens) request c.args.now kind) fs new (fs_failures c.args.fs.now) (fs_failures c.open_file.new.self) (ending r)) (sym c.tell_fault.ensures)
     (told_changes c.args.now fs request kind (on_tree c.args.now request arguments) room fits
     g.D.Device.keeps_word _ new _ _ c.requires.up _ table opens c.in-Err.fault step (open_up c.args.now fs request arguments opens c.in-Err.fault c.requires.up step)
-    c.in-Err.ensures.no_room c.in-Err.ensures.device_room
+    c.in-Err.ensures.room.refused c.in-Err.ensures.room.device
     (open_makes c.args.now fs request arguments table opens c.args.opening c.has_no_room-is_full.result c.requires.run c.requires.asked.has c.requires.asked.at opening room fits)
     c.in-Err.ensures.volume)

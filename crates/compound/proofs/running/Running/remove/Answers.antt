@@ -58,7 +58,7 @@ returns-in-Ok-remove-clause-gives g c = λ keeps table.
     subst (λ (after : Opens). GivesIn c.args.now (shared fs table opens) (shared new table after) request request (Argument.Remove name) (outcome_view c.removed.result)) (sym c.remove_file.ensures)
     (subst (λ (outcome : Outcome). GivesIn c.args.now (shared fs table opens) (shared new table left) request request (Argument.Remove name) outcome) (sym c.removed.ensures.is)
     (gives_in_room c.args.now (shared fs table opens) (shared new table left) request request (Argument.Remove name) (removed_answer made.before made.after)
-    (removed_room request 0 0 made.before made.after true (sym c.in-Ok-remove.ensures.room ∙ c.has_removed_room-has_room.ensures))
+    (removed_room request 0 0 made.before made.after true (sym c.in-Ok-remove.ensures.room.done ∙ c.has_removed_room-has_room.ensures))
     (done_runs c.args.now fs request (Argument.Remove name) (on_tree c.args.now fs request name) new table opens left request.context (removed_answer made.before made.after)
     (λ state there known. does_remove c.args.now fs request name new made opens state there known
     (c.in-Ok-remove.ensures.step state (is_on fs request _ _ c.requires.run c.in-Ok.ensures.ok.0 c.in-Ok.ensures.ok.1 there) keeps)))))
@@ -73,7 +73,7 @@ returns-in-Ok-remove-clause-answered g c =
       small = c.removed.ensures.small;
       room = subst (HasRoom request) (sym c.removed.ensures.is)
           (is_short request (removed_answer made.before made.after)
-          (removed_room request 0 0 made.before made.after true (sym c.in-Ok-remove.ensures.room ∙ c.has_removed_room-has_room.ensures)));
+          (removed_room request 0 0 made.before made.after true (sym c.in-Ok-remove.ensures.room.done ∙ c.has_removed_room-has_room.ensures)));
     }
 
 pub returns-in-Ok-remove-clause-volume : goal.returns-in-Ok-remove-clause-volume
@@ -83,7 +83,7 @@ returns-in-Ok-remove-clause-volume g c = λ table.
     let fs = fs_of c.args.fs.now in
     let request = in_progress_of c.args.self.now in
     changes_by g.D.Device.keeps_word _ _
-    (remove_makes c.args.now fs request c.args.name.now table opens _ c.requires.run c.in-Ok.ensures.ok.0 c.in-Ok.ensures.ok.1 _ c.has_removed_room-has_room.ensures c.in-Ok-remove.ensures.room)
+    (remove_makes c.args.now fs request c.args.name.now table opens _ c.requires.run c.in-Ok.ensures.ok.0 c.in-Ok.ensures.ok.1 _ c.has_removed_room-has_room.ensures c.in-Ok-remove.ensures.room.done)
     _ _ _ _ _ c.in-Ok-remove.ensures.volume
 
 -- Where it is not
@@ -106,7 +106,7 @@ returns-in-Err-remove-clause-gives g c = λ keeps.
     (told_gives c.args.now fs request (Argument.Remove name) (on_tree c.args.now fs request name) _ (sized c.args.now fs request name _ c.has_removed_room-has_room.ensures)
     g.D.Device.keeps_word _ new _ _ c.requires.up _ (opens_of c.args.opens.now) (opens_of c.args.opens.now) c.in-Err-remove.fault refl
     (λ state there known. c.in-Err-remove.ensures.step state (is_on fs request _ _ c.requires.run c.in-Ok.ensures.ok.0 c.in-Ok.ensures.ok.1 there))
-    c.in-Err-remove.ensures.no_room c.in-Err-remove.ensures.volume)
+    c.in-Err-remove.ensures.room.refused c.in-Err-remove.ensures.volume)
 
 pub returns-in-Err-remove-clause-answered : goal.returns-in-Err-remove-clause-answered
 unfolding in_progress_of
@@ -133,6 +133,6 @@ returns-in-Err-remove-clause-volume g c = λ table.
     (told_changes c.args.now fs request (Argument.Remove name) (on_tree c.args.now fs request name) _ (sized c.args.now fs request name _ c.has_removed_room-has_room.ensures)
     g.D.Device.keeps_word _ new _ _ c.requires.up _ table opens c.in-Err-remove.fault
     (λ state there known. c.in-Err-remove.ensures.step state (is_on fs request _ _ c.requires.run c.in-Ok.ensures.ok.0 c.in-Ok.ensures.ok.1 there))
-    (remove_up c.args.now fs request c.args.name.now _ c.in-Err-remove.fault c.requires.up c.requires.run c.in-Ok.ensures.ok.0 c.in-Ok.ensures.ok.1 c.in-Err-remove.ensures.step) c.in-Err-remove.ensures.no_room c.in-Err-remove.ensures.device_room
+    (remove_up c.args.now fs request c.args.name.now _ c.in-Err-remove.fault c.requires.up c.requires.run c.in-Ok.ensures.ok.0 c.in-Ok.ensures.ok.1 c.in-Err-remove.ensures.step) c.in-Err-remove.ensures.room.refused c.in-Err-remove.ensures.room.device
     (remove_makes c.args.now fs request name table opens _ c.requires.run c.in-Ok.ensures.ok.0 c.in-Ok.ensures.ok.1 _ c.has_removed_room-has_room.ensures)
     c.in-Err-remove.ensures.volume)

@@ -58,7 +58,7 @@ returns-in-Ok-rename-clause-gives g c = λ keeps table.
     subst (λ (after : Opens). GivesIn c.args.now (shared fs table opens) (shared new table after) request request (Argument.Rename arguments) (outcome_view c.renamed.result)) (sym c.end_replaced.ensures)
     (subst (λ (outcome : Outcome). GivesIn c.args.now (shared fs table opens) (shared new table left) request request (Argument.Rename arguments) outcome) (sym c.renamed.ensures.is)
     (gives_in_room c.args.now (shared fs table opens) (shared new table left) request request (Argument.Rename arguments) (renamed_answer made.source made.target)
-    (renamed_room request no_change no_change made.source made.target true (sym c.in-Ok-rename.ensures.room ∙ c.has_renamed_room-has_room.ensures))
+    (renamed_room request no_change no_change made.source made.target true (sym c.in-Ok-rename.ensures.room.done ∙ c.has_renamed_room-has_room.ensures))
     (done_runs c.args.now fs request (Argument.Rename arguments) (on_tree c.args.now fs request arguments) new table opens left request.context (renamed_answer made.source made.target)
     (λ state there known. does_rename c.args.now fs request arguments new made opens same state there known (same_name c.args.now fs request arguments c.in-Ok.numbers c.in-Ok.ensures.ok state there)
     (c.in-Ok-rename.ensures.step state (is_on_both c.args.now fs request arguments c.in-Ok.numbers c.requires.run c.in-Ok.ensures.ok state there) keeps)))))
@@ -73,7 +73,7 @@ returns-in-Ok-rename-clause-answered g c =
       small = c.renamed.ensures.small;
       room = subst (HasRoom request) (sym c.renamed.ensures.is)
           (is_short request (renamed_answer made.source made.target)
-          (renamed_room request no_change no_change made.source made.target true (sym c.in-Ok-rename.ensures.room ∙ c.has_renamed_room-has_room.ensures)));
+          (renamed_room request no_change no_change made.source made.target true (sym c.in-Ok-rename.ensures.room.done ∙ c.has_renamed_room-has_room.ensures)));
     }
 
 pub returns-in-Ok-rename-clause-volume : goal.returns-in-Ok-rename-clause-volume
@@ -83,7 +83,7 @@ returns-in-Ok-rename-clause-volume g c = λ table.
     let fs = fs_of c.args.fs.now in
     let request = in_progress_of c.args.self.now in
     changes_by g.D.Device.keeps_word _ _
-    (rename_makes c.args.now fs request (rename_view c.args.arguments.now) table opens c.in-Ok.numbers c.requires.run c.in-Ok.ensures.ok _ c.has_renamed_room-has_room.ensures c.in-Ok-rename.ensures.room)
+    (rename_makes c.args.now fs request (rename_view c.args.arguments.now) table opens c.in-Ok.numbers c.requires.run c.in-Ok.ensures.ok _ c.has_renamed_room-has_room.ensures c.in-Ok-rename.ensures.room.done)
     _ _ _ _ _ c.in-Ok-rename.ensures.volume
 
 -- Where it is not
@@ -106,7 +106,7 @@ returns-in-Err-rename-clause-gives g c = λ keeps.
     (told_gives c.args.now fs request (Argument.Rename arguments) (on_tree c.args.now fs request arguments) _ (sized c.args.now fs request arguments _ c.has_renamed_room-has_room.ensures)
     g.D.Device.keeps_word _ new _ _ c.requires.up _ (opens_of c.args.opens.now) (opens_of c.args.opens.now) c.in-Err-rename.fault refl
     (λ state there known. c.in-Err-rename.ensures.step state (is_on_both c.args.now fs request arguments c.in-Ok.numbers c.requires.run c.in-Ok.ensures.ok state there))
-    c.in-Err-rename.ensures.no_room c.in-Err-rename.ensures.volume)
+    c.in-Err-rename.ensures.room.refused c.in-Err-rename.ensures.volume)
 
 pub returns-in-Err-rename-clause-answered : goal.returns-in-Err-rename-clause-answered
 unfolding in_progress_of
@@ -133,6 +133,6 @@ returns-in-Err-rename-clause-volume g c = λ table.
     (told_changes c.args.now fs request (Argument.Rename arguments) (on_tree c.args.now fs request arguments) _ (sized c.args.now fs request arguments _ c.has_renamed_room-has_room.ensures)
     g.D.Device.keeps_word _ new _ _ c.requires.up _ table opens c.in-Err-rename.fault
     (λ state there known. c.in-Err-rename.ensures.step state (is_on_both c.args.now fs request arguments c.in-Ok.numbers c.requires.run c.in-Ok.ensures.ok state there))
-    (rename_up c.args.now fs request (rename_view c.args.arguments.now) c.in-Ok.numbers c.in-Err-rename.fault c.requires.up c.requires.run c.in-Ok.ensures.ok c.in-Err-rename.ensures.step) c.in-Err-rename.ensures.no_room c.in-Err-rename.ensures.device_room
+    (rename_up c.args.now fs request (rename_view c.args.arguments.now) c.in-Ok.numbers c.in-Err-rename.fault c.requires.up c.requires.run c.in-Ok.ensures.ok c.in-Err-rename.ensures.step) c.in-Err-rename.ensures.room.refused c.in-Err-rename.ensures.room.device
     (rename_makes c.args.now fs request arguments table opens c.in-Ok.numbers c.requires.run c.in-Ok.ensures.ok _ c.has_renamed_room-has_room.ensures)
     c.in-Err-rename.ensures.volume)

@@ -60,7 +60,7 @@ returns-in-Ok-set_attributes-clause-gives g c = λ keeps table.
     let kind = Argument.SetAttr arguments in
     subst (λ (outcome : Outcome). GivesIn c.args.now (shared fs table opens) (shared new table opens) request request kind outcome) (sym c.attributes_set.ensures.is)
     (gives_in_room c.args.now (shared fs table opens) (shared new table opens) request request kind (was_set arguments)
-    (sym c.in-Ok-set_attributes.ensures.room ∙ c.has_set_room-has_room.ensures)
+    (sym c.in-Ok-set_attributes.ensures.room.done ∙ c.has_set_room-has_room.ensures)
     (done_runs c.args.now fs request kind (on_tree c.args.now fs request arguments) new table opens opens request.context (was_set arguments)
     (λ state there known. does_set c.args.now fs request arguments new opens state there known
     (c.in-Ok-set_attributes.ensures.step state arguments (is_on fs request _ state c.requires.run c.in-Ok.ensures.ok.0 c.in-Ok.ensures.ok.1 there)
@@ -74,7 +74,7 @@ returns-in-Ok-set_attributes-clause-answered g c =
       fits = c.attributes_set.ensures.fits;
       small = c.attributes_set.ensures.small;
       room = subst (HasRoom request) (sym c.attributes_set.ensures.is)
-          (is_short request (was_set (set_attr_view c.args.arguments.now)) (sym c.in-Ok-set_attributes.ensures.room ∙ c.has_set_room-has_room.ensures));
+          (is_short request (was_set (set_attr_view c.args.arguments.now)) (sym c.in-Ok-set_attributes.ensures.room.done ∙ c.has_set_room-has_room.ensures));
     }
 
 pub returns-in-Ok-set_attributes-clause-volume : goal.returns-in-Ok-set_attributes-clause-volume
@@ -87,7 +87,7 @@ returns-in-Ok-set_attributes-clause-volume g c = λ table.
     changes_by g.D.Device.keeps_word _ _
     (set_makes c.args.now fs request arguments table opens _ c.requires.run c.in-Ok.ensures.ok.0 c.in-Ok.ensures.ok.1
     (λ state there known. record { verdict_is = c.verdict-verdict.ensures.is state known there.context_is; attributes_are = given_is _ _ (sym c.as_slice.ensures.numbers) })
-    _ c.has_set_room-has_room.ensures c.in-Ok-set_attributes.ensures.room)
+    _ c.has_set_room-has_room.ensures c.in-Ok-set_attributes.ensures.room.done)
     _ _ _ _ _ c.in-Ok-set_attributes.ensures.volume
 
 -- Where they are not
@@ -117,7 +117,7 @@ returns-in-Err-set_attributes-clause-gives g c = λ keeps.
     g.D.Device.keeps_word _ new _ _ c.requires.up _ opens opens c.in-Err-set_attributes.fault refl
     (λ state there known. c.in-Err-set_attributes.ensures.step state arguments (is_on fs request _ state c.requires.run c.in-Ok.ensures.ok.0 c.in-Ok.ensures.ok.1 there)
     (record { verdict_is = c.verdict-verdict.ensures.is state known there.context_is; attributes_are = given_is _ _ (sym c.as_slice.ensures.numbers) }))
-    c.in-Err-set_attributes.ensures.no_room c.in-Err-set_attributes.ensures.volume)
+    c.in-Err-set_attributes.ensures.room.refused c.in-Err-set_attributes.ensures.volume)
 
 pub returns-in-Err-set_attributes-clause-answered : goal.returns-in-Err-set_attributes-clause-answered
 unfolding in_progress_of
@@ -151,6 +151,6 @@ returns-in-Err-set_attributes-clause-volume g c = λ table.
     (told_changes c.args.now fs request kind (on_tree c.args.now fs request arguments) _ (sized c.args.now fs request arguments _ c.has_set_room-has_room.ensures)
     g.D.Device.keeps_word _ new _ _ c.requires.up _ table opens c.in-Err-set_attributes.fault
     step
-    (set_up c.args.now fs request arguments opens c.in-Err-set_attributes.fault c.requires.up step) c.in-Err-set_attributes.ensures.no_room c.in-Err-set_attributes.ensures.device_room
+    (set_up c.args.now fs request arguments opens c.in-Err-set_attributes.fault c.requires.up step) c.in-Err-set_attributes.ensures.room.refused c.in-Err-set_attributes.ensures.room.device
     (set_makes c.args.now fs request arguments table opens _ c.requires.run c.in-Ok.ensures.ok.0 c.in-Ok.ensures.ok.1 setting _ c.has_set_room-has_room.ensures)
     c.in-Err-set_attributes.ensures.volume)

@@ -60,7 +60,7 @@ returns-in-Ok-write-clause-gives g c = λ keeps table.
     let answer = written_answer request.context.run arguments.stable c.in-Ok-write.count in
     subst (λ (outcome : Outcome). GivesIn c.args.now (shared fs table opens) (shared new table opens) request request kind outcome) (sym c.written.ensures.is)
     (gives_in_room c.args.now (shared fs table opens) (shared new table opens) request request kind answer
-    (written_room request request.context.run arguments.stable c.in-Ok-write.count true (sym c.in-Ok-write.ensures.room ∙ c.has_written_room-has_room.ensures))
+    (written_room request request.context.run arguments.stable c.in-Ok-write.count true (sym c.in-Ok-write.ensures.room.done ∙ c.has_written_room-has_room.ensures))
     (done_runs c.args.now fs request kind (write_on_tree c.args.now fs request arguments) new table opens opens request.context answer
     (λ state there known. does_write c.args.now fs request arguments new opens c.in-Ok-write.count state there known
     (c.in-Ok-write.ensures.step state arguments (is_on fs request _ state c.requires.run c.in-Ok.ensures.ok.0 c.in-Ok.ensures.ok.1 there)
@@ -76,7 +76,7 @@ returns-in-Ok-write-clause-answered g c =
       small = c.written.ensures.small;
       room = subst (HasRoom request) (sym c.written.ensures.is)
           (is_short request (written_answer request.context.run arguments.stable c.in-Ok-write.count)
-          (written_room request request.context.run arguments.stable c.in-Ok-write.count true (sym c.in-Ok-write.ensures.room ∙ c.has_written_room-has_room.ensures)));
+          (written_room request request.context.run arguments.stable c.in-Ok-write.count true (sym c.in-Ok-write.ensures.room.done ∙ c.has_written_room-has_room.ensures)));
     }
 
 pub returns-in-Ok-write-clause-volume : goal.returns-in-Ok-write-clause-volume
@@ -89,7 +89,7 @@ returns-in-Ok-write-clause-volume g c = λ table.
     changes_by g.D.Device.keeps_word _ _
     (write_makes c.args.now fs request arguments table opens _ _ _ c.requires.run c.in-Ok.ensures.ok.0 c.in-Ok.ensures.ok.1
     (λ state there known. record { verdict_is = c.verdict-verdict.ensures.is state known there.context_is; offset_is = refl; bytes_are = refl; stable_is = c.is_to_be_stable.ensures })
-    _ c.has_written_room-has_room.ensures c.in-Ok-write.ensures.room)
+    _ c.has_written_room-has_room.ensures c.in-Ok-write.ensures.room.done)
     _ _ _ _ _ c.in-Ok-write.ensures.volume
 
 -- Where it is not
@@ -119,7 +119,7 @@ returns-in-Err-write-clause-gives g c = λ keeps.
     g.D.Device.keeps_word _ new _ _ c.requires.up _ opens opens c.in-Err-write.fault refl
     (λ state there known. c.in-Err-write.ensures.step state arguments (is_on fs request _ state c.requires.run c.in-Ok.ensures.ok.0 c.in-Ok.ensures.ok.1 there)
     (record { verdict_is = c.verdict-verdict.ensures.is state known there.context_is; offset_is = refl; bytes_are = refl; stable_is = c.is_to_be_stable.ensures }))
-    c.in-Err-write.ensures.no_room c.in-Err-write.ensures.volume)
+    c.in-Err-write.ensures.room.refused c.in-Err-write.ensures.volume)
 
 pub returns-in-Err-write-clause-answered : goal.returns-in-Err-write-clause-answered
 unfolding in_progress_of
@@ -153,6 +153,6 @@ returns-in-Err-write-clause-volume g c = λ table.
     (told_changes c.args.now fs request kind (write_on_tree c.args.now fs request arguments) _ (write_sized c.args.now fs request arguments _ c.has_written_room-has_room.ensures)
     g.D.Device.keeps_word _ new _ _ c.requires.up _ table opens c.in-Err-write.fault
     step
-    (write_up c.args.now fs request arguments opens c.in-Err-write.fault c.requires.up step) c.in-Err-write.ensures.no_room c.in-Err-write.ensures.device_room
+    (write_up c.args.now fs request arguments opens c.in-Err-write.fault c.requires.up step) c.in-Err-write.ensures.room.refused c.in-Err-write.ensures.room.device
     (write_makes c.args.now fs request arguments table opens _ _ _ c.requires.run c.in-Ok.ensures.ok.0 c.in-Ok.ensures.ok.1 writing _ c.has_written_room-has_room.ensures)
     c.in-Err-write.ensures.volume)

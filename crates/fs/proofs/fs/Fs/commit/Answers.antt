@@ -3,6 +3,7 @@ use Rattle.std.specs.Prelude.{Err}
 use Rattle.fs.specs.Views.{fs_of}
 use Rattle.fs.specs.Refusals.{volume_fault}
 use Rattle.fs.specs.declared.fault.FsFault.TheVariants as fault
+use Rattle.fs.proofs.ChangeLaws.{full_room, done_room}
 use Rattle.fs.proofs.ReadLaws.{commit_early, commit_goes_on, committed, commit_fails}
 use Rattle.volume.proofs.ServeLaws.{told_err}
 use Rattle.fs.proofs.fs.Fs.commit.Goals as goal
@@ -28,3 +29,9 @@ returns-clause-step g c state now arguments on keeps =
 pub returns-then-not-has_room-clause-step : goal.returns-then-not-has_room-clause-step
 returns-then-not-has_room-clause-step g c = λ state now arguments on.
     commit_goes_on (fs_of c.args.self.now) c.args.cred.now c.args.number state now on arguments c.in_ok-file.ensures.tests
+
+pub returns-then-not-has_room-clause-room : goal.returns-then-not-has_room-clause-room
+returns-then-not-has_room-clause-room g c = full_room _ _ c.is_down.result c.is_down.ensures c.if-is_down.false c.if-not-has_room.true
+
+pub returns-clause-room : goal.returns-clause-room
+returns-clause-room g c = done_room _ _ c.is_down.result c.is_down.ensures c.if-is_down.false _ c.if-not-has_room.false

@@ -1,22 +1,17 @@
 use Rattle.std.proofs.Common.{ap, ◌∙◌, refl, sym}
 use Rattle.model.specs.Operations.Step.{Stepped}
 use Rattle.fs.specs.Views.{fs_of, fs_failures}
-use Rattle.fs.proofs.ChangeLaws.{changes_by, left, left_by, never_no_room, never_device, down_no_room, down_no_device, up_not_down, not_known, kept_no_room}
+use Rattle.fs.proofs.ChangeLaws.{changes_by, left, left_by, not_known, down_room, planned_room, kept_room, full_room, done_room}
 use Rattle.volume.proofs.ServeLaws.{told_err}
 use Rattle.volume.specs.Changes.{IsTree}
 use Rattle.volume.specs.Edits.{edited_by}
 use Rattle.volume.specs.VolumeState.{with_tree}
+use Rattle.fs.specs.Opening.{has_room_for}
 use Rattle.fs.specs.Refusals.{fault_of}
 use Rattle.fs.proofs.fs.Fs.open_file.Goals as goal
 
 pub returns-in_err-change_stable-clause-step : goal.returns-in_err-change_stable-clause-step
 returns-in_err-change_stable-clause-step g c = rw (told_err c.from_residual-in_err-change_stable.result c.in_err-change_stable.field-0.0 c.from_residual-in_err-change_stable.ensures.1) (λ state arguments on is. not_known (fs_of c.args.self.now) state c.args.now _ c.in_err-change_stable.field-0.0 c.in_err-change_stable.ensures.only)
-
-pub returns-in_err-change_stable-clause-no_room : goal.returns-in_err-change_stable-clause-no_room
-returns-in_err-change_stable-clause-no_room g c = rw (told_err c.from_residual-in_err-change_stable.result c.in_err-change_stable.field-0.0 c.from_residual-in_err-change_stable.ensures.1) (λ same. absurd (kept_no_room c.in_err-change_stable.field-0.0 c.in_err-change_stable.ensures.only same))
-
-pub returns-in_err-change_stable-clause-down : goal.returns-in_err-change_stable-clause-down
-returns-in_err-change_stable-clause-down g c = rw (told_err c.from_residual-in_err-change_stable.result c.in_err-change_stable.field-0.0 c.from_residual-in_err-change_stable.ensures.1) (λ is. absurd (up_not_down c.is_down.result (fs_of c.args.self.now).volume.is_down c.is_down.ensures c.if-is_down.false is))
 
 pub returns-in_err-change_stable-clause-opened : goal.returns-in_err-change_stable-clause-opened
 returns-in_err-change_stable-clause-opened g c = rw (told_err c.from_residual-in_err-change_stable.result c.in_err-change_stable.field-0.0 c.from_residual-in_err-change_stable.ensures.1) (tt)
@@ -25,7 +20,7 @@ pub returns-in_err-change_stable-clause-full : goal.returns-in_err-change_stable
 returns-in_err-change_stable-clause-full g c = rw (told_err c.from_residual-in_err-change_stable.result c.in_err-change_stable.field-0.0 c.from_residual-in_err-change_stable.ensures.1) (tt)
 
 pub returns-in_err-change_stable-clause-room : goal.returns-in_err-change_stable-clause-room
-returns-in_err-change_stable-clause-room g c = rw (told_err c.from_residual-in_err-change_stable.result c.in_err-change_stable.field-0.0 c.from_residual-in_err-change_stable.ensures.1) (tt)
+returns-in_err-change_stable-clause-room g c = rw (told_err c.from_residual-in_err-change_stable.result c.in_err-change_stable.field-0.0 c.from_residual-in_err-change_stable.ensures.1) (kept_room _ _ c.is_down.result c.is_down.ensures c.if-is_down.false c.in_err-change_stable.field-0.0 c.in_err-change_stable.ensures.only (ap (has_room_for c.args.room) (sym c.in_ok-planned.ensures.opened.effect_is) ∙ sym c.has.ensures ∙ c.if-not-has.false))
 
 pub returns-then-is_down : goal.returns-then-is_down
 returns-then-is_down g c = record {
@@ -33,10 +28,7 @@ returns-then-is_down g c = record {
   volume = left g.D.Device.keeps_word _ (fs_of c.args.self.now) (fs_failures c.args.self.now);
   opened = tt;
   full = tt;
-  room = tt;
-  no_room = λ same. absurd (down_no_room same);
-  down = λ is. refl;
-  device_room = λ same. absurd (down_no_device same);
+  room = down_room _ _;
 }
 
 pub returns-in_err-planned : goal.returns-in_err-planned
@@ -48,10 +40,7 @@ returns-in_err-planned g c =
       volume = left_by g.D.Device.keeps_word _ (fs_of c.args.self.now) (fs_failures c.args.self.now) refused;
       opened = tt;
       full = tt;
-      room = tt;
-      no_room = λ same. absurd (never_no_room refused same);
-      down = λ is. absurd (up_not_down c.is_down.result (fs_of c.args.self.now).volume.is_down c.is_down.ensures c.if-is_down.false is);
-      device_room = λ same. absurd (never_device refused same);
+      room = planned_room _ _ c.is_down.result c.is_down.ensures c.if-is_down.false refused;
     })
 
 pub returns-then-not-has-clause-volume : goal.returns-then-not-has-clause-volume
@@ -71,3 +60,9 @@ returns-clause-volume g c =
     changes_by g.D.Device.keeps_word (IsTree held (edited_by held c.in-Some.edits.items)) _
     (λ after lasts made. made.kept ∙ ap (λ (s : Stepped). with_tree held s.state.tree) (rw c.in-Some.is at (c.in_ok-planned.ensures.step made.state made.arguments made.on made.opening)))
     _ _ _ _ _ (rw (c.in_ok-change_stable.was, c.deref.ensures.value) at c.change_stable.ensures.volume)
+
+pub returns-then-not-has-clause-room : goal.returns-then-not-has-clause-room
+returns-then-not-has-clause-room g c = full_room _ _ c.is_down.result c.is_down.ensures c.if-is_down.false (ap (has_room_for c.args.room) (sym c.in_ok-planned.ensures.opened.effect_is) ∙ sym c.has.ensures ∙ c.if-not-has.true)
+
+pub returns-clause-room : goal.returns-clause-room
+returns-clause-room g c = done_room _ _ c.is_down.result c.is_down.ensures c.if-is_down.false _ (ap (has_room_for c.args.room) (sym c.in_ok-planned.ensures.opened.effect_is) ∙ sym c.has.ensures ∙ c.if-not-has.false)

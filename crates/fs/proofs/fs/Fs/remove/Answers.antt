@@ -2,7 +2,7 @@ use Rattle.std.proofs.Common.{ap, ◌∙◌, refl, sym}
 use Rattle.std.specs.Prelude.{Err}
 use Rattle.model.specs.Operations.Step.{Stepped}
 use Rattle.fs.specs.Views.{fs_of, fs_failures}
-use Rattle.fs.proofs.ChangeLaws.{changes_by, left, left_by, never_no_room, never_device, down_no_room, down_no_device, up_not_down, down_no_memory, told_memory, not_known, kept_no_room}
+use Rattle.fs.proofs.ChangeLaws.{changes_by, left, left_by, down_no_memory, told_memory, not_known, down_room, planned_room, kept_room, full_room, done_room}
 use Rattle.volume.proofs.ServeLaws.{told_err}
 use Rattle.volume.specs.Changes.{IsTree}
 use Rattle.volume.specs.Edits.{edited_by}
@@ -13,30 +13,18 @@ use Rattle.fs.proofs.fs.Fs.remove.Goals as goal
 pub returns-in_err-change_stable-clause-step : goal.returns-in_err-change_stable-clause-step
 returns-in_err-change_stable-clause-step g c = rw (told_err c.from_residual-in_err-change_stable.result c.in_err-change_stable.field-0.0 c.from_residual-in_err-change_stable.ensures.1) (λ state on. not_known (fs_of c.args.self.now) state c.args.now _ c.in_err-change_stable.field-0.0 c.in_err-change_stable.ensures.only)
 
-pub returns-in_err-change_stable-clause-no_room : goal.returns-in_err-change_stable-clause-no_room
-returns-in_err-change_stable-clause-no_room g c = rw (told_err c.from_residual-in_err-change_stable.result c.in_err-change_stable.field-0.0 c.from_residual-in_err-change_stable.ensures.1) (λ same. absurd (kept_no_room c.in_err-change_stable.field-0.0 c.in_err-change_stable.ensures.only same))
-
-pub returns-in_err-change_stable-clause-down : goal.returns-in_err-change_stable-clause-down
-returns-in_err-change_stable-clause-down g c = rw (told_err c.from_residual-in_err-change_stable.result c.in_err-change_stable.field-0.0 c.from_residual-in_err-change_stable.ensures.1) (λ is. absurd (up_not_down c.is_down.result (fs_of c.args.self.now).volume.is_down c.is_down.ensures c.if-is_down.false is))
-
 pub returns-in_err-change_stable-clause-gone : goal.returns-in_err-change_stable-clause-gone
 returns-in_err-change_stable-clause-gone g c = rw (told_err c.from_residual-in_err-change_stable.result c.in_err-change_stable.field-0.0 c.from_residual-in_err-change_stable.ensures.1) (tt)
 
 pub returns-in_err-change_stable-clause-room : goal.returns-in_err-change_stable-clause-room
-returns-in_err-change_stable-clause-room g c = rw (told_err c.from_residual-in_err-change_stable.result c.in_err-change_stable.field-0.0 c.from_residual-in_err-change_stable.ensures.1) (tt)
-
-pub returns-in_err-change_stable-clause-device_room : goal.returns-in_err-change_stable-clause-device_room
-returns-in_err-change_stable-clause-device_room g c = rw (told_err c.from_residual-in_err-change_stable.result c.in_err-change_stable.field-0.0 c.from_residual-in_err-change_stable.ensures.1) (λ same. c.if-not-has_room.false)
+returns-in_err-change_stable-clause-room g c = rw (told_err c.from_residual-in_err-change_stable.result c.in_err-change_stable.field-0.0 c.from_residual-in_err-change_stable.ensures.1) (kept_room _ _ c.is_down.result c.is_down.ensures c.if-is_down.false c.in_err-change_stable.field-0.0 c.in_err-change_stable.ensures.only c.if-not-has_room.false)
 
 pub returns-then-is_down : goal.returns-then-is_down
 returns-then-is_down g c = record {
   step = λ state on. sym c.is_down.ensures ∙ c.if-is_down.true;
   volume = left g.D.Device.keeps_word _ (fs_of c.args.self.now) (fs_failures c.args.self.now);
   gone = tt;
-  room = tt;
-  no_room = λ same. absurd (down_no_room same);
-  down = λ is. refl;
-  device_room = λ same. absurd (down_no_device same);
+  room = down_room _ _;
   memory = λ none same. down_no_memory same;
 }
 
@@ -48,10 +36,7 @@ returns-in_err-planned g c =
       step = λ state on. c.in_err-planned.ensures.refused state on;
       volume = left_by g.D.Device.keeps_word _ (fs_of c.args.self.now) (fs_failures c.args.self.now) refused;
       gone = tt;
-      room = tt;
-      no_room = λ same. absurd (never_no_room refused same);
-      down = λ is. absurd (up_not_down c.is_down.result (fs_of c.args.self.now).volume.is_down c.is_down.ensures c.if-is_down.false is);
-      device_room = λ same. absurd (never_device refused same);
+      room = planned_room _ _ c.is_down.result c.is_down.ensures c.if-is_down.false refused;
       memory = λ none same. c.in_err-planned.ensures.memory none (ap Err (told_memory refused same));
     })
 
@@ -72,3 +57,9 @@ returns-clause-volume g c =
     changes_by g.D.Device.keeps_word (IsTree held (edited_by held c.in_ok-planned.planned.edits.items)) _
     (λ after lasts made. made.kept ∙ ap (λ (s : Stepped). with_tree held s.state.tree) (c.in_ok-planned.ensures.step made.state made.on))
     _ _ _ _ _ (rw (c.in_ok-change_stable.was, c.deref.ensures.value) at c.change_stable.ensures.volume)
+
+pub returns-then-not-has_room-clause-room : goal.returns-then-not-has_room-clause-room
+returns-then-not-has_room-clause-room g c = full_room _ _ c.is_down.result c.is_down.ensures c.if-is_down.false c.if-not-has_room.true
+
+pub returns-clause-room : goal.returns-clause-room
+returns-clause-room g c = done_room _ _ c.is_down.result c.is_down.ensures c.if-is_down.false _ c.if-not-has_room.false

@@ -1,7 +1,7 @@
 use Rattle.fs.specs.Changes.{fs_ending}
 use Rattle.fs.specs.Views.{fs_of, fs_failures}
 use Rattle.fs.specs.Setting.{SetsTree}
-use Rattle.fs.proofs.ChangeLaws.{changes_by, left, left_by, never_no_room, never_device, down_no_room, down_no_device, up_not_down}
+use Rattle.fs.proofs.ChangeLaws.{changes_by, left, left_by, down_room, planned_room, full_room, told_room}
 use Rattle.fs.proofs.SettingLaws.{sets_tree}
 use Rattle.volume.specs.Changes.{IsTree}
 use Rattle.volume.specs.Edits.{edited_by}
@@ -14,10 +14,7 @@ pub returns-then-is_down : goal.returns-then-is_down
 returns-then-is_down g c = record {
   step = λ state arguments on is. sym c.is_down.ensures ∙ c.if-is_down.true;
   volume = left g.D.Device.keeps_word _ (fs_of c.args.self.now) (fs_failures c.args.self.now);
-  room = tt;
-  no_room = λ same. absurd (down_no_room same);
-  down = λ is. refl;
-  device_room = λ same. absurd (down_no_device same);
+  room = down_room _ _;
 }
 
 pub returns-in_err-planned : goal.returns-in_err-planned
@@ -27,10 +24,7 @@ returns-in_err-planned g c =
     rw told (record {
       step = λ state arguments on is. c.in_err-planned.ensures.refused state arguments on is;
       volume = left_by g.D.Device.keeps_word _ (fs_of c.args.self.now) (fs_failures c.args.self.now) refused;
-      room = tt;
-      no_room = λ same. absurd (never_no_room refused same);
-      down = λ is. absurd (up_not_down c.is_down.result (fs_of c.args.self.now).volume.is_down c.is_down.ensures c.if-is_down.false is);
-      device_room = λ same. absurd (never_device refused same);
+      room = planned_room _ _ c.is_down.result c.is_down.ensures c.if-is_down.false refused;
     })
 
 pub returns-then-not-has_room-clause-volume : goal.returns-then-not-has_room-clause-volume
@@ -43,3 +37,9 @@ returns-clause-volume g c =
     (λ after lasts made. sets_tree fs c.args.cred.now c.args.now c.args.asked c.in-Some.edits.items
     (λ state arguments on is. rw c.in-Some.is at (c.in_ok-planned.ensures.step state arguments on is)) after lasts made)
     _ _ _ _ (fs_ending c.change_stable.result) (rw c.deref.ensures.value at c.change_stable.ensures.volume)
+
+pub returns-then-not-has_room-clause-room : goal.returns-then-not-has_room-clause-room
+returns-then-not-has_room-clause-room g c = full_room _ _ c.is_down.result c.is_down.ensures c.if-is_down.false c.if-not-has_room.true
+
+pub returns-clause-room : goal.returns-clause-room
+returns-clause-room g c = told_room _ _ c.is_down.result c.is_down.ensures c.if-is_down.false c.change_stable.result c.change_stable.ensures.only c.if-not-has_room.false

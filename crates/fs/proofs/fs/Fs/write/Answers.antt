@@ -7,7 +7,7 @@ use Rattle.fs.specs.Views.{fs_of, fs_failures}
 use Rattle.fs.specs.Writing.{IsPut, WritesTree}
 use Rattle.fs.specs.declared.fault.FsFault.TheVariants as fault
 use Rattle.fs.proofs.BytesLaws.{none_bytes}
-use Rattle.fs.proofs.ChangeLaws.{changes_by, left, left_by, never_no_room, never_device, down_no_room, down_no_device, up_not_down, down_no_memory, told_memory}
+use Rattle.fs.proofs.ChangeLaws.{changes_by, left, left_by, down_no_memory, told_memory, down_room, planned_room, full_room, done_room}
 use Rattle.fs.proofs.WrittenLaws.{early, nothing, puts_tree}
 use Rattle.volume.proofs.ServeLaws.{told_err}
 use Rattle.fs.specs.Refusals.{fault_of}
@@ -18,10 +18,7 @@ returns-then-is_down g c = record {
   step = λ state arguments on is. sym c.is_down.ensures ∙ c.if-is_down.true;
   volume = left g.D.Device.keeps_word _ (fs_of c.args.self.now) (fs_failures c.args.self.now);
   count = tt;
-  room = tt;
-  no_room = λ same. absurd (down_no_room same);
-  down = λ is. refl;
-  device_room = λ same. absurd (down_no_device same);
+  room = down_room _ _;
   memory = λ none same. down_no_memory same;
 }
 
@@ -33,10 +30,7 @@ returns-in_err-edits g c =
       step = λ state arguments on is. c.in_err-edits.ensures.refused state arguments on is;
       volume = left_by g.D.Device.keeps_word _ (fs_of c.args.self.now) (fs_failures c.args.self.now) refused;
       count = tt;
-      room = tt;
-      no_room = λ same. absurd (never_no_room refused same);
-      down = λ is. absurd (up_not_down c.is_down.result (fs_of c.args.self.now).volume.is_down c.is_down.ensures c.if-is_down.false is);
-      device_room = λ same. absurd (never_device refused same);
+      room = planned_room _ _ c.is_down.result c.is_down.ensures c.if-is_down.false refused;
       memory = λ none same. c.in_err-edits.ensures.memory none (ap Err (told_memory refused same));
     })
 
@@ -84,3 +78,12 @@ returns-clause-volume g c =
     changes_by g.D.Device.keeps_word (IsPut fs.volume c.in_ok-edits.edits c.args.asked.is_stable) (WritesTree fs c.args.cred.now c.args.number c.args.now c.args.verdict c.args.asked)
     (λ after lasts made. puts_tree fs c.args.cred.now c.args.now c.args.number c.args.verdict c.args.asked c.in_ok-edits.edits c.in_ok-edits.ensures.step after lasts made)
     _ _ _ _ _ (rw c.in_ok-apply_plan.was at c.apply_plan.ensures.volume)
+
+pub returns-then-not-has_room-clause-room : goal.returns-then-not-has_room-clause-room
+returns-then-not-has_room-clause-room g c = full_room _ _ c.is_down.result c.is_down.ensures c.if-is_down.false c.if-not-has_room.true
+
+pub returns-clause-room : goal.returns-clause-room
+returns-clause-room g c = done_room _ _ c.is_down.result c.is_down.ensures c.if-is_down.false _ c.if-not-has_room-2.false
+
+pub returns-then-not-has_room-2-clause-room : goal.returns-then-not-has_room-2-clause-room
+returns-then-not-has_room-2-clause-room g c = full_room _ _ c.is_down.result c.is_down.ensures c.if-is_down.false c.if-not-has_room-2.true
