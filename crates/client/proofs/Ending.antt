@@ -7,21 +7,21 @@ use Rattle.model.specs.declared.status.Status.{Status}
 use Rattle.model.specs.Operations.Answer as answers
 use Rattle.wire.specs.declared.outcome.Outcome.{Outcome}
 use Rattle.wire.specs.OutcomeView.{outcome_view}
-use Rattle.client.specs.Replies.{ending, number_of, is_ok}
+use Rattle.client.specs.Replies.{ending, outcome_number, is_ok}
 
 pub none_left : (operations : List ℕ) → ending operations [] ≡ None
 none_left [] = refl
 none_left (operation ∷ operations) = refl
 
-pub goes_on : (operation : ℕ) (operations : List ℕ) (one : answers.Outcome) (rest : List answers.Outcome) → 0 < length rest → number_of one ≡ operation → is_ok one ≡ true
+pub goes_on : (operation : ℕ) (operations : List ℕ) (one : answers.Outcome) (rest : List answers.Outcome) → 0 < length rest → outcome_number one ≡ operation → is_ok one ≡ true
     → ending (operation ∷ operations) (one ∷ rest) ≡ ending operations rest
 goes_on operation operations one [] some same ok = absurd (omega arith)
-goes_on operation operations one (next ∷ rest) some same ok = rw (eq-eqb (number_of one) operation same, ok) refl
+goes_on operation operations one (next ∷ rest) some same ok = rw (eq-eqb (outcome_number one) operation same, ok) refl
 
-stops : (operation : ℕ) (operations : List ℕ) (one : answers.Outcome) (rest : List answers.Outcome) → 0 < length rest → number_of one ≡ operation → is_ok one ≡ false
+stops : (operation : ℕ) (operations : List ℕ) (one : answers.Outcome) (rest : List answers.Outcome) → 0 < length rest → outcome_number one ≡ operation → is_ok one ≡ false
     → ending (operation ∷ operations) (one ∷ rest) ≡ None
 stops operation operations one [] some same ok = absurd (omega arith)
-stops operation operations one (next ∷ rest) some same ok = rw (eq-eqb (number_of one) operation same, ok) refl
+stops operation operations one (next ∷ rest) some same ok = rw (eq-eqb (outcome_number one) operation same, ok) refl
 
 here : (operations : List ℕ) (results : List Outcome) (i : ℕ) (one : Outcome) → i < length operations → i < length results → one ≡ get_or results i one
     → ending (drop i operations) (map outcome_view (drop i results))
@@ -35,14 +35,14 @@ more : (results : List Outcome) (i : ℕ) → i + 1 < length results → 0 < len
 more results i lt = omega (arith, length-map (drop (i + 1) results) outcome_view, length-drop (i + 1) results)
 
 pub step_on : (operations : List ℕ) (results : List Outcome) (i : ℕ) (one : Outcome) → i < length operations → i + 1 < length results → one ≡ get_or results i one
-    → number_of (outcome_view one) ≡ get_or operations i 0 → is_ok (outcome_view one) ≡ true
+    → outcome_number (outcome_view one) ≡ get_or operations i 0 → is_ok (outcome_view one) ≡ true
     → ending (drop i operations) (map outcome_view (drop i results)) ≡ ending (drop (i + 1) operations) (map outcome_view (drop (i + 1) results))
 step_on operations results i one asked given is same ok =
     here operations results i one asked (omega arith) is
     ∙ goes_on (get_or operations i 0) (drop (i + 1) operations) (outcome_view one) (map outcome_view (drop (i + 1) results)) (more results i given) same ok
 
 pub step_stops : (operations : List ℕ) (results : List Outcome) (i : ℕ) (one : Outcome) → i < length operations → i + 1 < length results → one ≡ get_or results i one
-    → number_of (outcome_view one) ≡ get_or operations i 0 → is_ok (outcome_view one) ≡ false
+    → outcome_number (outcome_view one) ≡ get_or operations i 0 → is_ok (outcome_view one) ≡ false
     → ending (drop i operations) (map outcome_view (drop i results)) ≡ None
 step_stops operations results i one asked given is same not_ok =
     here operations results i one asked (omega arith) is

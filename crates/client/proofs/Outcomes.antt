@@ -21,24 +21,24 @@ use Rattle.model.specs.Operations.Step.{State, Stepped, effect, does}
 use Rattle.model.specs.Server.World.{World, InProgress, Connection, Quiet, Waiting, Busy, Replied, Closed, HasRun, Gives, Replays, exchanged, created_by, tabled, started_in, begun, reclaimed, state_of, refuses, in_room, has_room, run, result_of, with_result, Turned, Entry, executed_entry, idle, replies, behind, ends, goes_on, closes, is_to_hold, further, is_last, has_run, operates, Next, Refuses, Reads, next_operation, requested, in_progress, called, turned, one}
 use Rattle.model.proofs.Trees.KeyedLaws.{at-with_other}
 use Rattle.model.proofs.Operations.StepCases.{does_cases}
-use Rattle.client.specs.Replies.{number_of}
+use Rattle.client.specs.Replies.{outcome_number}
 
 -- One operation
 
 module _ (limits : Limits) (state : State) (now : ℕ) where
-  renamed : (b : Bool) (arguments : RenameArguments) → number_of (rename b state now arguments).outcome ≡ 29
+  renamed : (b : Bool) (arguments : RenameArguments) → outcome_number (rename b state now arguments).outcome ≡ 29
   renamed true arguments = refl
   renamed false arguments = refl
 
-  set : (b : Bool) (arguments : SetAttrArguments) → number_of (set_attributes b state now arguments).outcome ≡ 34
+  set : (b : Bool) (arguments : SetAttrArguments) → outcome_number (set_attributes b state now arguments).outcome ≡ 34
   set true arguments = refl
   set false arguments = refl
 
-  wrote : (b : Bool) (arguments : WriteArguments) → number_of (write b limits state now arguments).outcome ≡ 38
+  wrote : (b : Bool) (arguments : WriteArguments) → outcome_number (write b limits state now arguments).outcome ≡ 38
   wrote true arguments = refl
   wrote false arguments = refl
 
-  effect_numbered : (operation : Argument) → number_of (effect limits state now operation).outcome ≡ operation_of operation
+  effect_numbered : (operation : Argument) → outcome_number (effect limits state now operation).outcome ≡ operation_of operation
   unfolding effect
   effect_numbered (Argument.Create (NewDirectory name given)) = refl
   effect_numbered (Argument.Create (OtherType number)) = refl
@@ -47,16 +47,16 @@ module _ (limits : Limits) (state : State) (now : ℕ) where
   effect_numbered (Argument.Write arguments) = wrote (has_bytes arguments) arguments
   effect_numbered operation = refl
 
-  does_numbered : (operation : Argument) → number_of (does limits state now operation).outcome ≡ operation_of operation
+  does_numbered : (operation : Argument) → outcome_number (does limits state now operation).outcome ≡ operation_of operation
   does_numbered operation = elim (does_cases limits state now operation) [
-    | inl passed ↦ ap (λ (s : Stepped). number_of s.outcome) passed.1 ∙ effect_numbered operation
-    | inr not_passed ↦ ap (λ (s : Stepped). number_of s.outcome) not_passed.1
+    | inl passed ↦ ap (λ (s : Stepped). outcome_number s.outcome) passed.1 ∙ effect_numbered operation
+    | inr not_passed ↦ ap (λ (s : Stepped). outcome_number s.outcome) not_passed.1
   ]
 
 -- the outcome is the operation's, and the connections stay
 abbrev RanWell : World → Argument → HasRun → Type 0
 RanWell world operation (Gives outcome after left) =
-    (number_of outcome ≡ operation_of operation) × (after.connections ≡ world.connections)
+    (outcome_number outcome ≡ operation_of operation) × (after.connections ≡ world.connections)
 RanWell world operation (Replays result session slot) = Unit {0}
 
 module _ (world : World) (request : InProgress) where
@@ -69,7 +69,7 @@ module _ (world : World) (request : InProgress) where
   created_well operation is o (Err reason) = (sym is, refl)
   created_well operation is o (Ok answer) = (sym is, refl)
 
-  tabled_well : (operation : Argument) (number : ℕ) (answer : Answer) → number ≡ operation_of operation → number_of (Outcome.Done answer) ≡ operation_of operation
+  tabled_well : (operation : Argument) (number : ℕ) (answer : Answer) → number ≡ operation_of operation → outcome_number (Outcome.Done answer) ≡ operation_of operation
       → (r : Option Status × Table) → RanWell world operation (tabled world request number answer r)
   tabled_well operation number answer is done (Some reason, table) = (is, refl)
   tabled_well operation number answer is done (None, table) = (done, refl)
@@ -115,7 +115,7 @@ module _ (world : World) (request : InProgress) where
 
 abbrev pub EntryNumbered : Option Entry → Type 0
 EntryNumbered None = Unit {0}
-EntryNumbered (Some entry) = number_of entry.outcome ≡ operation_of entry.operation
+EntryNumbered (Some entry) = outcome_number entry.outcome ≡ operation_of entry.operation
 
 abbrev pub LeavesOthers : World → ℕ → World → Type 0
 LeavesOthers old number new = (other : ℕ) → other ≢ number → at other new.connections ≡ at other old.connections

@@ -24,7 +24,7 @@ use Rattle.model.proofs.Trees.KeyedLaws.{at-with_same}
 use Rattle.model.proofs.Wire.ResultLaws.{one_more}
 use Rattle.model.proofs.Server.RuledOutLaws.{one_a_turn, ends_by_holding}
 use Rattle.client.specs.Client.{Client, Sent}
-use Rattle.client.specs.Replies.{Gives, number_of, status_of, is_ok, ending, reply_read, reply_to, reply_to_sent}
+use Rattle.client.specs.Replies.{Gives, outcome_number, status_of, is_ok, ending, reply_read, reply_to, reply_to_sent}
 use Rattle.client.specs.Requests.{operations_text, credential_text, record_text, new_record}
 use Rattle.client.specs.Joined.{compound_sent}
 use Rattle.client.specs.Whole.{IsElsewhere, IsAnsweredBy, Elsewhere, Goes_on, Ends, Holds, EveryExchange}
@@ -46,8 +46,8 @@ behind_is asked rest bytes (Reads operation others) is_next behind = behind ∙ 
 
 module _ (world : World) (request : InProgress) (executed : Option Entry) (tree : Tree) where
   outcome_numbered : (asked : Argument) (rest : List ℕ) (next : Next) (given : Outcome) → EntryNumbered executed → IsNext asked rest next
-      → IsOutcome world request next given executed tree → number_of given ≡ operation_of asked
-  outcome_numbered asked rest (Refuses operation reason) given numbered is_next is = ap number_of is.0 ∙ is_next
+      → IsOutcome world request next given executed tree → outcome_number given ≡ operation_of asked
+  outcome_numbered asked rest (Refuses operation reason) given numbered is_next is = ap outcome_number is.0 ∙ is_next
   outcome_numbered asked rest (Reads operation behind) given numbered is_next is = subst EntryNumbered is numbered ∙ ap operation_of is_next.0
 
   same_outcome : (next : Next) (a b : Outcome) → IsOutcome world request next a executed tree → IsOutcome world request next b executed tree → a ≡ b
@@ -76,12 +76,12 @@ none_more : (left : List Argument) → length left ≡ 0 → is_empty (map opera
 none_more [] none = refl
 none_more (asked ∷ left) none = absurd (omega arith)
 
-last_told : (asked : Argument) (left : List Argument) (last : Outcome) → number_of last ≡ operation_of asked → (is_done last ≡ false) ⊎ (length left ≡ 0)
+last_told : (asked : Argument) (left : List Argument) (last : Outcome) → outcome_number last ≡ operation_of asked → (is_done last ≡ false) ⊎ (length left ≡ 0)
     → ending (map operation_of (asked ∷ left)) (last ∷ []) ≡ Some (status_of last)
 last_told asked left last same (inl not_done) =
     let not_ok : is_ok last ≡ false = same_end last ∙ not_done in
-    rw (eq-eqb (number_of last) (operation_of asked) same, not_ok) refl
-last_told asked left last same (inr none) = rw (eq-eqb (number_of last) (operation_of asked) same, none_more left none) (either (is_ok last))
+    rw (eq-eqb (outcome_number last) (operation_of asked) same, not_ok) refl
+last_told asked left last same (inr none) = rw (eq-eqb (outcome_number last) (operation_of asked) same, none_more left none) (either (is_ok last))
   where
     either : (b : Bool) → cond (not b || true) (Some (status_of last)) None ≡ Some (status_of last)
     either true = refl
@@ -172,7 +172,7 @@ module _ (xid : ℕ) (tag : List ℕ) where
       unfolding operations_text
       own = next_is request asked (operations_text left) fits on.rest
 
-      numbered : (given : Outcome) → Came given → number_of given ≡ operation_of asked
+      numbered : (given : Outcome) → Came given → outcome_number given ≡ operation_of asked
       numbered given came =
           outcome_numbered world request turned.executed turned.world.tree asked (operations_text left) (next_operation request) given
           (one_well world number now).numbered own came

@@ -10,7 +10,7 @@ use Rattle.client.specs.declared.fault.ClientFault.TheVariants as faults
 use Rattle.client.specs.Client.{Client}
 use Rattle.client.specs.Requests.{bytes_kept}
 use Rattle.client.specs.Replies.{ReplyRead, NoReply, reply_to}
-use Rattle.client.specs.Views.{Answers, Refuses, known}
+use Rattle.client.specs.Views.{AnswersOk, Refuses, known}
 use Rattle.client.specs.Streams.{Stream, Passes}
 
 -- what the bytes read are as a reply to the client's record
@@ -25,7 +25,7 @@ abbrev pub Tells : Client → Front → Result (Vec Outcome) ClientFault → Typ
 Tells client Partial r = r ≡ Err faults.Io
 Tells client (Refused fault) r = r ≡ Err faults.Garbled
 Tells client (Whole bytes rest) (Ok results) =
-    (rest ≡ []) × Answers (reply_to client (framed bytes)) (map outcome_view results.items)
+    (rest ≡ []) × AnswersOk (reply_to client (framed bytes)) (map outcome_view results.items)
 Tells client (Whole bytes rest) (Err e) =
     (rest ≡ []) × ((e ≡ faults.Memory) ⊎ Refuses (reply_to client (framed bytes)) e)
 

@@ -19,8 +19,8 @@ use Rattle.client.specs.Client.{Client, Session, Sent}
 -- The results of the operations of a record
 
 -- its operation's number
-abbrev pub number_of : Outcome → ℕ
-number_of one = (outcome_told one).number
+abbrev pub outcome_number : Outcome → ℕ
+outcome_number one = (outcome_told one).number
 
 abbrev pub status_of : Outcome → Status
 status_of (Done answer) = status.Ok
@@ -37,11 +37,12 @@ abbrev pub ending : (operations : List ℕ) → List Outcome → Option Status
 ending [] results = None
 ending (operation ∷ operations) [] = None
 ending (operation ∷ operations) (last ∷ []) =
-    if number_of last == operation && (not (is_ok last) || is_empty operations)
+    if outcome_number last == operation && (not (is_ok last) || is_empty operations)
     then Some (status_of last)
     else None
 ending (operation ∷ operations) (one ∷ next ∷ results) =
-    if number_of one == operation && is_ok one then ending operations (next ∷ results) else None
+    if outcome_number one == operation && is_ok one then ending operations (next ∷ results) else
+    None
 
 -- What a record of bytes is
 

@@ -111,8 +111,8 @@ Refuses replies.Rejects e = e ≡ faults.Rpc
 Refuses (replies.Gives results last) e = (last ≢ status.Ok) × IsStatus results last e
 
 -- the results that are told by what was read: every operation ended well
-abbrev pub Answers : replies.ReplyRead → List answers.Outcome → Type 0
-Answers read results = read ≡ replies.Gives results status.Ok
+abbrev pub AnswersOk : replies.ReplyRead → List answers.Outcome → Type 0
+AnswersOk read results = read ≡ replies.Gives results status.Ok
 
 -- what the client knows after a call of `reply`: all that the reply tells, but where there was no
 -- memory for it

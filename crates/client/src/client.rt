@@ -6,7 +6,7 @@ ghost use Rattle.wire_client.specs.ArgumentFits.{ArgumentFits};
 ghost use Rattle.client.specs.Requests.{new_client, requested, bytes_kept};
 ghost use Rattle.wire.specs.OutcomeView.{outcome_view};
 ghost use Rattle.client.specs.Replies.{reply_to};
-ghost use Rattle.client.specs.Views.{Answers, Refuses, known};
+ghost use Rattle.client.specs.Views.{AnswersOk, Refuses, known};
 ghost use Rattle.client.specs.Streams.{stream};
 ghost use Rattle.client.specs.Exchanges.{Asks, Resends};
 ghost use Rattle.client.specs.declared.fault.ClientFault.TheVariants.{Memory, Pending};
@@ -148,7 +148,7 @@ impl Client {
     #[tactic(auto, unfolding(crate::specs::Replies::replied))]
     pub fn reply<'a>(&mut self, bytes: &'a [u8]) -> Result<Vec<Outcome<'a>>, ClientFault<'a>>
         ensures ok { IfOk result (λ results.
-            Answers (reply_to self.old bytes.now) (map outcome_view results.items)) }
+            AnswersOk (reply_to self.old bytes.now) (map outcome_view results.items)) }
         ensures refused { IfErr result (λ e. (e ≡ Memory)
             ⊎ Refuses (reply_to self.old bytes.now) e) }
         ensures known { self.new ≡ known self.old (reply_to self.old bytes.now) result }

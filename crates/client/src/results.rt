@@ -1,12 +1,12 @@
 //! The result of a COMPOUND (RFC 8881, section 16.2).
 
 ghost use Rattle.std.specs.Prelude.{◌≡◌, ◌||◌, not, map, Some, None, if◌then◌else◌};
-ghost use Rattle.xdr.specs.Clauses.{Reads};
+ghost use Rattle.xdr.specs.Clauses.{ReadsBy};
 ghost use Rattle.xdr.specs.Forms.{array};
 ghost use Rattle.model.specs.Wire.Results.{compound_result};
 ghost use Rattle.model.specs.Wire.WireAnswers.{outcome};
 ghost use Rattle.wire.specs.OutcomeView.{outcome_view};
-ghost use Rattle.client.specs.Replies.{ending, number_of, status_of, is_ok};
+ghost use Rattle.client.specs.Replies.{ending, outcome_number, status_of, is_ok};
 ghost use Rattle.client.specs.Views.{result_view, ReadsOutcomes};
 
 use model::status::Status;
@@ -30,7 +30,7 @@ pub(crate) fn read_result<'a>(
     alloc: Global,
     r: &mut Reader<'a>,
 ) -> Result<CompoundResult<'a>, Refusal>
-    ensures { Reads result_view (compound_result.read) r.old r.new result }
+    ensures { ReadsBy result_view (compound_result.read) r.old r.new result }
 {
     let mut at = r.fork();
     let code = at.read_u32()?;
@@ -42,7 +42,7 @@ pub(crate) fn read_result<'a>(
 
 #[tactic(auto, unfolding(xdr::specs::Forms::elements_at))]
 fn read_outcomes<'a>(alloc: Global, r: &mut Reader<'a>) -> Result<Vec<Outcome<'a>>, Refusal>
-    ensures { Reads (λ list. map outcome_view list.items)
+    ensures { ReadsBy (λ list. map outcome_view list.items)
         ((array 4294967295 outcome).read) r.old r.new result }
 {
     let mut at = r.fork();
@@ -108,7 +108,7 @@ fn is_ok(outcome: &Outcome<'_>) -> bool
 }
 
 fn number_of(outcome: &Outcome<'_>) -> u32
-    ensures { result ≡ number_of (outcome_view outcome.now) }
+    ensures { result ≡ outcome_number (outcome_view outcome.now) }
 {
     match outcome {
         Outcome::Done(answer) => answer.operation().number(),

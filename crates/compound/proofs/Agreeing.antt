@@ -1,7 +1,7 @@
 -- A step keeps the table of the volume's run, with the volume's seats.
 use Rattle.std.proofs.Common.{◌≡◌, ℕ, false, List, [], Option, None, Some, Result, Ok, Err, IfOk, refl, sym, ap, ◌∙◌}
 use Rattle.volume.specs.Changes.{Done}
-use Rattle.fs.specs.Changes.{Changes}
+use Rattle.fs.specs.Changes.{FsChanges}
 use Rattle.model.specs.Operations.Answer as model
 use Rattle.model.specs.Sessions.Session.{Table}
 use Rattle.model.specs.Server.World as turns
@@ -14,9 +14,9 @@ use Rattle.session.specs.Limits.{served}
 use Rattle.compound.specs.Operates.{run_in_room, world_by}
 use Rattle.compound.specs.Runs.{with_rest}
 use Rattle.compound.specs.States.{SharedState, HasState, Agrees, most_reply_bytes}
-use Rattle.compound.specs.Steps.{Steps, stepped_on}
+use Rattle.compound.specs.Steps.{RequestSteps, stepped_on}
 use Rattle.compound.specs.Views.{Asked}
-use Rattle.compound.specs.Volumes.{TurnGives, kept_in, lasts, undone_ending}
+use Rattle.compound.specs.Volumes.{TurnGives, kept_of_world, lasts, undone_step_ending}
 use Rattle.compound.specs.declared.step.Stepped.{Stepped}
 use Rattle.compound.specs.declared.step.StepError.{StepError}
 use Rattle.compound.proofs.TablesGo.{run_after, finish_run}
@@ -80,24 +80,24 @@ unfolding some_world
 some_has state = record { volume = refl; sessions = refl; reply_bytes = refl; run = refl; tree = refl; changes = refl; opens = refl; table_is = refl }
 
 pub agreed : (keeps_word : Type 0) (now : ℕ) (old new : SharedState) (asked : Asked) (request : InProgress) (done : Stepped) (before after : ℕ) → keeps_word → Agrees old.files old.table
-    → Steps now old new asked request done
-    → Changes keeps_word (TurnGives old (λ world number. stepped_on world number now request)) old.files new.files before after Done
+    → RequestSteps now old new asked request done
+    → FsChanges keeps_word (TurnGives old (λ world number. stepped_on world number now request)) old.files new.files before after Done
     → Agrees new.files new.table
 agreed keeps_word now old new asked request done before after keeps agree steps changes =
     let world = some_world old in
     let has = some_has old in
     let turn = stepped_on world 0 now request in
     let table_is : turn.world.table ≡ new.table = ap (λ (w : World). w.table) (steps world 0 has).1 in
-    let gives : TurnGives old (λ w n. stepped_on w n now request) (kept_in turn.world) (lasts turn.executed) =
+    let gives : TurnGives old (λ w n. stepped_on w n now request) (kept_of_world turn.world) (lasts turn.executed) =
     record { world = world; number = 0; has = has; kept = refl; lasting_is = refl } in
     record {
       run = ap (λ (t : Table). t.run) (sym table_is) ∙ (further_run world 0 now request request.ended ∙ (ap (λ (t : Table). t.run) has.table_is ∙ (agree.run ∙ sym changes.volume_changes.same.run)));
-      seats = ap (λ (t : Table). t.seats) (sym table_is) ∙ sym (changes.volume_changes.ends.seats keeps (kept_in turn.world) (lasts turn.executed) gives);
+      seats = ap (λ (t : Table). t.seats) (sym table_is) ∙ sym (changes.volume_changes.ends.seats keeps (kept_of_world turn.world) (lasts turn.executed) gives);
     }
 
 pub agreed_if : (keeps_word : Type 0) (now : ℕ) (old new : SharedState) (asked : Asked) (request : InProgress) (result : Result Stepped StepError) (before after : ℕ) → keeps_word
-    → Agrees old.files old.table → IfOk result (Steps now old new asked request)
-    → Changes keeps_word (TurnGives old (λ world number. stepped_on world number now request)) old.files new.files before after (undone_ending result)
+    → Agrees old.files old.table → IfOk result (RequestSteps now old new asked request)
+    → FsChanges keeps_word (TurnGives old (λ world number. stepped_on world number now request)) old.files new.files before after (undone_step_ending result)
     → IfOk result (λ done. Agrees new.files new.table)
 agreed_if keeps_word now old new asked request (Ok done) before after keeps agree steps changes = agreed keeps_word now old new asked request done before after keeps agree steps changes
 agreed_if keeps_word now old new asked request (Err undone) before after keeps agree steps changes = tt

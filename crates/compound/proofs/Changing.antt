@@ -2,7 +2,7 @@
 -- it finds.
 use Rattle.std.proofs.Common.{◌≡◌, ◌≤◌, ◌<◌, ◌^◌, ℕ, Bool, true, false, if◌then◌else◌, List, ◌++◌, length, nat_le, Option, Some, None, Err, IfOk, IsErrOf, refl, sym, ap, subst, ◌∙◌, arith}
 use Rattle.layout.specs.Stands.{Kept}
-use Rattle.fs.specs.Changes.{Changes, fs_ending}
+use Rattle.fs.specs.Changes.{FsChanges, fs_ending}
 use Rattle.fs.specs.FileSystem.{FileSystem}
 use Rattle.fs.specs.Operations.{IsNotDone}
 use Rattle.fs.specs.declared.fault.FsFault.{FsFault}
@@ -23,10 +23,10 @@ use Rattle.model.specs.declared.status.Status.{Status}
 use Rattle.model.specs.declared.status.Status.TheVariants as status
 use Rattle.model.proofs.Sessions.KeptLaws.{refused_length}
 use Rattle.wire.specs.Short.{IsRefusal}
-use Rattle.compound.specs.Operates.{RunsTo, GivesIn, IsAnswered, IsKept, ChangesTreeAndOpens, run_in_room, tree_by}
+use Rattle.compound.specs.Operates.{RunsTo, GivesIn, IsAnswered, IsReplyKept, ChangesTreeAndOpens, run_in_room, tree_by}
 use Rattle.compound.specs.Runs.{with_rest}
 use Rattle.compound.specs.States.{HasState, shared}
-use Rattle.compound.specs.Trees.{IsHere, IsUp, refusal, told}
+use Rattle.compound.specs.Trees.{IsHere, IsUp, refusal, fault_told}
 use Rattle.compound.specs.Volumes.{OperationGives, ending}
 use Rattle.compound.proofs.QuietLaws.{leaves_all, left_all}
 use Rattle.compound.proofs.Replies.{room_length}
@@ -169,8 +169,8 @@ module _ (now : ℕ) (fs : FileSystem) (request : InProgress) (kind : Argument)
 
     module _ (keeps_word : Type 0) (given : Given) (new : FileSystem) (before after : ℕ) (up : fs.volume.is_down ≡ false) where
       pub told_gives : (T : Type 0) (opens left : Opens) (why : FsFault) → left ≡ opens → ((state : State) → IsHere fs request state → state.opens ≡ opens → IsNotDone fs state now kind why) → (IsErrOf {T = T} (Err why) fault.NoRoom → room ≡ false)
-          → Changes keeps_word given fs new before after (fs_ending {T = T} (Err why))
-          → IfOk (told (operation_of kind) why) (ChangesTreeAndOpens fs new opens left now request kind)
+          → FsChanges keeps_word given fs new before after (fs_ending {T = T} (Err why))
+          → IfOk (fault_told (operation_of kind) why) (ChangesTreeAndOpens fs new opens left now request kind)
       told_gives T opens left (fault.Status reason) stays step no_room changes = λ table.
           let same = left_all keeps_word given fs new before after changes in
           subst (λ (after : Opens). GivesIn now (shared fs table opens) (shared new table after) request request kind (Refused (operation_of kind) reason)) (sym stays)
@@ -187,8 +187,8 @@ module _ (now : ℕ) (fs : FileSystem) (request : InProgress) (kind : Argument)
 
       pub told_changes : (T : Type 0) (table : Table) (opens : Opens) (why : FsFault) → ((state : State) → IsHere fs request state → state.opens ≡ opens → IsNotDone fs state now kind why) → IsUp why
           → (IsErrOf {T = T} (Err why) fault.NoRoom → room ≡ false) → (IsErrOf {T = T} (Err why) fault.Device → room ≡ true) → (room ≡ true → (kept : Kept) (lasts : Bool) → OperationGives (shared fs table opens) request now kind kept lasts → given kept lasts)
-          → Changes keeps_word given fs new before after (fs_ending {T = T} (Err why))
-          → Changes keeps_word (OperationGives (shared fs table opens) request now kind) fs new before after (ending (told (operation_of kind) why))
+          → FsChanges keeps_word given fs new before after (fs_ending {T = T} (Err why))
+          → FsChanges keeps_word (OperationGives (shared fs table opens) request now kind) fs new before after (ending (fault_told (operation_of kind) why))
       told_changes T table opens (fault.Status reason) step is no_room device_room gives changes =
           let same = left_all keeps_word given fs new before after changes in
           refusal_changes keeps_word fs new table opens before after request now kind (operation_of kind) reason same (changes.volume_changes.none (λ broken. cc)) up
@@ -228,14 +228,14 @@ refusal_spelled request operation reason fits bad = record {
 }
 
 pub told_spelled : (request : InProgress) (operation : ℕ) (why : FsFault) → operation < 2 ^ 32 → IsUp why
-    → IfOk (told operation why) (IsAnswered request)
+    → IfOk (fault_told operation why) (IsAnswered request)
 told_spelled request operation (fault.Status reason) fits is = refusal_spelled request operation reason fits is
 told_spelled request operation fault.NoRoom fits is = refusal_spelled request operation status.RepTooBig fits (λ zero. omega (arith, zero))
 told_spelled request operation fault.Memory fits is = tt
 told_spelled request operation fault.Device fits is = tt
 told_spelled request operation fault.Down fits is = tt
 
-pub told_kept : (table : Table) (operation : ℕ) (why : FsFault) → IfOk (told operation why) (IsKept table)
+pub told_kept : (table : Table) (operation : ℕ) (why : FsFault) → IfOk (fault_told operation why) (IsReplyKept table)
 told_kept table operation (fault.Status reason) = tt
 told_kept table operation fault.NoRoom = tt
 told_kept table operation fault.Memory = tt

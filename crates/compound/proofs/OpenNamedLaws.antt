@@ -7,9 +7,9 @@ use Rattle.xdr.specs.Grammar.{number}
 use Rattle.xdr.proofs.Sizes.{padded_length}
 use Rattle.xdr.proofs.Numbers.{length-number_32, length-number_64}
 use Rattle.layout.specs.Stands.{Kept}
-use Rattle.fs.specs.Changes.{Changes}
+use Rattle.fs.specs.Changes.{FsChanges}
 use Rattle.fs.specs.FileSystem.{FileSystem}
-use Rattle.fs.specs.Opening.{IsOpening, IsOpeningCurrent, OpensTree, after_open, effect_of, set_by, type_of}
+use Rattle.fs.specs.Opening.{IsOpening, IsOpeningCurrent, OpensTree, after_open, open_effect, set_by, type_of}
 use Rattle.fs.specs.Operations.{IsNotDone, IsOn, IsRefused, does_on}
 use Rattle.fs.specs.Renaming.{info_of}
 use Rattle.fs.specs.declared.fault.FsFault.{FsFault}
@@ -28,7 +28,7 @@ use Rattle.model.specs.Operations.Open.{asked_open, at_opened, creates, cuts, fi
 use Rattle.model.specs.Sessions.Opens.{Open, Opens}
 use Rattle.model.specs.Operations.Operation.{Argument, ChangeInfo, OpenArguments, OpenType, NoCreate, Unchecked, Guarded, Opening, Opens as Opens_as, Exclusive, ByName, ByHandle, OtherClaim}
 use Rattle.model.specs.Sessions.Session.{Table}
-use Rattle.model.specs.Sessions.StateIds.{closed_state, is_like, is_table_full, new_open, open_like, opened, opened_by, state_of as stateid_of, zeros}
+use Rattle.model.specs.Sessions.StateIds.{closed_state, is_like, is_table_full, new_open, open_like, opened, opened_by, open_stateid as stateid_of, zeros}
 use Rattle.model.specs.Operations.Step.{State, Stepped, alters, does, effect, refused, refusals, without_rights, answered, current, current_refusals, need_first, need_then}
 use Rattle.model.specs.Trees.Tree.{Tree}
 use Rattle.model.specs.Server.World as turns
@@ -38,9 +38,9 @@ use Rattle.model.specs.declared.node.NodeKind.TheVariants as kind
 use Rattle.model.specs.declared.status.Status.{Status}
 use Rattle.model.specs.declared.status.Status.TheVariants as status
 use Rattle.model.proofs.Sessions.TableCalls.{found_passes}
-use Rattle.opens.specs.Views.{named_by}
+use Rattle.opens.specs.Views.{opened_stateid}
 use Rattle.wire.specs.Short.{IsRefusal}
-use Rattle.compound.specs.Beside.{has_opened_room, opened_answer, OpensTo}
+use Rattle.compound.specs.Beside.{has_opened_room, opened_answer, ComesToOpen}
 use Rattle.compound.specs.Operates.{run_in_room}
 use Rattle.compound.specs.Runs.{with_rest}
 use Rattle.compound.specs.States.{SharedState, shared}
@@ -48,7 +48,7 @@ use Rattle.compound.specs.declared.fault.Fault.{Fault}
 use Rattle.compound.specs.declared.fault.Fault.TheVariants as faults
 use Rattle.compound.proofs.QuietLaws.{answers_quietly, leaves_all}
 use Rattle.compound.specs.Trees.{IsHere, IsStatus, IsUp}
-use Rattle.compound.specs.Volumes.{OperationGives, ending, lasts, executed_by}
+use Rattle.compound.specs.Volumes.{OperationGives, ending, lasts, entry_by}
 use Rattle.compound.proofs.Changing.{HasThisRoom, done_runs, is_up, same_room, tree_given}
 use Rattle.compound.proofs.OpenLaws.{on_tree}
 use Rattle.compound.proofs.SettingLaws.{given_bad}
@@ -162,14 +162,14 @@ set_is false is_cut of = refl
 
 -- What is no change does not have to last
 quiet_ran : (world : World) (request : InProgress) (arguments : OpenArguments) (ran : HasRun) → alters (state_of world request) (Argument.Open arguments) ≡ false
-    → lasts (executed_by world request (Argument.Open arguments) ran) ≡ false
+    → lasts (entry_by world request (Argument.Open arguments) ran) ≡ false
 quiet_ran world request arguments (turns.Gives outcome after left) none = rw none refl
 quiet_ran world request arguments (turns.Replays reply session slot) none = refl
 
 -- and leaves the file system alone
 pub open_still : {T : Type 0} (keeps_word : Type 0) (state : SharedState) (failed : ℕ) (request : InProgress) (now : ℕ) (arguments : OpenArguments) (result : Result T Fault)
     → state.files.volume.is_down ≡ false → ((one : State) → alters one (Argument.Open arguments) ≡ false) → ((reason : Fault) → result ≡ Err reason → reason ≡ faults.Memory)
-    → Changes keeps_word (OperationGives state request now (Argument.Open arguments)) state.files state.files failed failed (ending result)
+    → FsChanges keeps_word (OperationGives state request now (Argument.Open arguments)) state.files state.files failed failed (ending result)
 open_still keeps_word state failed request now arguments (Ok done) up still memory =
     answers_quietly keeps_word (OperationGives state request now (Argument.Open arguments)) state.files state.files failed failed refl refl up
     (λ keeps. operation_stays state request now (Argument.Open arguments))
@@ -190,15 +190,15 @@ opened_at new arguments change was_set opens context number place =
       tree = new.volume.tree;
       changes = new.changes;
       opens = now.opens;
-      context = at_opened context place (named_by context.run now);
+      context = at_opened context place (opened_stateid context.run now);
     })
-    (opened_answer (named_by context.run now) change was_set)
+    (opened_answer (opened_stateid context.run now) change was_set)
 
 module _ (now : ℕ) (fs : FileSystem) (request : InProgress) (arguments : OpenArguments) where
   -- it comes to what the file system opened
   pub opens_to : (new : FileSystem) (table : Table) (opens : Opens) (of : OpenType) (number : ℕ) (made : Opened) → number ≡ made.number
       → ((state : State) → IsHere fs request state → state.opens ≡ opens → does_on fs state now (Argument.Open arguments) ≡ after_open new.volume.tree new.changes state arguments of made)
-      → OpensTo now (shared fs table opens) (shared new table (opened opens (new_open request.context.client arguments.owner number arguments.access)).opens)
+      → ComesToOpen now (shared fs table opens) (shared new table (opened opens (new_open request.context.client arguments.owner number arguments.access)).opens)
       request (new_open request.context.client arguments.owner number arguments.access) (info_of made.directory) (set_by made.effect of) (Argument.Open arguments)
   opens_to new table opens of number made same step =
       let asked = new_open request.context.client arguments.owner number arguments.access in
@@ -206,8 +206,8 @@ module _ (now : ℕ) (fs : FileSystem) (request : InProgress) (arguments : OpenA
       let change = info_of made.directory in
       let was_set = set_by made.effect of in
       done_runs now fs request (Argument.Open arguments) (on_tree now request arguments) new table opens now_open.opens
-      (at_opened request.context number (named_by request.context.run now_open))
-      (opened_answer (named_by request.context.run now_open) change was_set)
+      (at_opened request.context number (opened_stateid request.context.run now_open))
+      (opened_answer (opened_stateid request.context.run now_open) change was_set)
       (λ state there known.
       step state there known
       ∙ (ap (λ (held : Opens). opened_at new arguments change was_set held state.context made.number
@@ -226,7 +226,7 @@ module _ (now : ℕ) (fs : FileSystem) (request : InProgress) (arguments : OpenA
       (step state (record { tree_is = refl; changes_is = refl; context_is = refl }) refl)
 
   pub sized : (of : OpenType) (name : List ℕ) (directory : ℕ) → arguments.opening ≡ Opens_as of (ByName name) → current_number request.context ≡ directory
-      → (room : Bool) → room ≡ has_opened_room request (set_by (effect_of fs.volume.tree directory name of) of)
+      → (room : Bool) → room ≡ has_opened_room request (set_by (open_effect fs.volume.tree directory name of) of)
       → (state : State) → IsHere fs request state → HasThisRoom request room (effect fs.volume.limits state now (Argument.Open arguments))
   unfolding effect
   sized of name directory opening is room fits state there = (
@@ -234,9 +234,9 @@ module _ (now : ℕ) (fs : FileSystem) (request : InProgress) (arguments : OpenA
     refl,
     opened_room request _ _ _ _ (set_at_open state arguments.opening) room
         (fits ∙ ap (has_opened_room request)
-        (ap (λ (n : ℕ). set_by (effect_of fs.volume.tree n name of) of) (sym is)
-        ∙ (ap (λ (context : Context). set_by (effect_of fs.volume.tree (current_number context) name of) of) (sym there.context_is)
-        ∙ (ap (λ (tree : Tree). set_by (effect_of tree (current state) name of) of) (sym there.tree_is)
+        (ap (λ (n : ℕ). set_by (open_effect fs.volume.tree n name of) of) (sym is)
+        ∙ (ap (λ (context : Context). set_by (open_effect fs.volume.tree (current_number context) name of) of) (sym there.context_is)
+        ∙ (ap (λ (tree : Tree). set_by (open_effect tree (current state) name of) of) (sym there.tree_is)
         ∙ (sym (set_is (is_named state.tree (current state) name) (cuts of) of)
         ∙ ap (set_at_open state) (sym opening)))))),
   )

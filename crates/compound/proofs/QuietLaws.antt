@@ -5,7 +5,7 @@ use Rattle.volume.specs.Changes.{Given, Ending, Done, Nothing, Broken, EndsAs}
 use Rattle.volume.specs.VolumeState.{VolumeState, IsSameVolume, IsRecent, AddsTrees}
 use Rattle.volume.specs.Shown.{ShowsAs}
 use Rattle.model.specs.Trees.Tree.{Tree}
-use Rattle.fs.specs.Changes.{Changes}
+use Rattle.fs.specs.Changes.{FsChanges}
 use Rattle.fs.specs.FileSystem.{FileSystem}
 
 pub same_volume : (old new : VolumeState) → new ≡ old → IsSameVolume old new
@@ -20,7 +20,7 @@ adds_nothing old new after same =
     subst (λ (held : VolumeState). AddsTrees old after held.history) (sym same) (λ recent is. record { later = omega arith; added = λ t image l left. inl left })
 
 -- a call that was refused, and left all as it was
-pub leaves_all : (keeps_word : Type 0) (given : Given) (old new : FileSystem) (before after : ℕ) → new ≡ old → after ≡ before → Changes keeps_word given old new before after Nothing
+pub leaves_all : (keeps_word : Type 0) (given : Given) (old new : FileSystem) (before after : ℕ) → new ≡ old → after ≡ before → FsChanges keeps_word given old new before after Nothing
 leaves_all keeps_word given old new before after same told =
     let held : new.volume ≡ old.volume = ap (λ (f : FileSystem). f.volume) same in
     record {
@@ -37,7 +37,7 @@ leaves_all keeps_word given old new before after same told =
 -- one that answered, and neither changed the volume nor has to last
 pub answers_quietly : (keeps_word : Type 0) (given : Given) (old new : FileSystem) (before after : ℕ) → new ≡ old → after ≡ before → old.volume.is_down ≡ false
     → (keeps_word → (kept : Kept) (lasts : Bool) → given kept lasts → kept.seats ≡ old.volume.seats) → ((kept : Kept) (lasts : Bool) → given kept lasts → lasts ≡ false)
-    → Changes keeps_word given old new before after Done
+    → FsChanges keeps_word given old new before after Done
 answers_quietly keeps_word given old new before after same told up stays quiet =
     let held : new.volume ≡ old.volume = ap (λ (f : FileSystem). f.volume) same in
     record {
@@ -73,7 +73,7 @@ pub broken≢done : Broken ≡ Done → ⊥
 broken≢done is = cc
 
 -- what a call left that did nothing
-pub left_all : (keeps_word : Type 0) (given : Given) (old new : FileSystem) (before after : ℕ) → Changes keeps_word given old new before after Nothing → new ≡ old
+pub left_all : (keeps_word : Type 0) (given : Given) (old new : FileSystem) (before after : ℕ) → FsChanges keeps_word given old new before after Nothing → new ≡ old
 left_all keeps_word given old new before after changes =
     ap₂ (λ (held : VolumeState) (count : ℕ). let fs : FileSystem = record { volume = held; changes = count } in fs) changes.volume_changes.ends (changes.no_count nothing_done)
 
@@ -98,7 +98,7 @@ module _ (keeps_word : Type 0) (given other : Given) (weaker : keeps_word → (a
         ends.shows;
   }
 
-  pub changes_when : (ending : Ending) → Changes keeps_word given old new before after ending → Changes keeps_word other old new before after ending
+  pub changes_when : (ending : Ending) → FsChanges keeps_word given old new before after ending → FsChanges keeps_word other old new before after ending
   changes_when ending changes = record {
     volume_changes = record {
       same = changes.volume_changes.same;

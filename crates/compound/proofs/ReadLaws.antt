@@ -1,7 +1,7 @@
 -- READ, by the call that reads a file.
 use Rattle.std.proofs.Common.{◌≡◌, ℕ, Bool, true, false, if◌then◌else◌, ◌∷◌, Option, Some, None, Err, IfOk, refl, sym, ap, subst, ◌∙◌}
 use Rattle.layout.specs.Stands.{Kept}
-use Rattle.fs.specs.Changes.{Changes}
+use Rattle.fs.specs.Changes.{FsChanges}
 use Rattle.fs.specs.FileSystem.{FileSystem}
 use Rattle.fs.specs.Operations.{does_on}
 use Rattle.fs.specs.Reading.{IsNotRead, reading_ending}
@@ -27,7 +27,7 @@ use Rattle.wire.specs.Short.{IsRefusal}
 use Rattle.compound.specs.Operates.{RunsTo, GivesIn, ChangesTreeAndOpens, run_in_room, tree_by}
 use Rattle.compound.specs.Runs.{with_rest}
 use Rattle.compound.specs.States.{shared}
-use Rattle.compound.specs.Trees.{IsHere, IsUp, told}
+use Rattle.compound.specs.Trees.{IsHere, IsUp, fault_told}
 use Rattle.compound.specs.Volumes.{OperationGives, ending}
 use Rattle.compound.proofs.QuietLaws.{leaves_all, left_all, answers_quietly}
 use Rattle.compound.proofs.Rooms.{gives_refusal, state_same}
@@ -122,8 +122,8 @@ module _ (now : ℕ) (fs : FileSystem) (opens : Opens) (request : InProgress) (a
 
   module _ (keeps_word : Type 0) (new : FileSystem) (before after : ℕ) where
     pub told_reads : (T : Type 0) (why : FsFault) → Says fs opens request (λ state. IsNotRead fs state now (Argument.Read arguments) why)
-        → Changes keeps_word (IsTree fs.volume fs.volume.tree) fs new before after (reading_ending {T = T} (Err why))
-        → IfOk (told 25 why) (ChangesTreeAndOpens fs new opens opens now request (Argument.Read arguments))
+        → FsChanges keeps_word (IsTree fs.volume fs.volume.tree) fs new before after (reading_ending {T = T} (Err why))
+        → IfOk (fault_told 25 why) (ChangesTreeAndOpens fs new opens opens now request (Argument.Read arguments))
     told_reads T (fault.Status reason) step changes = λ table.
         subst (λ (one : FileSystem). GivesIn now (shared fs table opens) (shared one table opens) request request (Argument.Read arguments) (Refused 25 reason))
         (sym (left_all keeps_word (IsTree fs.volume fs.volume.tree) fs new before after changes))
@@ -134,18 +134,18 @@ module _ (now : ℕ) (fs : FileSystem) (opens : Opens) (request : InProgress) (a
     told_reads T fault.Down step changes = tt
 
     -- a call that left all as it was answers, or is refused for memory
-    pub read_quietly : (table : Table) → fs.volume.is_down ≡ false → Changes keeps_word (IsTree fs.volume fs.volume.tree) fs new before after Nothing
-        → Changes keeps_word (OperationGives (shared fs table opens) request now (Argument.Read arguments)) fs new before after ended.Done
+    pub read_quietly : (table : Table) → fs.volume.is_down ≡ false → FsChanges keeps_word (IsTree fs.volume fs.volume.tree) fs new before after Nothing
+        → FsChanges keeps_word (OperationGives (shared fs table opens) request now (Argument.Read arguments)) fs new before after ended.Done
     read_quietly table up changes = answers_quietly keeps_word _ fs new before after (left_all keeps_word (IsTree fs.volume fs.volume.tree) fs new before after changes)
         (changes.volume_changes.none (λ broken. cc)) up (λ keeps. operation_stays (shared fs table opens) request now (Argument.Read arguments)) (quiet_gives (shared fs table opens) request now (Argument.Read arguments) refl)
 
-    pub read_nothing : (table : Table) → Changes keeps_word (IsTree fs.volume fs.volume.tree) fs new before after Nothing
-        → Changes keeps_word (OperationGives (shared fs table opens) request now (Argument.Read arguments)) fs new before after Nothing
+    pub read_nothing : (table : Table) → FsChanges keeps_word (IsTree fs.volume fs.volume.tree) fs new before after Nothing
+        → FsChanges keeps_word (OperationGives (shared fs table opens) request now (Argument.Read arguments)) fs new before after Nothing
     read_nothing table changes = leaves_all keeps_word _ fs new before after (left_all keeps_word (IsTree fs.volume fs.volume.tree) fs new before after changes) (changes.volume_changes.none (λ broken. cc))
 
     pub told_changes : (T : Type 0) (table : Table) (why : FsFault) → fs.volume.is_down ≡ false → Says fs opens request (λ state. IsNotRead fs state now (Argument.Read arguments) why)
-        → Changes keeps_word (IsTree fs.volume fs.volume.tree) fs new before after (reading_ending {T = T} (Err why))
-        → Changes keeps_word (OperationGives (shared fs table opens) request now (Argument.Read arguments)) fs new before after (ending (told 25 why))
+        → FsChanges keeps_word (IsTree fs.volume fs.volume.tree) fs new before after (reading_ending {T = T} (Err why))
+        → FsChanges keeps_word (OperationGives (shared fs table opens) request now (Argument.Read arguments)) fs new before after (ending (fault_told 25 why))
     told_changes T table (fault.Status reason) up step changes = read_quietly table up changes
     told_changes T table fault.NoRoom up step changes = read_quietly table up changes
     told_changes T table fault.Memory up step changes = read_nothing table changes

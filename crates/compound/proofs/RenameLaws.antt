@@ -25,7 +25,7 @@ use Rattle.compound.specs.Operates.{run_in_room}
 use Rattle.compound.specs.Runs.{with_rest}
 use Rattle.compound.specs.States.{shared}
 use Rattle.compound.specs.Trees.{IsHere, IsUp, AreBoth, no_change, renamed_answer}
-use Rattle.compound.specs.Volumes.{OperationGives, lasts, executed_by}
+use Rattle.compound.specs.Volumes.{OperationGives, lasts, entry_by}
 use Rattle.compound.proofs.Current.{after_some, after_none}
 use Rattle.compound.proofs.Changing.{HasThisRoom, is_up, same_room, tree_given}
 use Rattle.compound.proofs.Trees.{here, is_on, is_there, of_request, rename_bad}
@@ -75,7 +75,7 @@ refused_saved limits state now arguments is none =
 
 -- a name that is given to itself does not have to last
 quiet_ran : (world : World) (request : InProgress) (arguments : RenameArguments) (ran : HasRun) → is_same_name request.context arguments ≡ true
-    → lasts (executed_by world request (Argument.Rename arguments) ran) ≡ false
+    → lasts (entry_by world request (Argument.Rename arguments) ran) ≡ false
 quiet_ran world request arguments (turns.Gives outcome after left) same = rw same refl
 quiet_ran world request arguments (turns.Replays reply session slot) same = refl
 

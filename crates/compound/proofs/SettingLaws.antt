@@ -27,7 +27,7 @@ use Rattle.compound.specs.Operates.{run_in_room}
 use Rattle.compound.specs.Runs.{with_rest}
 use Rattle.compound.specs.States.{shared}
 use Rattle.compound.specs.Trees.{IsHere, IsUp}
-use Rattle.compound.specs.Volumes.{OperationGives, lasts, executed_by}
+use Rattle.compound.specs.Volumes.{OperationGives, lasts, entry_by}
 use Rattle.compound.proofs.Changing.{HasThisRoom, is_up, tree_given}
 use Rattle.compound.proofs.Trees.{all_bad, append_bad, does_bad, here, is_on, values_bad}
 use Rattle.compound.proofs.VerdictLaws.{verdict_bad}
@@ -69,7 +69,7 @@ set_bad limits state now arguments reason is =
 
 -- An empty bitmap does not have to last
 quiet_ran : (world : World) (request : InProgress) (arguments : SetAttrArguments) (ran : HasRun) → alters (state_of world request) (Argument.SetAttr arguments) ≡ false
-    → lasts (executed_by world request (Argument.SetAttr arguments) ran) ≡ false
+    → lasts (entry_by world request (Argument.SetAttr arguments) ran) ≡ false
 quiet_ran world request arguments (turns.Gives outcome after left) none = rw none refl
 quiet_ran world request arguments (turns.Replays reply session slot) none = refl
 

@@ -6,19 +6,19 @@ use Rattle.model.specs.Wire.Rpc.{Success, reply_text}
 use Rattle.model.specs.Sessions.Session.{Table}
 use Rattle.model.specs.Server.World as world
 use Rattle.model.specs.Server.World.{World, InProgress, Turned, Replied, with_connection}
-use Rattle.compound.specs.Operates.{left_by}
+use Rattle.compound.specs.Operates.{left_by_effect}
 use Rattle.compound.specs.Runs.{with_rest}
 use Rattle.compound.specs.Views.{Asked}
 use Rattle.compound.specs.States.{SharedState, HasState, with_state}
-use Rattle.compound.specs.Steps.{Steps, stepped_on}
-use Rattle.compound.specs.Turns.{TurnsTo, StandsAfter, repeated}
+use Rattle.compound.specs.Steps.{RequestSteps, stepped_on}
+use Rattle.compound.specs.Turns.{TurnsTo, ResultLeaves, repeated}
 use Rattle.compound.proofs.Rooms.{state_same}
 use Rattle.compound.specs.declared.executed.Effect.{Effect}
 use Rattle.compound.specs.declared.executed.Effect.TheVariants as effect
 use Rattle.compound.specs.declared.step.Stepped.{Stepped}
 
 -- what an operation leaves does not touch the bytes after it
-pub left_rest : (left : Effect) (request : InProgress) (rest : List ℕ) → left_by left (with_rest request rest) ≡ with_rest (left_by left request) rest
+pub left_rest : (left : Effect) (request : InProgress) (rest : List ℕ) → left_by_effect left (with_rest request rest) ≡ with_rest (left_by_effect left request) rest
 left_rest effect.Stays request rest = refl
 left_rest (effect.Moves number) request rest = refl
 left_rest effect.Saves request rest = refl
@@ -28,7 +28,7 @@ left_rest effect.Closes request rest = refl
 left_rest (effect.Joins slot client) request rest = refl
 
 -- nor the results before it
-pub left_answered : (left : Effect) (request : InProgress) → (left_by left request).answered ≡ request.answered
+pub left_answered : (left : Effect) (request : InProgress) → (left_by_effect left request).answered ≡ request.answered
 left_answered effect.Stays request = refl
 left_answered (effect.Moves number) request = refl
 left_answered effect.Saves request = refl
@@ -38,7 +38,7 @@ left_answered effect.Closes request = refl
 left_answered (effect.Joins slot client) request = refl
 
 -- nor whether it has ended, nor its run
-pub left_ended : (left : Effect) (request : InProgress) → (left_by left request).ended ≡ request.ended
+pub left_ended : (left : Effect) (request : InProgress) → (left_by_effect left request).ended ≡ request.ended
 left_ended effect.Stays request = refl
 left_ended (effect.Moves number) request = refl
 left_ended effect.Saves request = refl
@@ -47,7 +47,7 @@ left_ended (effect.Opens number state) request = refl
 left_ended effect.Closes request = refl
 left_ended (effect.Joins slot client) request = refl
 
-pub left_run : (left : Effect) (request : InProgress) → (left_by left request).context.run ≡ request.context.run
+pub left_run : (left : Effect) (request : InProgress) → (left_by_effect left request).context.run ≡ request.context.run
 left_run effect.Stays request = refl
 left_run (effect.Moves number) request = refl
 left_run effect.Saves request = refl
@@ -57,11 +57,11 @@ left_run effect.Closes request = refl
 left_run (effect.Joins slot client) request = refl
 
 pub steps_to : (now : ℕ) (old middle : SharedState) (new : Table) (asked before : Asked) (request left after : InProgress) (outcome : model.Outcome) (done : Stepped)
-    → TurnsTo now old middle request left outcome → before ≡ asked → after ≡ left → StandsAfter middle.table new before after outcome done
-    → Steps now old (record middle { table = new }) asked request done
+    → TurnsTo now old middle request left outcome → before ≡ asked → after ≡ left → ResultLeaves middle.table new before after outcome done
+    → RequestSteps now old (record middle { table = new }) asked request done
 steps_to now old middle new asked before request left after outcome done turn same is stands = λ world number served.
     let gave = turn world number served in
-    let stood = subst (λ (one : Asked). StandsAfter middle.table new one left outcome done) same (subst (λ (one : InProgress). StandsAfter middle.table new before one outcome done) is stands) in
+    let stood = subst (λ (one : Asked). ResultLeaves middle.table new one left outcome done) same (subst (λ (one : InProgress). ResultLeaves middle.table new before one outcome done) is stands) in
     let made = stood (with_state world middle) number gave.0 refl in (
       ap (λ (one : Turned). one.turn) gave.1 ∙ made.0,
       ap (λ (one : Turned). one.world) gave.1 ∙ made.1,

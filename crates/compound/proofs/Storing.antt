@@ -3,7 +3,7 @@ use Rattle.std.proofs.Common.{◌≡◌, ℕ, Bool, true, false, List, [], ◌�
 use Rattle.std.specs.Global.{Vec}
 use Rattle.layout.specs.Stands.{Kept}
 use Rattle.volume.specs.Changes.{Ending, Done, IsSeats}
-use Rattle.fs.specs.Changes.{Changes}
+use Rattle.fs.specs.Changes.{FsChanges}
 use Rattle.fs.specs.FileSystem.{FileSystem}
 use Rattle.fs.proofs.ChangeLaws.{changes_by}
 use Rattle.model.specs.Operations.Answer as model
@@ -21,9 +21,9 @@ use Rattle.model.specs.declared.status.Status.{Status}
 use Rattle.compound.specs.Operates.{GivesIn, run_in_room, world_by}
 use Rattle.compound.specs.Runs.{with_rest}
 use Rattle.compound.specs.States.{SharedState, shared, with_state}
-use Rattle.compound.specs.Steps.{Steps, stepped_on}
+use Rattle.compound.specs.Steps.{RequestSteps, stepped_on}
 use Rattle.compound.specs.Views.{Asked}
-use Rattle.compound.specs.Volumes.{HasSameTree, IsSeated, RunGives, TurnGives, kept_in, lasts}
+use Rattle.compound.specs.Volumes.{HasSameTree, IsSeated, RunGives, TurnGives, kept_of_world, lasts}
 use Rattle.compound.specs.declared.step.Stepped.TheVariants as stepped
 use Rattle.compound.proofs.QuietLaws.{answers_quietly, changes_when}
 use Rattle.compound.proofs.VolumeLaws.{is_quiet, quiet_ran}
@@ -42,7 +42,7 @@ all_stayed (edit.Holds slot held ∷ edits) seats stay = let never : ⊥ = cc in
 module _ (keeps_word : Type 0) (fs : FileSystem) where
   -- nothing is put, and these seats stand there
   pub seated_still : (failed : ℕ) (seats : Seats) → fs.volume.is_down ≡ false → (keeps_word → seats ≡ fs.volume.seats)
-      → Changes keeps_word (IsSeated fs.volume seats) fs fs failed failed Done
+      → FsChanges keeps_word (IsSeated fs.volume seats) fs fs failed failed Done
   seated_still failed seats up there =
       answers_quietly keeps_word (IsSeated fs.volume seats) fs fs failed failed refl refl up
       (λ keeps kept lasting given. ap (λ (of : Kept). of.seats) given.0 ∙ there keeps)
@@ -51,7 +51,7 @@ module _ (keeps_word : Type 0) (fs : FileSystem) where
   module _ (new : FileSystem) (before after : ℕ) (end : Ending) where
     -- what was put are these seats
     pub seated_as : (seats other : Seats) → (keeps_word → other ≡ seats)
-        → Changes keeps_word (IsSeated fs.volume seats) fs new before after end → Changes keeps_word (IsSeated fs.volume other) fs new before after end
+        → FsChanges keeps_word (IsSeated fs.volume seats) fs new before after end → FsChanges keeps_word (IsSeated fs.volume other) fs new before after end
     seated_as seats other same changes =
         changes_when keeps_word (IsSeated fs.volume seats) (IsSeated fs.volume other)
         (λ keeps kept lasting given. (given.0 ∙ ap (λ (s : Seats). let of : Kept = record { tree = fs.volume.tree; seats = s } in of) (same keeps), given.1))
@@ -62,7 +62,7 @@ module _ (keeps_word : Type 0) (fs : FileSystem) where
         ))
         fs new before after end changes
 
-    pub seats_put : (seats : Seats) → Changes keeps_word (IsSeats fs.volume seats) fs new before after end → Changes keeps_word (IsSeated fs.volume seats) fs new before after end
+    pub seats_put : (seats : Seats) → FsChanges keeps_word (IsSeats fs.volume seats) fs new before after end → FsChanges keeps_word (IsSeated fs.volume seats) fs new before after end
     seats_put seats changes = changes_by keeps_word (IsSeats fs.volume seats) (IsSeated fs.volume seats) (λ kept lasting given. given.0) fs new before after end changes
 
 -- Operations that change the seats alone
@@ -71,15 +71,15 @@ given_seats : (state : SharedState) (table : Table) (opens : Opens) (request lef
     → GivesIn now state (shared state.files table opens) request left operation outcome
     → (after : Kept) (lasting : Bool) → RunGives state request now operation after lasting → IsSeated state.files.volume table.seats after lasting
 given_seats state table opens request left now operation outcome quiet gives after lasting ran = (
-  ran.kept ∙ ap (λ (r : HasRun). kept_in (world_by ran.world r)) (gives ran.world ran.rest ran.has),
+  ran.kept ∙ ap (λ (r : HasRun). kept_of_world (world_by ran.world r)) (gives ran.world ran.rest ran.has),
   ran.lasting_is ∙ quiet_ran ran.world (with_rest request ran.rest) operation (run_in_room ran.world (with_rest request ran.rest) now operation) quiet,
 )
 
 pub seats_change : (keeps_word : Type 0) (state : SharedState) (table : Table) (opens : Opens) (request left : InProgress) (now : ℕ) (operation : Argument) (outcome : model.Outcome)
     → is_quiet operation ≡ true → GivesIn now state (shared state.files table opens) request left operation outcome
     → (new : FileSystem) (before after : ℕ) (end : Ending)
-    → Changes keeps_word (IsSeated state.files.volume table.seats) state.files new before after end
-    → Changes keeps_word (RunGives state request now operation) state.files new before after end
+    → FsChanges keeps_word (IsSeated state.files.volume table.seats) state.files new before after end
+    → FsChanges keeps_word (RunGives state request now operation) state.files new before after end
 seats_change keeps_word state table opens request left now operation outcome quiet gives new before after end changes =
     changes_by keeps_word (IsSeated state.files.volume table.seats) (RunGives state request now operation)
     (given_seats state table opens request left now operation outcome quiet gives) state.files new before after end changes
@@ -92,7 +92,7 @@ ends_now world number now request last ended = ap (further world number now requ
 
 pub stored : (now : ℕ) (old new : FileSystem) (table after : Table) (known : Opens) (asked : Asked) (request : InProgress) (last : Status) (reply : Vec ℕ) → request.ended ≡ Some last
     → HasSameTree old new → reply.items ≡ framed (reply_text request.xid (Success (result_of request last))) → after ≡ kept_by request.slot (result_of request last) table
-    → Steps now (shared old table known) (shared new after known) asked request (stepped.Answered reply)
+    → RequestSteps now (shared old table known) (shared new after known) asked request (stepped.Answered reply)
 stored now old new table after known asked request last reply ended same reply_is kept = λ world number has.
     let turn = ends_now world number now request last ended in
     let table_is : kept_by request.slot (result_of request last) world.table ≡ after = ap (kept_by request.slot (result_of request last)) has.table_is ∙ sym kept in
@@ -112,7 +112,7 @@ pub stored_gives : (state : SharedState) (now : ℕ) (request : InProgress) (las
     → IsSeated state.files.volume (kept_by request.slot (result_of request last) state.table).seats after lasting
 stored_gives state now request last ended after lasting gives =
     let turn = ends_now gives.world gives.number now request last ended in (
-      gives.kept ∙ ap (λ (t : Turned). kept_in t.world) turn
+      gives.kept ∙ ap (λ (t : Turned). kept_of_world t.world) turn
           ∙ ap₂ (λ (tree : Tree) (table : Table). let of : Kept = record { tree = tree; seats = (kept_by request.slot (result_of request last) table).seats } in of) gives.has.tree gives.has.table_is,
       gives.lasting_is ∙ ap (λ (t : Turned). lasts t.executed) turn,
     )

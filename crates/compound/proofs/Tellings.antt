@@ -18,7 +18,7 @@ use Rattle.model.specs.declared.status.Status.TheVariants as status
 use Rattle.wire.specs.OutcomeView.{outcome_view}
 use Rattle.compound.specs.Operates.{HasRoom, HasRoomFor, Spells, spelled_text}
 use Rattle.compound.specs.EncodedResult.{CanBeTold, Tells, is_ok, told_status, told_text, with_last, with_told}
-use Rattle.compound.specs.Turns.{StandsAfter}
+use Rattle.compound.specs.Turns.{ResultLeaves}
 use Rattle.compound.specs.Views.{Asked, resumed}
 use Rattle.compound.specs.declared.progress.Progress.{Progress}
 use Rattle.compound.specs.declared.step.Stepped.TheVariants as stepped
@@ -109,12 +109,12 @@ ok_room request (encoded.Spelled operation values) can ok = can
 -- After an OK result that is not the last one the COMPOUND goes on
 
 goes_on_by : (table : Table) (asked : Asked) (request : InProgress) (outcome : Outcome) (progress : Progress) → is_done outcome ≡ true → is_last request ≡ false
-    → resumed asked progress ≡ with_result request outcome → StandsAfter table table asked request outcome (stepped.Ran progress)
+    → resumed asked progress ≡ with_result request outcome → ResultLeaves table table asked request outcome (stepped.Ran progress)
 goes_on_by table asked request (Done answer) progress done more pushed = more_follow table asked request answer progress more pushed
 goes_on_by table asked request (Refused n reason) progress done more pushed = let never : ⊥ = cc in absurd never
 
 pub goes_on_told : (table : Table) (asked : Asked) (request : InProgress) (result : EncodedResult) (outcome : Outcome) (progress : Progress) → is_ok result ≡ true → is_last request ≡ false
-    → resumed asked progress ≡ with_told request result → Tells result outcome → StandsAfter table table asked request outcome (stepped.Ran progress)
+    → resumed asked progress ≡ with_told request result → Tells result outcome → ResultLeaves table table asked request outcome (stepped.Ran progress)
 goes_on_told table asked request result outcome progress ok more pushed is =
     goes_on_by table asked request outcome progress (sym (ok_is result outcome is) ∙ ok) more (pushed ∙ request_is request result outcome is)
 
@@ -144,7 +144,7 @@ behind_last world number request (Done answer) executed last =
 -- a seat is to hold the reply
 pub holds_told : (table : Table) (asked : Asked) (request : InProgress) (result : EncodedResult) (outcome : Outcome) (progress : Progress) → (is_ok result && not (is_last request)) ≡ false
     → is_to_hold request.slot table.seats ≡ true → resumed asked progress ≡ with_last request result → Tells result outcome
-    → StandsAfter table table asked request outcome (stepped.Ran progress)
+    → ResultLeaves table table asked request outcome (stepped.Ran progress)
 holds_told table asked request result outcome progress last holds pushed is = λ world number executed here.
     let ended = behind_last world number request outcome executed (ap (λ (b : Bool). b && not (is_last request)) (sym (ok_is result outcome is)) ∙ last) in
     let held = closes_holding world number (with_result request outcome) (status_of outcome) executed (ap (λ (t : Table). is_to_hold request.slot t.seats) here ∙ holds) in
@@ -159,7 +159,7 @@ pub ends_told : (old new : Table) (asked : Asked) (request : InProgress) (result
     → is_to_hold request.slot old.seats ≡ false
     → reply.items ≡ framed (reply_text request.xid (Success (result_of (with_last request result) (told_status result))))
     → new ≡ kept_by request.slot (result_of (with_last request result) (told_status result)) old → Tells result outcome
-    → StandsAfter old new asked request outcome (stepped.Answered reply)
+    → ResultLeaves old new asked request outcome (stepped.Answered reply)
 ends_told old new asked request result outcome reply last none reply_is kept is = λ world number executed here.
     let ended = behind_last world number request outcome executed (ap (λ (b : Bool). b && not (is_last request)) (sym (ok_is result outcome is)) ∙ last) in
     let made = closes_unseated world number (with_result request outcome) (status_of outcome) executed (ap (λ (t : Table). is_to_hold request.slot t.seats) here ∙ none) in

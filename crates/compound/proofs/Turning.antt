@@ -10,12 +10,12 @@ use Rattle.model.specs.Server.World.{World, InProgress, HasRun, Entry, Turned, R
 use Rattle.model.specs.declared.status.Status.{Status}
 use Rattle.model.specs.declared.status.Status.TheVariants as status
 use Rattle.wire.specs.OutcomeView.{outcome_view}
-use Rattle.compound.specs.Operates.{Operates, GivesIn, run_in_room, world_by, left_by}
+use Rattle.compound.specs.Operates.{Operates, GivesIn, run_in_room, world_by, left_by_effect}
 use Rattle.compound.specs.Runs.{with_rest}
 use Rattle.compound.specs.States.{SharedState, with_state}
 use Rattle.compound.specs.Steps.{stepped_on}
-use Rattle.compound.specs.Turns.{Turns, TurnsTo}
-use Rattle.compound.specs.Volumes.{kept_in}
+use Rattle.compound.specs.Turns.{TurnsExecuted, TurnsTo}
+use Rattle.compound.specs.Volumes.{kept_of_world}
 use Rattle.compound.specs.declared.executed.Executed.{Executed}
 use Rattle.compound.specs.declared.executed.Executed.TheVariants as execution
 use Rattle.model.proofs.Sessions.SeatTables.{same_seats}
@@ -44,9 +44,9 @@ turns_to now old new request left operation rest outcome going next ran = λ wor
 
 pub turns_read : (now : ℕ) (old new : SharedState) (request : InProgress) (operation : Argument) (rest : List ℕ) (done : Executed) → request.ended ≡ None
     → next_operation request ≡ Reads operation rest → Operates now old new request operation done
-    → Turns now old new request rest done
+    → TurnsExecuted now old new request rest done
 turns_read now old new request operation rest (execution.Gives outcome left) going next ran =
-    turns_to now old new request (left_by left request) operation rest (outcome_view outcome) going next ran
+    turns_to now old new request (left_by_effect left request) operation rest (outcome_view outcome) going next ran
 turns_read now old new request operation rest (execution.GivesSpelled kind values) going next ran = (
   ran.0,
   ran.1,
@@ -73,7 +73,7 @@ turns_refused now old request rest operation reason going next same = λ world n
 -- What a volume is to keep after a turn
 
 abbrev Keeps : World → Turned → Type 0
-Keeps world turn = kept_in turn.world ≡ kept_in world
+Keeps world turn = kept_of_world turn.world ≡ kept_of_world world
 
 -- where no seat is to hold a reply, it changes none
 kept_seats : (slot : Option (List ℕ × ℕ)) (result : List ℕ) (table : Table) → is_to_hold slot table.seats ≡ false → (kept_by slot result table).seats ≡ table.seats
@@ -103,5 +103,5 @@ run_keeps world number request operation (turns.Replays reply session slot) = re
 pub refused_keeps : (world : World) (number now : ℕ) (request : InProgress) (operation : ℕ) (reason : Status) → request.ended ≡ None → next_operation request ≡ Refuses operation reason
     → Keeps world (stepped_on world number now request)
 refused_keeps world number now request operation reason going next =
-    ap (λ (t : Turned). kept_in t.world) (goes_next world number now request going ∙ ap (operates world number now request) next)
+    ap (λ (t : Turned). kept_of_world t.world) (goes_next world number now request going ∙ ap (operates world number now request) next)
     ∙ behind_keeps world number request (model.Refused operation reason) None

@@ -4,7 +4,7 @@ use Rattle.std.specs.Result.{IsErrAnd}
 use Rattle.layout.specs.Stands.{Kept}
 use Rattle.volume.specs.Changes.{Given, Ending, Done}
 use Rattle.volume.specs.VolumeState.{with_tree}
-use Rattle.fs.specs.Changes.{Changes}
+use Rattle.fs.specs.Changes.{FsChanges}
 use Rattle.fs.specs.FileSystem.{FileSystem}
 use Rattle.model.specs.Operations.Answer as model
 use Rattle.model.specs.Attributes.Attribute.{trimmed}
@@ -25,7 +25,7 @@ use Rattle.compound.specs.Operates.{GivesIn, run_in_room, tree_by, world_by}
 use Rattle.compound.specs.Runs.{with_rest}
 use Rattle.compound.specs.States.{SharedState, HasState, shared}
 use Rattle.compound.specs.Steps.{stepped_on}
-use Rattle.compound.specs.Volumes.{ending, lasts, executed_by, kept_in, OperationGives, RunGives, TurnGives}
+use Rattle.compound.specs.Volumes.{ending, lasts, entry_by, kept_of_world, OperationGives, RunGives, TurnGives}
 use Rattle.compound.specs.declared.fault.Fault.{Fault}
 use Rattle.compound.specs.declared.fault.Fault.TheVariants as fault
 use Rattle.compound.specs.Trees.{made_answer}
@@ -44,7 +44,7 @@ operation_stays state request now operation after lasting gives = ap (λ (kept :
 
 -- nor does a turn that leaves what is kept
 pub turn_stays : (state : SharedState) (turn : World → (number : ℕ) → Turned)
-    → ((world : World) (number : ℕ) → HasState world state → kept_in (turn world number).world ≡ kept_in world)
+    → ((world : World) (number : ℕ) → HasState world state → kept_of_world (turn world number).world ≡ kept_of_world world)
     → state.table.seats ≡ state.files.volume.seats
     → (after : Kept) (lasting : Bool) → TurnGives state turn after lasting → after.seats ≡ state.files.volume.seats
 turn_stays state turn keeps agree after lasting gives =
@@ -80,8 +80,8 @@ run_alike state request now operation after lasting gives = (
 
 pub tree_changes : (keeps_word : Type 0) (state : SharedState) (request : InProgress) (now : ℕ) (operation : Argument) → leaves_seats operation ≡ true
     → (keeps_word → state.table.seats ≡ state.files.volume.seats) → (new : FileSystem) (before after : ℕ) (end : Ending)
-    → Changes keeps_word (OperationGives state request now operation) state.files new before after end
-    → Changes keeps_word (RunGives state request now operation) state.files new before after end
+    → FsChanges keeps_word (OperationGives state request now operation) state.files new before after end
+    → FsChanges keeps_word (RunGives state request now operation) state.files new before after end
 tree_changes keeps_word state request now operation leaves agree new before after end changes =
     changes_when keeps_word (OperationGives state request now operation) (RunGives state request now operation)
     (λ keeps. run_tells state request now operation leaves (agree keeps)) (run_alike state request now operation)
@@ -110,7 +110,7 @@ quiet_entry state (Argument.SetAttr arguments) outcome after quiet = let never :
 quiet_entry state (Argument.Write arguments) outcome after quiet = let never : ⊥ = cc in absurd never
 quiet_entry state operation outcome after quiet = refl
 
-pub quiet_ran : (world : World) (request : InProgress) (operation : Argument) (ran : HasRun) → is_quiet operation ≡ true → lasts (executed_by world request operation ran) ≡ false
+pub quiet_ran : (world : World) (request : InProgress) (operation : Argument) (ran : HasRun) → is_quiet operation ≡ true → lasts (entry_by world request operation ran) ≡ false
 quiet_ran world request operation (turns.Gives outcome after left) quiet = quiet_entry (state_of world request) operation outcome after.tree quiet
 quiet_ran world request operation (turns.Replays reply session slot) quiet = refl
 
@@ -131,9 +131,9 @@ refused_entry : (state : State) (operation : Argument) (number : ℕ) (reason : 
 refused_entry state operation number reason after = never_both (alters state operation) (is_commit operation)
 
 refused_ran : (world : World) (request : InProgress) (operation : Argument) (ran : HasRun) (number : ℕ) (reason : Status) (after : World) (left : InProgress)
-    → ran ≡ turns.Gives (model.Refused number reason) after left → lasts (executed_by world request operation ran) ≡ false
+    → ran ≡ turns.Gives (model.Refused number reason) after left → lasts (entry_by world request operation ran) ≡ false
 refused_ran world request operation ran number reason after left is =
-    ap (λ (r : HasRun). lasts (executed_by world request operation r)) is ∙ refused_entry (state_of world request) operation number reason after.tree
+    ap (λ (r : HasRun). lasts (entry_by world request operation r)) is ∙ refused_entry (state_of world request) operation number reason after.tree
 
 -- the operation comes to this refusal in each such world
 pub refused_gives : (state : SharedState) (request : InProgress) (now : ℕ) (operation : Argument) (number : ℕ) (reason : Status)
@@ -147,7 +147,7 @@ refused_gives state request now operation number reason refuses after lasting gi
 -- one that comes to this refusal, and leaves the file system as it is
 pub refusal_changes : (keeps_word : Type 0) (fs new : FileSystem) (table : Table) (opens : Opens) (before after : ℕ) (request : InProgress) (now : ℕ) (operation : Argument) (number : ℕ) (reason : Status)
     → new ≡ fs → after ≡ before → fs.volume.is_down ≡ false → GivesIn now (shared fs table opens) (shared new table opens) request request operation (model.Refused number reason)
-    → Changes keeps_word (OperationGives (shared fs table opens) request now operation) fs new before after Done
+    → FsChanges keeps_word (OperationGives (shared fs table opens) request now operation) fs new before after Done
 refusal_changes keeps_word fs new table opens before after request now operation number reason same later up gives =
     answers_quietly keeps_word (OperationGives (shared fs table opens) request now operation) fs new before after same later up
     (λ keeps. operation_stays (shared fs table opens) request now operation)
@@ -155,18 +155,18 @@ refusal_changes keeps_word fs new table opens before after request now operation
 
 -- CREATE of anything but a directory
 other_quiet : (world : World) (request : InProgress) (now kind : ℕ)
-    → lasts (executed_by world request (Argument.Create (OtherType kind)) (run_in_room world request now (Argument.Create (OtherType kind)))) ≡ false
+    → lasts (entry_by world request (Argument.Create (OtherType kind)) (run_in_room world request now (Argument.Create (OtherType kind)))) ≡ false
 unfolding run does effect
 other_quiet world request now kind = by_refusal _
   where
-    by_refusal : (refusal : Option Status) → lasts (executed_by world request (Argument.Create (OtherType kind)) (in_room world request 6
+    by_refusal : (refusal : Option Status) → lasts (entry_by world request (Argument.Create (OtherType kind)) (in_room world request 6
         (stepped world request (unless_refused (state_of world request) (Argument.Create (OtherType kind)) refusal
         (refused (state_of world request) (Argument.Create (OtherType kind)) status.BadType))))) ≡ false
     by_refusal None = refl
     by_refusal (Some reason) = refl
 
 pub other_changes : (keeps_word : Type 0) (state : SharedState) (failed : ℕ) (request : InProgress) (now kind : ℕ) → state.files.volume.is_down ≡ false
-    → Changes keeps_word (OperationGives state request now (Argument.Create (OtherType kind))) state.files state.files failed failed Done
+    → FsChanges keeps_word (OperationGives state request now (Argument.Create (OtherType kind))) state.files state.files failed failed Done
 other_changes keeps_word state failed request now kind up =
     answers_quietly keeps_word (OperationGives state request now (Argument.Create (OtherType kind))) state.files state.files failed failed refl refl up
     (λ keeps. operation_stays state request now (Argument.Create (OtherType kind)))
@@ -186,14 +186,14 @@ made_gives fs table opens request now parent name given in_run has is room after
 
 -- an operation that leaves the file system alone
 pub quiet_changes : (keeps_word : Type 0) (state : SharedState) (failed : ℕ) (request : InProgress) (now : ℕ) (operation : Argument) → state.files.volume.is_down ≡ false → is_quiet operation ≡ true
-    → Changes keeps_word (OperationGives state request now operation) state.files state.files failed failed Done
+    → FsChanges keeps_word (OperationGives state request now operation) state.files state.files failed failed Done
 quiet_changes keeps_word state failed request now operation up quiet =
     answers_quietly keeps_word (OperationGives state request now operation) state.files state.files failed failed refl refl up (λ keeps. operation_stays state request now operation) (quiet_gives state request now operation quiet)
 
 -- or is refused for memory alone
 pub quiet_result : {T : Type 0} (keeps_word : Type 0) (state : SharedState) (failed : ℕ) (request : InProgress) (now : ℕ) (operation : Argument) (result : Result T Fault)
     → state.files.volume.is_down ≡ false → is_quiet operation ≡ true → ((reason : Fault) → result ≡ Err reason → reason ≡ fault.Memory)
-    → Changes keeps_word (OperationGives state request now operation) state.files state.files failed failed (ending result)
+    → FsChanges keeps_word (OperationGives state request now operation) state.files state.files failed failed (ending result)
 quiet_result keeps_word state failed request now operation (Ok done) up quiet memory = quiet_changes keeps_word state failed request now operation up quiet
 quiet_result keeps_word state failed request now operation (Err fault.Memory) up quiet memory =
     leaves_all keeps_word (OperationGives state request now operation) state.files state.files failed failed refl refl
@@ -203,7 +203,7 @@ quiet_result keeps_word state failed request now operation (Err fault.Device) up
 
 -- one that is not done, for memory alone
 pub memory_changes : {T : Type 0} (keeps_word : Type 0) (given : Given) (fs : FileSystem) (failed : ℕ) (result : Result T Fault) (reason : Fault)
-    → IsErrAnd result (λ told. told ≡ reason) → reason ≡ fault.Memory → Changes keeps_word given fs fs failed failed (ending result)
+    → IsErrAnd result (λ told. told ≡ reason) → reason ≡ fault.Memory → FsChanges keeps_word given fs fs failed failed (ending result)
 memory_changes keeps_word given fs failed (Ok done) reason is memory = absurd is
 memory_changes keeps_word given fs failed (Err told) reason is memory = rw (is, memory) (leaves_all keeps_word given fs fs failed failed refl refl)
 
@@ -223,7 +223,7 @@ behind_executed world number request (model.Done answer) executed =
     (λ last. closes_executed world number (with_result request (model.Done answer)) status.Ok executed) (λ more. refl)
 
 run_executed : (world : World) (number : ℕ) (request : InProgress) (operation : Argument) (ran : HasRun)
-    → (has_run world number request operation ran).executed ≡ executed_by world request operation ran
+    → (has_run world number request operation ran).executed ≡ entry_by world request operation ran
 run_executed world number request operation (turns.Gives outcome after left) =
     behind_executed after number left outcome (Some (executed_entry world request operation outcome after))
 run_executed world number request operation (turns.Replays reply session slot) = refl
@@ -241,7 +241,7 @@ read_gives state request now operation rest going next after lasting gives =
       world = world;
       rest = rest;
       has = gives.has;
-      kept = gives.kept ∙ (ap (λ (t : Turned). kept_in t.world) turn ∙ run_keeps world gives.number (with_rest request rest) operation ran);
+      kept = gives.kept ∙ (ap (λ (t : Turned). kept_of_world t.world) turn ∙ run_keeps world gives.number (with_rest request rest) operation ran);
       lasting_is = gives.lasting_is ∙ (ap (λ (t : Turned). lasts t.executed) turn ∙ ap lasts (run_executed world gives.number (with_rest request rest) operation ran));
     }
 
@@ -264,7 +264,7 @@ same_turns state turn other same after lasting gives =
       world = gives.world;
       number = gives.number;
       has = gives.has;
-      kept = gives.kept ∙ ap (λ (t : Turned). kept_in t.world) is;
+      kept = gives.kept ∙ ap (λ (t : Turned). kept_of_world t.world) is;
       lasting_is = gives.lasting_is ∙ ap (λ (t : Turned). lasts t.executed) is;
     }
 

@@ -32,7 +32,7 @@ use Rattle.compound.specs.Operates.{RunsTo}
 use Rattle.compound.specs.Runs.{with_rest}
 use Rattle.compound.specs.States.{shared}
 use Rattle.compound.specs.Trees.{IsHere, IsUp}
-use Rattle.compound.specs.Volumes.{OperationGives, lasts, executed_by}
+use Rattle.compound.specs.Volumes.{OperationGives, lasts, entry_by}
 use Rattle.compound.proofs.Changing.{HasThisRoom, is_up, ran_given, same_room, tree_given}
 use Rattle.compound.proofs.Rooms.{state_same}
 use Rattle.compound.proofs.Trees.{append_bad, does_bad, here, is_on}
@@ -154,7 +154,7 @@ module _ (now : ℕ) (fs : FileSystem) (request : InProgress) (arguments : Write
         on = is_on fs request number state in_run has is there;
         writing = writing state there gives.has.opens;
         kept = gives.kept ∙ ap (with_tree fs.volume) (tree_given now fs request (Argument.Write arguments) write_on_tree room (write_sized room fits) table opens gives.world gives.rest some gives.has);
-        lasting_is = gives.lasting_is ∙ ap (λ (r : HasRun). lasts (executed_by gives.world (with_rest request gives.rest) (Argument.Write arguments) r)) ran;
+        lasting_is = gives.lasting_is ∙ ap (λ (r : HasRun). lasts (entry_by gives.world (with_rest request gives.rest) (Argument.Write arguments) r)) ran;
       }
 
 module _ (now : ℕ) (fs : FileSystem) (request : InProgress) (arguments : CommitArguments) where

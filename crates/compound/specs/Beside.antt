@@ -17,7 +17,7 @@ use Rattle.model.specs.Operations.Step.{State, answered, refused}
 use Rattle.model.specs.Sessions.StateIds.{Found, Names, close_refusals, closed_state, opened, without_open}
 use Rattle.model.specs.Server.World.{InProgress, reply_with}
 use Rattle.model.specs.declared.status.Status.{Status}
-use Rattle.opens.specs.Views.{named_by}
+use Rattle.opens.specs.Views.{opened_stateid}
 use Rattle.compound.specs.Operates.{RunsTo}
 use Rattle.compound.specs.States.{SharedState}
 use Rattle.compound.specs.Trees.{IsHere}
@@ -86,10 +86,11 @@ pub record AsksFor (request : InProgress) (arguments : OpenArguments) (of : Open
   pub few : length (given_by (type_of asked.how)).bitmap ≤ 8
 
 -- an operation comes to this open, with this change of its directory and these attributes set
-abbrev pub OpensTo : (now : ℕ) → (old new : SharedState) → InProgress → (asked : Open) → ChangeInfo
+abbrev pub ComesToOpen : (now : ℕ) → (old new : SharedState) → InProgress → (asked : Open)
+    → ChangeInfo
     → (was_set : List ℕ) → Argument → Type 0
-OpensTo now old new request asked change was_set operation =
-    let state = named_by request.context.run (opened old.opens asked) in
+ComesToOpen now old new request asked change was_set operation =
+    let state = opened_stateid request.context.run (opened old.opens asked) in
     RunsTo now old new request
     (record request { context = at_opened request.context asked.number state }) operation
     (Done (opened_answer state change was_set))

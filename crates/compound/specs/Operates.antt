@@ -27,15 +27,16 @@ use Rattle.compound.specs.declared.executed.Executed.{Executed}
 use Rattle.compound.specs.declared.executed.Executed.TheVariants as execution
 use Rattle.compound.specs.declared.results.TheConstants.{AROUND_RESULTS, MAX_REPLY_BYTES}
 
-abbrev pub left_by : Effect → InProgress → InProgress
-left_by effect.Stays request = request
-left_by (effect.Moves number) request = record request { context = at_node request.context number }
-left_by effect.Saves request = record request { context = saving request.context }
-left_by effect.Restores request = record request { context = restored request.context }
-left_by (effect.Opens number state) request =
+abbrev pub left_by_effect : Effect → InProgress → InProgress
+left_by_effect effect.Stays request = request
+left_by_effect (effect.Moves number) request =
+    record request { context = at_node request.context number }
+left_by_effect effect.Saves request = record request { context = saving request.context }
+left_by_effect effect.Restores request = record request { context = restored request.context }
+left_by_effect (effect.Opens number state) request =
     record request { context = at_opened request.context number (state_view state) }
-left_by effect.Closes request = record request { context = without_stateid request.context }
-left_by (effect.Joins slot client) request =
+left_by_effect effect.Closes request = record request { context = without_stateid request.context }
+left_by_effect (effect.Joins slot client) request =
     record request {
       context = record request.context { client = client };
       slot = Some (slot_of slot);
@@ -74,7 +75,7 @@ pub record Spells (operation : ℕ) (values : List ℕ) (answer : model.Answer) 
 abbrev pub Operates : (now : ℕ) → (old new : SharedState) → InProgress → Argument → Executed
     → Type 0
 Operates now old new request operation (execution.Gives outcome left) =
-    GivesIn now old new request (left_by left request) operation (outcome_view outcome)
+    GivesIn now old new request (left_by_effect left request) operation (outcome_view outcome)
 Operates now old new request operation (execution.GivesSpelled kind values) =
     (answer : model.Answer) × Spells (number_of kind) values.items answer
     × GivesIn now old new request request operation (model.Done answer)
@@ -145,10 +146,10 @@ IsAnswered request (execution.GivesSpelled kind values) =
 IsAnswered request (execution.Replays slot) = ⊤
 
 -- what is sent again is there
-abbrev pub IsKept : Table → Executed → Type 0
-IsKept table (execution.Gives outcome left) = Unit {0}
-IsKept table (execution.GivesSpelled kind values) = Unit {0}
-IsKept table (execution.Replays slot) =
+abbrev pub IsReplyKept : Table → Executed → Type 0
+IsReplyKept table (execution.Gives outcome left) = Unit {0}
+IsReplyKept table (execution.GivesSpelled kind values) = Unit {0}
+IsReplyKept table (execution.Replays slot) =
     (reply : List ℕ) × (reply_kept slot.session slot.slot table ≡ Some reply)
 
 -- the operations that come only first in a COMPOUND

@@ -5,7 +5,7 @@ use Rattle.fs.specs.FileSystem.{FileSystem}
 use Rattle.model.specs.Server.World as world
 use Rattle.model.specs.Server.World.{World, Connection, Busy, Replied, Turn, Turned, InProgress, further, with_connection}
 use Rattle.compound.specs.States.{SharedState, HasState, with_state}
-use Rattle.compound.specs.Views.{Asked, resumed, fits}
+use Rattle.compound.specs.Views.{Asked, resumed, fits_operations}
 use Rattle.compound.specs.declared.step.Stepped.{Stepped}
 use Rattle.compound.specs.declared.step.Stepped.TheVariants as stepped
 
@@ -19,9 +19,9 @@ pub record CanRun (files : FileSystem) (request : InProgress) : Type 0 where
 abbrev pub stepped_on : World → (number now : ℕ) → InProgress → Turned
 stepped_on world number now request = further world number now request request.ended
 
-abbrev pub turn_by : Stepped → Turn
-turn_by (stepped.Ran progress) = world.Ran
-turn_by (stepped.Answered reply) = world.Answered
+abbrev pub turn_of_step : Stepped → Turn
+turn_of_step (stepped.Ran progress) = world.Ran
+turn_of_step (stepped.Answered reply) = world.Answered
 
 -- the connection of this COMPOUND after a step
 abbrev pub connection_by : Asked → Stepped → Connection
@@ -29,10 +29,11 @@ connection_by asked (stepped.Ran progress) = Busy (resumed asked progress)
 connection_by asked (stepped.Answered reply) = Replied reply.items
 
 -- on each connection of each such world, the turn is this one, and leaves this world
-abbrev pub Steps : (now : ℕ) → (old new : SharedState) → Asked → InProgress → Stepped → Type 0
-Steps now old new asked request done =
+abbrev pub RequestSteps : (now : ℕ) → (old new : SharedState) → Asked → InProgress → Stepped
+    → Type 0
+RequestSteps now old new asked request done =
     (world : World) (number : ℕ) → HasState world old
-    → ((stepped_on world number now request).turn ≡ turn_by done)
+    → ((stepped_on world number now request).turn ≡ turn_of_step done)
     × ((stepped_on world number now request).world
     ≡ with_connection (with_state world new) number (connection_by asked done))
 
@@ -49,11 +50,12 @@ GoesFurther request (stepped.Answered reply) = Unit {0}
 
 -- the COMPOUND can be resumed after a step
 abbrev pub still_fits : Asked → Stepped → Bool
-still_fits asked (stepped.Ran progress) = fits asked progress
+still_fits asked (stepped.Ran progress) = fits_operations asked progress
 still_fits asked (stepped.Answered reply) = true
 
 -- what a step leaves of a request, on any device
-pub record GoesOn (run : ℕ) (asked : Asked) (request : InProgress) (done : Stepped) : Type 0 where
+pub record RequestGoesOn (run : ℕ) (asked : Asked) (request : InProgress) (done : Stepped)
+    : Type 0 where
   pub stays : StaysInRun run done
   pub further : GoesFurther request done
   pub fits : still_fits asked done ≡ true

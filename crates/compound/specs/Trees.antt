@@ -34,8 +34,8 @@ pub record IsHere (fs : FileSystem) (request : InProgress) (state : State) : Typ
   pub context_is : state.context ≡ request.context
 
 -- the result is that of the tests of the current filehandle
-abbrev pub TestsCurrent : FileSystem → InProgress → Result (Unit {0}) Status → Type 0
-TestsCurrent fs request result =
+abbrev pub TestsHandle : FileSystem → InProgress → Result (Unit {0}) Status → Type 0
+TestsHandle fs request result =
     (state : State) → IsHere fs request state → current_refusal state ≡ result_err result
 
 -- the numbers of the saved node and of the current one
@@ -65,12 +65,12 @@ abbrev pub refusal : (operation : ℕ) → Status → Executed
 refusal operation reason = execution.Gives (outcomes.Refused operation reason) effect.Stays
 
 -- what an operation comes to that its file system did not do
-abbrev pub told : (operation : ℕ) → FsFault → Result Executed Fault
-told operation (fault.Status reason) = Ok (refusal operation reason)
-told operation fault.NoRoom = Ok (refusal operation status.RepTooBig)
-told operation fault.Memory = Err faults.Memory
-told operation fault.Device = Err faults.Device
-told operation fault.Down = Err faults.Device
+abbrev pub fault_told : (operation : ℕ) → FsFault → Result Executed Fault
+fault_told operation (fault.Status reason) = Ok (refusal operation reason)
+fault_told operation fault.NoRoom = Ok (refusal operation status.RepTooBig)
+fault_told operation fault.Memory = Err faults.Memory
+fault_told operation fault.Device = Err faults.Device
+fault_told operation fault.Down = Err faults.Device
 
 -- change values before and after
 abbrev pub change_answer : (before after : ℕ) → ChangeInfo

@@ -11,11 +11,11 @@ use Rattle.model.specs.declared.seats.SeatEdits.{SeatEdits}
 use Rattle.session.specs.Views.{reply_kept}
 use Rattle.wire.specs.Numbers.{number_of}
 use Rattle.wire.specs.OutcomeView.{outcome_view}
-use Rattle.compound.specs.Operates.{Spells, left_by}
+use Rattle.compound.specs.Operates.{Spells, left_by_effect}
 use Rattle.compound.specs.Runs.{with_rest}
 use Rattle.compound.specs.Views.{Asked}
 use Rattle.compound.specs.States.{SharedState, HasState, with_state}
-use Rattle.compound.specs.Steps.{stepped_on, turn_by, connection_by}
+use Rattle.compound.specs.Steps.{stepped_on, turn_of_step, connection_by}
 use Rattle.compound.specs.declared.executed.Executed.{Executed}
 use Rattle.compound.specs.declared.executed.Executed.TheVariants as execution
 use Rattle.compound.specs.declared.step.Stepped.{Stepped}
@@ -44,24 +44,26 @@ TurnsTo now old new request left outcome =
     ≡ behind (with_state world new) number left outcome executed)
 
 -- the same, where the next operation did this and ends where these bytes stand
-abbrev pub Turns : (now : ℕ) → (old new : SharedState) → InProgress → (rest : List ℕ) → Executed
+abbrev pub TurnsExecuted : (now : ℕ) → (old new : SharedState) → InProgress → (rest : List ℕ)
+    → Executed
     → Type 0
-Turns now old new request rest (execution.Gives outcome left) =
-    TurnsTo now old new request (with_rest (left_by left request) rest) (outcome_view outcome)
-Turns now old new request rest (execution.GivesSpelled kind values) =
+TurnsExecuted now old new request rest (execution.Gives outcome left) =
+    TurnsTo now old new request (with_rest (left_by_effect left request) rest)
+    (outcome_view outcome)
+TurnsExecuted now old new request rest (execution.GivesSpelled kind values) =
     (answer : model.Answer) × Spells (number_of kind) values.items answer
     × TurnsTo now old new request (with_rest request rest) (model.Done answer)
-Turns now old new request rest (execution.Replays slot) =
+TurnsExecuted now old new request rest (execution.Replays slot) =
     (reply : List ℕ) × (new ≡ old) × (reply_kept slot.session slot.slot old.table ≡ Some reply)
     × ((world : World) (number : ℕ) → HasState world old
     → stepped_on world number now request
     ≡ repeated world number request reply slot.session slot.slot)
 
 -- on each connection of each world with this table, this is what a result makes of the request
-abbrev pub StandsAfter : (old new : Table) → Asked → InProgress → model.Outcome → Stepped → Type 0
-StandsAfter old new asked request outcome done =
+abbrev pub ResultLeaves : (old new : Table) → Asked → InProgress → model.Outcome → Stepped → Type 0
+ResultLeaves old new asked request outcome done =
     (world : World) (number : ℕ) (executed : Option Entry) → world.table ≡ old
-    → ((behind world number request outcome executed).turn ≡ turn_by done)
+    → ((behind world number request outcome executed).turn ≡ turn_of_step done)
     × ((behind world number request outcome executed).world
     ≡ with_connection (with_table world new) number (connection_by asked done))
 

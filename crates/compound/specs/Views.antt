@@ -65,18 +65,18 @@ size_so_far asked progress =
 
 -- Operations are left, and the reply has room for the results so far. Once the last result is there,
 -- that one may be a refusal without room.
-abbrev pub goes_on : Asked → Progress → (ended : Option Status) → Bool
-goes_on asked progress None =
+abbrev pub may_go_on : Asked → Progress → (ended : Option Status) → Bool
+may_go_on asked progress None =
     nat_lt progress.answered asked.compound.count
     && nat_le (size_so_far asked progress) MAX_REPLY_BYTES
-goes_on asked progress (Some last) =
+may_go_on asked progress (Some last) =
     nat_le (size_so_far asked progress) (MAX_REPLY_BYTES + MAX_REFUSAL_BYTES)
 
 -- and the next one stands within their bytes
-abbrev pub fits : Asked → Progress → Bool
-fits asked progress =
+abbrev pub fits_operations : Asked → Progress → Bool
+fits_operations asked progress =
     nat_le progress.position (length asked.compound.operations)
-    && goes_on asked progress progress.ended
+    && may_go_on asked progress progress.ended
 
 -- no operation was done in this run of the server, of whichever COMPOUND
 pub record IsBegin (run : ℕ) (progress : Progress) : Type 0 where
@@ -84,7 +84,7 @@ pub record IsBegin (run : ℕ) (progress : Progress) : Type 0 where
       → resumed asked progress ≡ in_progress world asked.xid asked.cred asked.compound
   pub run_is : progress.run ≡ run
   pub fit : (asked : Asked) → 0 < asked.compound.count → length asked.compound.tag ≤ 255
-      → fits asked progress ≡ true
+      → fits_operations asked progress ≡ true
 
 abbrev pub asked_of : Running → Asked
 asked_of running = asks running.xid running.cred.now (compound_view running.compound)

@@ -18,17 +18,17 @@ use Rattle.volume.specs.VolumeState.{VolumeState, with_tree}
 
 -- How a call ends
 
-abbrev pub ending_of : Fault → Ending
-ending_of fault.Memory = Nothing
-ending_of fault.Device = Broken
+abbrev pub fault_ending : Fault → Ending
+fault_ending fault.Memory = Nothing
+fault_ending fault.Device = Broken
 
 abbrev pub ending : {T : Type 0} → Result T Fault → Ending
 ending (Ok done) = Done
-ending (Err reason) = ending_of reason
+ending (Err reason) = fault_ending reason
 
-abbrev pub undone_ending : {T : Type 0} → Result T StepError → Ending
-undone_ending (Ok done) = Done
-undone_ending (Err undone) = ending_of undone.fault
+abbrev pub undone_step_ending : {T : Type 0} → Result T StepError → Ending
+undone_step_ending (Ok done) = Done
+undone_step_ending (Err undone) = fault_ending undone.fault
 
 -- What it does
 
@@ -38,14 +38,14 @@ lasts None = false
 lasts (Some entry) = is_durable entry
 
 -- of an operation that ran
-abbrev pub executed_by : World → InProgress → Argument → HasRun → Option Entry
-executed_by world request operation (turns.Gives outcome after left) =
+abbrev pub entry_by : World → InProgress → Argument → HasRun → Option Entry
+entry_by world request operation (turns.Gives outcome after left) =
     Some (executed_entry world request operation outcome after)
-executed_by world request operation (turns.Replays reply session slot) = None
+entry_by world request operation (turns.Replays reply session slot) = None
 
 -- what a volume is to keep of a world
-abbrev pub kept_in : World → Kept
-kept_in world = record { tree = world.tree; seats = world.table.seats }
+abbrev pub kept_of_world : World → Kept
+kept_of_world world = record { tree = world.tree; seats = world.table.seats }
 
 -- In some world that has this, whatever follows the operation, it leaves this tree, with the seats
 -- as they were, and has to last or not: of an operation on the tree.
@@ -56,7 +56,7 @@ pub record OperationGives (state : SharedState) (request : InProgress) (now : �
   pub has : HasState world state
   pub kept : after ≡ with_tree state.files.volume
       (tree_by world (run_in_room world (with_rest request rest) now operation))
-  pub lasting_is : lasting ≡ lasts (executed_by world (with_rest request rest) operation
+  pub lasting_is : lasting ≡ lasts (entry_by world (with_rest request rest) operation
       (run_in_room world (with_rest request rest) now operation))
 
 -- the same of any operation, which leaves the seats of the world's table
@@ -66,8 +66,8 @@ pub record RunGives (state : SharedState) (request : InProgress) (now : ℕ) (op
   pub rest : List ℕ
   pub has : HasState world state
   pub kept : after
-      ≡ kept_in (world_by world (run_in_room world (with_rest request rest) now operation))
-  pub lasting_is : lasting ≡ lasts (executed_by world (with_rest request rest) operation
+      ≡ kept_of_world (world_by world (run_in_room world (with_rest request rest) now operation))
+  pub lasting_is : lasting ≡ lasts (entry_by world (with_rest request rest) operation
       (run_in_room world (with_rest request rest) now operation))
 
 -- in some such world, on some connection, this turn does
@@ -76,7 +76,7 @@ pub record TurnGives (state : SharedState) (turn : World → (number : ℕ) → 
   pub world : World
   pub number : ℕ
   pub has : HasState world state
-  pub kept : after ≡ kept_in (turn world number).world
+  pub kept : after ≡ kept_of_world (turn world number).world
   pub lasting_is : lasting ≡ lasts (turn world number).executed
 
 -- the tree stays, and so does what has to last; the seats are these

@@ -19,14 +19,14 @@ impl Progress {
     ghost use Rattle.compound.specs.declared.fault.Fault.TheVariants.{Memory};
 
     /// Before the first operation, in this run of the server. All memory for the reply is taken
-    /// here, and that of the results only where `spare`, which an earlier COMPOUND left, has too
-    /// little.
-    pub fn begin(alloc: Global, run: u32, spare: &mut Writer) -> Result<Progress, Fault>
+    /// here, and that of the results only where `results_buffer`, which an earlier COMPOUND left,
+    /// has too little.
+    pub fn begin(alloc: Global, run: u32, results_buffer: &mut Writer) -> Result<Progress, Fault>
         ensures ok { IfOk result (IsBegin run) }
         ensures err { IfErr result (λ fault. fault ≡ Memory) }
     {
         let reply = Writer::with_capacity(alloc, RECORD_BUFFER)?;
-        let results = take_memory(alloc, spare)?;
+        let results = take_memory(alloc, results_buffer)?;
         Ok(Progress {
             position: 0,
             answered: 0,
@@ -43,20 +43,20 @@ impl Progress {
 }
 
 /// Memory for the results: what an earlier COMPOUND left, or where that is too little more.
-fn take_memory(alloc: Global, spare: &mut Writer) -> Result<Writer, Fault>
+fn take_memory(alloc: Global, results_buffer: &mut Writer) -> Result<Writer, Fault>
     ensures bytes { IfOk result (λ results. results.bytes ≡ []) }
     ensures room { IfOk result (λ results. RESULT_BUFFER ≤ results.capacity) }
     ensures err { IfErr result (λ fault. fault ≡ Memory) }
 {
-    spare.truncate(0);
-    spare.reserve(RESULT_BUFFER)?;
-    Ok(mem::replace(spare, Writer::new(alloc)))
+    results_buffer.truncate(0);
+    results_buffer.reserve(RESULT_BUFFER)?;
+    Ok(mem::replace(results_buffer, Writer::new(alloc)))
 }
 
 impl<'a> Running<'a> {
     ghost use Rattle.std.specs.Prelude.{◌≡◌, true};
     ghost use Rattle.rpc.specs.Views.{compound_view};
-    ghost use Rattle.compound.specs.Views.{in_progress_of, asks, asked_of, resumed, fits};
+    ghost use Rattle.compound.specs.Views.{in_progress_of, asks, asked_of, resumed, fits_operations};
 
     /// The COMPOUND of a call with this xid, by this caller, from where it has come to.
     #[tactic(auto, unfolding(crate::specs::Views::in_progress_of))]
@@ -67,7 +67,7 @@ impl<'a> Running<'a> {
         compound: Compound<'a>,
         progress: Progress,
     ) -> Running<'a>
-        requires { fits (asks xid cred.now (compound_view compound)) progress ≡ true }
+        requires { fits_operations (asks xid cred.now (compound_view compound)) progress ≡ true }
         ensures asked { asked_of result ≡ asks xid cred.now (compound_view compound.entry) }
         ensures progress { result.progress ≡ progress }
         ensures request { in_progress_of result

@@ -16,13 +16,13 @@ use wire::{Answer, CreateSessionArguments, ExchangeIdArguments, Operation};
 #[tactic(auto, unfolding(crate::specs::Views::in_progress_of))]
 impl Running<'_> {
     ghost use Rattle.std.specs.Prelude.{◌≡◌, ℕ, false, IfOk, IfErr, OnErr};
-    ghost use Rattle.fs.specs.Views.{fs_of, Alters};
+    ghost use Rattle.fs.specs.Views.{fs_of, AltersFs};
     ghost use Rattle.model.specs.Sessions.Opens.{Opens as Known};
     ghost use Rattle.model.specs.Operations.Operation as operations;
     ghost use Rattle.session.specs.Views.{table_of};
     ghost use Rattle.wire.specs.ArgumentViews.{exchange_id_view, create_session_view};
     ghost use Rattle.opens.specs.Views.{opens_of};
-    ghost use Rattle.compound.specs.Operates.{Operates, ChangesTableAndOpens, IsAnswered, IsKept};
+    ghost use Rattle.compound.specs.Operates.{Operates, ChangesTableAndOpens, IsAnswered, IsReplyKept};
     ghost use Rattle.compound.specs.States.{Agrees, shared, shared_of};
     ghost use Rattle.compound.specs.Views.{in_progress_of};
     ghost use Rattle.compound.specs.Volumes.{RunGives, ending};
@@ -68,10 +68,10 @@ impl Running<'_> {
             (in_progress_of self.now)
             (operations.Argument.CreateSession (create_session_view arguments.now))) }
         ensures answered { IfOk result (IsAnswered (in_progress_of self.now)) }
-        ensures kept { IfOk result (IsKept (table_of table.new)) }
+        ensures kept { IfOk result (IsReplyKept (table_of table.new)) }
         ensures others { OnErr result ((table_of table.new ≡ table_of table.old)
             × (opens_of opens.new ≡ opens_of opens.old)) }
-        ensures volume { (now : ℕ) → Alters fs.old fs.new (RunGives
+        ensures volume { (now : ℕ) → AltersFs fs.old fs.new (RunGives
             (shared_of fs.old table.old opens.old) (in_progress_of self.now) now
             (operations.Argument.CreateSession (create_session_view arguments.now)))
             (ending result) }
@@ -107,9 +107,9 @@ impl Running<'_> {
             (shared (fs_of fs.new) (table_of table.new) opens) (in_progress_of self.now)
             (operations.Argument.DestroySession id.now)) }
         ensures answered { IfOk result (IsAnswered (in_progress_of self.now)) }
-        ensures kept { IfOk result (IsKept (table_of table.new)) }
+        ensures kept { IfOk result (IsReplyKept (table_of table.new)) }
         ensures table { OnErr result (table_of table.new ≡ table_of table.old) }
-        ensures volume { (now : ℕ) (opens : Known) → Alters fs.old fs.new (RunGives
+        ensures volume { (now : ℕ) (opens : Known) → AltersFs fs.old fs.new (RunGives
             (shared (fs_of fs.old) (table_of table.old) opens) (in_progress_of self.now) now
             (operations.Argument.DestroySession id.now)) (ending result) }
     {

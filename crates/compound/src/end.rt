@@ -25,7 +25,7 @@ use xdr::Writer;
 
 impl Running<'_> {
     ghost use Rattle.std.specs.Prelude.{◌≡◌, ℕ, List, false, Some, IfOk, IfErr, OnOk};
-    ghost use Rattle.fs.specs.Views.{fs_of, Alters};
+    ghost use Rattle.fs.specs.Views.{fs_of, AltersFs};
     ghost use Rattle.model.specs.Wire.Record.{framed};
     ghost use Rattle.model.specs.Wire.Rpc.{Success, reply_text};
     ghost use Rattle.model.specs.Server.World.{kept_by, result_of};
@@ -38,14 +38,14 @@ impl Running<'_> {
 
     /// The reply's whole record, once the last result is there. The slot keeps the result of the
     /// COMPOUND, and where a seat holds it these edits are made of the seats. No memory is taken, and
-    /// what is left over goes to `spare`.
+    /// what is left over goes to `results_buffer`.
     #[tactic(auto, unfolding(crate::specs::Views::in_progress_of), using(crate::proofs::Replies::success_length, crate::proofs::Replies::framed_length))]
     pub(crate) fn end(
         self,
         table: &mut Table,
         last: Status,
         edits: Option<SeatEdits>,
-        spare: &mut Writer,
+        results_buffer: &mut Writer,
     ) -> Vec<u8>
         requires { AreOfReply (in_progress_of self).slot (result_of (in_progress_of self) last)
             (table_of table.old) edits }
@@ -73,7 +73,7 @@ impl Running<'_> {
             Err(_) => unreachable!(),
         };
         let left = keep_by(table, slot, &record[BEFORE_RESULT..], results, edits);
-        give_back(left, spare);
+        give_back(left, results_buffer);
         record
     }
 
@@ -93,7 +93,7 @@ impl Running<'_> {
         ensures edits { IfOk result (AreOfReply (in_progress_of self.now).slot
             (result_of (in_progress_of self.now) last) (table_of table.now)) }
         ensures same { D.keeps_word → OnOk result (HasSameTree (fs_of fs.old) (fs_of fs.new)) }
-        ensures volume { Alters fs.old fs.new (IsSeated (fs_of fs.old).volume
+        ensures volume { AltersFs fs.old fs.new (IsSeated (fs_of fs.old).volume
             (kept_by (in_progress_of self.now).slot (result_of (in_progress_of self.now) last)
             (table_of table.now)).seats) (ending result) }
     {
@@ -121,9 +121,9 @@ impl Running<'_> {
     }
 
     /// The reply's whole record, where the result is the one that this slot keeps. No memory is
-    /// taken, and that of the results goes to `spare`.
+    /// taken, and that of the results goes to `results_buffer`.
     #[tactic(auto, unfolding(crate::specs::Views::in_progress_of), using(crate::proofs::Replies::success_length, crate::proofs::Replies::framed_length))]
-    pub(crate) fn repeat(self, table: &Table, id: &SlotId, spare: &mut Writer) -> Vec<u8>
+    pub(crate) fn repeat(self, table: &Table, id: &SlotId, results_buffer: &mut Writer) -> Vec<u8>
         requires { (reply : List ℕ)
             × (reply_kept id.now.session id.now.slot (table_of table.now) ≡ Some reply) }
         ensures { (reply : List ℕ)
@@ -135,7 +135,7 @@ impl Running<'_> {
         };
         let Running { xid, progress, .. } = self;
         let Progress { results, reply, .. } = progress;
-        *spare = results;
+        *results_buffer = results;
         match write_reply(reply, xid, &Reply::Success(kept)) {
             Ok(reply) => reply,
             Err(_) => unreachable!(),
@@ -213,8 +213,8 @@ fn copied(bytes: &[u8], memory: Writer) -> Vec<u8>
 }
 
 /// What is left over of a COMPOUND's memory is there for the next one.
-fn give_back(left: Option<Vec<u8>>, spare: &mut Writer) {
+fn give_back(left: Option<Vec<u8>>, results_buffer: &mut Writer) {
     if let Some(memory) = left {
-        *spare = Writer::from_vec(memory);
+        *results_buffer = Writer::from_vec(memory);
     }
 }

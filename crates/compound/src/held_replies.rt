@@ -1,7 +1,7 @@
 //! The seats of persistent sessions, as the volume keeps them.
 
 ghost use Rattle.std.specs.Prelude.{◌≡◌, false, OnOk};
-ghost use Rattle.fs.specs.Views.{fs_of, Alters};
+ghost use Rattle.fs.specs.Views.{fs_of, AltersFs};
 ghost use Rattle.model.specs.Sessions.SeatEdits.{AreEdits, edited_all, edits_view};
 ghost use Rattle.compound.specs.Volumes.{IsSeated, HasSameTree, ending};
 
@@ -20,7 +20,7 @@ pub(crate) fn put_seats<D: Device>(fs: &mut Fs<D>, edits: &SeatEdits) -> Result<
     requires edits { D.keeps_word → AreEdits (fs_of fs.old).volume.run (edits_view edits.now)
         (fs_of fs.old).volume.seats }
     ensures same { D.keeps_word → OnOk result (HasSameTree (fs_of fs.old) (fs_of fs.new)) }
-    ensures volume { Alters fs.old fs.new (IsSeated (fs_of fs.old).volume
+    ensures volume { AltersFs fs.old fs.new (IsSeated (fs_of fs.old).volume
         (edited_all (edits_view edits.now) (fs_of fs.old).volume.seats)) (ending result) }
 {
     if is_idle(edits) {

@@ -26,13 +26,13 @@ const SIZE: u32 = 0x10;
 impl Running<'_> {
     ghost use Rattle.std.specs.Prelude.{◌≡◌, ◌≤◌, ◌^◌, ℕ, false, IfOk, OnErr};
     ghost use Rattle.fs.specs.Opening.{IsFileToOpen};
-    ghost use Rattle.fs.specs.Views.{fs_of, Alters};
+    ghost use Rattle.fs.specs.Views.{fs_of, AltersFs};
     ghost use Rattle.model.specs.Operations.Operation as operations;
     ghost use Rattle.model.specs.Sessions.Session.{Table};
     ghost use Rattle.opens.specs.Views.{opens_of};
     ghost use Rattle.wire.specs.ArgumentViews.{open_type_view, open_view, opening_view};
     ghost use Rattle.compound.specs.Beside.{AsksFor, HasOpenRoom};
-    ghost use Rattle.compound.specs.Operates.{ChangesTreeAndOpens, IsAnswered, IsKept};
+    ghost use Rattle.compound.specs.Operates.{ChangesTreeAndOpens, IsAnswered, IsReplyKept};
     ghost use Rattle.compound.specs.States.{shared};
     ghost use Rattle.compound.specs.Views.{in_progress_of};
     ghost use Rattle.compound.specs.Volumes.{OperationGives, ending};
@@ -59,11 +59,11 @@ impl Running<'_> {
             (opens_of opens.old) (opens_of opens.new) now (in_progress_of self.now)
             (operations.Argument.Open (open_view arguments.now))) }
         ensures answered { IfOk result (IsAnswered (in_progress_of self.now)) }
-        ensures kept { (table : Table) → IfOk result (IsKept table) }
+        ensures kept { (table : Table) → IfOk result (IsReplyKept table) }
         // Refused
         ensures opens { OnErr result (opens_of opens.new ≡ opens_of opens.old) }
         // In any case
-        ensures volume { (table : Table) → Alters fs.old fs.new (OperationGives
+        ensures volume { (table : Table) → AltersFs fs.old fs.new (OperationGives
             (shared (fs_of fs.old) table (opens_of opens.old)) (in_progress_of self.now) now
             (operations.Argument.Open (open_view arguments.now))) (ending result) }
     {
@@ -118,9 +118,9 @@ impl Running<'_> {
             (opens_of opens.now) (opens_of opens.now) now (in_progress_of self.now)
             (operations.Argument.Open (open_view arguments.now))) }
         ensures answered { IfOk result (IsAnswered (in_progress_of self.now)) }
-        ensures kept { (table : Table) → IfOk result (IsKept table) }
+        ensures kept { (table : Table) → IfOk result (IsReplyKept table) }
         // In any case
-        ensures volume { (table : Table) → Alters fs.old fs.new (OperationGives
+        ensures volume { (table : Table) → AltersFs fs.old fs.new (OperationGives
             (shared (fs_of fs.old) table (opens_of opens.now)) (in_progress_of self.now) now
             (operations.Argument.Open (open_view arguments.now))) (ending result) }
     {

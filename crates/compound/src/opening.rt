@@ -29,7 +29,7 @@ use wire::{
 
 impl Running<'_> {
     ghost use Rattle.std.specs.Prelude.{◌≡◌, Some, true, false, IsTrue, IfOk, IfErr, OnErr};
-    ghost use Rattle.fs.specs.Views.{fs_of, Alters};
+    ghost use Rattle.fs.specs.Views.{fs_of, AltersFs};
     ghost use Rattle.model.specs.Operations.Open.{opening_refusals};
     ghost use Rattle.model.specs.Operations.Operation as operations;
     ghost use Rattle.model.specs.Operations.Refusal.{first_refusal};
@@ -40,8 +40,8 @@ impl Running<'_> {
     ghost use Rattle.wire.specs.ArgumentViews.{open_view, opening_view};
     ghost use Rattle.wire.specs.SmallViews.{change_view};
     ghost use Rattle.xdr.specs.Forms.{is_trimmed};
-    ghost use Rattle.compound.specs.Beside.{has_opened_room, OpensTo};
-    ghost use Rattle.compound.specs.Operates.{Operates, ChangesTreeAndOpens, OnlyReads, IsAnswered, IsKept};
+    ghost use Rattle.compound.specs.Beside.{has_opened_room, ComesToOpen};
+    ghost use Rattle.compound.specs.Operates.{Operates, ChangesTreeAndOpens, OnlyReads, IsAnswered, IsReplyKept};
     ghost use Rattle.compound.specs.States.{SharedState, shared};
     ghost use Rattle.compound.specs.declared.fault.Fault.TheVariants.{Memory};
     ghost use Rattle.compound.specs.Views.{in_progress_of};
@@ -64,11 +64,11 @@ impl Running<'_> {
             (opens_of opens.old) (opens_of opens.new) now (in_progress_of self.now)
             (operations.Argument.Open (open_view arguments.now))) }
         ensures answered { IfOk result (IsAnswered (in_progress_of self.now)) }
-        ensures kept { (table : Table) → IfOk result (IsKept table) }
+        ensures kept { (table : Table) → IfOk result (IsReplyKept table) }
         // Refused
         ensures opens { OnErr result (opens_of opens.new ≡ opens_of opens.old) }
         // In any case
-        ensures volume { (table : Table) → Alters fs.old fs.new (OperationGives
+        ensures volume { (table : Table) → AltersFs fs.old fs.new (OperationGives
             (shared (fs_of fs.old) table (opens_of opens.old)) (in_progress_of self.now) now
             (operations.Argument.Open (open_view arguments.now))) (ending result) }
     {
@@ -101,7 +101,7 @@ impl Running<'_> {
             (opens_of opens.old) (opens_of opens.new) now (in_progress_of self.now)
             (operations.Argument.Open (open_view arguments.now))) }
         ensures answered { IfOk result (IsAnswered (in_progress_of self.now)) }
-        ensures kept { (table : Table) → IfOk result (IsKept table) }
+        ensures kept { (table : Table) → IfOk result (IsReplyKept table) }
         // Refused
         ensures opens { OnErr result (opens_of opens.new ≡ opens_of opens.old) }
         ensures memory { IfErr result (λ fault. fault ≡ Memory) }
@@ -162,11 +162,11 @@ impl Running<'_> {
         requires short { true ≡ has_opened_room (in_progress_of self.now) was_set }
         // What it answers
         ensures gives { (now : _) (old new : SharedState) (operation : operations.Argument)
-            → old.opens ≡ opens_of opens.old → OpensTo now old new (in_progress_of self.now)
+            → old.opens ≡ opens_of opens.old → ComesToOpen now old new (in_progress_of self.now)
             (open_of asked) (change_view change) was_set operation
             → Operates now old new (in_progress_of self.now) operation result }
         ensures answered { IsAnswered (in_progress_of self.now) result }
-        ensures kept { (table : Table) → IsKept table result }
+        ensures kept { (table : Table) → IsReplyKept table result }
         ensures opens { opens_of opens.new
             ≡ (opened (opens_of opens.old) (open_of asked)).opens }
     {
@@ -197,7 +197,7 @@ impl Running<'_> {
             → OnlyReads (fs_of fs.now) (in_progress_of self.now)
             (operations.Argument.Open arguments) result }
         ensures answered { IsAnswered (in_progress_of self.now) result }
-        ensures kept { (table : Table) → IsKept table result }
+        ensures kept { (table : Table) → IsReplyKept table result }
     {
         match self.check_current(fs) {
             Ok(()) => self.refuse(Operation::Open, Status::NotSupp),

@@ -11,11 +11,11 @@ use wire::Argument;
 
 impl Running<'_> {
     ghost use Rattle.std.specs.Prelude.{◌≡◌, true, false, IfOk, OnErr};
-    ghost use Rattle.fs.specs.Views.{fs_of, Alters};
+    ghost use Rattle.fs.specs.Views.{fs_of, AltersFs};
     ghost use Rattle.opens.specs.Views.{opens_of};
     ghost use Rattle.session.specs.Views.{table_of};
     ghost use Rattle.wire.specs.ArgumentView.{argument_view};
-    ghost use Rattle.compound.specs.Operates.{Operates, IsAnswered, IsKept, comes_first};
+    ghost use Rattle.compound.specs.Operates.{Operates, IsAnswered, IsReplyKept, comes_first};
     ghost use Rattle.compound.specs.States.{Agrees, shared_of};
     ghost use Rattle.compound.specs.Views.{in_progress_of};
     ghost use Rattle.compound.specs.Volumes.{RunGives, ending};
@@ -45,12 +45,12 @@ impl Running<'_> {
             (shared_of fs.new table.new opens.new) (in_progress_of self.now)
             (argument_view argument.now)) }
         ensures answered { IfOk result (IsAnswered (in_progress_of self.now)) }
-        ensures kept { IfOk result (IsKept (table_of table.new)) }
+        ensures kept { IfOk result (IsReplyKept (table_of table.new)) }
         // Refused
         ensures others { OnErr result ((table_of table.new ≡ table_of table.old)
             × (opens_of opens.new ≡ opens_of opens.old)) }
         // In any case
-        ensures volume { Alters fs.old fs.new (RunGives (shared_of fs.old table.old opens.old)
+        ensures volume { AltersFs fs.old fs.new (RunGives (shared_of fs.old table.old opens.old)
             (in_progress_of self.now) now (argument_view argument.now)) (ending result) }
     {
         match argument {

@@ -28,12 +28,12 @@ const MAX_PAD: usize = 3;
 
 impl Running<'_> {
     ghost use Rattle.std.specs.Prelude.{◌≡◌, ℕ, false, IfOk};
-    ghost use Rattle.fs.specs.Views.{fs_of, Alters};
+    ghost use Rattle.fs.specs.Views.{fs_of, AltersFs};
     ghost use Rattle.model.specs.Operations.Operation as operations;
     ghost use Rattle.model.specs.Sessions.Session.{Table};
     ghost use Rattle.opens.specs.Views.{opens_of};
     ghost use Rattle.wire.specs.ArgumentViews.{read_view};
-    ghost use Rattle.compound.specs.Operates.{ChangesTreeAndOpens, IsAnswered, IsKept};
+    ghost use Rattle.compound.specs.Operates.{ChangesTreeAndOpens, IsAnswered, IsReplyKept};
     ghost use Rattle.compound.specs.States.{shared};
     ghost use Rattle.compound.specs.Views.{in_progress_of};
     ghost use Rattle.compound.specs.Volumes.{OperationGives, ending};
@@ -53,9 +53,9 @@ impl Running<'_> {
             (fs_of fs.new) (opens_of opens.now) (opens_of opens.now) now (in_progress_of self.now)
             (operations.Argument.Read (read_view arguments.now))) }
         ensures answered { IfOk result (IsAnswered (in_progress_of self.now)) }
-        ensures kept { (table : Table) → IfOk result (IsKept table) }
+        ensures kept { (table : Table) → IfOk result (IsReplyKept table) }
         // In any case
-        ensures volume { (now : ℕ) (table : Table) → Alters fs.old fs.new (OperationGives
+        ensures volume { (now : ℕ) (table : Table) → AltersFs fs.old fs.new (OperationGives
             (shared (fs_of fs.old) table (opens_of opens.now)) (in_progress_of self.now) now
             (operations.Argument.Read (read_view arguments.now))) (ending result) }
     {

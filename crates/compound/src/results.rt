@@ -38,9 +38,9 @@ impl Running<'_> {
     ghost use Rattle.wire.specs.Numbers.{number_of};
     ghost use Rattle.wire.specs.Short.{IsRefusal, IsShortAnswer};
     ghost use Rattle.wire.specs.declared.outcome.Outcome.TheVariants as outcomes;
-    ghost use Rattle.compound.specs.Operates.{Operates, RunsTo, GivesIn, Spells, IsAnswered, IsKept, left_by};
+    ghost use Rattle.compound.specs.Operates.{Operates, RunsTo, GivesIn, Spells, IsAnswered, IsReplyKept, left_by_effect};
     ghost use Rattle.compound.specs.States.{SharedState};
-    ghost use Rattle.compound.specs.Trees.{IsUp, refusal, told};
+    ghost use Rattle.compound.specs.Trees.{IsUp, refusal, fault_told};
     ghost use Rattle.compound.specs.Views.{in_progress_of};
     ghost use Rattle.compound.specs.declared.executed.Executed.TheVariants as execution;
 
@@ -77,7 +77,7 @@ impl Running<'_> {
         ensures gives { (now : ℕ) (state : SharedState) (kind : Kind)
             → (answers.answer_told (answer_view answer.entry)).number ≡ operation_of kind
             → RunsTo now state state (in_progress_of self.now)
-            (left_by effect (in_progress_of self.now)) kind (Done (answer_view answer.entry))
+            (left_by_effect effect (in_progress_of self.now)) kind (Done (answer_view answer.entry))
             → Operates now state state (in_progress_of self.now) kind result }
         ensures answered { IsAnswered (in_progress_of self.now) result }
     {
@@ -99,7 +99,7 @@ impl Running<'_> {
             (Done answer)
             → Operates now state state (in_progress_of self.now) kind result }
         ensures answered { IsAnswered (in_progress_of self.now) result }
-        ensures kept { (table : Sessions) → IsKept table result }
+        ensures kept { (table : Sessions) → IsReplyKept table result }
     {
         if !self.has_room_for(RESULT_FRONT + values.as_slice().len()) {
             return self.refuse(operation, Status::RepTooBig);
@@ -115,7 +115,7 @@ impl Running<'_> {
             (Refused (number_of operation) status)
             → Operates now old new (in_progress_of self.now) kind result }
         ensures answered { IsAnswered (in_progress_of self.now) result }
-        ensures kept { (table : Sessions) → IsKept table result }
+        ensures kept { (table : Sessions) → IsReplyKept table result }
         ensures is { result ≡ refusal (number_of operation) status }
     {
         Executed::Gives {
@@ -130,7 +130,7 @@ impl Running<'_> {
     /// Those of the file system that are no status.
     pub(crate) fn tell_fault(&self, operation: Operation, fault: FsFault) -> Result<Executed, Fault>
         requires { IsUp fault }
-        ensures { result ≡ told (number_of operation) fault }
+        ensures { result ≡ fault_told (number_of operation) fault }
     {
         match fault {
             FsFault::Status(status) => Ok(self.refuse(operation, status)),
@@ -148,7 +148,7 @@ impl Running<'_> {
         requires short { IsShortAnswer (answer_view answer) }
         ensures gives { (now : ℕ) (old new : SharedState) (kind : Kind)
             → RunsTo now old new (in_progress_of self.now)
-            (left_by effect (in_progress_of self.now)) kind (Done (answer_view answer.entry))
+            (left_by_effect effect (in_progress_of self.now)) kind (Done (answer_view answer.entry))
             → Operates now old new (in_progress_of self.now) kind result }
         ensures answered { IsAnswered (in_progress_of self.now) result }
         ensures is { result ≡ execution.Gives (outcomes.Done answer.entry) effect }

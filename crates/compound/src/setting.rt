@@ -21,7 +21,7 @@ use wire::{Answer, Bitmap, CreateAnswer, Operation, Outcome, SetAttrArguments};
 
 impl Running<'_> {
     ghost use Rattle.std.specs.Prelude.{◌≡◌, false, nat_le, length, IfOk};
-    ghost use Rattle.fs.specs.Views.{fs_of, Alters};
+    ghost use Rattle.fs.specs.Views.{fs_of, AltersFs};
     ghost use Rattle.model.specs.Operations.Answer.{Answer as Answered, Done};
     ghost use Rattle.model.specs.Attributes.Attribute.{trimmed};
     ghost use Rattle.model.specs.Operations.Operation as operations;
@@ -29,7 +29,7 @@ impl Running<'_> {
     ghost use Rattle.model.specs.Server.World.{reply_with};
     ghost use Rattle.opens.specs.Views.{opens_of};
     ghost use Rattle.wire.specs.ArgumentViews.{set_attr_view};
-    ghost use Rattle.compound.specs.Operates.{ChangesTreeAndOpens, IsAnswered, IsKept};
+    ghost use Rattle.compound.specs.Operates.{ChangesTreeAndOpens, IsAnswered, IsReplyKept};
     ghost use Rattle.compound.specs.States.{shared};
     ghost use Rattle.compound.specs.Views.{in_progress_of};
     ghost use Rattle.compound.specs.Volumes.{OperationGives, ending};
@@ -51,9 +51,9 @@ impl Running<'_> {
             (opens_of opens.now) (opens_of opens.now) now (in_progress_of self.now)
             (operations.Argument.SetAttr (set_attr_view arguments.now))) }
         ensures answered { IfOk result (IsAnswered (in_progress_of self.now)) }
-        ensures kept { (table : Table) → IfOk result (IsKept table) }
+        ensures kept { (table : Table) → IfOk result (IsReplyKept table) }
         // In any case
-        ensures volume { (table : Table) → Alters fs.old fs.new (OperationGives
+        ensures volume { (table : Table) → AltersFs fs.old fs.new (OperationGives
             (shared (fs_of fs.old) table (opens_of opens.now)) (in_progress_of self.now) now
             (operations.Argument.SetAttr (set_attr_view arguments.now))) (ending result) }
     {

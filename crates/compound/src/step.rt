@@ -41,25 +41,25 @@ pub struct StepError {
 
 impl Running<'_> {
     ghost use Rattle.std.specs.Prelude.{◌≡◌, ◌≤◌, ℕ, false, None, Some, length, drop, IfOk, IfErr, OnErr};
-    ghost use Rattle.fs.specs.Views.{fs_of, Alters};
+    ghost use Rattle.fs.specs.Views.{fs_of, AltersFs};
     ghost use Rattle.opens.specs.Views.{opens_of};
     ghost use Rattle.session.specs.Views.{table_of};
     ghost use Rattle.model.specs.Operations.Answer as model;
     ghost use Rattle.model.specs.Sessions.Opens.{Opens as Known};
     ghost use Rattle.model.specs.Server.World.{is_to_hold};
-    ghost use Rattle.compound.specs.Operates.{IsAnswered, IsKept, left_by};
+    ghost use Rattle.compound.specs.Operates.{IsAnswered, IsReplyKept, left_by_effect};
     ghost use Rattle.compound.specs.States.{Agrees, shared, shared_of};
-    ghost use Rattle.compound.specs.Steps.{CanRun, Steps, GoesOn, stepped_on};
+    ghost use Rattle.compound.specs.Steps.{CanRun, RequestSteps, RequestGoesOn, stepped_on};
     ghost use Rattle.compound.specs.EncodedResult.{CanBeTold, Tells, with_last};
-    ghost use Rattle.compound.specs.Turns.{Turns, StandsAfter};
+    ghost use Rattle.compound.specs.Turns.{TurnsExecuted, ResultLeaves};
     ghost use Rattle.compound.specs.Views.{in_progress_of, asked_of};
-    ghost use Rattle.compound.specs.Volumes.{TurnGives, ending, undone_ending};
+    ghost use Rattle.compound.specs.Volumes.{TurnGives, ending, undone_step_ending};
     ghost use Rattle.compound.specs.declared.step.Stepped.TheVariants as stepped;
 
     /// Reads the next operation, tests it and runs it, at this moment in nanoseconds since 1970. A
     /// change is kept on the device before its result is there. Once the last result is there and a
     /// seat is to hold the reply, it is held on the device, and then the reply is there. With the
-    /// reply `spare` has the memory that the next COMPOUND may begin with.
+    /// reply `results_buffer` has the memory that the next COMPOUND may begin with.
     ///
     /// # Errors
     /// What was kept of the COMPOUND comes back as it was. After `Memory` nothing changed; after
@@ -70,31 +70,32 @@ impl Running<'_> {
         table: &mut Table,
         opens: &mut Opens,
         now: u64,
-        spare: &mut Writer,
+        results_buffer: &mut Writer,
     ) -> Result<Stepped, StepError>
         requires up { (fs_of fs.old).volume.is_down ≡ false }
         requires run { (in_progress_of self).context.run ≡ (fs_of fs.old).volume.run }
         requires agrees { D.keeps_word → Agrees (fs_of fs.old) (table_of table.old) }
         // Done
-        ensures step { D.keeps_word → IfOk result (Steps now (shared_of fs.old table.old opens.old)
+        ensures step { D.keeps_word
+            → IfOk result (RequestSteps now (shared_of fs.old table.old opens.old)
             (shared_of fs.new table.new opens.new) (asked_of self.entry)
             (in_progress_of self.entry)) }
         ensures agrees { D.keeps_word → IfOk result (λ done.
             Agrees (fs_of fs.new) (table_of table.new)) }
-        ensures goes_on { IfOk result (GoesOn (fs_of fs.old).volume.run (asked_of self.entry)
+        ensures goes_on { IfOk result (RequestGoesOn (fs_of fs.old).volume.run (asked_of self.entry)
             (in_progress_of self.entry)) }
         // Not done
         ensures back { IfErr result (λ undone. undone.progress ≡ self.entry.progress) }
         ensures others { OnErr result ((table_of table.new ≡ table_of table.old)
             × (opens_of opens.new ≡ opens_of opens.old)) }
         // In any case
-        ensures volume { Alters fs.old fs.new (TurnGives (shared_of fs.old table.old opens.old)
+        ensures volume { AltersFs fs.old fs.new (TurnGives (shared_of fs.old table.old opens.old)
             (λ world number. stepped_on world number now (in_progress_of self.entry)))
-            (undone_ending result) }
+            (undone_step_ending result) }
     {
         match self.progress.ended {
-            Some(last) => Ok(Stepped::Answered(self.store(fs, table, last, spare)?)),
-            None => self.run(fs, table, opens, now, spare),
+            Some(last) => Ok(Stepped::Answered(self.store(fs, table, last, results_buffer)?)),
+            None => self.run(fs, table, opens, now, results_buffer),
         }
     }
 
@@ -105,24 +106,25 @@ impl Running<'_> {
         table: &mut Table,
         opens: &mut Opens,
         now: u64,
-        spare: &mut Writer,
+        results_buffer: &mut Writer,
     ) -> Result<Stepped, StepError>
         requires ready { CanRun (fs_of fs.old) (in_progress_of self) }
         requires agrees { D.keeps_word → Agrees (fs_of fs.old) (table_of table.old) }
         // Done
-        ensures step { D.keeps_word → IfOk result (Steps now (shared_of fs.old table.old opens.old)
+        ensures step { D.keeps_word
+            → IfOk result (RequestSteps now (shared_of fs.old table.old opens.old)
             (shared_of fs.new table.new opens.new) (asked_of self.entry)
             (in_progress_of self.entry)) }
-        ensures goes_on { IfOk result (GoesOn (fs_of fs.old).volume.run (asked_of self.entry)
+        ensures goes_on { IfOk result (RequestGoesOn (fs_of fs.old).volume.run (asked_of self.entry)
             (in_progress_of self.entry)) }
         // Not done
         ensures back { IfErr result (λ undone. undone.progress ≡ self.entry.progress) }
         ensures others { OnErr result ((table_of table.new ≡ table_of table.old)
             × (opens_of opens.new ≡ opens_of opens.old)) }
         // In any case
-        ensures volume { Alters fs.old fs.new (TurnGives (shared_of fs.old table.old opens.old)
+        ensures volume { AltersFs fs.old fs.new (TurnGives (shared_of fs.old table.old opens.old)
             (λ world number. stepped_on world number now (in_progress_of self.entry)))
-            (undone_ending result) }
+            (undone_step_ending result) }
     {
         let Ran { position, done } = match self.run_next(fs, table, opens, now) {
             Ok(ran) => ran,
@@ -134,17 +136,21 @@ impl Running<'_> {
         let mut running = self;
         running.advance(position);
         match done {
-            Executed::Replays(slot) => Ok(Stepped::Answered(running.repeat(table, &slot, spare))),
+            Executed::Replays(slot) => Ok(Stepped::Answered(running.repeat(
+                table,
+                &slot,
+                results_buffer,
+            ))),
             Executed::GivesSpelled { operation, values } => {
                 let encoded = EncodedResult::Spelled {
                     operation,
                     values: values.as_slice(),
                 };
-                Ok(running.answer(table, encoded, spare))
+                Ok(running.answer(table, encoded, results_buffer))
             }
             Executed::Gives { outcome, effect } => {
                 running.leave(effect);
-                Ok(running.answer(table, EncodedResult::Whole(&outcome), spare))
+                Ok(running.answer(table, EncodedResult::Whole(&outcome), results_buffer))
             }
         }
     }
@@ -161,18 +167,18 @@ impl Running<'_> {
         requires agrees { D.keeps_word → Agrees (fs_of fs.old) (table_of table.old) }
         // What it answers
         ensures turns { D.keeps_word → IfOk result
-            (λ ran. Turns now (shared_of fs.old table.old opens.old)
+            (λ ran. TurnsExecuted now (shared_of fs.old table.old opens.old)
             (shared_of fs.new table.new opens.new) (in_progress_of self.now)
             (drop ran.position self.now.compound.operations.now) ran.done) }
         ensures within { IfOk result (λ ran.
             ran.position ≤ length self.now.compound.operations.now) }
         ensures answered { IfOk result (λ ran. IsAnswered (in_progress_of self.now) ran.done) }
-        ensures kept { IfOk result (λ ran. IsKept (table_of table.new) ran.done) }
+        ensures kept { IfOk result (λ ran. IsReplyKept (table_of table.new) ran.done) }
         // Refused
         ensures table { OnErr result (table_of table.new ≡ table_of table.old) }
         ensures opens { OnErr result (opens_of opens.new ≡ opens_of opens.old) }
         // In any case
-        ensures volume { Alters fs.old fs.new (TurnGives (shared_of fs.old table.old opens.old)
+        ensures volume { AltersFs fs.old fs.new (TurnGives (shared_of fs.old table.old opens.old)
             (λ world number. stepped_on world number now (in_progress_of self.now)))
             (ending result) }
     {
@@ -192,7 +198,8 @@ impl Running<'_> {
     #[tactic(auto, unfolding(crate::specs::Views::in_progress_of))]
     fn leave(&mut self, effect: Effect)
         ensures asked { asked_of self.new ≡ asked_of self.old }
-        ensures request { in_progress_of self.new ≡ left_by effect (in_progress_of self.old) }
+        ensures request { in_progress_of self.new
+            ≡ left_by_effect effect (in_progress_of self.old) }
     {
         match effect {
             Effect::Stays => {}
@@ -219,7 +226,7 @@ impl Running<'_> {
     fn drop_stateid(&mut self)
         ensures asked { asked_of self.new ≡ asked_of self.old }
         ensures request { in_progress_of self.new
-            ≡ left_by effect.Closes (in_progress_of self.old) }
+            ≡ left_by_effect effect.Closes (in_progress_of self.old) }
     {
         let number = match self.progress.current {
             Some(place) => place.number,
@@ -233,13 +240,19 @@ impl Running<'_> {
 
     /// The COMPOUND after this result: it goes on; or this result is the last one or not OK, and the
     /// reply is there, unless a seat is to hold it first.
-    fn answer(self, table: &mut Table, encoded: EncodedResult<'_>, spare: &mut Writer) -> Stepped
+    fn answer(
+        self,
+        table: &mut Table,
+        encoded: EncodedResult<'_>,
+        results_buffer: &mut Writer,
+    ) -> Stepped
         requires encoded { CanBeTold (in_progress_of self) encoded }
         requires more { (in_progress_of self).ended ≡ None }
         ensures stands { (outcome : model.Outcome) → Tells encoded.entry outcome
-            → StandsAfter (table_of table.old) (table_of table.new)
+            → ResultLeaves (table_of table.old) (table_of table.new)
             (asked_of self.entry) (in_progress_of self.entry) outcome result }
-        ensures goes_on { GoesOn (in_progress_of self.entry).context.run (asked_of self.entry)
+        ensures goes_on { RequestGoesOn (in_progress_of self.entry).context.run
+            (asked_of self.entry)
             (in_progress_of self.entry) result }
     {
         if encoded.is_ok() && !self.is_last() {
@@ -250,7 +263,7 @@ impl Running<'_> {
         if running.is_to_hold(table) {
             return Stepped::Ran(running.progress);
         }
-        Stepped::Answered(running.end(table, last, None, spare))
+        Stepped::Answered(running.end(table, last, None, results_buffer))
     }
 
     /// With this result, which is the last one.
@@ -286,27 +299,27 @@ impl Running<'_> {
         fs: &mut Fs<D>,
         table: &mut Table,
         last: Status,
-        spare: &mut Writer,
+        results_buffer: &mut Writer,
     ) -> Result<Vec<u8>, StepError>
         requires up { (fs_of fs.old).volume.is_down ≡ false }
         requires ended { (in_progress_of self).ended ≡ Some last }
         requires agrees { D.keeps_word → Agrees (fs_of fs.old) (table_of table.old) }
         // Done
         ensures step { (now : ℕ) (known : Known) → D.keeps_word → IfOk result (λ reply.
-            Steps now (shared (fs_of fs.old) (table_of table.old) known)
+            RequestSteps now (shared (fs_of fs.old) (table_of table.old) known)
             (shared (fs_of fs.new) (table_of table.new) known) (asked_of self.entry)
             (in_progress_of self.entry) (stepped.Answered reply)) }
         // Not done
         ensures back { IfErr result (λ undone. undone.progress ≡ self.entry.progress) }
         ensures table { OnErr result (table_of table.new ≡ table_of table.old) }
         // In any case
-        ensures volume { (now : ℕ) (known : Known) → Alters fs.old fs.new (TurnGives
+        ensures volume { (now : ℕ) (known : Known) → AltersFs fs.old fs.new (TurnGives
             (shared (fs_of fs.old) (table_of table.old) known)
             (λ world number. stepped_on world number now (in_progress_of self.entry)))
-            (undone_ending result) }
+            (undone_step_ending result) }
     {
         match self.hold(fs, table, last) {
-            Ok(edits) => Ok(self.end(table, last, edits, spare)),
+            Ok(edits) => Ok(self.end(table, last, edits, results_buffer)),
             Err(fault) => Err(StepError {
                 fault,
                 progress: self.progress,

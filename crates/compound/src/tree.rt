@@ -16,7 +16,7 @@ use wire::{
 
 impl Running<'_> {
     ghost use Rattle.std.specs.Prelude.{◌≡◌, true, false, nat_le, length, IfOk, IfErr};
-    ghost use Rattle.fs.specs.Views.{fs_of, Alters};
+    ghost use Rattle.fs.specs.Views.{fs_of, AltersFs};
     ghost use Rattle.fs.specs.Operations.{new_directory};
     ghost use Rattle.model.specs.Sessions.Opens.{Opens};
     ghost use Rattle.model.specs.Operations.Operation as operations;
@@ -27,9 +27,9 @@ impl Running<'_> {
     ghost use Rattle.wire.specs.ArgumentViews.{create_view};
     ghost use Rattle.wire.specs.SmallViews.{attributes_view};
     ghost use Rattle.wire.specs.Short.{IsRefusal};
-    ghost use Rattle.compound.specs.Operates.{OnlyReads, ChangesTree, IsAnswered, IsKept};
+    ghost use Rattle.compound.specs.Operates.{OnlyReads, ChangesTree, IsAnswered, IsReplyKept};
     ghost use Rattle.compound.specs.States.{shared};
-    ghost use Rattle.compound.specs.Trees.{TestsCurrent, made_answer};
+    ghost use Rattle.compound.specs.Trees.{TestsHandle, made_answer};
     ghost use Rattle.compound.specs.Views.{in_progress_of};
     ghost use Rattle.compound.specs.Volumes.{OperationGives, ending};
 
@@ -38,7 +38,7 @@ impl Running<'_> {
     pub(crate) fn check_current<D: Device>(&self, fs: &Fs<D>) -> Result<(), Status>
         requires up { (fs_of fs.now).volume.is_down ≡ false }
         requires run { (in_progress_of self.now).context.run ≡ (fs_of fs.now).volume.run }
-        ensures tests { TestsCurrent (fs_of fs.now) (in_progress_of self.now) result }
+        ensures tests { TestsHandle (fs_of fs.now) (in_progress_of self.now) result }
         ensures refused { IfErr result IsRefusal }
     {
         let number = match self.current_node() {
@@ -103,9 +103,9 @@ impl Running<'_> {
             now (in_progress_of self.now)
             (operations.Argument.Create (create_view arguments.now))) }
         ensures answered { IfOk result (IsAnswered (in_progress_of self.now)) }
-        ensures kept { (table : Table) → IfOk result (IsKept table) }
+        ensures kept { (table : Table) → IfOk result (IsReplyKept table) }
         // In any case
-        ensures volume { (table : Table) (opens : Opens) → Alters fs.old fs.new
+        ensures volume { (table : Table) (opens : Opens) → AltersFs fs.old fs.new
             (OperationGives (shared (fs_of fs.old) table opens) (in_progress_of self.now) now
             (operations.Argument.Create (create_view arguments.now))) (ending result) }
     {
@@ -124,7 +124,7 @@ impl Running<'_> {
         ensures gives { OnlyReads (fs_of fs.now) (in_progress_of self.now)
             (operations.Argument.Create (operations.OtherType kind)) result }
         ensures answered { IsAnswered (in_progress_of self.now) result }
-        ensures kept { (table : Table) → IsKept table result }
+        ensures kept { (table : Table) → IsReplyKept table result }
     {
         match self.check_current(fs) {
             Ok(()) => self.refuse(Operation::Create, Status::BadType),
@@ -149,9 +149,9 @@ impl Running<'_> {
             now (in_progress_of self.now)
             (new_directory name.now (attributes_view attributes.now))) }
         ensures answered { IfOk result (IsAnswered (in_progress_of self.now)) }
-        ensures kept { (table : Table) → IfOk result (IsKept table) }
+        ensures kept { (table : Table) → IfOk result (IsReplyKept table) }
         // In any case
-        ensures volume { (table : Table) (opens : Opens) → Alters fs.old fs.new
+        ensures volume { (table : Table) (opens : Opens) → AltersFs fs.old fs.new
             (OperationGives (shared (fs_of fs.old) table opens) (in_progress_of self.now) now
             (new_directory name.now (attributes_view attributes.now))) (ending result) }
     {

@@ -20,7 +20,7 @@ use wire::{Answer, Operation, Outcome, StableHow, WriteAnswer, WriteArguments};
 
 impl Running<'_> {
     ghost use Rattle.std.specs.Prelude.{◌≡◌, false, nat_le, length, IfOk};
-    ghost use Rattle.fs.specs.Views.{fs_of, Alters};
+    ghost use Rattle.fs.specs.Views.{fs_of, AltersFs};
     ghost use Rattle.model.specs.Operations.Answer.{Done};
     ghost use Rattle.model.specs.Operations.Operation as operations;
     ghost use Rattle.model.specs.Sessions.Session.{Table};
@@ -28,7 +28,7 @@ impl Running<'_> {
     ghost use Rattle.opens.specs.Views.{opens_of};
     ghost use Rattle.wire.specs.ArgumentViews.{write_view};
     ghost use Rattle.compound.specs.Files.{committed_answer, written_answer};
-    ghost use Rattle.compound.specs.Operates.{ChangesTreeAndOpens, IsAnswered, IsKept};
+    ghost use Rattle.compound.specs.Operates.{ChangesTreeAndOpens, IsAnswered, IsReplyKept};
     ghost use Rattle.compound.specs.States.{shared};
     ghost use Rattle.compound.specs.Views.{in_progress_of};
     ghost use Rattle.compound.specs.Volumes.{OperationGives, ending};
@@ -50,9 +50,9 @@ impl Running<'_> {
             (opens_of opens.now) (opens_of opens.now) now (in_progress_of self.now)
             (operations.Argument.Write (write_view arguments.now))) }
         ensures answered { IfOk result (IsAnswered (in_progress_of self.now)) }
-        ensures kept { (table : Table) → IfOk result (IsKept table) }
+        ensures kept { (table : Table) → IfOk result (IsReplyKept table) }
         // In any case
-        ensures volume { (table : Table) → Alters fs.old fs.new (OperationGives
+        ensures volume { (table : Table) → AltersFs fs.old fs.new (OperationGives
             (shared (fs_of fs.old) table (opens_of opens.now)) (in_progress_of self.now) now
             (operations.Argument.Write (write_view arguments.now))) (ending result) }
     {
@@ -97,10 +97,10 @@ impl Running<'_> {
             (ChangesTreeAndOpens (fs_of fs.old) (fs_of fs.new) opens opens
             now (in_progress_of self.now) (operations.Argument.Commit arguments)) }
         ensures answered { IfOk result (IsAnswered (in_progress_of self.now)) }
-        ensures kept { (table : Table) → IfOk result (IsKept table) }
+        ensures kept { (table : Table) → IfOk result (IsReplyKept table) }
         // In any case
         ensures volume { (arguments : operations.CommitArguments) (now : _) (table : Table)
-            (opens : _) → Alters fs.old fs.new (OperationGives
+            (opens : _) → AltersFs fs.old fs.new (OperationGives
             (shared (fs_of fs.old) table opens) (in_progress_of self.now) now
             (operations.Argument.Commit arguments)) (ending result) }
     {

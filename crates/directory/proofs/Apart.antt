@@ -1,7 +1,7 @@
 -- Names that stand apart.
 use Rattle.std.proofs.Common.{ℕ, zero, suc, Bool, true, false, List, [], ◌∷◌, ◌≡◌, ◌≢◌, ◌<◌, ◌≤◌, ◌+◌, ◌∙◌, inl, inr, cond, bytes_eq, length, get_or, refl, sym, ap, arith}
 use Rattle.std.proofs.lemmas.Bool.{cases_lt}
-use Rattle.directory.specs.Records.{Record, is_named, place_of, AreApart}
+use Rattle.directory.specs.Records.{Record, is_named, place_of, NamesApart}
 use Rattle.directory.proofs.Places.{named_there, bytes_eq-same, place_of-le}
 
 -- a name stands where a record has it, or before
@@ -17,13 +17,13 @@ place_of-before name (x ∷ xs) (suc i) d within named = step (is_named name x) 
     step false low = omega arith
 
 -- where each name stands at its own place, no two are the same
-pub apart_places : (xs : List Record) → ((k : ℕ) (d : Record) → k < length xs → place_of (get_or xs k d).1.name xs ≡ k) → AreApart xs
+pub apart_places : (xs : List Record) → ((k : ℕ) (d : Record) → k < length xs → place_of (get_or xs k d).1.name xs ≡ k) → NamesApart xs
 apart_places xs own i j d before within = λ same.
     let one : i ≡ j = sym (own i d (omega arith)) ∙ (ap (λ n. place_of n xs) same ∙ own j d within) in
     omega arith
 
 -- one that stands at another place is there twice
-pub not_apart : (xs : List Record) (i : ℕ) (d : Record) → i < length xs → place_of (get_or xs i d).1.name xs ≢ i → AreApart xs → ⊥
+pub not_apart : (xs : List Record) (i : ℕ) (d : Record) → i < length xs → place_of (get_or xs i d).1.name xs ≢ i → NamesApart xs → ⊥
 not_apart xs i d within elsewhere apart =
     let name = (get_or xs i d).1.name in
     let low : place_of name xs ≤ i = place_of-before name xs i d within refl in

@@ -6,7 +6,7 @@ use Rattle.std.proofs.lemmas.List.{length-set, length-take, length-map, length_p
 use Rattle.sector.specs.Written.{each_at, each_push}
 use Rattle.directory.specs.declared.entry.Entry.{Entry}
 use Rattle.directory.specs.declared.names.TheConstants.Names.{MAX_NAMES}
-use Rattle.directory.specs.Records.{Record, record_of, record_from, without_place, name_of, ApartBy, AreApart, IsRecord, IsDirectory}
+use Rattle.directory.specs.Records.{Record, record_of, record_from, without_place, name_of, ApartBy, NamesApart, IsRecord, IsDirectory}
 
 pub each_set : (P : Record → Type 0) (xs : List Record) (p : ℕ) (x : Record) → AllByRecursion P xs → P x → AllByRecursion P (set xs p x)
 each_set P [] p x all is = tt
@@ -19,7 +19,7 @@ each_take P (suc n) [] all = tt
 each_take P (suc n) (x ∷ xs) all = (all.0, each_take P n xs all.1)
 
 -- the same names at the same places
-apart_same : (xs ys : List Record) → length ys ≡ length xs → ((i : ℕ) (d : Record) → i < length xs → (get_or ys i d).1.name ≡ (get_or xs i d).1.name) → AreApart xs → AreApart ys
+apart_same : (xs ys : List Record) → length ys ≡ length xs → ((i : ℕ) (d : Record) → i < length xs → (get_or ys i d).1.name ≡ (get_or xs i d).1.name) → NamesApart xs → NamesApart ys
 apart_same xs ys len same apart i j d lt within = λ e.
     apart i j d lt (omega arith) (sym (same i d (omega arith)) ∙ e ∙ same j d (omega arith))
 

@@ -8,7 +8,7 @@ use Rattle.std.proofs.lemmas.Option.{slice_get-get_or, slice_get_past}
 use Rattle.model.specs.Trees.Keyed.{Keyed, at, here_or, with, without, IsAbove}
 use Rattle.model.specs.Trees.Tree.{DirEntry, entry_of, found_or}
 use Rattle.model.proofs.Trees.KeyedLaws.{only_map, at-with_same, at-with_other, at-without_same, at-without_other, IsAbove-with, IsAbove-without, some≢none}
-use Rattle.directory.specs.Records.{Record, record_from, place_of, with_record, without_place, name_of, stamp_of, ApartBy, AreStamped}
+use Rattle.directory.specs.Records.{Record, record_from, place_of, with_record, without_place, name_of, stamp_of, ApartBy, NamesStamped}
 use Rattle.directory.specs.Listing.{by_stamp, without_entry, PutsByStamp, RemovesByStamp}
 use Rattle.directory.proofs.ByStamp.{at-by_stamp}
 use Rattle.directory.proofs.Kept.{each_take, each_set, moved_apart, set_apart, push_apart}
@@ -93,13 +93,13 @@ module _ (name : List ℕ) (xs : List Record) (within : place_of name xs < lengt
       (let P : Record → Type 0 = λ entry. 0 < entry.0 in
       subst P (sym last_is) (each_at P xs (length xs - 1) last all (omega arith))))
 
-  removed_stamped : AreStamped xs → AreStamped (without_place xs place)
+  removed_stamped : NamesStamped xs → NamesStamped (without_place xs place)
   removed_stamped stamped = record {
     above = removed_above stamped.above;
     apart = moved_apart xs place within last last_is stamp_of stamped.apart;
   }
 
-  removed_by_stamp : AreStamped xs → by_stamp (without_place xs place) ≡ without_entry (by_stamp xs) (entry_of name xs)
+  removed_by_stamp : NamesStamped xs → by_stamp (without_place xs place) ≡ without_entry (by_stamp xs) (entry_of name xs)
   removed_by_stamp stamped =
       let ys = without_place xs place in
       let stamp = stamp_of (get_or xs place last) in
@@ -120,7 +120,7 @@ module _ (name : List ℕ) (xs : List Record) (within : place_of name xs < lengt
           ∙ (sym (at-first_stamped key xs) ∙ (sym (at-by_stamp key xs)
           ∙ sym (at-without_other (by_stamp xs) (stamp_of (get_or xs place last)) key differs)))
 
-  pub removes_by_stamp : AreStamped xs → RemovesByStamp xs (without_place xs place) name
+  pub removes_by_stamp : NamesStamped xs → RemovesByStamp xs (without_place xs place) name
   removes_by_stamp stamped = record { stamped = removed_stamped stamped; entries = removed_by_stamp stamped }
 
 -- A name is put
@@ -161,7 +161,7 @@ module _ (xs : List Record) (new : Record) (apart : ApartBy name_of xs) where
       go (Added past is) = ap (first_named other) is ∙ push_other name_of bytes_eq bytes_eq-true bytes_eq-same other xs new differs
 
   -- with a stamp that none has
-  module _ (stamped : AreStamped xs) (high : 0 < stamp_of new) (fresh : at (stamp_of new) xs ≡ None) where
+  module _ (stamped : NamesStamped xs) (high : 0 < stamp_of new) (fresh : at (stamp_of new) xs ≡ None) where
     no_stamp : first_stamped (stamp_of new) xs ≡ None
     no_stamp = none_in (first_stamped (stamp_of new) xs) (sym (at-first_stamped (stamp_of new) xs) ∙ fresh)
 
@@ -236,17 +236,17 @@ module _ (xs : List Record) (new : Record) (apart : ApartBy name_of xs) where
     no_other : (i : ℕ) (d : Record) → i < length xs → stamp_of (get_or xs i d) ≢ stamp_of new
     no_other i d h = none_has stamp_of eqb eqb-true eqb-same (stamp_of new) xs i d no_stamp h
 
-    put_stamped : AreStamped (with_record xs new)
+    put_stamped : NamesStamped (with_record xs new)
     put_stamped = go is_put
       where
-        go : Put → AreStamped (with_record xs new)
+        go : Put → NamesStamped (with_record xs new)
         go (Replaced within is) =
-            subst AreStamped (sym is) (record {
+            subst NamesStamped (sym is) (record {
               above = each_set (λ (entry : Record). 0 < entry.0) xs target new stamped.above high;
               apart = set_apart stamp_of xs new no_other stamped.apart target within;
             })
         go (Added past is) =
-            subst AreStamped (sym is) (record {
+            subst NamesStamped (sym is) (record {
               above = each_push (λ (entry : Record). 0 < entry.0) xs new stamped.above high;
               apart = push_apart stamp_of xs new no_other stamped.apart;
             })

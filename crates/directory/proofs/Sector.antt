@@ -5,7 +5,7 @@ use Rattle.std.proofs.Common.{Result, Err, ◌≡◌, ◌<◌, ◌≤◌, ◌+�
 use Rattle.std.specs.List.{flat_map, AllByRecursion}
 use Rattle.std.specs.Int.{w64, to_be_bytes}
 use Rattle.std.proofs.lemmas.List.{take-map, drop-map, take_min, drop_min, length-drop, length-append, length-replicate, length-take, get_or-drop, drop-drop, take_at, take_all, length-map, replicate-append-replicate}
-use Rattle.sector.specs.Placed.{Reads}
+use Rattle.sector.specs.Placed.{IsNumberAt}
 use Rattle.sector.specs.Records.{AreWide}
 use Rattle.directory.specs.declared.entry.Entry.{Entry}
 use Rattle.directory.specs.Records.{Record, record_of, record_from, IsRecord}
@@ -68,10 +68,10 @@ module _ (sector : List ℕ) (at : ℕ) (other : Record) (rest : List ℕ) (fits
   pub length_there : get_or sector (at + 16) 0 ≡ length other.1.name
   length_there = sym (get_or-drop at sector 16 0) ∙ ap (λ (xs : List ℕ). get_or xs 16 0) there
 
-  pub number_there : (n : ℕ) → Reads 8 sector at n → n ≡ other.1.number
+  pub number_there : (n : ℕ) → IsNumberAt 8 sector at n → n ≡ other.1.number
   number_there n reads = reads other.1.number (drop 8 (record_bytes other ++ rest)) fits.number there
 
-  pub stamp_there : (n : ℕ) → Reads 8 sector (at + 8) n → n ≡ other.0
+  pub stamp_there : (n : ℕ) → IsNumberAt 8 sector (at + 8) n → n ≡ other.0
   stamp_there n reads = reads other.0 (drop 16 (record_bytes other ++ rest)) fits.stamp (sym (drop-drop 8 at sector) ∙ ap (drop 8) there)
 
   pub name_there : (n : ℕ) → n ≡ length other.1.name → take n (drop (at + 17) sector) ≡ other.1.name

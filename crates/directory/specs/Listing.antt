@@ -5,7 +5,7 @@ use Rattle.std.specs.Prelude.{ℕ, List, [], ◌∷◌, ◌++◌, Option, Some, 
 use Rattle.std.specs.List.{flat_map, AllByRecursion}
 use Rattle.model.specs.Trees.Keyed.{Keyed, at, with, without, IsAbove}
 use Rattle.model.specs.Trees.Tree.{DirEntry, entry_of}
-use Rattle.directory.specs.Records.{Record, name_of, stamp_of, AreStamped}
+use Rattle.directory.specs.Records.{Record, name_of, stamp_of, NamesStamped}
 
 -- the map of these records, by rising stamp: of two records of one stamp it has the first
 abbrev pub by_stamp : List Record → Keyed DirEntry
@@ -20,13 +20,13 @@ without_entry entries (Some entry) = without entries entry.0
 -- What a name that is put under a new stamp makes of the map: stamps stay apart, and the name has
 -- the new one alone.
 pub record PutsByStamp (old new : List Record) (entry : Record) : Type 0 where
-  pub stamped : AreStamped new
+  pub stamped : NamesStamped new
   pub entries : by_stamp new
       ≡ with (without_entry (by_stamp old) (entry_of (name_of entry) old)) (stamp_of entry) entry.1
 
 -- what a name that is removed makes of it
 pub record RemovesByStamp (old new : List Record) (name : List ℕ) : Type 0 where
-  pub stamped : AreStamped new
+  pub stamped : NamesStamped new
   pub entries : by_stamp new ≡ without_entry (by_stamp old) (entry_of name old)
 
 -- what comes after a cookie

@@ -43,11 +43,11 @@ name_of entry = entry.1.name
 abbrev pub stamp_of : Record → ℕ
 stamp_of entry = entry.0
 
-abbrev pub AreApart : List Record → Type 0
-AreApart names = ApartBy name_of names
+abbrev pub NamesApart : List Record → Type 0
+NamesApart names = ApartBy name_of names
 
 -- stamps are above 0 and apart
-pub record AreStamped (names : List Record) : Type 0 where
+pub record NamesStamped (names : List Record) : Type 0 where
   pub above : AllByRecursion (λ entry. 0 < entry.0) names
   pub apart : ApartBy stamp_of names
 
@@ -66,4 +66,4 @@ pub record IsRecord (entry : Record) : Type 0 where
 pub record IsDirectory (names : List Record) : Type 0 where
   pub few : length names ≤ 1024
   pub each : AllByRecursion IsRecord names
-  pub apart : AreApart names
+  pub apart : NamesApart names

@@ -6,7 +6,7 @@ ghost use Rattle.model.specs.Trees.Tree.{entry_of};
 ghost use Rattle.directory.specs.Spelling.{directory_sector};
 ghost use Rattle.directory.specs.Order.{IsOrder};
 ghost use Rattle.directory.specs.declared.order.By.TheVariants as By;
-ghost use Rattle.directory.specs.Records.{record_of, record_from, name_of, place_of, with_record, without_place, AreApart, AreStamped, Record, IsRecord, IsDirectory};
+ghost use Rattle.directory.specs.Records.{record_of, record_from, name_of, place_of, with_record, without_place, NamesApart, NamesStamped, Record, IsRecord, IsDirectory};
 ghost use Rattle.directory.specs.Listing.{by_stamp, after, PutsByStamp, RemovesByStamp};
 ghost use Rattle.model.specs.Trees.Keyed.{at};
 ghost use Rattle.directory.specs.Rest.{rest_of};
@@ -152,7 +152,7 @@ impl Names {
     pub fn get(&self, name: &[u8]) -> Option<(u64, u64)>
         ensures found { option_map (λ found. record_from found.0 name.now found.1) result
             ≡ entry_of name.now self.now }
-        ensures by_stamp { AreStamped self.now
+        ensures by_stamp { NamesStamped self.now
             → option_map (λ found. record_from found.0 name.now found.1) result
             ≡ entry_of name.now (by_stamp self.now) }
     {
@@ -184,7 +184,7 @@ impl Names {
             (entry_of name.now self.new ≡ Some (record_from stamp name.now number)) }
         ensures others { OnOk result ((other : List ℕ) → other ≢ name.now
             → entry_of other self.new ≡ entry_of other self.old) }
-        ensures by_stamp { OnOk result (AreStamped self.old → 0 < stamp → at stamp self.old ≡ None
+        ensures by_stamp { OnOk result (NamesStamped self.old → 0 < stamp → at stamp self.old ≡ None
             → PutsByStamp self.old self.new (record_from stamp name.now number)) }
     {
         let place = place_in(&self.by_name, &self.records, name);
@@ -267,7 +267,7 @@ impl Names {
         ensures gone { OnOk result (entry_of name.now self.new ≡ None) }
         ensures others { OnOk result ((other : List ℕ) → other ≢ name.now
             → entry_of other self.new ≡ entry_of other self.old) }
-        ensures by_stamp { OnOk result (AreStamped self.old
+        ensures by_stamp { OnOk result (NamesStamped self.old
             → RemovesByStamp self.old self.new name.now) }
     {
         let place = place_in(&self.by_name, &self.records, name);
@@ -324,7 +324,7 @@ fn is_record(entry: &Entry) -> bool
 // Whether no two records have one name.
 fn are_apart(by_name: &[u16], records: &Records) -> bool
     requires { IsOrder By.Name by_name.now records.now }
-    ensures { IsTrue result ↔ AreApart records.now }
+    ensures { IsTrue result ↔ NamesApart records.now }
 {
     for place in 0..records.len() {
         if place_in(by_name, records, &records.get(place).name) != place {

@@ -7,7 +7,7 @@ use Rattle.std.proofs.lemmas.List.{get_or_past, get_or-reverse, length-reverse}
 use Rattle.disk.specs.declared.update.Update.{Update}
 use Rattle.disk.specs.declared.call.Call.{Call}
 use Rattle.disk.specs.declared.landing.Landed.{Landed}
-use Rattle.disk.specs.Moments.{Image, Moment, History, newest, seen, Among, MayHold, Left, at_rest, written_to}
+use Rattle.disk.specs.Moments.{Image, Moment, History, newest, seen, Among, SectorMayHold, Left, at_rest, written_to}
 use Rattle.disk.specs.Calls.{image_of, history_of_calls, written_by, IsLastSync}
 use Rattle.disk.specs.Landing.{contents_of, number_for, landed_image}
 use Rattle.disk.proofs.RecordLemmas.{IsTold}
@@ -62,10 +62,10 @@ written_among (update ∷ updates) n i d = go (λ j. written_among updates n j d
   go rest true is (suc j) = elim (rest j) [ inl e ↦ inl e | inr among ↦ inr (inr among) ]
   go rest false is j = elim (rest j) [ inl e ↦ inl e | inr among ↦ inr (inr among) ]
 
-pub contents_among : (m : Moment) (n k : ℕ) → MayHold m n (get_or (contents_of m n) k (m.fixed n))
+pub contents_among : (m : Moment) (n k : ℕ) → SectorMayHold m n (get_or (contents_of m n) k (m.fixed n))
 contents_among m n zero = inl refl
 contents_among m n (suc k) = elim (cases_lt k (length (written_to n m.unsynced))) [
-  | inl inside ↦ subst (MayHold m n) (sym (get_or-reverse (written_to n m.unsynced) k (m.fixed n) inside)) (written_among m.unsynced n (length (written_to n m.unsynced) - 1 - k) (m.fixed n))
+  | inl inside ↦ subst (SectorMayHold m n) (sym (get_or-reverse (written_to n m.unsynced) k (m.fixed n) inside)) (written_among m.unsynced n (length (written_to n m.unsynced) - 1 - k) (m.fixed n))
   | inr past ↦ inl (get_or_past (reverse (written_to n m.unsynced)) k (m.fixed n) (subst (λ len. len ≤ k) (sym (length-reverse (written_to n m.unsynced))) past))
 ]
 

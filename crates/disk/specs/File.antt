@@ -1,7 +1,7 @@
 -- What the contracts see of a device over a file: nothing of what the file holds.
 use Rattle.std.specs.Prelude.{◌≡◌, ◌⊎◌, ℕ, List, Bool, Option, None, Result, Err}
 use Rattle.disk.specs.declared.file.FileDevice.{FileDevice}
-use Rattle.disk.specs.Run.{newest_in, Takes}
+use Rattle.disk.specs.Run.{newest_in, RunTakes}
 use Rattle.disk.specs.declared.fault.DiskFault.{DiskFault}
 use Rattle.disk.specs.declared.fault.DiskFault.TheVariants.{Memory, Open}
 
@@ -27,7 +27,7 @@ KeepsOrHandsOver old new n = (gathered new n ≡ gathered old n) ⊎ (gathered n
 
 -- any sector may be gathered next
 abbrev pub BeginsAnew : FileDevice → Type 0
-BeginsAnew device = (n : ℕ) → Takes device.run n
+BeginsAnew device = (n : ℕ) → RunTakes device.run n
 
 -- a file refuses to be opened for want of memory, or as one that cannot be opened
 abbrev pub IsUnopened : Result FileDevice DiskFault → Type 0

@@ -42,12 +42,12 @@ written_to n (update ∷ updates) =
     if n == update.target then update.content ∷ written_to n updates else written_to n updates
 
 -- after a crash at this moment sector n may hold this
-abbrev pub MayHold : Moment → ℕ → List ℕ → Type 0
-MayHold m n content = (content ≡ m.fixed n) ⊎ Among m.unsynced n content
+abbrev pub SectorMayHold : Moment → ℕ → List ℕ → Type 0
+SectorMayHold m n content = (content ≡ m.fixed n) ⊎ Among m.unsynced n content
 
 -- a crash at this moment may leave this image
 abbrev pub Left : Moment → Image → Type 0
-Left m image = (n : ℕ) → MayHold m n (image n)
+Left m image = (n : ℕ) → SectorMayHold m n (image n)
 
 -- what a read gives: the newest content of each sector
 abbrev pub newest : List Update → Image → Image

@@ -21,7 +21,7 @@ newest_in run n = content_from (first_of run) (contents_of run) n
 
 -- a run takes any sector as its first, and then the ones that it has and the next one, up to so
 -- many
-abbrev pub Takes : Run → ℕ → Type 0
-Takes run n = (contents_of run ≡ []) ⊎
+abbrev pub RunTakes : Run → ℕ → Type 0
+RunTakes run n = (contents_of run ≡ []) ⊎
     ((first_of run ≤ n) × (n ≤ first_of run + length (contents_of run))
     × (n < first_of run + RUN_SECTORS))

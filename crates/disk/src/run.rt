@@ -22,7 +22,7 @@ pub(crate) struct Run {
 }
 
 impl Run {
-    ghost use Rattle.disk.specs.Run.{first_of, contents_of, newest_in, Takes};
+    ghost use Rattle.disk.specs.Run.{first_of, contents_of, newest_in, RunTakes};
 
     /// A run of no sector. Refuses only for want of memory.
     pub(crate) fn new(alloc: Global) -> Result<Run, DiskFault>
@@ -61,7 +61,7 @@ impl Run {
 
     /// Whether sector `n` is in the run or just after it, with room left: an empty run takes any.
     pub(crate) fn takes(&self, n: u32) -> bool
-        ensures { IsTrue result ↔ Takes self.now n }
+        ensures { IsTrue result ↔ RunTakes self.now n }
     {
         if self.sectors.is_empty() {
             return true;
@@ -75,7 +75,7 @@ impl Run {
 
     /// Puts the newest content of sector `n` in its place.
     pub(crate) fn put(&mut self, n: u32, content: &[u8; SECTOR])
-        requires { Takes self.old n }
+        requires { RunTakes self.old n }
         ensures { (m : ℕ) → newest_in self.new m
             ≡ (if m == n then Some content.now else newest_in self.old m) }
     {

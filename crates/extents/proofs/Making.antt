@@ -5,7 +5,7 @@ use Rattle.std.proofs.lemmas.Bool.{cases_lt}
 use Rattle.std.proofs.lemmas.List.{length_push, take-take, get_or_past}
 use Rattle.std.proofs.lemmas.List.Sums.{sum_by-take-le, count_by_more_yes}
 use Rattle.extents.specs.declared.run.Run.{Run}
-use Rattle.extents.specs.Runs.{sector_by, AreApart, CanJoin, AreRising, AreRunsOf, IsRunAt}
+use Rattle.extents.specs.Runs.{sector_by, RunsApart, CanJoin, AreRising, AreRunsOf, IsRunAt}
 use Rattle.extents.specs.Sector.{IsRun}
 use Rattle.sector.specs.Written.{each_push}
 use Rattle.extents.proofs.RunLemmas.{AreRising-widen, AreRising-push, sector_by-behind, sector_by-push_other, sector_by-push_new, one-before, one-yes}
@@ -21,7 +21,7 @@ pub record AreRunsSoFar (blocks : List (Option ℕ)) (n : ℕ) (runs : List Run)
   pub same : (k : ℕ) → k < n → get_or blocks k None ≡ sector_by runs k
   pub few : length runs ≤ count_by is_some (take n blocks)
   pub ended : AllByRecursion (IsEnded blocks) runs
-  pub apart : AreApart runs
+  pub apart : RunsApart runs
 
 count-take : (blocks : List (Option ℕ)) (n m : ℕ) → n ≤ m → count_by is_some (take n blocks) ≤ count_by is_some (take m blocks)
 count-take blocks n m le =
@@ -38,7 +38,7 @@ AreRunsSoFar-hole blocks n runs far h hole = record {
   apart = far.apart;
 }
 
-AreApart-push : (runs : List Run) (run : Run) → AreApart runs → AllByRecursion (λ r. ¬ CanJoin r run) runs → AreApart (runs ++ run ∷ [])
+AreApart-push : (runs : List Run) (run : Run) → RunsApart runs → AllByRecursion (λ r. ¬ CanJoin r run) runs → RunsApart (runs ++ run ∷ [])
 AreApart-push [] run h none = tt
 AreApart-push (r ∷ []) run h none = (none.0, tt)
 AreApart-push (r ∷ next ∷ runs) run h none = (h.0, AreApart-push (next ∷ runs) run h.1 none.1)

@@ -38,10 +38,10 @@ abbrev pub CanJoin : Run → Run → Type 0
 CanJoin run next = (next.block ≡ run.block + run.length) × (next.sector ≡ run.sector + run.length)
 
 -- no two neighbours could be one
-abbrev pub AreApart : List Run → Type 0
-AreApart [] = Unit {0}
-AreApart (run ∷ []) = Unit {0}
-AreApart (run ∷ next ∷ runs) = (¬ CanJoin run next) × AreApart (next ∷ runs)
+abbrev pub RunsApart : List Run → Type 0
+RunsApart [] = Unit {0}
+RunsApart (run ∷ []) = Unit {0}
+RunsApart (run ∷ next ∷ runs) = (¬ CanJoin run next) × RunsApart (next ∷ runs)
 
 -- from block `start` on, so many blocks stand in sectors one after the other
 pub record IsRunAt (blocks : List (Option ℕ)) (start first count : ℕ) : Type 0 where

@@ -2,7 +2,7 @@
 
 ghost use Rattle.std.specs.Prelude.{◌≡◌, ◌≢◌, ◌<◌, ◌≤◌, ◌+◌, ◌^◌, ℕ, List, [], Option, Some, None, length, take, count_by, is_some, slice_index_or, slice_set, vec_len, IsErrOf, IsTrue, IfOk, OnOk, OnErr, ◌↔◌};
 ghost use Rattle.std.specs.List.{AllByRecursion};
-ghost use Rattle.extents.specs.Runs.{AreApart, AreRising, AreRunsOf, IsRunAt, IsLaidBehind, with_holes};
+ghost use Rattle.extents.specs.Runs.{RunsApart, AreRising, AreRunsOf, IsRunAt, IsLaidBehind, with_holes};
 ghost use Rattle.extents.specs.Sector.{IsRun};
 
 use crate::fault::ExtentsFault;
@@ -111,7 +111,7 @@ impl BlockList {
     /// The shortest list of runs of these blocks: no two neighbours could be one.
     pub fn to_runs(&self, alloc: Global) -> Result<Vec<Run>, AllocError>
         ensures runs { IfOk result (λ runs. AreRunsOf runs.items self.now) }
-        ensures shortest { IfOk result (λ runs. AreApart runs.items) }
+        ensures shortest { IfOk result (λ runs. RunsApart runs.items) }
 
         // Each has a spelling, and there are at most as many as there are blocks that are no holes.
         ensures each { IfOk result (λ runs. AllByRecursion IsRun runs.items) }
@@ -186,7 +186,7 @@ fn run_length(sectors: &[Option<u32>], start: usize, first: u32) -> u16
 fn runs_of(alloc: Global, sectors: &[Option<u32>]) -> Result<Vec<Run>, AllocError>
     requires { length sectors.now ≤ BlockList.MAX_BLOCKS }
     ensures runs { IfOk result (λ runs. AreRunsOf runs.items sectors.now) }
-    ensures shortest { IfOk result (λ runs. AreApart runs.items) }
+    ensures shortest { IfOk result (λ runs. RunsApart runs.items) }
     ensures each { IfOk result (λ runs. AllByRecursion IsRun runs.items) }
     ensures few { IfOk result (λ runs. vec_len runs ≤ count_by is_some sectors.now) }
 {

@@ -9,7 +9,7 @@ use Rattle.std.proofs.lemmas.List.Elements.{All-from_get_or}
 use Rattle.std.proofs.lemmas.Option.{get_or_from_slice_get}
 use Rattle.std.specs.Prelude.{slice_get}
 use Rattle.std.proofs.lemmas.Bool.{cases_lt, lt-ltb, le-ltb}
-use Rattle.freemap.specs.Places.{bit_from, bit_of, bit_in, is_one, mark_of, places_in, Shows, Show}
+use Rattle.freemap.specs.Places.{bit_from, bit_of, bit_in, is_one, mark_of, places_in, ShowsPlaces, Show}
 use Rattle.freemap.specs.Kept.{free_places, IsClearFrom, IsSetBelow}
 
 -- a number below 2 is the bit of the place that it is read as
@@ -106,7 +106,7 @@ module _ (low high : List ℕ) (low_len : length low ≡ 4096) (high_len : lengt
       both i h ∙ bit_in-shown low high count places shown i h ∙ ap bit_from (get_or_past places i false outside)
 
 -- a sector that is a part of the bytes shows the places of that part
-pub Shows-part : (bytes part : List ℕ) (count first : ℕ) → IsClearFrom bytes count → length part ≡ 4096 → ((k : ℕ) → k < 4096 → get_or part k 0 ≡ get_or bytes (first + k) 0) → first ≤ 4096 → Shows part (places_in bytes count) (8 * first)
+pub Shows-part : (bytes part : List ℕ) (count first : ℕ) → IsClearFrom bytes count → length part ≡ 4096 → ((k : ℕ) → k < 4096 → get_or part k 0 ≡ get_or bytes (first + k) 0) → first ≤ 4096 → ShowsPlaces part (places_in bytes count) (8 * first)
 Shows-part bytes part count first past len same within = record {
   len = len;
   bits = λ i h. bit_of-part bytes part first i same h ∙ mark-bit bytes count past (8 * first + i) (omega arith);

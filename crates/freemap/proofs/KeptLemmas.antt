@@ -5,7 +5,7 @@ use Rattle.std.proofs.lemmas.List.Sums.{sum_by-set}
 use Rattle.std.proofs.lemmas.Bool.{cases_eq}
 use Rattle.std.specs.List.{sum_by}
 use Rattle.freemap.specs.Places.{bit_of, is_one, places_in}
-use Rattle.freemap.specs.Kept.{IsKept, IsSetBelow, IsClearFrom, BitBecomes, free_places}
+use Rattle.freemap.specs.Kept.{IsBitmap, IsSetBelow, IsClearFrom, BitBecomes, free_places}
 use Rattle.freemap.proofs.Bits.{free_from, length-places_in, places_in-at}
 
 free_places-give : (places : List Bool) (place : ℕ) → place < length places → get_or places place false ≡ true → free_places (set places place false) ≡ free_places places + 1
@@ -35,7 +35,7 @@ module _ (old new : List ℕ) (count place bit : ℕ) (becomes : BitBecomes old 
   past-set : IsClearFrom old count → IsClearFrom new count
   past-set past i h small = let apart : i ≢ place = omega arith in becomes.others i apart ∙ past i h small
 
-module _ (old new : List ℕ) (count place lowest free : ℕ) (kept : IsKept old count lowest free) (len : length new ≡ 8192) (within : place < count) where
+module _ (old new : List ℕ) (count place lowest free : ℕ) (kept : IsBitmap old count lowest free) (len : length new ≡ 8192) (within : place < count) where
   there : place < length (places_in old count)
   there = omega (arith, length-places_in old count)
 
@@ -44,7 +44,7 @@ module _ (old new : List ℕ) (count place lowest free : ℕ) (kept : IsKept old
       let was : get_or (places_in old count) place true ≡ false = places_in-at old count place true within ∙ ap is_one clear in
       omega (arith, free_places-take (places_in old count) place there was, kept.free_is)
 
-  pub IsKept-take : BitBecomes old new place 1 → bit_of old place ≡ 0 → (from : ℕ) → from ≤ count → IsSetBelow new from → IsKept new count from (free - 1)
+  pub IsKept-take : BitBecomes old new place 1 → bit_of old place ≡ 0 → (from : ℕ) → from ≤ count → IsSetBelow new from → IsBitmap new count from (free - 1)
   IsKept-take becomes clear from from_in below =
       let was : get_or (places_in old count) place true ≡ false = places_in-at old count place true within ∙ ap is_one clear in
       record {
@@ -56,7 +56,7 @@ module _ (old new : List ℕ) (count place lowest free : ℕ) (kept : IsKept old
         free_is = rw (places_in-set old new count place 1 becomes within) (omega (arith, free_places-take (places_in old count) place there was, kept.free_is));
       }
 
-  pub IsKept-give : BitBecomes old new place 0 → bit_of old place ≡ 1 → IsKept new count (min lowest place) (free + 1)
+  pub IsKept-give : BitBecomes old new place 0 → bit_of old place ≡ 1 → IsBitmap new count (min lowest place) (free + 1)
   IsKept-give becomes was_set =
       let was : get_or (places_in old count) place false ≡ true = places_in-at old count place false within ∙ ap is_one was_set in
       record {

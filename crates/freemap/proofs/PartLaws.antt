@@ -3,22 +3,22 @@ use Rattle.std.proofs.Common.{◌≡◌, ◌<◌, ◌≤◌, ◌+◌, ◌-◌, �
 use Rattle.std.specs.List.{range_with_len}
 use Rattle.std.proofs.lemmas.List.FromFn.{length-map-range_with_len, get_or-map-range_with_len}
 use Rattle.std.proofs.lemmas.List.{length-drop, length-take}
-use Rattle.freemap.specs.Places.{bit_of, mark_of, places_in, Shows, HaveSamePart}
-use Rattle.freemap.specs.Kept.{IsKept, HaveSameBits}
+use Rattle.freemap.specs.Places.{bit_of, mark_of, places_in, ShowsPlaces, HaveSamePart}
+use Rattle.freemap.specs.Kept.{IsBitmap, HaveSameBits}
 use Rattle.freemap.proofs.Bits.{Shows-part, part-there}
 
 -- where one sector shows a set, and another one with the same bits another set, each that shows the one shows the other
-also_shown : (low high sector : List ℕ) (a b : List Bool) (first : ℕ) → HaveSameBits low high → Shows low a first → Shows high b first → Shows sector a first → Shows sector b first
+also_shown : (low high sector : List ℕ) (a b : List Bool) (first : ℕ) → HaveSameBits low high → ShowsPlaces low a first → ShowsPlaces high b first → ShowsPlaces sector a first → ShowsPlaces sector b first
 also_shown low high sector a b first same one other shown = record { len = shown.len; bits = λ i h. shown.bits i h ∙ sym (one.bits i h) ∙ same i h ∙ other.bits i h }
 
 abbrev pub part_of : List ℕ → (start end : ℕ) → List ℕ
 part_of bytes start end = take (end - start) (drop start bytes)
 
-module _ (bytes : List ℕ) (count lowest free : ℕ) (kept : IsKept bytes count lowest free) (start end : ℕ) (whole : end ≡ start + 4096) (within : end ≤ 8192) where
+module _ (bytes : List ℕ) (count lowest free : ℕ) (kept : IsBitmap bytes count lowest free) (start end : ℕ) (whole : end ≡ start + 4096) (within : end ≤ 8192) where
   pub part-len : length (part_of bytes start end) ≡ 4096
   part-len = omega (arith, length-take (end - start) (drop start bytes), length-drop start bytes, kept.len)
 
-  pub part-shown : Shows (part_of bytes start end) (places_in bytes count) (8 * start)
+  pub part-shown : ShowsPlaces (part_of bytes start end) (places_in bytes count) (8 * start)
   part-shown = Shows-part bytes (part_of bytes start end) count start kept.past part-len (λ k h. part-there bytes start end k (omega arith)) (omega arith)
 
 -- the first bytes of a list, zeros where it has none: a sector with its bits
@@ -41,7 +41,7 @@ also_marked bytes a b first alike marked i h =
     let shown = both.1 (record { len = sector_len bytes; bits = λ k l. sector_bits bytes k l ∙ marked k l }) in
     sym (sector_bits bytes i h) ∙ shown.bits i h
 
-module _ (low high : List ℕ) (a b : List Bool) (first : ℕ) (one : Shows low a first) (other : Shows high b first) where
+module _ (low high : List ℕ) (a b : List Bool) (first : ℕ) (one : ShowsPlaces low a first) (other : ShowsPlaces high b first) where
   -- sectors with the same bits show the same
   pub same_shown : HaveSameBits low high → HaveSamePart a b first
   same_shown same sector = (also_shown low high sector a b first same one other, also_shown high low sector b a first (λ i h. sym (same i h)) other one)

@@ -25,7 +25,7 @@ pub record BitBecomes (old new : List ℕ) (place bit : ℕ) : Type 0 where
   pub others : (i : ℕ) → i ≢ place → bit_of new i ≡ bit_of old i
 
 -- the bits are the sectors', none is set past the last place, and no place below `lowest` is free
-pub record IsKept (bytes : List ℕ) (count lowest free : ℕ) : Type 0 where
+pub record IsBitmap (bytes : List ℕ) (count lowest free : ℕ) : Type 0 where
   pub len : length bytes ≡ 8192
   pub fits : count ≤ 65536
   pub past : IsClearFrom bytes count

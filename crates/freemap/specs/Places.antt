@@ -30,19 +30,19 @@ abbrev pub bit_in : List ℕ → List ℕ → ℕ → ℕ
 bit_in low high i = if nat_lt i 32768 then bit_of low i else bit_of high (i - 32768)
 
 -- the sector shows the 32,768 places from `first` on
-pub record Shows (sector : List ℕ) (places : List Bool) (first : ℕ) : Type 0 where
+pub record ShowsPlaces (sector : List ℕ) (places : List Bool) (first : ℕ) : Type 0 where
   pub len : length sector ≡ 4096
   pub bits : (i : ℕ) → i < 32768 → bit_of sector i ≡ mark_of places (first + i)
 
 -- the same sectors show the places of both from `first` on
 abbrev pub HaveSamePart : (a b : List Bool) → (first : ℕ) → Type 0
-HaveSamePart a b first = (sector : List ℕ) → Shows sector a first ↔ Shows sector b first
+HaveSamePart a b first = (sector : List ℕ) → ShowsPlaces sector a first ↔ ShowsPlaces sector b first
 
 -- two sectors show a set of so many places, and nothing past them
 pub record Show (low high : List ℕ) (count : ℕ) (places : List Bool) : Type 0 where
   pub count_is : length places ≡ count
-  pub low_shows : Shows low places 0
-  pub high_shows : Shows high places 32768
+  pub low_shows : ShowsPlaces low places 0
+  pub high_shows : ShowsPlaces high places 32768
 
 abbrev pub IsBytes : List ℕ → Type 0
 IsBytes bytes = (i : ℕ) → slice_index bytes i < 256
@@ -56,5 +56,6 @@ OneSet =
 -- a set has one spelling in a sector
 abbrev pub OneSpelling : Type 0
 OneSpelling =
-    (places : List Bool) (first : ℕ) (a b : List ℕ) → IsBytes a → IsBytes b → Shows a places first
-    → Shows b places first → a ≡ b
+    (places : List Bool) (first : ℕ) (a b : List ℕ) → IsBytes a → IsBytes b
+    → ShowsPlaces a places first
+    → ShowsPlaces b places first → a ≡ b

@@ -1,7 +1,7 @@
 //! The set of used places.
 
 ghost use Rattle.std.specs.Prelude.{◌≡◌, ◌<◌, ◌≤◌, ◌*◌, ◌↔◌, Bool, true, false, List, length, replicate, slice_index_or, slice_get, slice_set, All, IsErrOf, IfOk, OnErr, IsTrue};
-ghost use Rattle.freemap.specs.Places.{Shows, Show, HaveSamePart, OneSet, OneSpelling};
+ghost use Rattle.freemap.specs.Places.{ShowsPlaces, Show, HaveSamePart, OneSet, OneSpelling};
 ghost use Rattle.freemap.specs.Kept.{free_places};
 
 use crate::fault::{BitmapFault, Full};
@@ -25,13 +25,13 @@ pub struct Bitmap {
 impl Model for Bitmap {
     ghost use Rattle.std.specs.Prelude.{Bool, List};
     ghost use Rattle.freemap.specs.Places.{places_in};
-    ghost use Rattle.freemap.specs.Kept.{IsKept};
+    ghost use Rattle.freemap.specs.Kept.{IsBitmap};
 
     ghost Value = { List Bool };
 
     ghost view = { λ b. places_in b.bits.items b.count };
 
-    ghost invariant = { λ b. IsKept b.bits.items b.count b.lowest b.free };
+    ghost invariant = { λ b. IsBitmap b.bits.items b.count b.lowest b.free };
 }
 
 impl Bitmap {
@@ -96,7 +96,7 @@ impl Bitmap {
     /// Writes bitmap sector `part`, 0 or 1, which shows the places from `32768 * part` on.
     pub fn to_sector(&self, part: u32, sector: &mut [u8; SECTOR_BYTES])
         requires { part < 2 }
-        ensures { Shows sector.new self.now (SECTOR_PLACES * part) }
+        ensures { ShowsPlaces sector.new self.now (SECTOR_PLACES * part) }
     {
         let first = SECTOR_BYTES * part as usize;
         sector.copy_from_slice(&self.bits[first..first + SECTOR_BYTES]);

@@ -8,5 +8,5 @@ mod sectors;
 
 pub use bitmap::{Bitmap, one_spelling};
 pub use fault::{BitmapFault, Full, TakeFault};
-pub use places::Places;
+pub use places::SharedBitmap;
 pub use sectors::SECTOR_PLACES;

@@ -1,7 +1,7 @@
 //! A set of used places that copies share.
 
 ghost use Rattle.std.specs.Prelude.{◌≡◌, ◌<◌, ◌*◌, ◌↔◌, Some, false, true, slice_index_or, slice_get, slice_set, All, IfOk, IsErrOf, OnOk, OnErr, IsTrue};
-ghost use Rattle.freemap.specs.Places.{Shows, HaveSamePart};
+ghost use Rattle.freemap.specs.Places.{ShowsPlaces, HaveSamePart};
 
 use crate::bitmap::Bitmap;
 use crate::fault::TakeFault;
@@ -14,12 +14,12 @@ use std::rc::Rc;
 ///
 /// Contracts see a list of booleans, true where the place is used.
 #[derive(Drop)]
-pub struct Places {
+pub struct SharedBitmap {
     alloc: Global,
     set: Rc<Bitmap>,
 }
 
-impl Model for Places {
+impl Model for SharedBitmap {
     ghost use Rattle.std.specs.Prelude.{Bool, List};
 
     ghost Value = { List Bool };
@@ -27,21 +27,21 @@ impl Model for Places {
     ghost view = { λ places. places.set.value };
 }
 
-impl Places {
+impl SharedBitmap {
     /// The places of a set.
-    pub fn new(alloc: Global, set: Bitmap) -> Result<Places, AllocError>
+    pub fn new(alloc: Global, set: Bitmap) -> Result<SharedBitmap, AllocError>
         ensures { IfOk result (λ places. places ≡ set) }
     {
         let set = Rc::new(alloc, set)?;
-        Ok(Places { alloc, set })
+        Ok(SharedBitmap { alloc, set })
     }
 
     /// The same places, in the same memory.
-    pub fn try_clone(&self) -> Result<Places, AllocError>
+    pub fn try_clone(&self) -> Result<SharedBitmap, AllocError>
         ensures { IfOk result (λ places. places ≡ self.now) }
     {
         let set = self.set.clone()?;
-        Ok(Places {
+        Ok(SharedBitmap {
             alloc: self.alloc,
             set,
         })
@@ -50,13 +50,13 @@ impl Places {
     /// Writes bitmap sector `part`, 0 or 1, which shows the places from `32768 * part` on.
     pub fn to_sector(&self, part: u32, sector: &mut [u8; SECTOR_BYTES])
         requires { part < 2 }
-        ensures { Shows sector.new self.now (SECTOR_PLACES * part) }
+        ensures { ShowsPlaces sector.new self.now (SECTOR_PLACES * part) }
     {
         self.set.to_sector(part, sector);
     }
 
     /// Whether bitmap sector `part`, 0 or 1, is the same of both.
-    pub fn has_same_part(&self, other: &Places, part: u32) -> bool
+    pub fn has_same_part(&self, other: &SharedBitmap, part: u32) -> bool
         requires { part < 2 }
         ensures { IsTrue result ↔ HaveSamePart self.now other.now (SECTOR_PLACES * part) }
     {

@@ -3,7 +3,7 @@ use Rattle.std.proofs.Common.{◌≡◌, ◌∙◌, ℕ, Bool, true, false, List
 use Rattle.std.proofs.lemmas.Bool.{lt-ltb}
 use Rattle.std.specs.Prelude.{nat_lt, ◌||◌}
 use Rattle.directory.specs.Listing.{by_stamp}
-use Rattle.directory.specs.Records.{Record, AreStamped}
+use Rattle.directory.specs.Records.{Record, NamesStamped}
 use Rattle.layout.specs.CachedNodes.{CachedNode}
 use Rattle.layout.specs.Known.{IsCard, HasContent}
 use Rattle.model.specs.declared.acl.Cred.{Cred}
@@ -19,7 +19,7 @@ use Rattle.fs.specs.Removing.{may_remove}
 use Rattle.volume.specs.Nodes.{IsNodeOf, ShowsContent}
 
 -- the names of a directory have stamps of their own
-pub stamped : (card : CachedNode) → IsCard card → card.fields.kind ≡ kind.Directory → AreStamped card.names
+pub stamped : (card : CachedNode) → IsCard card → card.fields.kind ≡ kind.Directory → NamesStamped card.names
 stamped card fit directory = (let has = subst (λ (of : NodeKind). HasContent of card) directory fit.content in has.stamped)
 
 some : {A : Type 0} (entry : A) (rest : List A) → nat_lt 0 (length (entry ∷ rest)) ≡ true
@@ -55,11 +55,11 @@ module _ (tree : Tree) (number : ℕ) (card : CachedNode) (is : IsNodeOf tree nu
 
   -- what the names answer is what the tree has
   pub entry_is : IsCard card → card.fields.kind ≡ kind.Directory → (name : List ℕ) (names : List Record) → names ≡ card.names → (found : Option Record)
-      → (AreStamped names → found ≡ entry_of name (by_stamp names)) → entry_of name (names_of is.node.content) ≡ found
+      → (NamesStamped names → found ≡ entry_of name (by_stamp names)) → entry_of name (names_of is.node.content) ≡ found
   entry_is fit directory name names same found told =
       ap (λ (content : Content). entry_of name (names_of content)) (names_are directory)
       ∙ ap (λ (those : List Record). entry_of name (by_stamp those)) (sym same)
-      ∙ sym (told (subst AreStamped (sym same) (stamped card fit directory)))
+      ∙ sym (told (subst NamesStamped (sym same) (stamped card fit directory)))
 
   -- whether it is a directory, and whether it has names
   pub is_directory_told : (told : Bool) → (told ≡ true → card.fields.kind ≡ kind.Directory) → (card.fields.kind ≡ kind.Directory → told ≡ true) → told ≡ is_directory_at tree number
@@ -87,7 +87,7 @@ module _ (tree : Tree) (number : ℕ) (card : CachedNode) (is : IsNodeOf tree nu
 
   -- the entry of a name
   pub entry_at : IsCard card → card.fields.kind ≡ kind.Directory → (name : List ℕ) (names : List Record) → names ≡ card.names → (found : Option Record)
-      → (AreStamped names → found ≡ entry_of name (by_stamp names)) → entry_of name (names_at tree number) ≡ found
+      → (NamesStamped names → found ≡ entry_of name (by_stamp names)) → entry_of name (names_at tree number) ≡ found
   entry_at fit directory name names same found told =
       ap (λ (o : Option Node). entry_of name (names_of_node o)) is.there ∙ entry_is fit directory name names same found told
 

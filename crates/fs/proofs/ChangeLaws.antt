@@ -9,7 +9,7 @@ use Rattle.model.specs.Operations.Operation.{Argument}
 use Rattle.model.specs.Operations.Step.{State}
 use Rattle.fs.specs.declared.fault.FsFault.{FsFault}
 use Rattle.fs.specs.declared.fault.FsFault.TheVariants as fault
-use Rattle.fs.specs.Changes.{Changes, fs_ending}
+use Rattle.fs.specs.Changes.{FsChanges, fs_ending}
 use Rattle.fs.specs.FileSystem.{FileSystem}
 use Rattle.fs.specs.Operations.{IsNotDone}
 use Rattle.fs.specs.Refusals.{MindsRoom, fault_of}
@@ -31,7 +31,7 @@ module _ (keeps_word : Type 0) (given other : Given) (weaker : (after : Kept) (l
         ends.shows;
   }
 
-  pub changes_by : (ending : Ending) → Changes keeps_word given old new before after ending → Changes keeps_word other old new before after ending
+  pub changes_by : (ending : Ending) → FsChanges keeps_word given old new before after ending → FsChanges keeps_word other old new before after ending
   changes_by ending changes = record {
     volume_changes = record {
       same = changes.volume_changes.same;
@@ -45,7 +45,7 @@ module _ (keeps_word : Type 0) (given other : Given) (weaker : (after : Kept) (l
 
 -- a call that ends before its change leaves all as it was
 module _ (keeps_word : Type 0) (given : Given) (fs : FileSystem) (failed : ℕ) where
-  pub left : Changes keeps_word given fs fs failed failed Nothing
+  pub left : FsChanges keeps_word given fs fs failed failed Nothing
   left = record {
     volume_changes = record {
       same = record { sectors = refl; limits = refl; run = refl };
@@ -57,7 +57,7 @@ module _ (keeps_word : Type 0) (given : Given) (fs : FileSystem) (failed : ℕ) 
     no_count = λ other. refl;
   }
 
-  pub left_by : (refused : NotDone) → Changes keeps_word given fs fs failed failed (fs_ending {T = Unit {0}} (Err (fault_of refused)))
+  pub left_by : (refused : NotDone) → FsChanges keeps_word given fs fs failed failed (fs_ending {T = Unit {0}} (Err (fault_of refused)))
   left_by (refusal.Status reason) = left
   left_by refusal.Memory = left
 

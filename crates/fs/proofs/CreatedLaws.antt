@@ -33,7 +33,7 @@ use Rattle.model.specs.Trees.WellFormed.{IsNode}
 use Rattle.model.proofs.Operations.RefusalLaws.{none_in_front, none_in_both}
 use Rattle.model.proofs.Facts.OptionLaws.{none_by_test}
 use Rattle.set_attributes.specs.declared.said.Settings.{Settings}
-use Rattle.set_attributes.specs.Given.{AreSettings, AreWithin}
+use Rattle.set_attributes.specs.Given.{AreSettings, WithinLimits}
 use Rattle.fs.specs.OnTree.{new_directory_refusals}
 use Rattle.fs.proofs.Creating as creating
 use Rattle.fs.specs.FileSystem.{FileSystem}
@@ -90,13 +90,13 @@ module _ (fs : FileSystem) (formed : MayStand fs.volume fs.changes) (limited : f
       let rights = none_in_front _ status.Access _ parts.1 in
       none_by_test _ (none_in_front _ status.Exist None rights.1).0
 
-  list_of_it : (settings : Settings) → AreWithin fs.volume.limits kind.Directory settings → IsList fs.volume.limits kind.Directory (list_by kind.Directory card.fields.acl settings)
+  list_of_it : (settings : Settings) → WithinLimits fs.volume.limits kind.Directory settings → IsList fs.volume.limits kind.Directory (list_by kind.Directory card.fields.acl settings)
   list_of_it settings within = given_list_fits fs.volume.limits fs.volume.sectors fs.volume.limits.nodes limited kind.Directory card.fields.acl (listed fs formed number card parent) settings within
 
   abbrev own : ℕ
   own = next_stamp fs.volume.run fs.changes
 
-  module _ (stamp : ℕ) (settings : Settings) (child : Shown) (set : AreSettings settings given) (within : AreWithin fs.volume.limits kind.Directory settings) (stamp_is : stamp ≡ own)
+  module _ (stamp : ℕ) (settings : Settings) (child : Shown) (set : AreSettings settings given) (within : WithinLimits fs.volume.limits kind.Directory settings) (stamp_is : stamp ≡ own)
       (child_is : child ≡ child_shown cred (list_by kind.Directory card.fields.acl settings) stamp now) where
     made_is : first_node kind.Directory 0 child ≡ new_directory cred node.node.acl given own now
     made_is =

@@ -22,7 +22,7 @@ use Rattle.model.specs.Operations.SetAttr.{list_set}
 use Rattle.model.proofs.Operations.FileStepLaws.{list_given, list_is_set}
 use Rattle.model.proofs.Rights.LimitLaws.{modes_keep_limits, inheritance_keeps_limits}
 use Rattle.set_attributes.specs.declared.said.Settings.{Settings}
-use Rattle.set_attributes.specs.Given.{AreWithin}
+use Rattle.set_attributes.specs.Given.{WithinLimits}
 use Rattle.fs.specs.FileSystem.{FileSystem}
 use Rattle.fs.specs.Planned.{IsList}
 use Rattle.fs.specs.Ready.{MayStand}
@@ -80,7 +80,7 @@ few_listed fs formed limited number card node = ∥∥₁_elim formed.well_forme
 
 -- the list of a new node is one, where the list that is given is
 pub given_list_fits : (limits : Limits) (sectors nodes : ℕ) → limits ≡ limits_of sectors nodes → (of : NodeKind) (parent : List Ace) → IsList limits kind.Directory parent
-    → (settings : Settings) → AreWithin limits of settings → IsList limits of (created_list parent of settings.is_empty settings.mode settings.acl)
+    → (settings : Settings) → WithinLimits limits of settings → IsList limits of (created_list parent of settings.is_empty settings.mode settings.acl)
 given_list_fits limits sectors nodes limited of parent is settings within =
     let room : limits.aces_set + 5 ≤ limits.aces = subst (λ (l : Limits). l.aces_set + 5 ≤ l.aces) (sym limited) (omega arith) in
     list_given modes_keep_limits inheritance_keeps_limits limits of room parent is settings.is_empty settings.mode settings.acl
@@ -88,7 +88,7 @@ given_list_fits limits sectors nodes limited of parent is settings within =
 
 -- so is the list that a node has where one, or a mode, is set
 pub set_list : (limits : Limits) (sectors nodes : ℕ) → limits ≡ limits_of sectors nodes → (of : NodeKind) (acl : List Ace) → IsList limits of acl
-    → (settings : Settings) → AreWithin limits of settings → IsList limits of (list_set of acl settings.mode settings.acl)
+    → (settings : Settings) → WithinLimits limits of settings → IsList limits of (list_set of acl settings.mode settings.acl)
 set_list limits sectors nodes limited of acl is settings within =
     let room : limits.aces_set + 5 ≤ limits.aces = subst (λ (l : Limits). l.aces_set + 5 ≤ l.aces) (sym limited) (omega arith) in
     list_is_set modes_keep_limits inheritance_keeps_limits limits of room acl is settings.mode settings.acl

@@ -24,7 +24,7 @@ use Rattle.model.specs.Trees.Tree.{Node, entry_of, names_at}
 use Rattle.model.specs.Trees.WellFormed.{IsNode}
 use Rattle.model.proofs.Facts.OptionLaws.{none_by_test}
 use Rattle.set_attributes.specs.declared.said.Settings.{Settings}
-use Rattle.set_attributes.specs.Given.{AreSettings, AreWithin}
+use Rattle.set_attributes.specs.Given.{AreSettings, WithinLimits}
 use Rattle.fs.specs.FileSystem.{FileSystem}
 use Rattle.fs.specs.Making.{first_node, IsDirectoryOf, IsSizeOf, MayBeMade}
 use Rattle.fs.specs.Planned.{IsList, child_shown, list_by}
@@ -39,7 +39,7 @@ size_within (Some some) most within = within some refl
 module _ (fs : FileSystem) (formed : MayStand fs.volume fs.changes) (limited : fs.volume.limits ≡ limits_of fs.volume.sectors fs.volume.limits.nodes)
     (cred : Cred) (now number : ℕ) (name : List ℕ) (given : Attributes) (card : CachedNode) (parent : IsDirectoryOf fs.volume.tree number card)
     (allowed : first_refusal (name_refusals fs.volume.limits name) ≡ None) (lacks : is_named fs.volume.tree number name ≡ false)
-    (settings : Settings) (set : AreSettings settings given) (within : AreWithin fs.volume.limits kind.File settings) (size : ℕ) (size_is : size ≡ unwrap_or settings.size 0) where
+    (settings : Settings) (set : AreSettings settings given) (within : WithinLimits fs.volume.limits kind.File settings) (size : ℕ) (size_is : size ≡ unwrap_or settings.size 0) where
   low : size ≤ fs.volume.limits.file_bytes
   low = (let is = size_within settings.size fs.volume.limits.file_bytes within.size in omega (arith, is, size_is))
 

@@ -6,7 +6,7 @@ use Rattle.model.specs.Operations.Answer.{Answer}
 use Rattle.model.specs.Operations.Context.{has_current}
 use Rattle.model.specs.Trees.Keyed.{is_key}
 use Rattle.model.specs.Operations.Operation.{Argument}
-use Rattle.model.specs.Trees.Stamp.{filehandle_of, is_filehandle, number_of}
+use Rattle.model.specs.Trees.Stamp.{filehandle_of, is_filehandle, handle_number}
 use Rattle.model.specs.Operations.Step.{State, current, refusals, effect, does, refused, answered, moved_to, permitted}
 
 module _ (limits : Limits) (state : State) (now : ℕ) (handle : List ℕ) where
@@ -14,13 +14,13 @@ module _ (limits : Limits) (state : State) (now : ℕ) (handle : List ℕ) where
   unfolding does refusals permitted effect
   bad_handle bad = rw bad refl
 
-  pub stale_handle : is_filehandle handle ≡ true → is_key (number_of handle) state.tree ≡ false
+  pub stale_handle : is_filehandle handle ≡ true → is_key (handle_number handle) state.tree ≡ false
       → does limits state now (Argument.PutFh handle) ≡ refused state (Argument.PutFh handle) status.Stale
   unfolding does refusals permitted effect
   stale_handle good gone = rw (good, gone) refl
 
-  pub handle_put : is_filehandle handle ≡ true → is_key (number_of handle) state.tree ≡ true
-      → does limits state now (Argument.PutFh handle) ≡ answered (moved_to state (number_of handle)) Answer.PutFh
+  pub handle_put : is_filehandle handle ≡ true → is_key (handle_number handle) state.tree ≡ true
+      → does limits state now (Argument.PutFh handle) ≡ answered (moved_to state (handle_number handle)) Answer.PutFh
   unfolding does refusals permitted effect
   handle_put good there = rw (good, there) refl
 

@@ -21,7 +21,7 @@ use Rattle.fs.specs.declared.opening.Opened.{Opened}
 use Rattle.fs.specs.declared.opening.Opening as asking
 use Rattle.fs.specs.FileSystem.{FileSystem}
 use Rattle.fs.specs.Making.{room_tests, tree_with}
-use Rattle.fs.specs.Opening.{IsOpening, LeadsTo, after_open, file_tests, place_tests, tree_cut, type_of}
+use Rattle.fs.specs.Opening.{IsOpening, NameLeadsTo, after_open, file_tests, place_tests, tree_cut, type_of}
 use Rattle.fs.specs.Operations.{IsOn, does_on}
 use Rattle.fs.proofs.OpenSteps as steps
 
@@ -110,7 +110,7 @@ module _ (fs : FileSystem) (cred : Cred) (now : ℕ) (asked : asking.Opening) (i
 
         -- The file that the name leads to
 
-        module _ (target : ℕ) (leads : LeadsTo fs.volume.tree asked.directory name target) (before : ℕ) (before_is : change_of (at asked.directory fs.volume.tree) ≡ before) where
+        module _ (target : ℕ) (leads : NameLeadsTo fs.volume.tree asked.directory name target) (before : ℕ) (before_is : change_of (at asked.directory fs.volume.tree) ≡ before) where
           there_is : is_name_there state name ≡ true
           there_is = ap₂ (λ (t : Tree) (n : ℕ). is_named t n name) on.is_state.tree_is on.is_state.current_is ∙ leads.is_there
 

@@ -15,7 +15,7 @@ use Rattle.model.specs.Trees.Tree.{Tree}
 use Rattle.fs.specs.FileSystem.{FileSystem}
 use Rattle.fs.specs.Files.{IsVerdict, file_refusals, permit_refusals}
 use Rattle.fs.specs.Operations.{IsOn, does_on}
-use Rattle.fs.specs.Reading.{Reads, part_at, read_operation}
+use Rattle.fs.specs.Reading.{ReadsFile, part_at, read_operation}
 use Rattle.fs.specs.Refusals.{volume_fault}
 use Rattle.fs.specs.Writing.{Commits}
 use Rattle.fs.proofs.FileSteps as steps
@@ -73,7 +73,7 @@ module _ (fs : FileSystem) (cred : Cred) (number : ℕ) (state : State) (now : �
 
 pub read_fails : (fs : FileSystem) (state : State) (now : ℕ) (operation : Argument) (given : List ℕ) (reason : VolumeFault)
     → (reason ≡ volumes.Device) ⊎ ((reason ≡ volumes.Memory) ⊎ (reason ≡ volumes.Down)) → (reason ≡ volumes.Down → fs.volume.is_down ≡ true)
-    → is_done (does_on fs state now operation).outcome ≡ true → Reads fs state now operation given (Err (volume_fault reason))
+    → is_done (does_on fs state now operation).outcome ≡ true → ReadsFile fs state now operation given (Err (volume_fault reason))
 read_fails fs state now operation given volumes.NoSpace is down goes = absurd (⊎_elim (λ (e : volumes.NoSpace ≡ volumes.Device). cc)
     (λ (rest : (volumes.NoSpace ≡ volumes.Memory) ⊎ (volumes.NoSpace ≡ volumes.Down)). ⊎_elim (λ (e : volumes.NoSpace ≡ volumes.Memory). cc) (λ (e : volumes.NoSpace ≡ volumes.Down). cc) rest) is)
 read_fails fs state now operation given volumes.Memory is down goes = goes

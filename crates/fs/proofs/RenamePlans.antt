@@ -6,7 +6,7 @@ use Rattle.std.proofs.Props.{props}
 use Rattle.std.proofs.lemmas.Bool.{lt-ltb}
 use Rattle.std.specs.Prelude.{IsTrue, option_map, unwrap_or, MatchOption}
 use Rattle.directory.specs.Listing.{by_stamp}
-use Rattle.directory.specs.Records.{Record, AreStamped, record_from}
+use Rattle.directory.specs.Records.{Record, NamesStamped, record_from}
 use Rattle.tree_transaction.specs.declared.nodes.Shown.{Shown}
 use Rattle.tree_transaction.specs.Nodes.{shown_of}
 use Rattle.tree_edits.specs.declared.edit.Edit.{Edit}
@@ -32,7 +32,7 @@ use Rattle.fs.specs.FileSystem.{FileSystem}
 use Rattle.fs.specs.Planned.{IsPlanned, shown_by}
 use Rattle.fs.specs.Ready.{MayStand}
 use Rattle.fs.specs.Renaming.{IsOnBoth, arguments_of, is_itself, renamed}
-use Rattle.fs.specs.RenameTests.{HasMoved, moving_refusals, placing_refusals, record_under, IsTarget, new_place, old_place}
+use Rattle.fs.specs.RenameTests.{FindsMoving, moving_refusals, placing_refusals, record_under, IsTarget, new_place, old_place}
 use Rattle.fs.proofs.CachedNodeViews.{entry_at, kind_told}
 use Rattle.fs.proofs.KeptLaws.{planned_by}
 use Rattle.fs.proofs.PlacedLaws.{moving_edits}
@@ -116,17 +116,17 @@ record_mapped name (Some found) = refl
 -- what the target directory answers is the target
 pub target_told : (tree : Tree) (asked : Renaming) (card : CachedNode) (node : IsNodeOf tree asked.to card) → IsCard card → is_directory_at tree asked.to ≡ true
     → (names : List Record) → names ≡ card.names → (target : Option (ℕ × ℕ))
-    → (AreStamped names → option_map (λ (found : ℕ × ℕ). record_from found.0 asked.new_name.now found.1) target ≡ entry_of asked.new_name.now (by_stamp names)) → IsTarget tree asked target
+    → (NamesStamped names → option_map (λ (found : ℕ × ℕ). record_from found.0 asked.new_name.now found.1) target ≡ entry_of asked.new_name.now (by_stamp names)) → IsTarget tree asked target
 target_told tree asked card node fit directory names same target told =
     entry_at tree asked.to card node fit (kind_told tree asked.to card node directory) asked.new_name.now names same (record_under asked.new_name.now target)
     (λ stamped. sym (record_mapped asked.new_name.now target) ∙ told stamped)
 
 module _ (fs : FileSystem) (formed : MayStand fs.volume fs.changes) (counted : fs.changes < 2 ^ 32) (limited : fs.volume.limits ≡ limits_of fs.volume.sectors fs.volume.limits.nodes)
-    (cred : Cred) (now : ℕ) (asked : Renaming) (moving : Moving) (target : Option (ℕ × ℕ)) (moved : HasMoved fs.volume.tree asked moving)
+    (cred : Cred) (now : ℕ) (asked : Renaming) (moving : Moving) (target : Option (ℕ × ℕ)) (moved : FindsMoving fs.volume.tree asked moving)
     (passed : first_refusal (moving_refusals fs.volume.limits fs.volume.tree asked.from asked.to (arguments_of asked)) ≡ None)
     (placed : first_refusal (placing_refusals fs.volume.tree cred asked.from asked.to (arguments_of asked)) ≡ None)
     (other : is_itself asked.from asked.to (arguments_of asked) ≡ false) (names : List Record) (names_are : names ≡ moving.to.now.names)
-    (told : AreStamped names → option_map (λ (found : ℕ × ℕ). record_from found.0 asked.new_name.now found.1) target ≡ entry_of asked.new_name.now (by_stamp names))
+    (told : NamesStamped names → option_map (λ (found : ℕ × ℕ). record_from found.0 asked.new_name.now found.1) target ≡ entry_of asked.new_name.now (by_stamp names))
     (stamp : ℕ) (from_shown to_shown : Shown) (from_told : shown_of from_shown ≡ shown_by moving.from.now.fields stamp now)
     (to_told : shown_of to_shown ≡ shown_by moving.to.now.fields stamp now) (edits : List Edit)
     (edits_told : edits ≡ replacing asked.to asked.new_name target ++ moving_edits asked moving.stamp moving.number stamp from_shown to_shown) where

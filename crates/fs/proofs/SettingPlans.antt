@@ -39,7 +39,7 @@ use Rattle.model.proofs.Trees.KeyedLaws.{at-with_same}
 use Rattle.model.proofs.Trees.NodeChangeLaws.{altered-once}
 use Rattle.model.proofs.Operations.RefusalLaws.{none_in_front, none_in_both}
 use Rattle.set_attributes.specs.declared.said.Settings.{Settings}
-use Rattle.set_attributes.specs.Given.{AreSettings, AreWithin, given_of}
+use Rattle.set_attributes.specs.Given.{AreSettings, WithinLimits, given_of}
 use Rattle.fs.specs.declared.setting.Setting.{Setting}
 use Rattle.fs.specs.FileSystem.{FileSystem}
 use Rattle.fs.specs.Files.{verdict_refusals}
@@ -96,7 +96,7 @@ no_directory_at fs cred asked passed sized =
     ((not (may_set (granted_on (at asked.number tree) cred) (attributes_of given.bitmap)), status.Access) ∷ []) values.1 in
     sized_file (sets_size given) (is_directory_at tree asked.number) asked.verdict sized both.0
 
-low_size : (limits : Limits) (of : NodeKind) (settings : Settings) → AreWithin limits of settings → (size : ℕ) → settings.size ≡ Some size → size ≤ limits.file_bytes
+low_size : (limits : Limits) (of : NodeKind) (settings : Settings) → WithinLimits limits of settings → (size : ℕ) → settings.size ≡ Some size → size ≤ limits.file_bytes
 low_size limits of settings within size is = (subst (λ (o : Option ℕ). ForSome o (λ (n : ℕ). n ≤ limits.file_bytes)) is within.size) size refl
 
 -- Where no stamp is left
@@ -104,7 +104,7 @@ low_size limits of settings within size is = (subst (λ (o : Option ℕ). ForSom
 module _ (fs : FileSystem) (formed : MayStand fs.volume fs.changes) (limited : fs.volume.limits ≡ limits_of fs.volume.sectors fs.volume.limits.nodes)
     (cred : Cred) (now : ℕ) (asked : Setting) (card : CachedNode) (is_node : IsNodeOf fs.volume.tree asked.number card)
     (passed : first_refusal (setting_tests fs.volume.limits fs.volume.tree cred asked.number asked.verdict (given_of asked.attributes)) ≡ None)
-    (settings : Settings) (are : AreSettings settings (given_of asked.attributes)) (within : AreWithin fs.volume.limits card.fields.kind settings) where
+    (settings : Settings) (are : AreSettings settings (given_of asked.attributes)) (within : WithinLimits fs.volume.limits card.fields.kind settings) where
   pub last_doable : AreDoable fs.volume.tree (resizing asked.number settings.size)
   last_doable = resizing_doable fs formed limited asked.number is_node.node is_node.there settings.size
       (λ sized. no_directory_at fs cred asked passed (ap is_some (sym are.size) ∙ sized))
@@ -125,7 +125,7 @@ module _ (fs : FileSystem) (formed : MayStand fs.volume fs.changes) (limited : f
 module _ (fs : FileSystem) (formed : MayStand fs.volume fs.changes) (counted : fs.changes < 2 ^ 32) (limited : fs.volume.limits ≡ limits_of fs.volume.sectors fs.volume.limits.nodes)
     (cred : Cred) (now : ℕ) (asked : Setting) (card : CachedNode) (is_node : IsNodeOf fs.volume.tree asked.number card)
     (passed : first_refusal (setting_tests fs.volume.limits fs.volume.tree cred asked.number asked.verdict (given_of asked.attributes)) ≡ None)
-    (settings : Settings) (are : AreSettings settings (given_of asked.attributes)) (within : AreWithin fs.volume.limits card.fields.kind settings) (some : settings.is_empty ≡ false)
+    (settings : Settings) (are : AreSettings settings (given_of asked.attributes)) (within : WithinLimits fs.volume.limits card.fields.kind settings) (some : settings.is_empty ≡ false)
     (stamp : ℕ) (shown : Shown) (edits : List Edit) (stamp_is : stamp ≡ next_stamp fs.volume.run fs.changes)
     (shown_is : shown_of shown ≡ shown_with card.fields settings stamp now) (entries : AreEntries (shown_of shown).acl)
     (edits_are : edits ≡ resizing asked.number settings.size ++ (edit.Show asked.number shown ∷ [])) where

@@ -4,7 +4,7 @@ use Rattle.std.proofs.lemmas.Bool.{cases_eq, cases_order}
 use Rattle.std.specs.Prelude.{nat_le}
 use Rattle.tree_edits.specs.declared.edit.Edit.{Edit}
 use Rattle.tree_edits.specs.Edits.{edit_of, edits_of, CanDo, AreDoable}
-use Rattle.tree_edits.specs.Sizes.{charge_of_size, names_in, number_of, resized_by, size_at}
+use Rattle.tree_edits.specs.Sizes.{charge_of_size, names_in, edited_number, resized_by, size_at}
 use Rattle.tree_edits.specs.Sizes.{size_there}
 use Rattle.tree_edits.proofs.SizeLaws.{IsRising, behind, still_rising, charge_there, names_there}
 use Rattle.model.specs.declared.limits.Limits.{Limits}
@@ -80,7 +80,7 @@ fits_by_sizes limits tree other above below alike =
 -- Edits that change it alike
 
 pub record IsAlikeEdit (edit other : Edit) : Type 0 where
-  pub number : number_of edit ≡ number_of other
+  pub number : edited_number edit ≡ edited_number other
   pub resized : (size : _) → resized_by edit size ≡ resized_by other size
 
 abbrev pub AlikeEdits : List Edit → List Edit → Type 0
@@ -91,13 +91,13 @@ AlikeEdits (edit ∷ edits) (other ∷ others) = IsAlikeEdit edit other × Alike
 
 alike_done : (tree other : Tree) (edit same : Edit) → IsAlikeEdit edit same → CanDo tree edit → CanDo other same → IsRising tree → IsRising other → SizedAlike tree other
     → SizedAlike (done (edit_of edit) tree) (done (edit_of same) other)
-alike_done tree other edit same is can could rising high alike number = by_number (cases_eq number (number_of edit))
+alike_done tree other edit same is can could rising high alike number = by_number (cases_eq number (edited_number edit))
   where
-    by_number : (number ≡ number_of edit) ⊎ (number ≢ number_of edit) → size_at (done (edit_of edit) tree) number ≡ size_at (done (edit_of same) other) number
+    by_number : (number ≡ edited_number edit) ⊎ (number ≢ edited_number edit) → size_at (done (edit_of edit) tree) number ≡ size_at (done (edit_of same) other) number
     by_number (inl here) =
         let one = behind tree edit can rising in
         let two = behind other same could high in
-        ap (size_at (done (edit_of edit) tree)) here ∙ one.size ∙ ap (resized_by edit) (alike (number_of edit)) ∙ is.resized (size_at other (number_of edit))
+        ap (size_at (done (edit_of edit) tree)) here ∙ one.size ∙ ap (resized_by edit) (alike (edited_number edit)) ∙ is.resized (size_at other (edited_number edit))
         ∙ ap (λ (n : ℕ). resized_by same (size_at other n)) is.number ∙ sym two.size
         ∙ ap (size_at (done (edit_of same) other)) (sym (here ∙ is.number))
     by_number (inr off) =

@@ -13,8 +13,8 @@ use Rattle.model.specs.Sessions.OpensLaws.{AreOpens}
 use Rattle.model.specs.Operations.Operation.{StateId}
 use Rattle.model.specs.Operations.Refusal.{first_refusal, refused_or}
 use Rattle.model.specs.Operations.State.{State}
-use Rattle.model.specs.Sessions.StateIdLaws.{IsOwn, Stands}
-use Rattle.model.specs.Sessions.StateIds.{Found, Anonymous, Refused, Names, access_refusals, by_meaning, by_open, by_seqid, found, is_anonymous, meant, open_named, state_of, write_access, zeros}
+use Rattle.model.specs.Sessions.StateIdLaws.{IsOwn, OpenStands}
+use Rattle.model.specs.Sessions.StateIds.{Found, Anonymous, Refused, Names, access_refusals, by_meaning, by_open, by_seqid, found, is_anonymous, meant, open_named, open_stateid, write_access, zeros}
 use Rattle.model.proofs.Trees.KeyedLaws.{at-first, at-rest, some≢none}
 use Rattle.model.proofs.Sessions.StateIdLaws.{lower, newest}
 use Rattle.set_attributes.specs.Given.{given_of}
@@ -130,7 +130,7 @@ module _ (fs : FileSystem) (cred : Cred) (number access : ℕ) where
   }
 
   module _ (counted : fs.volume.run < 2 ^ 32) where
-    stands : Stands one context 1 known
+    stands : OpenStands one context 1 known
     stands = record { given = record { counted = counted; some = omega arith; small = omega arith }; there = refl }
 
     own : IsOwn context known
@@ -139,7 +139,7 @@ module _ (fs : FileSystem) (cred : Cred) (number access : ℕ) where
     got_old : Got (Err status.OldStateId)
     got_old = (
       state_with one,
-      state_of fs.volume.run 1 1,
+      open_stateid fs.volume.run 1 1,
       record {
         on = on one;
         verdict_is = ap (λ (it : Found). first_refusal (access_refusals access it)) (lower one context 1 known stands own 1 (omega arith) (omega arith));
@@ -154,7 +154,7 @@ module _ (fs : FileSystem) (cred : Cred) (number access : ℕ) where
     got_mode : IsUsed access → Got (Err status.OpenMode)
     got_mode used = (
       state_with one,
-      state_of fs.volume.run 1 2,
+      open_stateid fs.volume.run 1 2,
       record {
         on = on one;
         verdict_is = ap (λ (it : Found). first_refusal (access_refusals access it)) (newest one context 1 known stands own)

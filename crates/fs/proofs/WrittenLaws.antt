@@ -42,7 +42,7 @@ use Rattle.fs.specs.Making.{last_refusal}
 use Rattle.fs.specs.Operations.{IsOn, does_on}
 use Rattle.fs.specs.Planned.{IsPlanned, shown_by}
 use Rattle.fs.specs.Ready.{MayStand}
-use Rattle.fs.specs.Writing.{IsPut, IsWriting, WritesTree, after_write, bytes_taken}
+use Rattle.fs.specs.Writing.{IsWrittenTree, IsWriting, WritesTree, after_write, bytes_taken}
 use Rattle.fs.proofs.FileSteps as steps
 use Rattle.fs.proofs.FlatWrites as flat
 use Rattle.fs.proofs.KeptLaws.{planned_by}
@@ -136,7 +136,7 @@ unless_stable false done false unstable is lasts = cc
 pub puts_tree : (fs : FileSystem) (cred : Cred) (now number : ℕ) (verdict : Result (Unit {0}) Status) (asked : Writing) (edits : List Edit)
     → ((state : State) (arguments : WriteArguments) → IsOn fs cred number state → IsWriting state verdict asked arguments
     → does_on fs state now (Argument.Write arguments) ≡ after_write (edited_by fs.volume edits) (fs.changes + 1) state arguments (length (bytes_taken fs asked)))
-    → (then : Kept) (lasts : Bool) → WritesTree fs cred number now verdict asked then lasts → IsPut fs.volume edits asked.is_stable then lasts
+    → (then : Kept) (lasts : Bool) → WritesTree fs cred number now verdict asked then lasts → IsWrittenTree fs.volume edits asked.is_stable then lasts
 puts_tree fs cred now number verdict asked edits step then lasts made = (
   made.kept ∙ ap (λ (s : Stepped). with_tree fs.volume s.state.tree) (step made.state made.arguments made.on made.writing),
   λ lasting. unless_stable (has_bytes made.arguments) (is_done (does_on fs made.state now (Argument.Write made.arguments)).outcome) asked.is_stable (made.arguments.stable == 0)

@@ -17,8 +17,8 @@ fs_ending (Err fault.Device) = Broken
 fs_ending (Err fault.Down) = Nothing
 
 -- what it does to the volume; and where it does not answer it counts no change
-pub record Changes (keeps_word : Type 0) (given : Given) (old new : FileSystem)
+pub record FsChanges (keeps_word : Type 0) (given : Given) (old new : FileSystem)
     (failed_before failed_after : ℕ) (ending : Ending) : Type 0 where
   pub volume_changes :
-      volume.Changes keeps_word given old.volume new.volume failed_before failed_after ending
+      volume.VolumeChanges keeps_word given old.volume new.volume failed_before failed_after ending
   pub no_count : (ending ≡ Done → ⊥) → new.changes ≡ old.changes

@@ -106,8 +106,8 @@ OpensFile keeps_word old new state now asked arguments (Err reason) =
     IsNotDone old state now (Argument.Open arguments) reason
 
 -- what a call by a name does to its file, where nothing refuses it
-abbrev pub effect_of : Tree → (directory : ℕ) → (name : List ℕ) → OpenType → OpenEffect
-effect_of tree directory name of =
+abbrev pub open_effect : Tree → (directory : ℕ) → (name : List ℕ) → OpenType → OpenEffect
+open_effect tree directory name of =
     if is_named tree directory name
     then (if cuts of then effect.Cut else effect.Nothing)
     else effect.Made
@@ -118,9 +118,10 @@ has_room_for room effect.Nothing = room.nothing
 has_room_for room effect.Cut = room.cut
 has_room_for room effect.Made = room.made
 
-abbrev pub has_room : FileSystem → Opening → OpenRoom → Bool
-has_room fs asked room =
-    has_room_for room (effect_of fs.volume.tree asked.directory asked.name.now (type_of asked.how))
+abbrev pub has_open_room : FileSystem → Opening → OpenRoom → Bool
+has_open_room fs asked room =
+    has_room_for room
+    (open_effect fs.volume.tree asked.directory asked.name.now (type_of asked.how))
 
 -- where nothing refuses an OPEN by this name, it is of the file of this number
 abbrev pub IsFileToOpen : FileSystem → Opening → (number : ℕ) → Type 0
@@ -132,7 +133,7 @@ IsFileToOpen fs asked number = (state : State) (cred : Cred) → IsOn fs cred as
 pub record IsOpened (fs : FileSystem) (asked : Opening) (made : Opened) : Type 0 where
   pub number_is : IsFileToOpen fs asked made.number
   pub effect_is :
-      made.effect ≡ effect_of fs.volume.tree asked.directory asked.name.now (type_of asked.how)
+      made.effect ≡ open_effect fs.volume.tree asked.directory asked.name.now (type_of asked.how)
 
 -- what an OPEN of this caller leaves by the definition. One that neither makes a file nor cuts one
 -- is no change: nothing of it has to last.
@@ -203,7 +204,7 @@ pub record IsPlaced (fs : FileSystem) (cred : Cred) (asked : Opening) (is_full :
       first_refusal (place_tests fs.volume.limits state arguments asked.name.now) ≡ None
 
 -- the name leads to this node
-pub record LeadsTo (tree : Tree) (directory : ℕ) (name : List ℕ) (number : ℕ) : Type 0 where
+pub record NameLeadsTo (tree : Tree) (directory : ℕ) (name : List ℕ) (number : ℕ) : Type 0 where
   pub is_there : is_named tree directory name ≡ true
   pub number_is : number_named tree directory name ≡ number
 

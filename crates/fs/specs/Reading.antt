@@ -33,11 +33,11 @@ IsNotRead fs state now operation fault.Device =
 IsNotRead fs state now operation fault.Down = fs.volume.is_down ≡ true
 
 -- it answers these bytes, and whether the file's end was reached
-abbrev pub Reads : FileSystem → State → (now : ℕ) → Argument → (given : List ℕ)
+abbrev pub ReadsFile : FileSystem → State → (now : ℕ) → Argument → (given : List ℕ)
     → Result Bool FsFault → Type 0
-Reads fs state now operation given (Ok is_end) = does_on fs state now operation
+ReadsFile fs state now operation given (Ok is_end) = does_on fs state now operation
     ≡ answered state (Answer.Read (record { is_end = is_end; data_bytes = given }))
-Reads fs state now operation given (Err reason) = IsNotRead fs state now operation reason
+ReadsFile fs state now operation given (Err reason) = IsNotRead fs state now operation reason
 
 -- it leaves all as it was, also where it answers
 abbrev pub reading_ending : {T : Type 0} → Result T FsFault → Ending

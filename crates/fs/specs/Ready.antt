@@ -10,11 +10,11 @@ use Rattle.volume.specs.KnownProps.{IsFormed-prop}
 abbrev pub MayStand : VolumeState → (changes : ℕ) → Type 0
 MayStand held changes = IsFormed held.limits (next_stamp held.run changes) held.tree
 
-abbrev pub IsReady : VolumeState → (changes : ℕ) → Type 0
-IsReady held changes = held.is_down ≡ false → MayStand held changes
+abbrev pub IsFsReady : VolumeState → (changes : ℕ) → Type 0
+IsFsReady held changes = held.is_down ≡ false → MayStand held changes
 
-pub IsReady-prop : (held : VolumeState) (changes : ℕ) → IsProp (IsReady held changes)
-IsReady-prop held changes = Prim.hlevel (
+pub IsFsReady-prop : (held : VolumeState) (changes : ℕ) → IsProp (IsFsReady held changes)
+IsFsReady-prop held changes = Prim.hlevel (
   props,
   IsFormed-prop held.limits (next_stamp held.run changes) held.tree,
 )

@@ -77,7 +77,7 @@ placing_refusals tree cred from to arguments =
 -- What was found
 
 -- both directories, and the entry of the old name
-pub record HasMoved (tree : Tree) (asked : Renaming) (moving : Moving) : Type 0 where
+pub record FindsMoving (tree : Tree) (asked : Renaming) (moving : Moving) : Type 0 where
   pub from : IsNodeOf tree asked.from moving.from.now
   pub to : IsNodeOf tree asked.to moving.to.now
   pub from_fits : IsCard moving.from.now

@@ -1,7 +1,7 @@
 -- What contracts see of a file system in memory.
 use Rattle.std.specs.Prelude.{ℕ}
 use Rattle.fs.specs.declared.fs.Fs.{Fs}
-use Rattle.fs.specs.Changes.{Changes}
+use Rattle.fs.specs.Changes.{FsChanges}
 use Rattle.fs.specs.FileSystem.{FileSystem}
 use Rattle.volume.specs.Changes.{Given, Ending}
 use Rattle.volume.specs.Views.{volume_state, volume_failures}
@@ -14,6 +14,6 @@ unfoldable pub fs_failures : {D : _} {g : _} → Fs D g → ℕ
 fs_failures fs = volume_failures fs.volume
 
 -- what a call makes of it, and of how often its device has failed
-abbrev pub Alters : {D : _} {g : _} → (old new : Fs D g) → Given → Ending → Type 0
-Alters {D} {g} old new given ending =
-    Changes g.keeps_word given (fs_of old) (fs_of new) (fs_failures old) (fs_failures new) ending
+abbrev pub AltersFs : {D : _} {g : _} → (old new : Fs D g) → Given → Ending → Type 0
+AltersFs {D} {g} old new given ending =
+    FsChanges g.keeps_word given (fs_of old) (fs_of new) (fs_failures old) (fs_failures new) ending

@@ -83,8 +83,8 @@ pub record WritesTree (fs : FileSystem) (cred : Cred) (number now : ℕ)
   pub lasting_is : lasts ≡ is_lasting fs state now (Argument.Write arguments)
 
 -- the tree after edits, which has to last only where they are to be stable
-abbrev pub IsPut : VolumeState → List Edit → (is_stable : Bool) → Given
-IsPut held edits is_stable after lasts =
+abbrev pub IsWrittenTree : VolumeState → List Edit → (is_stable : Bool) → Given
+IsWrittenTree held edits is_stable after lasts =
     (after ≡ with_tree held (edited_by held edits)) × (lasts ≡ true → is_stable ≡ true)
 
 -- COMMIT

@@ -67,46 +67,46 @@ fn supported_bits(kind: NodeKind, asked: u32) -> u32
 }
 
 /// A bit where it is asked and the node grants what it asks for.
-fn granted_bit(card: &CachedNode, cred: &Cred, asked: u32, bit: u32, mask: Mask) -> u32
-    ensures value { result ≡ (if meets asked bit && granted card.now.fields.acl
-        card.now.fields.owner card.now.fields.group cred.now mask.0 then bit else 0) }
+fn granted_bit(cached: &CachedNode, cred: &Cred, asked: u32, bit: u32, mask: Mask) -> u32
+    ensures value { result ≡ (if meets asked bit && granted cached.now.fields.acl
+        cached.now.fields.owner cached.now.fields.group cred.now mask.0 then bit else 0) }
     ensures small { result ≤ bit }
 {
-    bit_if(asked & bit != 0 && grants(card, cred, mask), bit)
+    bit_if(asked & bit != 0 && grants(cached, cred, mask), bit)
 }
 
 /// The bits that are asked and granted.
-fn granted_bits(card: &CachedNode, cred: &Cred, asked: u32) -> u32
-    ensures { result ≡ granted_bits (node_shown card.now) cred.now asked
-        (access_masks card.now.fields.kind) }
+fn granted_bits(cached: &CachedNode, cred: &Cred, asked: u32) -> u32
+    ensures { result ≡ granted_bits (node_shown cached.now) cred.now asked
+        (access_masks cached.now.fields.kind) }
 {
     let add = Mask::WRITE_DATA.union(Mask::APPEND_DATA);
     let add_or_delete = add.union(Mask::DELETE_CHILD);
-    let read = granted_bit(card, cred, asked, READ, Mask::READ_DATA);
-    match card.inode.kind {
+    let read = granted_bit(cached, cred, asked, READ, Mask::READ_DATA);
+    match cached.inode.kind {
         NodeKind::File => {
-            let modify = granted_bit(card, cred, asked, MODIFY, Mask::WRITE_DATA);
-            let extend = granted_bit(card, cred, asked, EXTEND, Mask::WRITE_DATA);
-            let execute = granted_bit(card, cred, asked, EXECUTE, Mask::EXECUTE);
+            let modify = granted_bit(cached, cred, asked, MODIFY, Mask::WRITE_DATA);
+            let extend = granted_bit(cached, cred, asked, EXTEND, Mask::WRITE_DATA);
+            let execute = granted_bit(cached, cred, asked, EXECUTE, Mask::EXECUTE);
             read + (modify + (extend + execute))
         }
         NodeKind::Directory => {
-            let lookup = granted_bit(card, cred, asked, LOOKUP, Mask::EXECUTE);
-            let modify = granted_bit(card, cred, asked, MODIFY, add_or_delete);
-            let extend = granted_bit(card, cred, asked, EXTEND, add);
-            let delete = granted_bit(card, cred, asked, DELETE, Mask::DELETE_CHILD);
+            let lookup = granted_bit(cached, cred, asked, LOOKUP, Mask::EXECUTE);
+            let modify = granted_bit(cached, cred, asked, MODIFY, add_or_delete);
+            let extend = granted_bit(cached, cred, asked, EXTEND, add);
+            let delete = granted_bit(cached, cred, asked, DELETE, Mask::DELETE_CHILD);
             read + (lookup + (modify + (extend + delete)))
         }
     }
 }
 
 /// What a cached node supports and grants, of the bits that are asked.
-fn access_on(card: &CachedNode, cred: &Cred, asked: u32) -> Access
-    ensures { access_answer result ≡ access_on card.now cred.now asked }
+fn access_on(cached: &CachedNode, cred: &Cred, asked: u32) -> Access
+    ensures { access_answer result ≡ access_on cached.now cred.now asked }
 {
     Access {
-        supported: supported_bits(card.inode.kind, asked),
-        granted: granted_bits(card, cred, asked),
+        supported: supported_bits(cached.inode.kind, asked),
+        granted: granted_bits(cached, cred, asked),
     }
 }
 
@@ -128,9 +128,9 @@ impl<D: Device> Fs<D> {
         if self.is_down() {
             return Err(FsFault::Down);
         }
-        let Some(card) = self.volume.node(number) else {
+        let Some(cached) = self.volume.node(number) else {
             return Err(FsFault::Status(Status::Stale));
         };
-        Ok(access_on(card, cred, asked))
+        Ok(access_on(cached, cred, asked))
     }
 }

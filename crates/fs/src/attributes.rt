@@ -56,26 +56,26 @@ impl<D: Device> Fs<D> {
             (fs_of self.entry.now).volume.tree cred.now number asked.entry.now result }
         ensures few { IfOk result (λ answer. HasFewEntries answer.node) }
     {
-        let Some(card) = self.volume.node(number) else {
+        let Some(cached) = self.volume.node(number) else {
             return Err(Status::Stale);
         };
-        if is_asked(asked, Attribute::Acl.number()) && !grants(card, cred, Mask::READ_ACL) {
+        if is_asked(asked, Attribute::Acl.number()) && !grants(cached, cred, Mask::READ_ACL) {
             return Err(Status::Access);
         }
         Ok(AttributesAnswer {
-            node: self.shown(card),
+            node: self.shown(cached),
             asked,
         })
     }
 
     /// What a cached node shows.
-    pub(crate) fn shown<'a>(&self, card: &'a CachedNode) -> NodeAttributes<'a>
-        requires fits { IsCard card.now }
-        requires few { length card.now.fields.acl ≤ MAX_STORED }
-        ensures shows { ShowsCard (fs_of self.now).volume.limits card.entry.now result }
+    pub(crate) fn shown<'a>(&self, cached: &'a CachedNode) -> NodeAttributes<'a>
+        requires fits { IsCard cached.now }
+        requires few { length cached.now.fields.acl ≤ MAX_STORED }
+        ensures shows { ShowsCard (fs_of self.now).volume.limits cached.entry.now result }
         ensures few { HasFewEntries result }
     {
-        let inode = &card.inode;
+        let inode = &cached.inode;
         let limits = self.volume.limits();
         NodeAttributes {
             kind: inode.kind,

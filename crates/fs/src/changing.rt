@@ -19,13 +19,13 @@ use tree_transaction::Shown;
 
 /// A node whose content a change alters: what it shows then.
 pub(crate) fn metadata_with_change(
-    card: &CachedNode,
+    cached: &CachedNode,
     stamp: u64,
     now: u64,
 ) -> Result<Shown, AllocError>
-    ensures { IfOk result (λ shown. shown_of shown ≡ shown_by card.now.fields stamp now) }
+    ensures { IfOk result (λ shown. shown_of shown ≡ shown_by cached.now.fields stamp now) }
 {
-    let inode = &card.inode;
+    let inode = &cached.inode;
     Ok(Shown {
         owner: inode.owner,
         group: inode.group,
@@ -148,14 +148,14 @@ pub(crate) fn set_edits<'a>(
 #[tactic(auto, unfolding(crate::specs::Views::fs_of, crate::specs::Views::fs_failures))]
 impl<D: Device> Fs<D> {
     ghost use Rattle.fs.specs.Changes.{fs_ending};
-    ghost use Rattle.fs.specs.Views.{fs_of, Alters};
+    ghost use Rattle.fs.specs.Views.{fs_of, AltersFs};
     ghost use Rattle.tree_edits.specs.Edits.{AreDoable};
     ghost use Rattle.fs.specs.Making.{last_refusal};
     ghost use Rattle.fs.specs.Planned.{IsPlanned};
     ghost use Rattle.model.specs.Trees.Stamp.{next_stamp, is_stamp_left};
     ghost use Rattle.volume.specs.Changes.{IsTree};
     ghost use Rattle.volume.specs.Edits.{IsEdited, edited_by};
-    ghost use Rattle.volume.specs.Formed.{Shows};
+    ghost use Rattle.volume.specs.Formed.{ShowsTree};
 
     /// The stamp of the next change: none where it has more than 64 bits, after the last change of
     /// the last run.
@@ -214,10 +214,10 @@ impl<D: Device> Fs<D> {
         requires up { (fs_of self.old).volume.is_down ≡ false }
         requires planned { IsPlanned (fs_of self.old) edits.now }
         // In any case
-        ensures volume { Alters self.old self.new
+        ensures volume { AltersFs self.old self.new
             (IsEdited (fs_of self.old).volume edits.now) (fs_ending result) }
         // Done
-        ensures shows { OnOk result (Shows D.keeps_word
+        ensures shows { OnOk result (ShowsTree D.keeps_word
             (edited_by (fs_of self.old).volume edits.now) (fs_of self.new).volume.tree) }
         ensures counted { OnOk result ((fs_of self.new).changes ≡ (fs_of self.old).changes + 1) }
         // Refused
@@ -235,11 +235,11 @@ impl<D: Device> Fs<D> {
         requires up { (fs_of self.old).volume.is_down ≡ false }
         requires planned { IsPlanned (fs_of self.old) edits.now }
         // In any case
-        ensures volume { Alters self.old self.new
+        ensures volume { AltersFs self.old self.new
             (IsTree (fs_of self.old).volume
             (edited_by (fs_of self.old).volume edits.now)) (fs_ending result) }
         // Done
-        ensures shows { OnOk result (Shows D.keeps_word
+        ensures shows { OnOk result (ShowsTree D.keeps_word
             (edited_by (fs_of self.old).volume edits.now) (fs_of self.new).volume.tree) }
         ensures counted { OnOk result ((fs_of self.new).changes ≡ (fs_of self.old).changes + 1) }
         // Refused

@@ -21,18 +21,18 @@ impl<D: Device> Fs<D> {
     /// The file of this number. STALE where no node has it, ISDIR where it is a directory's.
     pub(crate) fn file(&self, number: u64) -> Result<&CachedNode, Status>
         ensures tests { IsChecked (file_refusals (fs_of self.entry.now).volume.tree number) result }
-        ensures node { IfOk result (λ card.
-            IsNodeOf (fs_of self.entry.now).volume.tree number card.now) }
-        ensures file { IfOk result (λ card. card.now.fields.kind ≡ kind.File) }
-        ensures fit { IfOk result (λ card. IsCard card.now) }
+        ensures node { IfOk result (λ cached.
+            IsNodeOf (fs_of self.entry.now).volume.tree number cached.now) }
+        ensures file { IfOk result (λ cached. cached.now.fields.kind ≡ kind.File) }
+        ensures fit { IfOk result (λ cached. IsCard cached.now) }
     {
-        let Some(card) = self.volume.node(number) else {
+        let Some(cached) = self.volume.node(number) else {
             return Err(Status::Stale);
         };
-        if is_directory(card) {
+        if is_directory(cached) {
             return Err(Status::IsDir);
         }
-        Ok(card)
+        Ok(cached)
     }
 
     /// The file of this number, for a caller who has these rights on it and whose stateid has this
@@ -46,16 +46,16 @@ impl<D: Device> Fs<D> {
     ) -> Result<&CachedNode, Status>
         ensures tests { IsChecked (permit_refusals (fs_of self.entry.now).volume.tree cred.now
             number mask.0 verdict) result }
-        ensures node { IfOk result (λ card.
-            IsNodeOf (fs_of self.entry.now).volume.tree number card.now) }
-        ensures file { IfOk result (λ card. card.now.fields.kind ≡ kind.File) }
-        ensures fit { IfOk result (λ card. IsCard card.now) }
+        ensures node { IfOk result (λ cached.
+            IsNodeOf (fs_of self.entry.now).volume.tree number cached.now) }
+        ensures file { IfOk result (λ cached. cached.now.fields.kind ≡ kind.File) }
+        ensures fit { IfOk result (λ cached. IsCard cached.now) }
     {
-        let card = self.file(number)?;
+        let cached = self.file(number)?;
         verdict?;
-        if !grants(card, cred, mask) {
+        if !grants(cached, cred, mask) {
             return Err(Status::Access);
         }
-        Ok(card)
+        Ok(cached)
     }
 }

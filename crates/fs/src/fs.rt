@@ -1,7 +1,7 @@
 //! The file system: a volume, and how many changes this run had.
 
 ghost use Rattle.std.specs.Prelude.{◌<◌, ◌^◌};
-ghost use Rattle.fs.specs.Ready.{IsReady, IsReady-prop};
+ghost use Rattle.fs.specs.Ready.{IsFsReady, IsFsReady-prop};
 ghost use Rattle.volume.specs.Views.{volume_state};
 
 use crate::fault::FsFault;
@@ -19,7 +19,7 @@ pub struct Fs<D: Device> {
     pub(crate) volume: Volume<D>,
     pub(crate) changes: u32,
     ghost counted: { changes < 2 ^ 32 },
-    ghost ready: { IsReady (volume_state volume) changes } by { IsReady-prop (volume_state volume) changes },
+    ghost ready: { IsFsReady (volume_state volume) changes } by { IsFsReady-prop (volume_state volume) changes },
 }
 
 /// A file system that was mounted, and the seats that its volume keeps.
@@ -33,13 +33,13 @@ pub struct Mounted<D: Device> {
 impl<D: Device> Fs<D> {
     ghost use Rattle.std.specs.Prelude.{◌≡◌, ◌⊎◌, ◌↔◌, true, IfOk, IfErr, OnOk, IsErrOf};
     ghost use Rattle.fs.specs.Changes.{fs_ending};
-    ghost use Rattle.fs.specs.Views.{fs_of, fs_failures, Alters};
+    ghost use Rattle.fs.specs.Views.{fs_of, fs_failures, AltersFs};
     ghost use Rattle.fs.specs.Formatting.{Formats};
     ghost use Rattle.volume.specs.Checks.{Checks};
     ghost use Rattle.model.specs.Sessions.SeatEdits.{AreEdits, edited_all, edits_view};
     ghost use Rattle.model.specs.Sessions.SeatViews.{seats_view};
     ghost use Rattle.volume.specs.Changes.{IsSeats, Stays};
-    ghost use Rattle.volume.specs.Formed.{Shows};
+    ghost use Rattle.volume.specs.Formed.{ShowsTree};
     ghost use Rattle.volume.specs.VolumeState.{KeepsRecent};
     ghost use Rattle.volume.specs.MountAnswers.{FindsSeats, MountServes, MountGivesBack};
 
@@ -175,9 +175,9 @@ impl<D: Device> Fs<D> {
     ///
     /// Device where the device failed, and Down from then on.
     pub fn checkpoint(&mut self) -> Result<(), FsFault>
-        ensures volume { Alters self.old self.new
+        ensures volume { AltersFs self.old self.new
             (Stays (fs_of self.old).volume) (fs_ending result) }
-        ensures shows { OnOk result (Shows D.keeps_word (fs_of self.old).volume.tree
+        ensures shows { OnOk result (ShowsTree D.keeps_word (fs_of self.old).volume.tree
             (fs_of self.new).volume.tree) }
         ensures recent { D.keeps_word → OnOk result
             (KeepsRecent (fs_of self.old).volume (fs_of self.new).volume) }
@@ -200,11 +200,11 @@ impl<D: Device> Fs<D> {
     pub fn put_seats(&mut self, edits: &SeatEdits) -> Result<(), FsFault>
         requires { D.keeps_word → AreEdits (fs_of self.old).volume.run (edits_view edits.now)
             (fs_of self.old).volume.seats }
-        ensures volume { Alters self.old self.new
+        ensures volume { AltersFs self.old self.new
             (IsSeats (fs_of self.old).volume
             (edited_all (edits_view edits.now) (fs_of self.old).volume.seats))
             (fs_ending result) }
-        ensures shows { OnOk result (Shows D.keeps_word (fs_of self.old).volume.tree
+        ensures shows { OnOk result (ShowsTree D.keeps_word (fs_of self.old).volume.tree
             (fs_of self.new).volume.tree) }
         ensures changes { (fs_of self.new).changes ≡ (fs_of self.old).changes }
         // Refused

@@ -1,7 +1,7 @@
 //! Operations that move the current filehandle or answer it.
 
 ghost use Rattle.std.specs.Prelude.{◌≡◌, MatchResult, IsTrue, IsFalse};
-ghost use Rattle.model.specs.Trees.Stamp.{filehandle_of, is_filehandle, number_of};
+ghost use Rattle.model.specs.Trees.Stamp.{filehandle_of, is_filehandle, handle_number};
 
 use crate::fault::FsFault;
 use crate::fs::Fs;
@@ -18,7 +18,7 @@ fn filehandle_of(number: u64) -> [u8; 8]
 // The number of the node that a filehandle names, if it is one of this server's.
 fn number_of(handle: &[u8]) -> Result<u64, Status>
     ensures { MatchResult result
-        (λ number. (number ≡ number_of handle.now) × IsTrue (is_filehandle handle.now))
+        (λ number. (number ≡ handle_number handle.now) × IsTrue (is_filehandle handle.now))
         (λ refused. (refused ≡ Status.BadHandle) × IsFalse (is_filehandle handle.now)) }
 {
     let Ok(bytes) = <[u8; 8]>::try_from(handle) else {

@@ -114,12 +114,12 @@ impl<D: Device> Fs<D> {
         if self.is_down() {
             return Err(FsFault::Down);
         }
-        let card = self.permit_list(cred, &listing)?;
+        let cached = self.permit_list(cred, &listing)?;
         let bytes = (listing.max_count as usize).min(self.volume.limits().transfer_bytes);
         if bytes < EMPTY_PAGE {
             return Err(FsFault::Status(Status::TooSmall));
         }
-        let names = card.names.list_after(listing.cookie);
+        let names = cached.names.list_after(listing.cookie);
         let hides = hides_unreadable(listing.asked);
         let page = self.fill(cred, names, listing.asked, hides, bytes - EMPTY_PAGE)?;
         if page.entries.is_empty() && !page.is_end {
@@ -133,27 +133,27 @@ impl<D: Device> Fs<D> {
         ensures tests { (dir_count : ℕ)
             → IsChecked (list_refusals (fs_of self.entry.now).volume.tree
             cred.now listing.now.directory (list_arguments listing.now dir_count)) result }
-        ensures names { IfOk result (λ card. by_stamp card.now.names
+        ensures names { IfOk result (λ cached. by_stamp cached.now.names
             ≡ names_at (fs_of self.entry.now).volume.tree listing.now.directory) }
-        ensures each { IfOk result (λ card. AllByRecursion IsRecord card.now.names) }
+        ensures each { IfOk result (λ cached. AllByRecursion IsRecord cached.now.names) }
     {
-        let Some(card) = self.volume.node(listing.directory) else {
+        let Some(cached) = self.volume.node(listing.directory) else {
             return Err(Status::Stale);
         };
-        if !is_directory(card) {
+        if !is_directory(cached) {
             return Err(Status::NotDir);
         }
-        if !grants(card, cred, Mask::READ_DATA) {
+        if !grants(cached, cred, Mask::READ_DATA) {
             return Err(Status::Access);
         }
         if listing.has_other_verifier() {
             return Err(Status::NotSame);
         }
-        let names = card.names.list_after(listing.cookie);
+        let names = cached.names.list_after(listing.cookie);
         if must_read_lists(listing.asked) && !self.may_read_lists(cred, names) {
             return Err(Status::Access);
         }
-        Ok(card)
+        Ok(cached)
     }
 
     /// Whether a caller may read the ACL of a node: where it is gone he may not.
@@ -161,7 +161,7 @@ impl<D: Device> Fs<D> {
         ensures { result ≡ may_read_list cred.now (at number (fs_of self.now).volume.tree) }
     {
         match self.volume.node(number) {
-            Some(card) => grants(card, cred, Mask::READ_ACL),
+            Some(cached) => grants(cached, cred, Mask::READ_ACL),
             None => false,
         }
     }
@@ -179,27 +179,27 @@ impl<D: Device> Fs<D> {
         true
     }
 
-    /// The page of these names that has room in so many bytes. `hides` says whether an entry whose
-    /// ACL may not be read shows rdattr_error alone.
+    /// The page of these names that has room in so many bytes. `hides_unreadable` says whether an
+    /// entry whose ACL may not be read shows rdattr_error alone.
     fn fill<'a>(
         &'a self,
         cred: &Cred,
         names: ListAfter<'a>,
         asked: &'a [u32],
-        hides: bool,
+        hides_unreadable: bool,
         room: usize,
     ) -> Result<Page<'a>, AllocError>
         requires { AllByRecursion IsRecord (rest_of names) }
         ensures page { IfOk result (λ page. page_view page ≡ page_of room (map
             (shown_entry (fs_of self.entry.now).volume.limits
-            (fs_of self.entry.now).volume.tree cred.now hides asked.entry.now)
+            (fs_of self.entry.now).volume.tree cred.now hides_unreadable asked.entry.now)
             (rest_of names.entry))) }
         ensures fits { IfOk result PageFits }
     {
         let mut room = room;
         let mut entries = Vec::new(self.alloc);
         for name in names {
-            let entry = self.listed(cred, name, asked, hides);
+            let entry = self.listed(cred, name, asked, hides_unreadable);
             let size = 4 + entry.size();
             if room < size {
                 return Ok(Page {
@@ -222,18 +222,18 @@ impl<D: Device> Fs<D> {
         cred: &Cred,
         name: &'a Entry,
         asked: &'a [u32],
-        hides: bool,
+        hides_unreadable: bool,
     ) -> ListedEntry<'a>
         requires { IsRecord (record_at name) }
         ensures view { entry_view result ≡ shown_entry (fs_of self.entry.now).volume.limits
-            (fs_of self.entry.now).volume.tree cred.now hides asked.entry.now
+            (fs_of self.entry.now).volume.tree cred.now hides_unreadable asked.entry.now
             (record_at name.entry) }
         ensures fits { EntryFits result }
     {
         ListedEntry {
             cookie: name.stamp,
             name: &name.name,
-            attributes: self.listed_attributes(cred, name.number, asked, hides),
+            attributes: self.listed_attributes(cred, name.number, asked, hides_unreadable),
         }
     }
 
@@ -243,19 +243,19 @@ impl<D: Device> Fs<D> {
         cred: &Cred,
         number: u64,
         asked: &'a [u32],
-        hides: bool,
+        hides_unreadable: bool,
     ) -> ListedAttributes<'a>
         ensures view { listed_view result ≡ shown_attributes (fs_of self.entry.now).volume.limits
-            cred.now hides asked.entry.now number
+            cred.now hides_unreadable asked.entry.now number
             (at number (fs_of self.entry.now).volume.tree) }
         ensures fits { ListedFits result }
     {
-        if hides && !self.may_read_list(cred, number) {
+        if hides_unreadable && !self.may_read_list(cred, number) {
             return ListedAttributes::Unreadable;
         }
         match self.volume.node(number) {
-            Some(card) => ListedAttributes::Shown(AttributesAnswer {
-                node: self.shown(card),
+            Some(cached) => ListedAttributes::Shown(AttributesAnswer {
+                node: self.shown(cached),
                 asked,
             }),
             None => ListedAttributes::Gone,

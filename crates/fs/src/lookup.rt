@@ -35,17 +35,17 @@ impl<D: Device> Fs<D> {
         ensures { LooksUpIn (fs_of self.now).volume.limits (fs_of self.now).volume.tree
             cred.now directory name.now result }
     {
-        let Some(card) = self.volume.node(directory) else {
+        let Some(cached) = self.volume.node(directory) else {
             return Err(Status::Stale);
         };
-        if !is_directory(card) {
+        if !is_directory(cached) {
             return Err(Status::NotDir);
         }
         check_name(name, self.volume.limits())?;
-        if !grants(card, cred, Mask::EXECUTE) {
+        if !grants(cached, cred, Mask::EXECUTE) {
             return Err(Status::Access);
         }
-        let Some((_, number)) = card.names.get(name) else {
+        let Some((_, number)) = cached.names.get(name) else {
             return Err(Status::NoEnt);
         };
         Ok(number)

@@ -40,13 +40,13 @@ impl<D: Device> Fs<D> {
         ensures { IsParent (fs_of self.now).volume.limits (fs_of self.now).volume.tree
             cred.now directory result }
     {
-        let Some(card) = self.volume.node(directory) else {
+        let Some(cached) = self.volume.node(directory) else {
             return Err(Status::Stale);
         };
-        if !is_directory(card) {
+        if !is_directory(cached) {
             return Err(Status::NotDir);
         }
-        if !grants(card, cred, Mask::EXECUTE) {
+        if !grants(cached, cred, Mask::EXECUTE) {
             return Err(Status::Access);
         }
         if directory == ROOT {

@@ -47,10 +47,10 @@ impl<D: Device> Fs<D> {
     ghost use Rattle.model.specs.Trees.Stamp.{next_stamp};
     ghost use Rattle.model.specs.Operations.Step.{State};
     ghost use Rattle.model.specs.Trees.Tree.{Node};
-    ghost use Rattle.set_attributes.specs.Given.{given_of, AreSettings, AreWithin, IsChecked, IsCheckedInMemory};
+    ghost use Rattle.set_attributes.specs.Given.{given_of, AreSettings, WithinLimits, IsChecked, IsCheckedInMemory};
     ghost use Rattle.fs.specs.OnTree.{new_directory_refusals};
     ghost use Rattle.fs.specs.Changes.{fs_ending};
-    ghost use Rattle.fs.specs.Views.{fs_of, Alters};
+    ghost use Rattle.fs.specs.Views.{fs_of, AltersFs};
     ghost use Rattle.fs.specs.Operations.{IsOn, MakesDir, MakesDirBy, MakesTree, IsNotDone, new_directory};
     ghost use Rattle.fs.specs.Making.{IsDirectoryOf, IsSizeOf, MayBeMade, first_node, room_tests};
     ghost use Rattle.fs.specs.Making.{tree_with};
@@ -80,7 +80,7 @@ impl<D: Device> Fs<D> {
         ensures step { (state : State) → IsOn (fs_of self.old) cred.now asked.entry.parent state
             → MakesDir D.keeps_word (fs_of self.old) (fs_of self.new) state now
             asked.entry.name.now (given_of asked.entry.attributes) result }
-        ensures volume { Alters self.old self.new
+        ensures volume { AltersFs self.old self.new
             (MakesTree (fs_of self.old) cred.now asked.entry.parent now
             (new_directory asked.entry.name.now (given_of asked.entry.attributes)))
             (fs_ending result) }
@@ -157,7 +157,7 @@ impl<D: Device> Fs<D> {
         ensures settings { IfOk result (λ permitted.
             AreSettings permitted.1 (given_of asked.entry.attributes)) }
         ensures within { IfOk result (λ permitted.
-            AreWithin (fs_of self.entry.now).volume.limits NodeKind.Directory permitted.1) }
+            WithinLimits (fs_of self.entry.now).volume.limits NodeKind.Directory permitted.1) }
     {
         let Some(parent) = self.volume.node(asked.parent) else {
             return Err(NotDone::Status(Status::Stale));
@@ -248,7 +248,7 @@ impl<D: Device> Fs<D> {
         stamp: u64,
         now: u64,
     ) -> Result<Shown, AllocError>
-        requires within { AreWithin (fs_of self.now).volume.limits kind settings }
+        requires within { WithinLimits (fs_of self.now).volume.limits kind settings }
         requires listed { IsList (fs_of self.now).volume.limits NodeKind.Directory
             parent.now.fields.acl }
         ensures shown { IfOk result (λ child. shown_of child

@@ -14,10 +14,10 @@ use disk::Device;
 use node_table::CachedNode;
 
 /// Whether a node is a directory.
-pub(crate) fn is_directory(card: &CachedNode) -> bool
-    ensures { IsTrue result ↔ (card.now.fields.kind ≡ kind.Directory) }
+pub(crate) fn is_directory(cached: &CachedNode) -> bool
+    ensures { IsTrue result ↔ (cached.now.fields.kind ≡ kind.Directory) }
 {
-    matches!(card.inode.kind, NodeKind::Directory)
+    matches!(cached.inode.kind, NodeKind::Directory)
 }
 
 #[tactic(auto, unfolding(crate::specs::Views::fs_of))]
@@ -34,7 +34,7 @@ impl<D: Device> Fs<D> {
         ensures { result ≡ is_directory_at (fs_of self.now).volume.tree number }
     {
         match self.volume.node(number) {
-            Some(card) => is_directory(card),
+            Some(cached) => is_directory(cached),
             None => false,
         }
     }
@@ -45,11 +45,11 @@ impl<D: Device> Fs<D> {
         ensures { option_map (λ found. record_from found.0 name.now found.1) result
             ≡ entry_of name.now (names_at (fs_of self.now).volume.tree directory) }
     {
-        let card = self.volume.node(directory)?;
-        if !is_directory(card) {
+        let cached = self.volume.node(directory)?;
+        if !is_directory(cached) {
             return None;
         }
-        card.names.get(name)
+        cached.names.get(name)
     }
 
     /// Whether there is a directory of this number, with names.
@@ -57,7 +57,7 @@ impl<D: Device> Fs<D> {
         ensures { result ≡ has_names (fs_of self.now).volume.tree number }
     {
         match self.volume.node(number) {
-            Some(card) => is_directory(card) && card.names.count() > 0,
+            Some(cached) => is_directory(cached) && cached.names.count() > 0,
             None => false,
         }
     }

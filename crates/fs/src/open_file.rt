@@ -38,13 +38,13 @@ impl<D: Device> Fs<D> {
     ghost use Rattle.model.specs.Operations.Refusal.{first_refusal};
     ghost use Rattle.model.specs.Trees.Stamp.{is_stamp_left};
     ghost use Rattle.model.specs.Operations.Step.{State};
-    ghost use Rattle.set_attributes.specs.Given.{given_of, AreSettings, AreWithin, IsChecked, IsCheckedInMemory};
+    ghost use Rattle.set_attributes.specs.Given.{given_of, AreSettings, WithinLimits, IsChecked, IsCheckedInMemory};
     ghost use Rattle.fs.specs.Changes.{fs_ending};
-    ghost use Rattle.fs.specs.Views.{fs_of, Alters};
+    ghost use Rattle.fs.specs.Views.{fs_of, AltersFs};
     ghost use Rattle.fs.specs.Making.{IsDirectoryOf, room_tests};
     ghost use Rattle.fs.specs.OnTree.{IsState};
-    ghost use Rattle.fs.specs.Opening.{IsOpened, IsOpening, IsPlaced, LeadsTo, OpensAsPlanned, OpensFile, OpensTree};
-    ghost use Rattle.fs.specs.Opening.{file_tests, has_room, place_tests, tree_cut, type_of};
+    ghost use Rattle.fs.specs.Opening.{IsOpened, IsOpening, IsPlaced, NameLeadsTo, OpensAsPlanned, OpensFile, OpensTree};
+    ghost use Rattle.fs.specs.Opening.{file_tests, has_open_room, place_tests, tree_cut, type_of};
     ghost use Rattle.fs.specs.Operations.{IsOn, IsNotDone};
     ghost use Rattle.fs.specs.Planned.{IsPlanned};
     ghost use Rattle.fs.specs.Refusals.{MindsRoom, fault_of};
@@ -80,13 +80,13 @@ impl<D: Device> Fs<D> {
             → IsOpening (fs_of self.old) state asked.entry is_full arguments
             → OpensFile D.keeps_word (fs_of self.old) (fs_of self.new) state now asked.entry
             arguments result }
-        ensures volume { Alters self.old self.new
+        ensures volume { AltersFs self.old self.new
             (OpensTree (fs_of self.old) cred.now now asked.entry is_full) (fs_ending result) }
         // Opened
         ensures opened { IfOk result (IsOpened (fs_of self.old) asked.entry) }
         ensures full { OnOk result (is_full ≡ false) }
         // Room, and refusals
-        ensures room { MindsRoom (has_room (fs_of self.old) asked.entry room)
+        ensures room { MindsRoom (has_open_room (fs_of self.old) asked.entry room)
             (fs_of self.old).volume.is_down result }
     {
         if self.is_down() {
@@ -146,23 +146,23 @@ impl<D: Device> Fs<D> {
             → arguments.deny ≡ asked.entry.share.deny
             → IsChecked (place_tests (fs_of self.entry.now).volume.limits state arguments
             asked.entry.name.now) result }
-        ensures directory { IfOk result (λ card.
-            IsDirectoryOf (fs_of self.entry.now).volume.tree asked.entry.directory card.now) }
+        ensures directory { IfOk result (λ cached.
+            IsDirectoryOf (fs_of self.entry.now).volume.tree asked.entry.directory cached.now) }
         ensures name { OnOk result (first_refusal (name_refusals
             (fs_of self.entry.now).volume.limits asked.entry.name.now) ≡ None) }
     {
-        let Some(card) = self.volume.node(asked.directory) else {
+        let Some(cached) = self.volume.node(asked.directory) else {
             return Err(Status::Stale);
         };
         check_share(asked.share)?;
-        if !is_directory(card) {
+        if !is_directory(cached) {
             return Err(Status::NotDir);
         }
         check_name(asked.name, self.volume.limits())?;
-        if !grants(card, cred, Mask::EXECUTE) {
+        if !grants(cached, cred, Mask::EXECUTE) {
             return Err(Status::Access);
         }
-        Ok(card)
+        Ok(cached)
     }
 
     /// An open of the file that the name leads to, after the tests of its place.
@@ -179,7 +179,7 @@ impl<D: Device> Fs<D> {
         requires few { length (given_by (type_of asked.how)).bitmap ≤ 8 }
         requires directory { IsDirectoryOf (fs_of self.now).volume.tree asked.directory
             directory.now }
-        requires leads { LeadsTo (fs_of self.now).volume.tree asked.directory asked.name.now
+        requires leads { NameLeadsTo (fs_of self.now).volume.tree asked.directory asked.name.now
             number }
         ensures planned { IfOk result (λ planned. MatchOption planned.edits ⊤ (λ edits.
             IsPlanned (fs_of self.now) edits.items)) }
@@ -196,7 +196,7 @@ impl<D: Device> Fs<D> {
             → IfErr result (λ refusal. IsNotDone (fs_of self.now) state now
             (Argument.Open arguments) (fault_of refusal)) }
     {
-        let (card, is_cut) = self.permit_known(cred, asked, number)?;
+        let (cached, is_cut) = self.permit_known(cred, asked, number)?;
         if is_full {
             return Err(NotDone::Status(Status::Delay));
         }
@@ -215,7 +215,7 @@ impl<D: Device> Fs<D> {
                 },
             });
         }
-        let edits = self.plan_cut(card, number, now)?;
+        let edits = self.plan_cut(cached, number, now)?;
         Ok(Planned {
             edits: Some(edits),
             opened: Opened {
@@ -234,7 +234,7 @@ impl<D: Device> Fs<D> {
         number: u64,
     ) -> Result<(&CachedNode, bool), NotDone>
         requires few { length (given_by (type_of asked.how)).bitmap ≤ 8 }
-        requires leads { LeadsTo (fs_of self.now).volume.tree asked.directory asked.name.now
+        requires leads { NameLeadsTo (fs_of self.now).volume.tree asked.directory asked.name.now
             number }
         // Its tests, in their order
         ensures tests { (state : State)
@@ -249,29 +249,29 @@ impl<D: Device> Fs<D> {
         ensures cut { IfOk result (λ found. found.1 ≡ cuts (type_of asked.entry.how)) }
     {
         // a name leads to a node always
-        let Some(card) = self.volume.node(number) else {
+        let Some(cached) = self.volume.node(number) else {
             return Err(NotDone::Memory);
         };
-        let is_cut = self.check_known(card, asked.how)?;
-        if !may_open(card, cred, asked.share.access, is_cut) {
+        let is_cut = self.check_known(cached, asked.how)?;
+        if !may_open(cached, cred, asked.share.access, is_cut) {
             return Err(NotDone::Status(Status::Access));
         }
-        Ok((card, is_cut))
+        Ok((cached, is_cut))
     }
 
     /// The tests of a node that is there, before those of rights, and whether it is to be cut: it
     /// is a file, and may be there.
-    fn check_known(&self, card: &CachedNode, how: How<'_>) -> Result<bool, NotDone>
+    fn check_known(&self, cached: &CachedNode, how: How<'_>) -> Result<bool, NotDone>
         requires few { length (given_by (type_of how)).bitmap ≤ 8 }
         ensures tests { (state : State) (number : _) → state.tree ≡ (fs_of self.now).volume.tree
-            → IsNodeOf state.tree number card.now → IsCheckedInMemory (known_refusals
+            → IsNodeOf state.tree number cached.now → IsCheckedInMemory (known_refusals
             (fs_of self.now).volume.limits state number (type_of how.entry)) result }
-        ensures file { OnOk result (card.now.fields.kind ≡ kind.File) }
+        ensures file { OnOk result (cached.now.fields.kind ≡ kind.File) }
         ensures cut { IfOk result (λ is_cut. is_cut ≡ cuts (type_of how.entry)) }
     {
         match how {
             How::Guarded(_) => Err(NotDone::Status(Status::Exist)),
-            _ if is_directory(card) => Err(NotDone::Status(Status::IsDir)),
+            _ if is_directory(cached) => Err(NotDone::Status(Status::IsDir)),
             How::NoCreate => Ok(false),
             How::Unchecked(given) => self.check_cut(given),
         }
@@ -296,7 +296,7 @@ impl<D: Device> Fs<D> {
         ensures settings { IfOk result (λ settings.
             AreSettings settings (given_of given.entry)) }
         ensures within { IfOk result (λ settings.
-            AreWithin (fs_of self.now).volume.limits kind.File settings) }
+            WithinLimits (fs_of self.now).volume.limits kind.File settings) }
     {
         check_attributes(
             self.alloc,
@@ -311,14 +311,14 @@ impl<D: Device> Fs<D> {
     /// SERVERFAULT.
     fn plan_cut<'a>(
         &self,
-        card: &CachedNode,
+        cached: &CachedNode,
         number: u64,
         now: u64,
     ) -> Result<Vec<Edit<'a>>, NotDone>
         requires up { (fs_of self.now).volume.is_down ≡ false }
-        requires node { IsNodeOf (fs_of self.now).volume.tree number card.now }
-        requires file { card.now.fields.kind ≡ kind.File }
-        requires fit { IsCard card.now }
+        requires node { IsNodeOf (fs_of self.now).volume.tree number cached.now }
+        requires file { cached.now.fields.kind ≡ kind.File }
+        requires fit { IsCard cached.now }
         // Its tests, in their order
         ensures tests { IsCheckedInMemory (room_tests (fs_of self.now)
             (tree_cut (fs_of self.now) number now)) result }
@@ -332,7 +332,7 @@ impl<D: Device> Fs<D> {
         let Some(stamp) = self.stamp_left() else {
             return Err(self.refuse_last_size(number, Some(0)));
         };
-        let shown = metadata_with_change(card, stamp, now)?;
+        let shown = metadata_with_change(cached, stamp, now)?;
         let edits = set_edits(self.alloc, number, Some(0), shown)?;
         if !self.volume.fits(&edits) {
             return Err(NotDone::Status(Status::NoSpc));
@@ -418,7 +418,7 @@ impl<D: Device> Fs<D> {
         ensures settings { IfOk result (λ settings.
             AreSettings settings (given_by (type_of asked.entry.how))) }
         ensures within { IfOk result (λ settings.
-            AreWithin (fs_of self.now).volume.limits kind.File settings) }
+            WithinLimits (fs_of self.now).volume.limits kind.File settings) }
     {
         let settings = self.check_new(asked.how)?;
         if !grants(directory, cred, Mask::WRITE_DATA) {
@@ -435,7 +435,7 @@ impl<D: Device> Fs<D> {
         ensures settings { IfOk result (λ settings.
             AreSettings settings (given_by (type_of how.entry))) }
         ensures within { IfOk result (λ settings.
-            AreWithin (fs_of self.now).volume.limits kind.File settings) }
+            WithinLimits (fs_of self.now).volume.limits kind.File settings) }
     {
         match how {
             How::NoCreate => Err(NotDone::Status(Status::NoEnt)),

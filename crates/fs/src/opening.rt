@@ -116,13 +116,13 @@ pub(crate) fn check_share(share: Share) -> Result<(), Status>
 
 /// Whether a caller has the rights that an open asks for on its file: to read it, and to write it,
 /// which a cut asks for too.
-pub(crate) fn may_open(card: &CachedNode, cred: &Cred, access: u32, is_cut: bool) -> bool
-    ensures { result ≡ may_use card.now.fields cred.now access is_cut }
+pub(crate) fn may_open(cached: &CachedNode, cred: &Cred, access: u32, is_cut: bool) -> bool
+    ensures { result ≡ may_use cached.now.fields cred.now access is_cut }
 {
     let reads = access & READ != 0;
     let writes = is_cut || access & WRITE != 0;
-    (!reads || grants(card, cred, Mask::READ_DATA))
-        && (!writes || grants(card, cred, Mask::WRITE_DATA))
+    (!reads || grants(cached, cred, Mask::READ_DATA))
+        && (!writes || grants(cached, cred, Mask::WRITE_DATA))
 }
 
 #[tactic(auto, unfolding(crate::specs::Views::fs_of))]
@@ -199,17 +199,17 @@ impl<D: Device> Fs<D> {
             → creates how ≡ is_create
             → IsChecked (handle_tests state arguments how) result }
     {
-        let Some(card) = self.volume.node(number) else {
+        let Some(cached) = self.volume.node(number) else {
             return Err(Status::Stale);
         };
         check_share(share)?;
         if is_create {
             return Err(Status::Inval);
         }
-        if is_directory(card) {
+        if is_directory(cached) {
             return Err(Status::IsDir);
         }
-        if !may_open(card, cred, share.access, false) {
+        if !may_open(cached, cred, share.access, false) {
             return Err(Status::Access);
         }
         Ok(())

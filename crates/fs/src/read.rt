@@ -25,9 +25,9 @@ impl<D: Device> Fs<D> {
     ghost use Rattle.model.specs.Operations.Step.{State};
     ghost use Rattle.set_attributes.specs.Given.{IsChecked};
     ghost use Rattle.fs.specs.Files.{IsVerdict, permit_refusals};
-    ghost use Rattle.fs.specs.Views.{fs_of, Alters};
+    ghost use Rattle.fs.specs.Views.{fs_of, AltersFs};
     ghost use Rattle.fs.specs.Operations.{IsOn};
-    ghost use Rattle.fs.specs.Reading.{Reads, part_at, read_operation, reading_ending};
+    ghost use Rattle.fs.specs.Reading.{ReadsFile, part_at, read_operation, reading_ending};
     ghost use Rattle.fs.specs.Verdicts.{IsPossible};
     ghost use Rattle.volume.specs.Changes.{IsTree};
     ghost use Rattle.volume.specs.Reading.{HasFile};
@@ -55,13 +55,13 @@ impl<D: Device> Fs<D> {
         ensures step { (state : State) (now : ℕ) (stateid : StateId)
             → IsOn (fs_of self.old) cred.now number state
             → IsVerdict state read_access stateid verdict
-            → Reads (fs_of self.old) state now (read_operation stateid offset count)
+            → ReadsFile (fs_of self.old) state now (read_operation stateid offset count)
             (part_at (fs_of self.old) number offset count) result }
         ensures bytes { D.keeps_word → OnOk result (out.new.items
             ≡ out.old.items ++ part_at (fs_of self.old) number offset count) }
         ensures err { OnErr result (out.new.items ≡ out.old.items) }
         // It only reads, and that where there is something to read
-        ensures volume { Alters self.old self.new
+        ensures volume { AltersFs self.old self.new
             (IsTree (fs_of self.old).volume (fs_of self.old).volume.tree) (reading_ending result) }
         ensures nothing { (IsErrOf result FsFault.Memory ⊎ IsErrOf result FsFault.Device)
             → 0 < length (part_at (fs_of self.old) number offset count) }

@@ -53,7 +53,7 @@ impl<D: Device> Fs<D> {
     ghost use Rattle.model.specs.Trees.Tree.{entry_of, names_at};
     ghost use Rattle.set_attributes.specs.Given.{IsChecked};
     ghost use Rattle.fs.specs.Changes.{fs_ending};
-    ghost use Rattle.fs.specs.Views.{fs_of, Alters};
+    ghost use Rattle.fs.specs.Views.{fs_of, AltersFs};
     ghost use Rattle.fs.specs.Operations.{IsOn, MakesTree, IsNotDone};
     ghost use Rattle.fs.specs.Planned.{IsPlanned};
     ghost use Rattle.fs.specs.Refusals.{MindsRoom, fault_of};
@@ -82,7 +82,7 @@ impl<D: Device> Fs<D> {
             → Removes D.keeps_word (fs_of self.old) (fs_of self.new) state now name.now result }
         ensures gone { IfOk result (λ removed. removed.number
             ≡ number_named (fs_of self.old).volume.tree directory name.now) }
-        ensures volume { Alters self.old self.new
+        ensures volume { AltersFs self.old self.new
             (MakesTree (fs_of self.old) cred.now directory now (Argument.Remove name.now))
             (fs_ending result) }
         // Room, and refusals
@@ -165,24 +165,24 @@ impl<D: Device> Fs<D> {
             entry_of name.now (names_at (fs_of self.entry.now).volume.tree directory)
             ≡ Some (record_from removal.stamp name.now removal.number)) }
     {
-        let Some(card) = self.volume.node(directory) else {
+        let Some(cached) = self.volume.node(directory) else {
             return Err(Status::Stale);
         };
-        if !is_directory(card) {
+        if !is_directory(cached) {
             return Err(Status::NotDir);
         }
         check_name(name, self.volume.limits())?;
-        let Some((stamp, number)) = card.names.get(name) else {
+        let Some((stamp, number)) = cached.names.get(name) else {
             return Err(Status::NoEnt);
         };
-        if !self.may_remove(cred, card, number) {
+        if !self.may_remove(cred, cached, number) {
             return Err(Status::Access);
         }
         if self.has_names(number) {
             return Err(Status::NotEmpty);
         }
         Ok(Removal {
-            directory: card,
+            directory: cached,
             stamp,
             number,
         })

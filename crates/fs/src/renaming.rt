@@ -141,14 +141,14 @@ impl<D: Device> Fs<D> {
     ghost use Rattle.model.specs.Trees.Tree.{is_directory_at};
     ghost use Rattle.set_attributes.specs.Given.{IsChecked};
     ghost use Rattle.fs.specs.Changes.{fs_ending};
-    ghost use Rattle.fs.specs.Views.{fs_of, Alters};
+    ghost use Rattle.fs.specs.Views.{fs_of, AltersFs};
     ghost use Rattle.fs.specs.Making.{IsDirectoryOf};
     ghost use Rattle.fs.specs.Operations.{IsNotDone};
     ghost use Rattle.fs.specs.Planned.{IsPlanned};
     ghost use Rattle.fs.specs.Refusals.{MindsRoom, fault_of};
     ghost use Rattle.fs.specs.Renaming.{IsOnBoth, Renames, RenamesAsPlanned, RenamesTree, arguments_of, replaced_in};
     ghost use Rattle.fs.specs.Renaming.{IsMoved, is_itself, number_under};
-    ghost use Rattle.fs.specs.RenameTests.{HasMoved, IsTarget, directory_refusals};
+    ghost use Rattle.fs.specs.RenameTests.{FindsMoving, IsTarget, directory_refusals};
     ghost use Rattle.fs.specs.RenameTests.{moving_refusals, placing_refusals};
     ghost use Rattle.fs.specs.RenameTests.{is_in_the_way, may_rename, may_replace};
 
@@ -181,7 +181,7 @@ impl<D: Device> Fs<D> {
         ensures replaced { IfOk result (λ renamed. renamed.replaced
             ≡ replaced_in (fs_of self.old).volume.tree asked.entry.from asked.entry.to
             (arguments_of asked.entry)) }
-        ensures volume { Alters self.old self.new
+        ensures volume { AltersFs self.old self.new
             (RenamesTree (fs_of self.old) cred.now asked.entry.from asked.entry.to now
             (arguments_of asked.entry)) (fs_ending result) }
         // Room, and refusals
@@ -253,7 +253,7 @@ impl<D: Device> Fs<D> {
             (fs_of self.entry.now).volume.tree asked.entry.from asked.entry.to
             (arguments_of asked.entry)) result }
         ensures moved { IfOk result (λ moving.
-            HasMoved (fs_of self.entry.now).volume.tree asked.entry moving) }
+            FindsMoving (fs_of self.entry.now).volume.tree asked.entry moving) }
     {
         let (from, to) = self.both_directories(asked)?;
         let limits = self.volume.limits();
@@ -302,7 +302,7 @@ impl<D: Device> Fs<D> {
         moving: Moving<'_>,
     ) -> Result<Planned<'a>, NotDone>
         requires up { (fs_of self.now).volume.is_down ≡ false }
-        requires moved { HasMoved (fs_of self.now).volume.tree asked moving }
+        requires moved { FindsMoving (fs_of self.now).volume.tree asked moving }
         requires passed { first_refusal (moving_refusals (fs_of self.now).volume.limits
             (fs_of self.now).volume.tree asked.from asked.to (arguments_of asked)) ≡ None }
         requires other { is_itself asked.from asked.to (arguments_of asked) ≡ false }
@@ -359,7 +359,7 @@ impl<D: Device> Fs<D> {
         moving: Moving<'_>,
         target: Option<(u64, u64)>,
     ) -> Result<(), Status>
-        requires moved { HasMoved (fs_of self.now).volume.tree asked moving }
+        requires moved { FindsMoving (fs_of self.now).volume.tree asked moving }
         requires target { IsTarget (fs_of self.now).volume.tree asked target }
         ensures { IsChecked (placing_refusals (fs_of self.now).volume.tree cred.now
             asked.entry.from asked.entry.to (arguments_of asked.entry)) result }
@@ -404,7 +404,7 @@ impl<D: Device> Fs<D> {
         target: Option<(u64, u64)>,
         moves_directory: bool,
     ) -> bool
-        requires moved { HasMoved (fs_of self.now).volume.tree asked moving }
+        requires moved { FindsMoving (fs_of self.now).volume.tree asked moving }
         requires target { IsTarget (fs_of self.now).volume.tree asked target }
         requires kind { moves_directory
             ≡ is_directory_at (fs_of self.now).volume.tree moving.number }

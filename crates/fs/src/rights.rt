@@ -12,11 +12,11 @@ use disk::Device;
 use node_table::CachedNode;
 
 /// Whether the list of a node grants a caller these rights.
-pub(crate) fn grants(card: &CachedNode, cred: &Cred, mask: Mask) -> bool
-    ensures { result ≡ granted card.now.fields.acl
-        card.now.fields.owner card.now.fields.group cred.now mask.0 }
+pub(crate) fn grants(cached: &CachedNode, cred: &Cred, mask: Mask) -> bool
+    ensures { result ≡ granted cached.now.fields.acl
+        cached.now.fields.owner cached.now.fields.group cred.now mask.0 }
 {
-    let inode = &card.inode;
+    let inode = &cached.inode;
     acl_eval::granted(inode.acl.as_slice(), inode.owner, inode.group, cred, mask)
 }
 
@@ -30,7 +30,7 @@ impl<D: Device> Fs<D> {
             directory.now.fields.group cred.now delete_child) }
     {
         let own = match self.volume.node(number) {
-            Some(card) => grants(card, cred, Mask::DELETE),
+            Some(cached) => grants(cached, cred, Mask::DELETE),
             None => false,
         };
         own || grants(directory, cred, Mask::DELETE_CHILD)

@@ -36,16 +36,16 @@ pub struct Setting<'a> {
 }
 
 /// Whether a caller has the rights to set attributes of these numbers on a node.
-fn may_set(card: &CachedNode, cred: &Cred, attributes: &[u32]) -> bool
-    ensures { result ≡ may_set (granted card.now.fields.acl card.now.fields.owner
-        card.now.fields.group cred.now) attributes.now }
+fn may_set(cached: &CachedNode, cred: &Cred, attributes: &[u32]) -> bool
+    ensures { result ≡ may_set (granted cached.now.fields.acl cached.now.fields.owner
+        cached.now.fields.group cred.now) attributes.now }
 {
     let sizes = is_among(attributes, SIZE);
     let lists = is_among(attributes, MODE) || is_among(attributes, ACL);
     let owners = is_among(attributes, OWNER) || is_among(attributes, OWNER_GROUP);
-    (!sizes || grants(card, cred, Mask::WRITE_DATA))
-        && (!lists || grants(card, cred, Mask::WRITE_ACL))
-        && (!owners || grants(card, cred, Mask::WRITE_OWNER))
+    (!sizes || grants(cached, cred, Mask::WRITE_DATA))
+        && (!lists || grants(cached, cred, Mask::WRITE_ACL))
+        && (!owners || grants(cached, cred, Mask::WRITE_OWNER))
 }
 
 /// The tests of a size that is set, where one is: ISDIR of a directory, and the verdict's refusal.
@@ -75,10 +75,10 @@ impl<D: Device> Fs<D> {
     ghost use Rattle.model.specs.Attributes.Attribute.{is_empty};
     ghost use Rattle.model.specs.Operations.Operation.{Argument, SetAttrArguments};
     ghost use Rattle.model.specs.Operations.Step.{State};
-    ghost use Rattle.set_attributes.specs.Given.{given_of, AreSettings, AreWithin};
+    ghost use Rattle.set_attributes.specs.Given.{given_of, AreSettings, WithinLimits};
     ghost use Rattle.set_attributes.specs.Given.{IsCheckedInMemory};
     ghost use Rattle.fs.specs.Changes.{fs_ending};
-    ghost use Rattle.fs.specs.Views.{fs_of, Alters};
+    ghost use Rattle.fs.specs.Views.{fs_of, AltersFs};
     ghost use Rattle.fs.specs.Operations.{IsOn, IsNotDone};
     ghost use Rattle.fs.specs.Planned.{IsList, IsPlanned};
     ghost use Rattle.fs.specs.Refusals.{MindsRoom, fault_of};
@@ -114,7 +114,7 @@ impl<D: Device> Fs<D> {
             → IsSetting state asked.entry arguments
             → SetsAttributes D.keeps_word (fs_of self.old) (fs_of self.new) state now arguments
             result }
-        ensures volume { Alters self.old self.new
+        ensures volume { AltersFs self.old self.new
             (SetsTree (fs_of self.old) cred.now now asked.entry) (fs_ending result) }
         // Room, and refusals
         ensures room { MindsRoom has_room (fs_of self.old).volume.is_down result }
@@ -156,7 +156,7 @@ impl<D: Device> Fs<D> {
             → IfErr result (λ refusal. IsNotDone (fs_of self.now) state now
             (Argument.SetAttr arguments) (fault_of refusal)) }
     {
-        let (card, settings) = self.permit_setting(cred, asked)?;
+        let (cached, settings) = self.permit_setting(cred, asked)?;
         if settings.is_empty {
             return Ok(None);
         }
@@ -164,7 +164,7 @@ impl<D: Device> Fs<D> {
         let Some(stamp) = self.stamp_left() else {
             return Err(self.refuse_last_size(asked.number, size));
         };
-        let shown = self.shown_set(card, settings, stamp, now)?;
+        let shown = self.shown_set(cached, settings, stamp, now)?;
         let edits = set_edits(self.alloc, asked.number, size, shown)?;
         if !self.volume.fits(&edits) {
             return Err(NotDone::Status(Status::NoSpc));
@@ -189,43 +189,44 @@ impl<D: Device> Fs<D> {
         ensures fit { IfOk result (λ permitted. IsCard permitted.0.now) }
         ensures settings { IfOk result (λ permitted.
             AreSettings permitted.1 (given_of asked.entry.attributes)) }
-        ensures within { IfOk result (λ permitted. AreWithin
+        ensures within { IfOk result (λ permitted. WithinLimits
             (fs_of self.entry.now).volume.limits permitted.0.now.fields.kind permitted.1) }
     {
-        let Some(card) = self.volume.node(asked.number) else {
+        let Some(cached) = self.volume.node(asked.number) else {
             return Err(NotDone::Status(Status::Stale));
         };
         let settings = check_attributes(
             self.alloc,
             self.volume.limits(),
-            card.inode.kind,
+            cached.inode.kind,
             &SETTABLE_AT_SETATTR,
             asked.attributes,
         )?;
-        check_sized(settings.size.is_some(), is_directory(card), asked.verdict)?;
+        check_sized(settings.size.is_some(), is_directory(cached), asked.verdict)?;
         let attributes = numbers_of(self.alloc, asked.attributes.bitmap)?;
-        if !may_set(card, cred, &attributes) {
+        if !may_set(cached, cred, &attributes) {
             return Err(NotDone::Status(Status::Access));
         }
-        Ok((card, settings))
+        Ok((cached, settings))
     }
 
     /// What a node shows with these settings, which passed their tests.
     fn shown_set(
         &self,
-        card: &CachedNode,
+        cached: &CachedNode,
         settings: Settings,
         stamp: u64,
         now: u64,
     ) -> Result<Shown, AllocError>
-        requires within { AreWithin (fs_of self.now).volume.limits card.now.fields.kind settings }
-        requires listed { IsList (fs_of self.now).volume.limits card.now.fields.kind
-            card.now.fields.acl }
+        requires within { WithinLimits (fs_of self.now).volume.limits cached.now.fields.kind
+            settings }
+        requires listed { IsList (fs_of self.now).volume.limits cached.now.fields.kind
+            cached.now.fields.acl }
         ensures shown { IfOk result (λ shown.
-            shown_of shown ≡ shown_with card.now.fields settings stamp now) }
+            shown_of shown ≡ shown_with cached.now.fields settings stamp now) }
         ensures entries { IfOk result (λ shown. AreEntries (shown_of shown).acl) }
     {
-        let inode = &card.inode;
+        let inode = &cached.inode;
         let owner = settings.owner.unwrap_or(inode.owner);
         let group = settings.group.unwrap_or(inode.group);
         let time_modify = if settings.size.is_some() {

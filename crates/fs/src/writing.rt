@@ -27,15 +27,15 @@ impl<D: Device> Fs<D> {
     ghost use Rattle.model.specs.Trees.Stamp.{is_stamp_left};
     ghost use Rattle.model.specs.Operations.Step.{State};
     ghost use Rattle.fs.specs.Changes.{fs_ending};
-    ghost use Rattle.fs.specs.Views.{fs_of, Alters};
+    ghost use Rattle.fs.specs.Views.{fs_of, AltersFs};
     ghost use Rattle.fs.specs.Operations.{IsOn, IsNotDone};
     ghost use Rattle.fs.specs.Planned.{IsPlanned};
     ghost use Rattle.fs.specs.Refusals.{MindsRoom, fault_of};
     ghost use Rattle.fs.specs.Verdicts.{IsPossible};
-    ghost use Rattle.fs.specs.Writing.{Commits, IsPut, IsWriting, Writes, WritesBy, WritesTree, bytes_taken};
+    ghost use Rattle.fs.specs.Writing.{Commits, IsWrittenTree, IsWriting, Writes, WritesBy, WritesTree, bytes_taken};
     ghost use Rattle.volume.specs.Changes.{IsTree};
     ghost use Rattle.volume.specs.Edits.{edited_by};
-    ghost use Rattle.volume.specs.Formed.{Shows};
+    ghost use Rattle.volume.specs.Formed.{ShowsTree};
 
     /// WRITE (RFC 8881, section 18.32) to the file of this number, by this caller at this moment,
     /// in nanoseconds since 1970: the first bytes, as many as one WRITE takes; answers how many.
@@ -65,7 +65,7 @@ impl<D: Device> Fs<D> {
             → Writes D.keeps_word (fs_of self.old) (fs_of self.new) state now arguments result }
         ensures count { IfOk result (λ count.
             count ≡ length (bytes_taken (fs_of self.old) asked.entry)) }
-        ensures volume { Alters self.old self.new
+        ensures volume { AltersFs self.old self.new
             (WritesTree (fs_of self.old) cred.now number now verdict asked.entry)
             (fs_ending result) }
         // Room, and refusals
@@ -118,7 +118,7 @@ impl<D: Device> Fs<D> {
             → ¬ IsErrOf result NotDone.Memory }
     {
         let part = self.taken(asked.bytes);
-        let card = self.permit_file(cred, number, verdict, Mask::WRITE_DATA)?;
+        let cached = self.permit_file(cred, number, verdict, Mask::WRITE_DATA)?;
         let Some(offset) = self.place_in_file(asked.offset, part.len()) else {
             return Err(NotDone::Status(Status::FBig));
         };
@@ -129,7 +129,7 @@ impl<D: Device> Fs<D> {
                 bytes: part,
             }]));
         };
-        let shown = metadata_with_change(card, stamp, now)?;
+        let shown = metadata_with_change(cached, stamp, now)?;
         let edits = written_edits(number, offset, part, shown);
         if !self.volume.fits(&edits) {
             return Err(NotDone::Status(Status::NoSpc));
@@ -171,10 +171,10 @@ impl<D: Device> Fs<D> {
         requires up { (fs_of self.old).volume.is_down ≡ false }
         requires planned { IsPlanned (fs_of self.old) edits.now }
         // In any case
-        ensures volume { Alters self.old self.new
-            (IsPut (fs_of self.old).volume edits.now is_stable) (fs_ending result) }
+        ensures volume { AltersFs self.old self.new
+            (IsWrittenTree (fs_of self.old).volume edits.now is_stable) (fs_ending result) }
         // Done
-        ensures shows { OnOk result (Shows D.keeps_word
+        ensures shows { OnOk result (ShowsTree D.keeps_word
             (edited_by (fs_of self.old).volume edits.now) (fs_of self.new).volume.tree) }
         ensures counted { OnOk result ((fs_of self.new).changes ≡ (fs_of self.old).changes + 1) }
         // Refused
@@ -199,7 +199,7 @@ impl<D: Device> Fs<D> {
         ensures step { (state : State) (now : ℕ) (arguments : CommitArguments)
             → IsOn (fs_of self.old) cred.now number state
             → Commits D.keeps_word (fs_of self.old) (fs_of self.new) state now arguments result }
-        ensures volume { Alters self.old self.new
+        ensures volume { AltersFs self.old self.new
             (IsTree (fs_of self.old).volume (fs_of self.old).volume.tree) (fs_ending result) }
         // Room, and refusals
         ensures room { MindsRoom has_room (fs_of self.old).volume.is_down result }

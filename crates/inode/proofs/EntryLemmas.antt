@@ -6,7 +6,7 @@ use Rattle.model.specs.declared.acl.Ace.{Ace}
 use Rattle.model.specs.declared.acl.AceKind.{AceKind}
 use Rattle.model.specs.declared.acl.Who.{Who}
 use Rattle.inode.specs.declared.fault.InodeFault.{InodeFault}
-use Rattle.sector.specs.Placed.{Reads}
+use Rattle.sector.specs.Placed.{IsNumberAt}
 use Rattle.sector.specs.Records.{AreWide}
 use Rattle.inode.specs.Fields.{IsAce, id_of}
 use Rattle.inode.specs.Spelling.{ace_bytes, ace_kind_byte, who_byte, number_bytes}
@@ -43,10 +43,10 @@ module _ (sector : List ℕ) (at : ℕ) (ace : Ace) (rest : List ℕ) (there : d
   pub flags_there : get_or sector (at + 2) 0 ≡ ace.flags.0
   flags_there = byte_there 2
 
-  pub mask_there : (mask : ℕ) → IsAce ace → Reads 4 sector (at + 4) mask → mask ≡ ace.mask.0
+  pub mask_there : (mask : ℕ) → IsAce ace → IsNumberAt 4 sector (at + 4) mask → mask ≡ ace.mask.0
   mask_there mask fits reads = reads ace.mask.0 (to_be_bytes w32 (id_of ace.who) ++ replicate 4 0 ++ rest) fits.mask (sym (drop-drop 4 at sector) ∙ ap (drop 4) there)
 
-  pub id_there : (id : ℕ) → IsAce ace → Reads 4 sector (at + 8) id → id ≡ id_of ace.who
+  pub id_there : (id : ℕ) → IsAce ace → IsNumberAt 4 sector (at + 8) id → id ≡ id_of ace.who
   id_there id fits reads = reads (id_of ace.who) (replicate 4 0 ++ rest) fits.id (sym (drop-drop 8 at sector) ∙ ap (drop 8) there)
 
 -- an entry is its fields

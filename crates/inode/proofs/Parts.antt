@@ -6,7 +6,7 @@ use Rattle.std.proofs.lemmas.List.{length-append, length-replicate, drop-drop, d
 use Rattle.std.proofs.lemmas.Nat.{from_be_bytes-to_be_bytes_2}
 use Rattle.model.specs.declared.node.NodeKind.{NodeKind}
 use Rattle.model.specs.declared.acl.Ace.{Ace}
-use Rattle.sector.specs.Placed.{Reads}
+use Rattle.sector.specs.Placed.{IsNumberAt}
 use Rattle.sector.specs.Records.{length-records}
 use Rattle.inode.specs.declared.node.Form.{Form}
 use Rattle.inode.specs.declared.node.Form.TheVariants.{One, Two}
@@ -39,37 +39,37 @@ unfolding inode_sector
 kind_there One fields sector e = ap (λ (s : List ℕ). get_or s 4 0) e
 kind_there Two fields sector e = ap (λ (s : List ℕ). get_or s 4 0) e
 
-pub runs_there : (form : Form) (fields : Fields) (sector : List ℕ) → sector ≡ inode_sector form fields → IsInode form fields → (n : ℕ) → Reads 2 sector 6 n → n ≡ fields.runs
+pub runs_there : (form : Form) (fields : Fields) (sector : List ℕ) → sector ≡ inode_sector form fields → IsInode form fields → (n : ℕ) → IsNumberAt 2 sector 6 n → n ≡ fields.runs
 unfolding inode_sector
 runs_there One fields sector e fits n reads = reads fields.runs (drop 8 (inode_sector One fields)) (omega (arith, fits.runs)) (ap (drop 6) e)
 runs_there Two fields sector e fits n reads = reads fields.runs (drop 8 (inode_sector Two fields)) (omega (arith, fits.runs)) (ap (drop 6) e)
 
-pub number_there : (form : Form) (fields : Fields) (sector : List ℕ) → sector ≡ inode_sector form fields → IsInode form fields → (n : ℕ) → Reads 8 sector 8 n → n ≡ fields.number
+pub number_there : (form : Form) (fields : Fields) (sector : List ℕ) → sector ≡ inode_sector form fields → IsInode form fields → (n : ℕ) → IsNumberAt 8 sector 8 n → n ≡ fields.number
 unfolding inode_sector
 number_there One fields sector e fits n reads = reads fields.number (drop 16 (inode_sector One fields)) fits.number (ap (drop 8) e)
 number_there Two fields sector e fits n reads = reads fields.number (drop 16 (inode_sector Two fields)) fits.number (ap (drop 8) e)
 
-pub owner_there : (form : Form) (fields : Fields) (sector : List ℕ) → sector ≡ inode_sector form fields → IsInode form fields → (n : ℕ) → Reads 4 sector 16 n → n ≡ fields.owner
+pub owner_there : (form : Form) (fields : Fields) (sector : List ℕ) → sector ≡ inode_sector form fields → IsInode form fields → (n : ℕ) → IsNumberAt 4 sector 16 n → n ≡ fields.owner
 unfolding inode_sector
 owner_there One fields sector e fits n reads = reads fields.owner (drop 20 (inode_sector One fields)) fits.owner (ap (drop 16) e)
 owner_there Two fields sector e fits n reads = reads fields.owner (drop 20 (inode_sector Two fields)) fits.owner (ap (drop 16) e)
 
-pub group_there : (form : Form) (fields : Fields) (sector : List ℕ) → sector ≡ inode_sector form fields → IsInode form fields → (n : ℕ) → Reads 4 sector 20 n → n ≡ fields.group
+pub group_there : (form : Form) (fields : Fields) (sector : List ℕ) → sector ≡ inode_sector form fields → IsInode form fields → (n : ℕ) → IsNumberAt 4 sector 20 n → n ≡ fields.group
 unfolding inode_sector
 group_there One fields sector e fits n reads = reads fields.group (drop 24 (inode_sector One fields)) fits.group (ap (drop 20) e)
 group_there Two fields sector e fits n reads = reads fields.group (drop 24 (inode_sector Two fields)) fits.group (ap (drop 20) e)
 
-pub change_there : (form : Form) (fields : Fields) (sector : List ℕ) → sector ≡ inode_sector form fields → IsInode form fields → (n : ℕ) → Reads 8 sector 24 n → n ≡ fields.change
+pub change_there : (form : Form) (fields : Fields) (sector : List ℕ) → sector ≡ inode_sector form fields → IsInode form fields → (n : ℕ) → IsNumberAt 8 sector 24 n → n ≡ fields.change
 unfolding inode_sector
 change_there One fields sector e fits n reads = reads fields.change (drop 32 (inode_sector One fields)) fits.change (ap (drop 24) e)
 change_there Two fields sector e fits n reads = reads fields.change (drop 32 (inode_sector Two fields)) fits.change (ap (drop 24) e)
 
-pub time_there : (form : Form) (fields : Fields) (sector : List ℕ) → sector ≡ inode_sector form fields → IsInode form fields → (n : ℕ) → Reads 8 sector 32 n → n ≡ fields.time_modify
+pub time_there : (form : Form) (fields : Fields) (sector : List ℕ) → sector ≡ inode_sector form fields → IsInode form fields → (n : ℕ) → IsNumberAt 8 sector 32 n → n ≡ fields.time_modify
 unfolding inode_sector
 time_there One fields sector e fits n reads = reads fields.time_modify (drop 40 (inode_sector One fields)) fits.time_modify (ap (drop 32) e)
 time_there Two fields sector e fits n reads = reads fields.time_modify (drop 40 (inode_sector Two fields)) fits.time_modify (ap (drop 32) e)
 
-pub size_there : (form : Form) (fields : Fields) (sector : List ℕ) → sector ≡ inode_sector form fields → IsInode form fields → (n : ℕ) → Reads 8 sector 40 n → n ≡ fields.size
+pub size_there : (form : Form) (fields : Fields) (sector : List ℕ) → sector ≡ inode_sector form fields → IsInode form fields → (n : ℕ) → IsNumberAt 8 sector 40 n → n ≡ fields.size
 unfolding inode_sector
 size_there One fields sector e fits n reads = reads fields.size (drop 48 (inode_sector One fields)) fits.size (ap (drop 40) e)
 size_there Two fields sector e fits n reads = reads fields.size (drop 48 (inode_sector Two fields)) fits.size (ap (drop 40) e)

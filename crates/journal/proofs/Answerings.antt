@@ -7,7 +7,7 @@ use Rattle.disk.specs.Cause.{IsCounted, HasCause}
 use Rattle.journal.specs.declared.fault.JournalFault.{JournalFault}
 use Rattle.journal.specs.declared.fault.JournalFault.TheVariants as faults
 use Rattle.journal.specs.Phase.{FailsCounted}
-use Rattle.journal.specs.Log.{Log, Answers}
+use Rattle.journal.specs.Log.{Log, AnswersByDevice}
 
 pub counted_of : {T : Type 0} (before after : ℕ) (r : Result T DiskFault) → is_err r ≡ true → HasCause before after r → (IsErrOf r Range → ⊥) → IsCounted before after
 counted_of before after (Ok x) e c n = absurd (let q : false ≡ true = e in cc)
@@ -17,7 +17,7 @@ counted_of before after (Err Memory) e c n = absurd (c.not_memory refl)
 counted_of before after (Err Open) e c n = absurd (c.not_open refl)
 
 pub answers_fault : {T : Type 0} (old new : Log) (before after : ℕ) → old.is_down ≡ false → new.is_down ≡ true → before ≤ after → IsCounted before after
-    → Answers {T = T} old new before after (Err faults.Fault)
+    → AnswersByDevice {T = T} old new before after (Err faults.Fault)
 answers_fault old new before after up down later counted = record {
   down = ((λ e. absurd (let q : faults.Fault ≡ faults.Down = cc in cc)), (λ q. absurd (let r : false ≡ true = sym up ∙ q in cc)));
   untouched = λ e. absurd (let q : faults.Fault ≡ faults.Down = cc in cc);
@@ -28,7 +28,7 @@ answers_fault old new before after up down later counted = record {
   stays_up = λ q n. absurd (n refl);
 }
 
-pub answers_down : {T : Type 0} (log : Log) (count : ℕ) → log.is_down ≡ true → Answers {T = T} log log count count (Err faults.Down)
+pub answers_down : {T : Type 0} (log : Log) (count : ℕ) → log.is_down ≡ true → AnswersByDevice {T = T} log log count count (Err faults.Down)
 answers_down log count down = record {
   down = ((λ e. down), (λ q. refl));
   untouched = λ e. (refl, refl);
@@ -41,7 +41,7 @@ answers_down log count down = record {
 
 -- a call on a journal that is up and stays up
 pub answers_up : {T : Type 0} (old new : Log) (before after : ℕ) (r : Result T JournalFault) → (r ≡ Err faults.Fault → ⊥) → (r ≡ Err faults.Down → ⊥)
-    → old.is_down ≡ false → new.is_down ≡ false → after ≡ before → Answers old new before after r
+    → old.is_down ≡ false → new.is_down ≡ false → after ≡ before → AnswersByDevice old new before after r
 answers_up old new before after r no_fault no_down up stays same = record {
   down = ((λ e. absurd (no_down e)), (λ q. absurd (let w : false ≡ true = sym up ∙ q in cc)));
   untouched = λ e. absurd (no_down e);

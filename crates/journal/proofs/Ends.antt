@@ -1,7 +1,7 @@
 -- What a call leaves, however it answered.
 use Rattle.std.proofs.Common.{◌≤◌, ℕ, List, [], ◌∷◌, length, take, inl, ⊎_elim, arith}
 use Rattle.disk.specs.Moments.{Image, Moment, Left, LeftSince, LeftWithin, moment, seen}
-use Rattle.journal.specs.Laws.{EveryStop, EveryMount}
+use Rattle.journal.specs.Laws.{CrashLeavesFront, EveryMount}
 use Rattle.journal.specs.Log.{StandsForFront, applied_all}
 use Rattle.journal.proofs.Moments.{seen-may_hold}
 use Rattle.journal.proofs.Recovers.{settles_once}
@@ -14,7 +14,7 @@ none_later (m ∷ past) t image l left = ⊎_elim
     (λ (before : LeftWithin past t image). none_later past t image (omega (arith, l)) before)
     left
 
-pub every_stop : EveryStop
+pub every_stop : CrashLeavesFront
 every_stop old new settled adds image left = ⊎_elim
     (λ (before : LeftSince old.history (moment old.history) image). ⊎_elim
     (λ (now : Left old.history.now image). record { count = 0; within = omega arith; settles = settled image now })

@@ -4,7 +4,7 @@ use Rattle.std.specs.List.{range_with_len}
 use Rattle.std.proofs.lemmas.Bool.{cases_eq}
 use Rattle.std.proofs.lemmas.List.FromFn.{get_or-map-range_with_len, length-map-range_with_len}
 use Rattle.disk.specs.declared.update.Update.{Update}
-use Rattle.disk.specs.Moments.{Image, History, LeftSince, MayHold, Among, seen, put, applied}
+use Rattle.disk.specs.Moments.{Image, History, LeftSince, SectorMayHold, Among, seen, put, applied}
 use Rattle.disk.specs.Calls.{zero_sector}
 use Rattle.disk.proofs.MomentLemmas.{AddsOnly-weaken, AddsOnly-join}
 use Rattle.journal.specs.Layout.{AreTargets, gate, targets}
@@ -65,10 +65,10 @@ module _ (size : ℕ) (sector0 : List ℕ) (updates : List Update) (h : History)
     added = λ t image l left. ⊎_elim
         (λ (q : LeftSince h t image). inl q)
         (λ (q : LeftWith (zero_update ∷ []) h.now image). ⊎_elim
-        (λ (m : MayHold h.now 0 (image 0)). inl (inl (λ n. ⊎_elim
-        (λ (r : MayHold h.now n (image n)). r)
+        (λ (m : SectorMayHold h.now 0 (image 0)). inl (inl (λ n. ⊎_elim
+        (λ (r : SectorMayHold h.now n (image n)). r)
         (λ (r : ((0 ≡ n) × (zero_sector ≡ image n)) ⊎ ⊥). ⊎_elim
-        (λ (s : (0 ≡ n) × (zero_sector ≡ image n)). let P : ℕ → Type 0 = λ k. MayHold h.now k (image k) in subst P s.0 m)
+        (λ (s : (0 ≡ n) × (zero_sector ≡ image n)). let P : ℕ → Type 0 = λ k. SectorMayHold h.now k (image k) in subst P s.0 m)
         (λ (s : ⊥). absurd s) r)
         (q n))))
         (λ (m : ((0 ≡ 0) × (zero_sector ≡ image 0)) ⊎ ⊥). ⊎_elim

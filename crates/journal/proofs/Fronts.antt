@@ -11,7 +11,7 @@ use Rattle.journal.specs.Phase.{IsGated}
 use Rattle.journal.specs.Behind.{way_cost}
 use Rattle.journal.specs.Calls.{checkpoint_cost, flush_cost}
 use Rattle.journal.specs.Commit.{AddsEither}
-use Rattle.journal.specs.Log.{Log, applied_all, contents, DoesAs, IsJoined, StandsForFront, Moved, Takes}
+use Rattle.journal.specs.Log.{Log, applied_all, contents, DoesAs, IsJoined, StandsForFront, Moved, ListTakes}
 use Rattle.journal.specs.Journal.{listed}
 use Rattle.journal.specs.Transactions.{gathered, sectors_of}
 use Rattle.journal.proofs.Images.{length-targets, put_same, put_other}
@@ -123,7 +123,7 @@ put_does us vs ws e image n =
 pub put_alone : (us vs ws : List Update) → us ≡ [] → ((image : Image) (n : ℕ) → applied ws image n ≡ applied vs (applied us image) n) → DoesAs ws (vs ∷ [])
 put_alone us vs ws none e image n = e image n ∙ ap (λ (xs : List Update). applied vs (applied xs image) n) none
 
-pub moved_takes : (old new : Log) (us : List Update) → Takes us old new → Moved (old.list ++ us ∷ []) old new
+pub moved_takes : (old new : Log) (us : List Update) → ListTakes us old new → Moved (old.list ++ us ∷ []) old new
 moved_takes old new us takes = record {
   count = 0;
   within = omega arith;

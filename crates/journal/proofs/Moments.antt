@@ -2,7 +2,7 @@
 use Rattle.std.proofs.Common.{◌≡◌, ◌≤◌, ◌⊎◌, ◌+◌, ℕ, List, [], ◌∷◌, ◌++◌, length, refl, sym, subst, inl, inr, ⊎_elim, arith}
 use Rattle.std.proofs.lemmas.Bool.{cases_eq}
 use Rattle.disk.specs.declared.update.Update.{Update}
-use Rattle.disk.specs.Moments.{Image, Moment, History, MayHold, Among, Left, LeftWithin, AddsOnly, moment, wrote, synced, seen, newest, applied}
+use Rattle.disk.specs.Moments.{Image, Moment, History, SectorMayHold, Among, Left, LeftWithin, AddsOnly, moment, wrote, synced, seen, newest, applied}
 use Rattle.disk.proofs.MomentLemmas.{AddsOnly-same, AddsOnly-weaken, AddsOnly-join}
 use Rattle.journal.specs.Phase.{LeftWith}
 use Rattle.journal.proofs.Images.{put_same, put_other, Between}
@@ -32,14 +32,14 @@ AddsOnly-wrote u h = record {
 -- what a crash may leave with more updates
 LeftWith-first : (u : Update) (us : List Update) (m : Moment) (image : Image) → LeftWith (u ∷ []) m image → LeftWith (u ∷ us) m image
 LeftWith-first u us m image w n = ⊎_elim
-    (λ (q : MayHold m n (image n)). inl q)
+    (λ (q : SectorMayHold m n (image n)). inl q)
     (λ (q : ((u.target ≡ n) × (u.content ≡ image n)) ⊎ ⊥). ⊎_elim
     (λ (e : (u.target ≡ n) × (u.content ≡ image n)). inr (inl e)) (λ (e : ⊥). absurd e) q)
     (w n)
 
 LeftWith-rest : (u : Update) (us : List Update) (h : History) (image : Image) → LeftWith us (wrote u h).now image → LeftWith (u ∷ us) h.now image
 LeftWith-rest u us h image w n = ⊎_elim
-    (λ (q : MayHold (wrote u h).now n (image n)). ⊎_elim
+    (λ (q : SectorMayHold (wrote u h).now n (image n)). ⊎_elim
     (λ (e : image n ≡ h.now.fixed n). inl (inl e))
     (λ (a : ((u.target ≡ n) × (u.content ≡ image n)) ⊎ Among h.now.unsynced n (image n)). ⊎_elim
     (λ (e : (u.target ≡ n) × (u.content ≡ image n)). inr (inl e))
@@ -75,7 +75,7 @@ AddsOnly-synced P h = record {
   added = λ t image l left. inl (⊎_elim
       (λ (w : Left (synced h).now image). inl (λ n. ⊎_elim
       (λ (e : image n ≡ seen h.now n).
-      let Q : List ℕ → Type 0 = λ content. MayHold h.now n content in
+      let Q : List ℕ → Type 0 = λ content. SectorMayHold h.now n content in
       subst Q (sym e) (seen-may_hold h.now.unsynced h.now.fixed n))
       (λ (e : ⊥). absurd e) (w n)))
       (λ (w : ((t ≤ length h.past) × Left h.now image) ⊎ LeftWithin h.past t image). ⊎_elim
@@ -101,7 +101,7 @@ pub between_of : (us : List Update) (m : Moment) (image : Image) → m.unsynced 
 between_of us m image e w n =
     let P : List Update → Type 0 = λ unsynced. (image n ≡ newest unsynced m.fixed n) ⊎ Among us n (image n) in
     subst P (sym e) (⊎_elim
-    (λ (q : MayHold m n (image n)). ⊎_elim
+    (λ (q : SectorMayHold m n (image n)). ⊎_elim
     (λ (r : image n ≡ m.fixed n). inl r)
     (λ (r : Among m.unsynced n (image n)).
     let Q : List Update → Type 0 = λ unsynced. Among unsynced n (image n) in

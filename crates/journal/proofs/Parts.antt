@@ -6,7 +6,7 @@ use Rattle.journal.specs.declared.fault.JournalFault.TheVariants as faults
 use Rattle.journal.specs.declared.journal.Journal.{Journal}
 use Rattle.journal.specs.Calls.{IsPart, IsSafe}
 use Rattle.journal.specs.Journal.{log_of}
-use Rattle.journal.specs.Log.{Log, Answers, IsSettled}
+use Rattle.journal.specs.Log.{Log, AnswersByDevice, IsSettled}
 use Rattle.journal.proofs.Answerings.{answers_fault}
 use Rattle.journal.proofs.Fronts.{settled_of}
 use Rattle.journal.proofs.Journals.{gated_of}
@@ -36,5 +36,5 @@ part_is_safe {D} {g} old new before after r part = record {
 }
 
 pub part_failed : {W : Type 0} {T U : Type 0} (old new : Log) (before after : ℕ) (e : DiskFault) → old.is_down ≡ false
-    → IsPart {T = U} W old new before after (Err e) → Answers {T = T} old new before after (Err faults.Fault)
+    → IsPart {T = U} W old new before after (Err e) → AnswersByDevice {T = T} old new before after (Err faults.Fault)
 part_failed old new before after e up part = answers_fault old new before after up part.is_down part.failures.later part.failures.counted

@@ -2,7 +2,7 @@
 use Rattle.std.proofs.Common.{◌≡◌, ◌≤◌, ◌<◌, ◌⊎◌, ◌+◌, ℕ, suc, zero, List, [], ◌∷◌, ◌++◌, length, get_or, take, drop, refl, sym, ap, ◌∙◌, subst, inl, inr, ⊎_elim, arith}
 use Rattle.std.proofs.lemmas.List.{take_more, take-append-drop}
 use Rattle.disk.specs.declared.update.Update.{Update}
-use Rattle.disk.specs.Moments.{Image, History, MayHold, Among, AddsOnly, moment, wrote, synced, seen}
+use Rattle.disk.specs.Moments.{Image, History, SectorMayHold, Among, AddsOnly, moment, wrote, synced, seen}
 use Rattle.disk.proofs.MomentLemmas.{AddsOnly-weaken, AddsOnly-join}
 use Rattle.journal.specs.Layout.{placed, copies}
 use Rattle.journal.specs.Phase.{LeftWith, AddsUpdates, IsFixedAs}
@@ -21,7 +21,7 @@ front_moments all i h h1 e =
     let front : List Update = take i all in
     let back : List Update = drop i all in
     let widen : (image : Image) → LeftWith front h.now image → LeftWith all h.now image = λ image w n. ⊎_elim
-    (λ (q : MayHold h.now n (image n)). inl q)
+    (λ (q : SectorMayHold h.now n (image n)). inl q)
     (λ (q : Among front n (image n)).
     let Q : List Update → Type 0 = λ us. Among us n (image n) in
     inr (subst Q (take-append-drop i all) (Among-front front back n (image n) q)))

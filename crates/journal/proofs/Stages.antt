@@ -4,7 +4,7 @@ use Rattle.std.proofs.lemmas.List.{length-append}
 use Rattle.disk.specs.declared.update.Update.{Update}
 use Rattle.disk.specs.Moments.{Image, applied}
 use Rattle.journal.specs.Layout.{AreTargets, home, through, gate, targets, placed, copies}
-use Rattle.journal.specs.Settled.{IsKept, AreSame, Settles}
+use Rattle.journal.specs.Settled.{IsOfCaller, AreSame, Settles}
 use Rattle.journal.proofs.Images.{Out, Fit, Between, Fit-front, Fit-back, home_cases, home_of_out, home_behind, home_out, low_out, applied_out, between_out, applied_home, placed_out_below, placed_out_above, applied_placed, copies-append, copies_same, copies_held, targets_copies, holds_copies, length-targets}
 use Rattle.journal.proofs.Lists.{Out-each, targets_of-Fit}
 
@@ -31,27 +31,27 @@ no_targets size = record {
   apart = λ i j d l h. absurd (omega arith);
 }
 
-pub kept_not_1 : (size n : ℕ) → IsKept size n → n ≡ 1 → ⊥
+pub kept_not_1 : (size n : ℕ) → IsOfCaller size n → n ≡ 1 → ⊥
 kept_not_1 size n k e = ⊎_elim (λ (z : n ≡ 0). omega arith) (λ (z : 98 ≤ n). omega arith) k.0
 
 -- a kept sector is not in the payload
-kept_cases : (size n : ℕ) → IsKept size n → (n < 2) ⊎ (98 ≤ n)
+kept_cases : (size n : ℕ) → IsOfCaller size n → (n < 2) ⊎ (98 ≤ n)
 kept_cases size n k = ⊎_elim (λ (z : n ≡ 0). inl (omega arith)) (λ (z : 98 ≤ n). inr z) k.0
 
-home_not_1 : (size n : ℕ) (to : List ℕ) → IsKept size n → home to 2 n ≡ 1 → ⊥
+home_not_1 : (size n : ℕ) (to : List ℕ) → IsOfCaller size n → home to 2 n ≡ 1 → ⊥
 home_not_1 size n to k e = ⊎_elim
     (λ (w : Out to n × (home to 2 n ≡ n)). kept_not_1 size n k (sym w.1 ∙ e))
     (λ (w : (2 ≤ home to 2 n) × (home to 2 n < 2 + length to)). omega arith)
     (home_cases to 2 n)
 
-kept_out_of_payload : (size n : ℕ) (us : List Update) (behind : ℕ) → behind + length us ≤ 96 → IsKept size n → Out (targets (placed (2 + behind) us)) n
+kept_out_of_payload : (size n : ℕ) (us : List Update) (behind : ℕ) → behind + length us ≤ 96 → IsOfCaller size n → Out (targets (placed (2 + behind) us)) n
 kept_out_of_payload size n us behind few k = ⊎_elim
     (λ (l : n < 2). placed_out_below us (2 + behind) n (omega arith))
     (λ (l : 98 ≤ n). placed_out_above us (2 + behind) n (omega arith))
     (kept_cases size n k)
 
 -- where a sector stands while the commit record is set is not behind what it shows
-home_out_of_payload : (size n : ℕ) (to : List ℕ) (us : List Update) → length to + length us ≤ 96 → IsKept size n
+home_out_of_payload : (size n : ℕ) (to : List ℕ) (us : List Update) → length to + length us ≤ 96 → IsOfCaller size n
     → Out (targets (placed (2 + length to) us)) (home to 2 n)
 home_out_of_payload size n to us few k = ⊎_elim
     (λ (w : Out to n × (home to 2 n ≡ n)).

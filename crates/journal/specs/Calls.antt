@@ -4,7 +4,7 @@ use Rattle.disk.specs.declared.update.Update.{Update}
 use Rattle.disk.specs.Moments.{applied, put}
 use Rattle.journal.specs.Commit.{AddsEither}
 use Rattle.journal.specs.Behind.{way_cost, way_for}
-use Rattle.journal.specs.Log.{Log, AddsFronts, Costs, IsJoined, IsSettled, Moved, Takes, contents}
+use Rattle.journal.specs.Log.{Log, AddsFronts, Costs, IsJoined, IsSettled, Moved, ListTakes, contents}
 use Rattle.journal.specs.Phase.{FailsCounted}
 use Rattle.journal.specs.Settled.{AreSame}
 use Rattle.journal.specs.Transactions.{FitTogether, sectors_of}
@@ -23,7 +23,7 @@ list_with log updates = log.list ++ updates ∷ []
 -- A transaction was put at the list's end. Where the payload has no room for the two together, the
 -- list went into the base first.
 pub record HasApplied (keeps_word : Type 0) (updates : List Update) (old new : Log) : Type 0 where
-  pub kept : FitTogether (list_with old updates) → Takes updates old new
+  pub kept : FitTogether (list_with old updates) → ListTakes updates old new
   pub flushed : (FitTogether (list_with old updates) → ⊥) → IsJoined (updates ∷ []) new.list
   pub moved : keeps_word → Moved (list_with old updates) old new
   pub contents : keeps_word → AreSame old.size (applied updates (contents old)) (contents new)

@@ -9,7 +9,7 @@ use Rattle.journal.specs.Settled.{AreSame, Settles}
 use Rattle.journal.specs.Phase.{IsGated}
 
 -- updates of so many different sectors as the payload has, by their sectors
-pub record IsTransaction (size : ℕ) (to : List ℕ) (updates : List Update) : Type 0 where
+pub record FitsPayload (size : ℕ) (to : List ℕ) (updates : List Update) : Type 0 where
   pub named : to ≡ targets updates
   pub few : length updates ≤ payload_sectors
   pub fit : AreTargets size (targets updates)

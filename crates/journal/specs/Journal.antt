@@ -21,9 +21,9 @@ log_of {D} {g} journal = record {
 }
 
 -- how often its device has failed
-unfoldable pub failures_of : {D : _} {g : _} → Journal D g → ℕ
-failures_of {D} {g} journal = g.failed journal.device
+unfoldable pub journal_failures : {D : _} {g : _} → Journal D g → ℕ
+journal_failures {D} {g} journal = g.failed journal.device
 
 -- the sectors whose content in the base is not at home yet: the gate names them
-unfoldable pub shown_of : {D : _} {g : _} → Journal D g → List ℕ
-shown_of journal = journal.recorded.targets.items
+unfoldable pub recorded_sectors : {D : _} {g : _} → Journal D g → List ℕ
+recorded_sectors journal = journal.recorded.targets.items

@@ -3,11 +3,11 @@ use Rattle.std.specs.Prelude.{◌≤◌, ◌<◌, ◌^◌, List, ℕ, length, ta
 use Rattle.disk.specs.declared.update.Update.{Update}
 use Rattle.disk.specs.Moments.{Image, Left}
 use Rattle.journal.specs.Log.{Log, AddsFronts, IsSettled, StandsForFront, applied_all}
-use Rattle.journal.specs.MountAnswers.{HasMounted}
+use Rattle.journal.specs.MountAnswers.{HasRecovered}
 use Rattle.journal.specs.Settled.{AreSame}
 
 -- a base is that of a journal with a front of its list
-pub record IsFront (size : ℕ) (base : Image) (list : List (List Update)) (found : Image)
+pub record IsListFront (size : ℕ) (base : Image) (list : List (List Update)) (found : Image)
     : Type 0 where
   pub count : ℕ
   pub within : count ≤ length list
@@ -15,13 +15,13 @@ pub record IsFront (size : ℕ) (base : Image) (list : List (List Update)) (foun
 
 -- what a crash leaves after a call is a front of what the journal was, one that holds all that was
 -- flushed before
-abbrev pub EveryStop : Type 0
-EveryStop = (old new : Log) → IsSettled old → AddsFronts old new
+abbrev pub CrashLeavesFront : Type 0
+CrashLeavesFront = (old new : Log) → IsSettled old → AddsFronts old new
     → (image : Image) → Left new.history.now image
     → StandsForFront old.size old.base old.list image
 
 -- and a mount of the device as the call left it, without a crash, finds one too
 abbrev pub EveryMount : Type 0
 EveryMount = (old new found : Log) → old.size < 2 ^ 32 → IsSettled old → AddsFronts old new
-    → HasMounted old.size new.history found
-    → IsFront old.size old.base old.list found.base
+    → HasRecovered old.size new.history found
+    → IsListFront old.size old.base old.list found.base

@@ -60,7 +60,7 @@ pub record Moved (all : List (List Update)) (old new : Log) : Type 0 where
   pub list : IsJoined (drop count all) new.list
 
 -- one more transaction was put at the list's end, and nothing else happened
-pub record Takes (updates : List Update) (old new : Log) : Type 0 where
+pub record ListTakes (updates : List Update) (old new : Log) : Type 0 where
   pub list : IsJoined (old.list ++ updates ∷ []) new.list
   pub only : new ≡ record old { list = new.list }
 
@@ -71,7 +71,7 @@ Costs count old new = moment new.history ≡ moment old.history + count
 -- how a call answers by its device: Down exactly where the journal was down, and then nothing
 -- happens; Fault exactly where the device counted a failure, and then the journal is down; else it
 -- is not
-pub record Answers {T : Type 0} (old new : Log) (before after : ℕ)
+pub record AnswersByDevice {T : Type 0} (old new : Log) (before after : ℕ)
     (result : Result T JournalFault) : Type 0 where
   pub down : IsErrOf result faults.Down ↔ (old.is_down ≡ true)
   pub untouched : IsErrOf result faults.Down → (new ≡ old) × (after ≡ before)

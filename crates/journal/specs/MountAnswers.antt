@@ -10,7 +10,7 @@ use Rattle.journal.specs.Recover.{IsClosed, LeavesOnlySynced}
 use Rattle.journal.specs.Settled.{Settles, SettlesAs}
 
 -- the journal of a device of so many sectors and failures: it is up, and nothing waits
-pub record IsNew (sectors before : ℕ) (log : Log) (after : ℕ) : Type 0 where
+pub record IsNewJournal (sectors before : ℕ) (log : Log) (after : ℕ) : Type 0 where
   pub list : log.list ≡ []
   pub is_down : log.is_down ≡ false
   pub size : log.size ≡ sectors
@@ -19,7 +19,7 @@ pub record IsNew (sectors before : ℕ) (log : Log) (after : ℕ) : Type 0 where
 -- The base is what the device settled to, sectors of bytes. Each map that a crash leaves within the
 -- mount settles as the device did, and from its first sync on no other is left. A closed gate asks
 -- for that sync alone.
-pub record HasMounted (size : ℕ) (old : History) (log : Log) : Type 0 where
+pub record HasRecovered (size : ℕ) (old : History) (log : Log) : Type 0 where
   pub base : Settles size (seen old.now) log.base
   pub sectors : (n : ℕ) → n < size → IsSector (log.base n)
   pub settled : IsSettled log
@@ -29,13 +29,13 @@ pub record HasMounted (size : ℕ) (old : History) (log : Log) : Type 0 where
   pub cost : moment log.history ≤ moment old + 100
 
 -- What a mount that is refused did. Damaged comes only where the gate has no form.
-pub record IsMountRefused (size : ℕ) (old new : History) (fault : JournalFault) : Type 0 where
+pub record IsRecoveryRefused (size : ℕ) (old new : History) (fault : JournalFault) : Type 0 where
   pub refused : AddsOnly (SettlesAs size (seen old.now)) old new
   pub closed_refused : IsClosed old → (new ≡ old) ⊎ (new ≡ synced old)
   pub damaged : fault ≡ faults.Damaged → LeavesOnlySynced size old new
 
 -- The device that comes back, with the reason: Fault is answered exactly where it counted a failure
-pub record ComesBack {D : Type 0} (size failed : D → ℕ) (device : D) (refused : Unmounted D)
+pub record JournalComesBack {D : Type 0} (size failed : D → ℕ) (device : D) (refused : Unmounted D)
     : Type 0 where
   pub refused_size : size refused.device ≡ size device
   pub memory : refused.fault ≡ faults.Memory → refused.device ≡ device

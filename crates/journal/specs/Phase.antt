@@ -1,13 +1,13 @@
 -- What one phase does to a device: it writes some sectors, and then syncs.
 use Rattle.std.specs.Prelude.{◌≡◌, ◌≤◌, ◌⊎◌, ◌+◌, ℕ, List, [], length, Result, OnOk, OnErr}
 use Rattle.disk.specs.declared.update.Update.{Update}
-use Rattle.disk.specs.Moments.{Image, Moment, History, MayHold, Among, AddsOnly, applied, seen, moment}
+use Rattle.disk.specs.Moments.{Image, Moment, History, SectorMayHold, Among, AddsOnly, applied, seen, moment}
 use Rattle.disk.specs.Cause.{IsCounted}
 use Rattle.journal.specs.Layout.{gate}
 
 -- each sector is as a crash at this moment may leave it, or as an update leaves it
 abbrev pub LeftWith : List Update → Moment → Image → Type 0
-LeftWith updates m image = (n : ℕ) → MayHold m n (image n) ⊎ Among updates n (image n)
+LeftWith updates m image = (n : ℕ) → SectorMayHold m n (image n) ⊎ Among updates n (image n)
 
 -- all is fixed, with the updates applied to what a read gave before; so many writes, and a sync
 pub record IsFixedAs (updates : List Update) (old new : History) : Type 0 where

@@ -4,12 +4,12 @@ use Rattle.disk.specs.Moments.{Image}
 use Rattle.journal.specs.Layout.{payload_sectors, first_target, AreTargets, gate, through}
 
 -- a sector that the journal keeps for its caller
-abbrev pub IsKept : ℕ → ℕ → Type 0
-IsKept size n = ((n ≡ 0) ⊎ (first_target ≤ n)) × (n < size)
+abbrev pub IsOfCaller : ℕ → ℕ → Type 0
+IsOfCaller size n = ((n ≡ 0) ⊎ (first_target ≤ n)) × (n < size)
 
 -- two images with the same kept sectors
 abbrev pub AreSame : ℕ → Image → Image → Type 0
-AreSame size a b = (n : ℕ) → IsKept size n → a n ≡ b n
+AreSame size a b = (n : ℕ) → IsOfCaller size n → a n ≡ b n
 
 -- the gate of an image has a form, and through it the image reads as this one
 pub record Settles (size : ℕ) (image settled : Image) : Type 0 where

@@ -7,7 +7,7 @@ ghost use Rattle.journal.specs.Layout.{targets, through};
 ghost use Rattle.journal.specs.Behind.{FitsGate, way_for};
 ghost use Rattle.journal.specs.Recorded.{FitsRecorded, IsStored};
 ghost use Rattle.journal.specs.Phase.{IsGated, FailsCounted};
-ghost use Rattle.journal.specs.Commit.{AddsEither, IsTransaction, IsRecorded, KeepsShown, IsCopiedHome, MakesWay, IsCommitted, KeepsRoom};
+ghost use Rattle.journal.specs.Commit.{AddsEither, FitsPayload, IsRecorded, KeepsShown, IsCopiedHome, MakesWay, IsCommitted, KeepsRoom};
 
 use crate::layout::{FIRST_TARGET, GATE, PAYLOAD_SECTORS};
 use crate::recorded::Recorded;
@@ -22,7 +22,7 @@ pub(crate) fn commit<D: Device>(
     to: &[u32],
     updates: &[Update],
 ) -> Result<(), DiskFault>
-    requires taken { IsTransaction (D.size device.old) to.now updates.now }
+    requires taken { FitsPayload (D.size device.old) to.now updates.now }
     requires fits { FitsRecorded (D.size device.old) recorded.old }
     requires large { FIRST_TARGET ≤ D.size device.old }
     // On a device that keeps its word
@@ -113,7 +113,7 @@ pub(crate) fn write_commit_record<D: Device>(
     to: &[u32],
     updates: &[Update],
 ) -> Result<(), DiskFault>
-    requires taken { IsTransaction (D.size device.old) to.now updates.now }
+    requires taken { FitsPayload (D.size device.old) to.now updates.now }
     requires fits { FitsGate (D.size device.old) (shown.old.items ++ to.now) }
     requires room { PAYLOAD_SECTORS ≤ vec_capacity shown.old }
     requires large { FIRST_TARGET ≤ D.size device.old }

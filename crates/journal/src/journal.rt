@@ -8,8 +8,8 @@ ghost use Rattle.journal.specs.Calls.{AddsFirst, GoesThrough, GoesThroughFirst, 
 ghost use Rattle.journal.specs.Format.{AddsFormats, IsFormatted};
 ghost use Rattle.journal.specs.Cached.{AreCopies};
 ghost use Rattle.journal.specs.Layout.{AreTargets, copies, gate, max_updates, targets, through};
-ghost use Rattle.journal.specs.Log.{Answers, Moved, contents};
-ghost use Rattle.journal.specs.MountAnswers.{ComesBack, HasMounted, IsNew, IsMountRefused};
+ghost use Rattle.journal.specs.Log.{AnswersByDevice, Moved, contents};
+ghost use Rattle.journal.specs.MountAnswers.{JournalComesBack, HasRecovered, IsNewJournal, IsRecoveryRefused};
 ghost use Rattle.journal.specs.Phase.{FailsCounted};
 ghost use Rattle.journal.specs.Transactions.{FitTogether, gathered, sectors_of};
 
@@ -82,9 +82,9 @@ fn room_for(alloc: Global, cached: NonZeroUsize) -> Result<Room, AllocError>
     })
 }
 
-#[tactic(auto, unfolding(crate::specs::Journal::log_of, crate::specs::Journal::failures_of, crate::specs::Journal::shown_of))]
+#[tactic(auto, unfolding(crate::specs::Journal::log_of, crate::specs::Journal::journal_failures, crate::specs::Journal::recorded_sectors))]
 impl<D: Device> Journal<D> {
-    ghost use Rattle.journal.specs.Journal.{log_of, failures_of, shown_of};
+    ghost use Rattle.journal.specs.Journal.{log_of, journal_failures, recorded_sectors};
     ghost use Rattle.journal.specs.Viewed.{HasNoForm, HasViewed, IsUnread};
     ghost use Rattle.journal.specs.Views.{view_of, view_failures, name_of};
 
@@ -127,13 +127,14 @@ impl<D: Device> Journal<D> {
     pub fn mount(alloc: Global, device: D) -> Result<Journal<D>, Unmounted<D>>
         requires { MIN_SECTORS ≤ D.size device }
         ensures new { IfOk result (λ journal.
-            IsNew (D.size device) (D.failed device) (log_of journal) (failures_of journal)) }
+            IsNewJournal (D.size device) (D.failed device) (log_of journal)
+            (journal_failures journal)) }
         ensures mounted { D.keeps_word → IfOk result (λ journal.
-            HasMounted (D.size device) (D.history device) (log_of journal)) }
-        ensures closed { IfOk result (λ journal. shown_of journal ≡ []) }
+            HasRecovered (D.size device) (D.history device) (log_of journal)) }
+        ensures closed { IfOk result (λ journal. recorded_sectors journal ≡ []) }
         // Refused
-        ensures back { IfErr result (ComesBack D.size D.failed device) }
-        ensures refused { D.keeps_word → IfErr result (λ refused. IsMountRefused (D.size device)
+        ensures back { IfErr result (JournalComesBack D.size D.failed device) }
+        ensures refused { D.keeps_word → IfErr result (λ refused. IsRecoveryRefused (D.size device)
             (D.history device) (D.history refused.device) refused.fault) }
     {
         let cached = NonZeroUsize::new(CACHED_SECTORS).unwrap_or(NonZeroUsize::MIN);
@@ -154,13 +155,14 @@ impl<D: Device> Journal<D> {
     ) -> Result<Journal<D>, Unmounted<D>>
         requires { MIN_SECTORS ≤ D.size device }
         ensures new { IfOk result (λ journal.
-            IsNew (D.size device) (D.failed device) (log_of journal) (failures_of journal)) }
+            IsNewJournal (D.size device) (D.failed device) (log_of journal)
+            (journal_failures journal)) }
         ensures mounted { D.keeps_word → IfOk result (λ journal.
-            HasMounted (D.size device) (D.history device) (log_of journal)) }
-        ensures closed { IfOk result (λ journal. shown_of journal ≡ []) }
+            HasRecovered (D.size device) (D.history device) (log_of journal)) }
+        ensures closed { IfOk result (λ journal. recorded_sectors journal ≡ []) }
         // Refused
-        ensures back { IfErr result (ComesBack D.size D.failed device) }
-        ensures refused { D.keeps_word → IfErr result (λ refused. IsMountRefused (D.size device)
+        ensures back { IfErr result (JournalComesBack D.size D.failed device) }
+        ensures refused { D.keeps_word → IfErr result (λ refused. IsRecoveryRefused (D.size device)
             (D.history device) (D.history refused.device) refused.fault) }
     {
         let mut device = device;
@@ -195,7 +197,7 @@ impl<D: Device> Journal<D> {
     /// `Fault` where the device failed, and `Memory`.
     pub fn view(alloc: Global, device: &mut D) -> Result<View<'_, D>, Unmounted<&mut D>>
         requires { MIN_SECTORS ≤ D.size device.old }
-        ensures new { IfOk result (λ view. IsNew (D.size device.old) (D.failed device.old)
+        ensures new { IfOk result (λ view. IsNewJournal (D.size device.old) (D.failed device.old)
             (view_of view) (view_failures view)) }
         ensures viewed { D.keeps_word → IfOk result (λ view.
             HasViewed (D.size device.old) (D.history device.old) (view_of view)) }
@@ -230,7 +232,7 @@ impl<D: Device> Journal<D> {
     pub fn into_device(self) -> D
         ensures history { D.history result ≡ (log_of self).history }
         ensures size { D.size result ≡ (log_of self).size }
-        ensures failures { D.failed result ≡ failures_of self }
+        ensures failures { D.failed result ≡ journal_failures self }
     {
         self.device
     }
@@ -256,11 +258,11 @@ impl<D: Device> Journal<D> {
         ensures log { log_of self.new ≡ record (log_of self.old)
             { is_down = (log_of self.new).is_down } }
         ensures contents { contents (log_of self.new) ≡ contents (log_of self.old) }
-        ensures shown { shown_of self.new ≡ shown_of self.old }
+        ensures shown { recorded_sectors self.new ≡ recorded_sectors self.old }
         // Refused
         ensures untouched { IsErrOf result JournalFault.Down → content.new ≡ content.old }
-        ensures answers { Answers (log_of self.old) (log_of self.new)
-            (failures_of self.old) (failures_of self.new) result }
+        ensures answers { AnswersByDevice (log_of self.old) (log_of self.new)
+            (journal_failures self.old) (journal_failures self.new) result }
         ensures refuses { IfErr result
             (λ fault. (fault ≡ JournalFault.Fault) ⊎ (fault ≡ JournalFault.Down)) }
     {
@@ -296,11 +298,11 @@ impl<D: Device> Journal<D> {
         ensures ok { OnOk result
             (HasWritten D.keeps_word content.now (log_of self.old) (log_of self.new)) }
         ensures list { (log_of self.new).list ≡ (log_of self.old).list }
-        ensures shown { shown_of self.new ≡ shown_of self.old }
+        ensures shown { recorded_sectors self.new ≡ recorded_sectors self.old }
         ensures size { (log_of self.new).size ≡ (log_of self.old).size }
         // Refused
-        ensures answers { Answers (log_of self.old) (log_of self.new)
-            (failures_of self.old) (failures_of self.new) result }
+        ensures answers { AnswersByDevice (log_of self.old) (log_of self.new)
+            (journal_failures self.old) (journal_failures self.new) result }
         ensures refuses { IfErr result
             (λ fault. (fault ≡ JournalFault.Fault) ⊎ (fault ≡ JournalFault.Down)) }
     {
@@ -325,13 +327,13 @@ impl<D: Device> Journal<D> {
     pub fn checkpoint(&mut self) -> Result<(), JournalFault>
         ensures safe { IsSafe D.keeps_word (log_of self.old) (log_of self.new) }
         ensures list { (log_of self.new).list ≡ (log_of self.old).list }
-        ensures ok { OnOk result (HasCheckpointed D.keeps_word (shown_of self.old)
+        ensures ok { OnOk result (HasCheckpointed D.keeps_word (recorded_sectors self.old)
             (log_of self.old) (log_of self.new)) }
-        ensures closed { OnOk result (shown_of self.new ≡ []) }
-        ensures nothing { shown_of self.old ≡ [] → log_of self.new ≡ log_of self.old }
+        ensures closed { OnOk result (recorded_sectors self.new ≡ []) }
+        ensures nothing { recorded_sectors self.old ≡ [] → log_of self.new ≡ log_of self.old }
         // Refused
-        ensures answers { Answers (log_of self.old) (log_of self.new)
-            (failures_of self.old) (failures_of self.new) result }
+        ensures answers { AnswersByDevice (log_of self.old) (log_of self.new)
+            (journal_failures self.old) (journal_failures self.new) result }
         ensures refuses { IfErr result
             (λ fault. (fault ≡ JournalFault.Fault) ⊎ (fault ≡ JournalFault.Down)) }
     {
@@ -353,10 +355,11 @@ impl<D: Device> Journal<D> {
     fn flush_pending(&mut self) -> Result<(), DiskFault>
         requires { (log_of self.old).is_down ≡ false }
         ensures part { IsPart D.keeps_word (log_of self.old) (log_of self.new)
-            (failures_of self.old) (failures_of self.new) result }
+            (journal_failures self.old) (journal_failures self.new) result }
         ensures flushed { OnOk result
             (HasFlushed D.keeps_word (log_of self.old) (log_of self.new)) }
-        ensures gate { OnOk result (GoesThrough D.keeps_word (shown_of self.old) (shown_of self.new)
+        ensures gate { OnOk result
+            (GoesThrough D.keeps_word (recorded_sectors self.old) (recorded_sectors self.new)
             (log_of self.old) (log_of self.new)) }
         ensures emptied { OnOk result (self.new.pending.items ≡ []) }
         ensures nothing { (log_of self.old).list ≡ [] → log_of self.new ≡ log_of self.old }
@@ -389,16 +392,16 @@ impl<D: Device> Journal<D> {
         requires fit { AreTargets (log_of self.old).size (targets updates.now) }
         // In any case
         ensures part { IsPart D.keeps_word (log_of self.old) (log_of self.new)
-            (failures_of self.old) (failures_of self.new) result }
+            (journal_failures self.old) (journal_failures self.new) result }
         // It is flushed where there is no room, and only there
         ensures kept { FitTogether (list_with (log_of self.old) updates.now)
             → (log_of self.new ≡ log_of self.old)
             × (self.new.pending.items ≡ self.old.pending.items)
-            × (shown_of self.new ≡ shown_of self.old) }
+            × (recorded_sectors self.new ≡ recorded_sectors self.old) }
         ensures flushed { OnOk result ((¬ FitTogether (list_with (log_of self.old) updates.now))
             → HasFlushed D.keeps_word (log_of self.old) (log_of self.new)) }
         ensures gate { OnOk result ((¬ FitTogether (list_with (log_of self.old) updates.now))
-            → GoesThrough D.keeps_word (shown_of self.old) (shown_of self.new)
+            → GoesThrough D.keeps_word (recorded_sectors self.old) (recorded_sectors self.new)
             (log_of self.old) (log_of self.new)) }
         ensures emptied { OnOk result ((¬ FitTogether (list_with (log_of self.old) updates.now))
             → self.new.pending.items ≡ []) }
@@ -427,14 +430,15 @@ impl<D: Device> Journal<D> {
         ensures ok { OnOk result
             (HasApplied D.keeps_word updates.items (log_of self.old) (log_of self.new)) }
         ensures gate { OnOk result (GoesThroughFirst D.keeps_word updates.items
-            (shown_of self.old) (shown_of self.new) (log_of self.old) (log_of self.new)) }
+            (recorded_sectors self.old) (recorded_sectors self.new) (log_of self.old)
+            (log_of self.new)) }
         // Refused
         ensures too_many { (log_of self.old).is_down ≡ false
             → IsErrOf result JournalFault.TooMany ↔ (max_updates < length updates.items) }
         ensures unchanged { IsErrOf result JournalFault.TooMany
             → log_of self.new ≡ log_of self.old }
-        ensures answers { Answers (log_of self.old) (log_of self.new)
-            (failures_of self.old) (failures_of self.new) result }
+        ensures answers { AnswersByDevice (log_of self.old) (log_of self.new)
+            (journal_failures self.old) (journal_failures self.new) result }
         ensures refuses { IfErr result (λ fault. (fault ≡ JournalFault.TooMany)
             ⊎ ((fault ≡ JournalFault.Fault) ⊎ (fault ≡ JournalFault.Down))) }
     {
@@ -458,14 +462,15 @@ impl<D: Device> Journal<D> {
     pub fn flush(&mut self) -> Result<(), JournalFault>
         ensures safe { IsSafe D.keeps_word (log_of self.old) (log_of self.new) }
         ensures ok { OnOk result (HasFlushed D.keeps_word (log_of self.old) (log_of self.new)) }
-        ensures gate { OnOk result (GoesThrough D.keeps_word (shown_of self.old) (shown_of self.new)
+        ensures gate { OnOk result
+            (GoesThrough D.keeps_word (recorded_sectors self.old) (recorded_sectors self.new)
             (log_of self.old) (log_of self.new)) }
         ensures moved { D.keeps_word → (log_of self.new).is_down ≡ false
             → Moved (log_of self.old).list (log_of self.old) (log_of self.new) }
         ensures nothing { (log_of self.old).list ≡ [] → log_of self.new ≡ log_of self.old }
         // Refused
-        ensures answers { Answers (log_of self.old) (log_of self.new)
-            (failures_of self.old) (failures_of self.new) result }
+        ensures answers { AnswersByDevice (log_of self.old) (log_of self.new)
+            (journal_failures self.old) (journal_failures self.new) result }
         ensures refuses { IfErr result
             (λ fault. (fault ≡ JournalFault.Fault) ⊎ (fault ≡ JournalFault.Down)) }
     {

@@ -35,7 +35,7 @@ fn padded(targets: &[u32]) -> [u32; PAYLOAD_SECTORS]
 #[tactic(auto, unfolding(crate::specs::Views::view_of, crate::specs::Views::view_failures, crate::specs::Views::name_of))]
 impl<'a, D: Device> View<'a, D> {
     ghost use Rattle.std.specs.Prelude.{OnOk, IfErr, IsErrOf};
-    ghost use Rattle.journal.specs.Log.{Answers};
+    ghost use Rattle.journal.specs.Log.{AnswersByDevice};
     ghost use Rattle.journal.specs.Viewed.{viewed};
     ghost use Rattle.journal.specs.Views.{view_of, view_failures, name_of};
 
@@ -70,7 +70,7 @@ impl<'a, D: Device> View<'a, D> {
         ensures same_reference { name_of self.new ≡ name_of self.old }
         // Refused
         ensures untouched { IsErrOf result JournalFault.Down → content.new ≡ content.old }
-        ensures answers { Answers (view_of self.old) (view_of self.new)
+        ensures answers { AnswersByDevice (view_of self.old) (view_of self.new)
             (view_failures self.old) (view_failures self.new) result }
         ensures refuses { IfErr result
             (λ fault. (fault ≡ JournalFault.Fault) ⊎ (fault ≡ JournalFault.Down)) }

@@ -4,7 +4,7 @@ use Rattle.std.proofs.lemmas.Option.{same_Some, none-some}
 use Rattle.disk.specs.Moments.{Image}
 use Rattle.model.specs.Trees.Keyed.{at, with}
 use Rattle.model.proofs.Trees.KeyedLaws.{at-with_same, at-with_other}
-use Rattle.layout.specs.CachedNodeLaws.{Answers, EachAnswer}
+use Rattle.layout.specs.CachedNodeLaws.{FindsCached, EachAnswer}
 use Rattle.layout.specs.CachedNodes.{CachedNode, tree_of, node_of}
 use Rattle.layout.specs.Laid.{AreNumbered}
 use Rattle.layout.proofs.Changing.{tree-lacks}
@@ -20,7 +20,7 @@ tree-has image (Some one ∷ cards) (suc place) card apart there =
     at-with_other (tree_of image cards) one.fields.number card.fields.number (node_of image one) (apart (suc place) 0 card one (omega arith) there refl)
     ∙ tree-has image cards place card (λ i j a b off. apart (suc i) (suc j) a b (omega arith)) there
 
-pub tree_answers : (image : Image) (cards : List (Option CachedNode)) → AreNumbered cards → (number : ℕ) → Answers image cards number
+pub tree_answers : (image : Image) (cards : List (Option CachedNode)) → AreNumbered cards → (number : ℕ) → FindsCached image cards number
 tree_answers image cards apart number = record {
   found = λ place card there is. ap (λ (n : ℕ). at n (tree_of image cards)) (sym is) ∙ tree-has image cards place card apart there;
   none = tree-lacks image cards number;

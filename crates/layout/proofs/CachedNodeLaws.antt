@@ -110,18 +110,18 @@ pub zero_first : get_or zero_sector 0 0 ≡ 0
 unfolding zero_sector
 zero_first = refl
 
-pub card-back : CardReadsBack
+pub cached-back : CardReadsBack
 unfolding card_in
-card-back image place None holds = rw (ap (λ (s : List ℕ). get_or s 0 0) holds ∙ zero_first) refl
-card-back image place (Some card) holds = rw (first_there image place card holds, form_there image place card holds, fields_there image place card holds, from-back image place card holds) refl
+cached-back image place None holds = rw (ap (λ (s : List ℕ). get_or s 0 0) holds ∙ zero_first) refl
+cached-back image place (Some card) holds = rw (first_there image place card holds, form_there image place card holds, fields_there image place card holds, from-back image place card holds) refl
 
 pub cards-back : CardsReadBack
 unfolding cards_in
-cards-back image nodes cards many held = sym (fill_by_all (card_in image) cards nodes None many (λ place h. sym (card-back image place (get_or cards place None) (held place h))))
+cards-back image nodes cards many held = sym (fill_by_all (card_in image) cards nodes None many (λ place h. sym (cached-back image place (get_or cards place None) (held place h))))
 
 -- what holds some cached node holds the one that is read
 pub only_card : OnlyCard
-only_card image place card holds = subst (HoldsPlace image place) (sym (card-back image place card holds)) holds
+only_card image place card holds = subst (HoldsPlace image place) (sym (cached-back image place card holds)) holds
 
 pub only_cards : OnlyCards
 only_cards version size nodes image cards laid =

@@ -10,28 +10,28 @@ use Rattle.model.specs.Trees.Tree.{Tree, Node}
 use Rattle.layout.specs.CachedNodes.{CachedNode, node_sector, node_of, tree_of}
 use Rattle.layout.specs.ChangeLaws.{tree_with, IsOwnNumber, IsSameNumber, ChangesCard, OneChange}
 use Rattle.layout.specs.Laid.{HoldsPlace, AreNumbered, AreLaid}
-use Rattle.layout.specs.Marks.{named_by, named}
+use Rattle.layout.specs.Marks.{namings_of, named}
 use Rattle.layout.proofs.Frame.{node-kept, held-still}
 use Rattle.model.proofs.Trees.KeyedLaws.{with-with_same, with-with_other}
 use Rattle.model.proofs.Trees.KeyedChanges.{without-with_other, without-with_fresh}
 
 -- How often cached nodes name a sector
 
-pub named-at : (n : ℕ) (cards : List (Option CachedNode)) (i : ℕ) → named_by n (get_or cards i None) ≤ named n cards
-unfolding named_by
+pub named-at : (n : ℕ) (cards : List (Option CachedNode)) (i : ℕ) → namings_of n (get_or cards i None) ≤ named n cards
+unfolding namings_of
 named-at n [] i = omega arith
 named-at n (card ∷ cards) zero = omega arith
 named-at n (card ∷ cards) (suc i) = omega (arith, named-at n cards i)
 
-named-two : (n : ℕ) (cards : List (Option CachedNode)) (i j : ℕ) → i ≢ j → named_by n (get_or cards i None) + named_by n (get_or cards j None) ≤ named n cards
-unfolding named_by
+named-two : (n : ℕ) (cards : List (Option CachedNode)) (i j : ℕ) → i ≢ j → namings_of n (get_or cards i None) + namings_of n (get_or cards j None) ≤ named n cards
+unfolding namings_of
 named-two n [] i j apart = omega arith
 named-two n (card ∷ cards) zero zero apart = absurd (apart refl)
 named-two n (card ∷ cards) zero (suc j) apart = omega (arith, named-at n cards j)
 named-two n (card ∷ cards) (suc i) zero apart = omega (arith, named-at n cards i)
 named-two n (card ∷ cards) (suc i) (suc j) apart = omega (arith, named-two n cards i j (omega arith))
 
-pub named-set : (n : ℕ) (cards : List (Option CachedNode)) (i : ℕ) (card : Option CachedNode) → i < length cards → named n (set cards i card) + named_by n (get_or cards i None) ≡ named n cards + named_by n card
+pub named-set : (n : ℕ) (cards : List (Option CachedNode)) (i : ℕ) (card : Option CachedNode) → i < length cards → named n (set cards i card) + namings_of n (get_or cards i None) ≡ named n cards + namings_of n card
 named-set n [] i card h = absurd (omega arith)
 named-set n (other ∷ cards) zero card h = omega arith
 named-set n (other ∷ cards) (suc i) card h = omega (arith, named-set n cards i card (omega arith))
@@ -126,7 +126,7 @@ module _ (old new : Image) where
 
 module _ (nodes : ℕ) (old new : Image) (marked mark : ℕ → ℕ) (cards : List (Option CachedNode)) (place : ℕ) (is : Option CachedNode) (h : place < nodes) (laid : AreLaid nodes old marked cards) (changes : ChangesCard nodes old new marked mark place (get_or cards place None) is) where
   -- what another cached node names is kept
-  kept_here : (p n : ℕ) → p ≢ place → 0 < named_by n (get_or cards p None) → new n ≡ old n
+  kept_here : (p n : ℕ) → p ≢ place → 0 < namings_of n (get_or cards p None) → new n ≡ old n
   kept_here p n apart some =
       let both = named-two n cards p place apart in
       let sum = laid.marks n in

@@ -12,13 +12,13 @@ use Rattle.model.proofs.Sessions.OpensLaws.{total-ones}
 use Rattle.directory.proofs.ByStamp.{at-by_stamp}
 use Rattle.extents.specs.declared.run.Run.{Run}
 use Rattle.extents.specs.Runs.{AreRising}
-use Rattle.directory.specs.Records.{Record, AreStamped}
+use Rattle.directory.specs.Records.{Record, NamesStamped}
 use Rattle.directory.specs.Listing.{by_stamp}
 use Rattle.layout.specs.CachedNodes.{CachedNode, tree_of, node_of, content_of, bytes_in, byte_at}
 use Rattle.layout.specs.Known.{HasContent, IsCard}
 use Rattle.layout.specs.Laid.{AreNumbered}
 use Rattle.layout.specs.MarkLaws.{FullIsCharged}
-use Rattle.layout.specs.Marks.{once_if, times, times_set, named_by, named}
+use Rattle.layout.specs.Marks.{once_if, times, times_set, namings_of, named}
 use Rattle.layout.proofs.Changing.{tree-lacks, tree-above}
 use Rattle.layout.proofs.Knowing.{AreEach, each_above, each_card, laid_are_cards}
 use Rattle.layout.proofs.NumberLaws.{once-off}
@@ -72,8 +72,8 @@ sum_times_set a n [] = omega (arith, sum_to-zero (λ i. 0) n (λ i. refl))
 sum_times_set a n (None ∷ blocks) = omega (arith, sum_times_set a n blocks)
 sum_times_set a n (Some s ∷ blocks) = omega (arith, sum_to-plus (λ i. once_if (eqb (a + i) s)) (λ i. times_set (a + i) blocks) n, (sum_once a s n).0, sum_times_set a n blocks)
 
-sum_card : (a n : ℕ) (card : CachedNode) → sum_to (λ i. named_by (a + i) (Some card)) n ≤ length card.fields.run_sectors + length card.blocks
-unfolding named_by
+sum_card : (a n : ℕ) (card : CachedNode) → sum_to (λ i. namings_of (a + i) (Some card)) n ≤ length card.fields.run_sectors + length card.blocks
+unfolding namings_of
 sum_card a n card =
     omega (arith, sum_to-plus (λ i. times (a + i) card.fields.run_sectors) (λ i. times_set (a + i) card.blocks) n, sum_times a n card.fields.run_sectors, sum_times_set a n card.blocks)
 
@@ -100,17 +100,17 @@ at-absent (entry ∷ names) key off =
     let apart : key ≢ entry.0 = λ e. off 0 entry (omega arith) (sym e) in
     rw (ne_eqb key entry.0 apart) (at-absent names key (λ i d h. off (suc i) d (omega arith)))
 
-pub stamped-rest : (entry : Record) (names : List Record) → AreStamped (entry ∷ names) → AreStamped names
+pub stamped-rest : (entry : Record) (names : List Record) → NamesStamped (entry ∷ names) → NamesStamped names
 stamped-rest entry names stamped = record { above = stamped.above.1; apart = λ i j d low h. stamped.apart (suc i) (suc j) d (omega arith) (omega arith) }
 
-pub above_by_stamp : (names : List Record) → AreStamped names → IsAbove 0 (by_stamp names)
+pub above_by_stamp : (names : List Record) → NamesStamped names → IsAbove 0 (by_stamp names)
 above_by_stamp [] stamped = tt
 above_by_stamp (entry ∷ names) stamped = IsAbove-with (by_stamp names) entry.0 0 entry.1 (above_by_stamp names (stamped-rest entry names stamped)) stamped.above.0
 
-pub fresh_stamp : (entry : Record) (names : List Record) → AreStamped (entry ∷ names) → at entry.0 (by_stamp names) ≡ None
+pub fresh_stamp : (entry : Record) (names : List Record) → NamesStamped (entry ∷ names) → at entry.0 (by_stamp names) ≡ None
 fresh_stamp entry names stamped = at-by_stamp entry.0 names ∙ at-absent names entry.0 (λ i d h e. stamped.apart 0 (suc i) d (omega arith) (omega arith) (sym e))
 
-pub length-by_stamp : (names : List Record) → AreStamped names → length (by_stamp names) ≡ length names
+pub length-by_stamp : (names : List Record) → NamesStamped names → length (by_stamp names) ≡ length names
 length-by_stamp [] stamped = refl
 length-by_stamp (entry ∷ names) stamped =
     let rest = stamped-rest entry names stamped in
@@ -126,14 +126,14 @@ pub charge_is : (image : Image) (card : CachedNode) → IsCard card → charge (
 unfolding node_of
 charge_is image card is = ap charge_of_blocks (content_blocks image card.fields.kind card is.content ∙ sym is.blocks)
 
-card_charged : (image : Image) (card : CachedNode) (a n : ℕ) → IsCard card → sum_to (λ i. named_by (a + i) (Some card)) n ≤ charge (node_of image card)
+card_charged : (image : Image) (card : CachedNode) (a n : ℕ) → IsCard card → sum_to (λ i. namings_of (a + i) (Some card)) n ≤ charge (node_of image card)
 card_charged image card a n is =
     let charged = charge_is image card is in
     let runs = few_runs 0 (length card.blocks) card.runs is.runs.rising (omega arith) in
     omega (arith, sum_card a n card, is.fits.run_sectors, is.run_count)
 
-pub named-none : (n : ℕ) → named_by n None ≡ 0
-unfolding named_by
+pub named-none : (n : ℕ) → namings_of n None ≡ 0
+unfolding namings_of
 named-none n = refl
 
 cards_charged : (image : Image) (a n : ℕ) (cards : List (Option CachedNode)) → AreEach cards → AreNumbered cards
@@ -141,8 +141,8 @@ cards_charged : (image : Image) (a n : ℕ) (cards : List (Option CachedNode)) �
 cards_charged image a n [] each apart = omega (arith, sum_to-zero (λ i. 0) n (λ i. refl))
 cards_charged image a n (None ∷ cards) each apart =
     let rest = cards_charged image a n cards (λ i card e. each (suc i) card e) (λ i j x y off. apart (suc i) (suc j) x y (omega arith)) in
-    let here = sum_to-zero (λ i. named_by (a + i) None) n (λ i. named-none (a + i)) in
-    omega (arith, sum_to-plus (λ i. named_by (a + i) None) (λ i. named (a + i) cards) n)
+    let here = sum_to-zero (λ i. namings_of (a + i) None) n (λ i. named-none (a + i)) in
+    omega (arith, sum_to-plus (λ i. namings_of (a + i) None) (λ i. named (a + i) cards) n)
 cards_charged image a n (Some one ∷ cards) each apart =
     let rest = cards_charged image a n cards (λ i card e. each (suc i) card e) (λ i j x y off. apart (suc i) (suc j) x y (omega arith)) in
     let here = card_charged image one a n (each 0 one refl) in
@@ -150,7 +150,7 @@ cards_charged image a n (Some one ∷ cards) each apart =
     let fresh : at one.fields.number (tree_of image cards) ≡ None = tree-lacks image cards one.fields.number (λ i card e. apart (suc i) 0 card one (omega arith) e refl) in
     omega (
       arith,
-      sum_to-plus (λ i. named_by (a + i) (Some one)) (λ i. named (a + i) cards) n,
+      sum_to-plus (λ i. namings_of (a + i) (Some one)) (λ i. named (a + i) cards) n,
       total-with charge (tree_of image cards) one.fields.number 0 (node_of image one) above,
       none_worth charge (at one.fields.number (tree_of image cards)) fresh,
     )

@@ -7,7 +7,7 @@ use Rattle.directory.specs.Spelling.{record_bytes}
 use Rattle.directory.proofs.Sector.{records_wide}
 use Rattle.std.proofs.lemmas.Bool.{cases_eq, cases_lt}
 use Rattle.std.proofs.lemmas.List.{length-append, length-take, length-drop, length-set, get_or_append_left, get_or_at, get_or-take, get_or-drop, get_or-set_same, get_or-set_other, get_or_default, ext_get_or}
-use Rattle.directory.specs.Records.{Record, record_from, without_place, place_of, name_of, AreStamped}
+use Rattle.directory.specs.Records.{Record, record_from, without_place, place_of, name_of, NamesStamped}
 use Rattle.directory.specs.Spelling.{directory_sector}
 use Rattle.directory.proofs.Places.{with_record-set, with_record-push, place_of-le}
 use Rattle.layout.specs.CachedNodes.{content_at}
@@ -130,7 +130,7 @@ from names place k within h = elim (cases_eq k place) [
   }
 ]
 
-apart_any : (names : List Record) → AreStamped names → (i j : ℕ) (d : Record) → i ≢ j → i < length names → j < length names → (get_or names i d).0 ≢ (get_or names j d).0
+apart_any : (names : List Record) → NamesStamped names → (i j : ℕ) (d : Record) → i ≢ j → i < length names → j < length names → (get_or names i d).0 ≢ (get_or names j d).0
 apart_any names stamped i j d off hi hj = elim (cases_lt i j) [
   | inl low ↦ stamped.apart i j d low hj
   | inr high ↦ λ same. stamped.apart j i d (omega arith) hi (sym same)

@@ -18,7 +18,7 @@ use Rattle.model.proofs.Trees.FreshTree.{fresh}
 use Rattle.layout.specs.CachedNodes.{CachedNode, tree_of, node_of}
 use Rattle.layout.specs.FreshLaws.{root_fields, IsFresh, FreshStands}
 use Rattle.layout.specs.Laid.{HoldsCard, HoldsPlace, AreNumbered}
-use Rattle.layout.specs.Marks.{named, named_by, mark_in}
+use Rattle.layout.specs.Marks.{named, namings_of, mark_in}
 use Rattle.layout.specs.Stands.{Version, HaveForms, IsLaid}
 use Rattle.layout.proofs.CachedNodeLaws.{cards-back, only_cards}
 use Rattle.layout.proofs.FileLaws.{zero_sector-at}
@@ -32,7 +32,7 @@ nones-at n i = elim (cases_lt i n) [
 ]
 
 named-nones : (n k : ℕ) → named k (replicate n None) ≡ 0
-unfolding named_by
+unfolding namings_of
 named-nones zero k = refl
 named-nones (suc n) k = omega (arith, named-nones n k)
 
@@ -122,7 +122,7 @@ module _ (version : Version) (size nodes : ℕ) (image : Image) (formatted : IsF
       ap (λ (b : ℕ). if ltb n (148 + nodes) then 0 else b) (bit_in-zeros (image 98) (image 99) low high (n - (148 + nodes))) ∙ either_zero (ltb n (148 + nodes))
 
   unnamed : (n : ℕ) → named n root_cards ≡ 0
-  unfolding named_by
+  unfolding namings_of
   unnamed n = omega (arith, named-nones (nodes - 1) n)
 
   laid : IsLaid version size nodes image root_cards

@@ -10,7 +10,7 @@ use Rattle.extents.specs.declared.run.Run.{Run}
 use Rattle.layout.specs.CachedNodeLaws.{AreKept, Frame}
 use Rattle.layout.specs.CachedNodes.{CachedNode, node_sector, content_at, byte_at, bytes_in, content_of, node_with, node_of}
 use Rattle.layout.specs.Laid.{AreRunSectors, HoldsContent, HoldsCard}
-use Rattle.layout.specs.Marks.{times, times_set, named_by}
+use Rattle.layout.specs.Marks.{times, times_set, namings_of}
 use Rattle.layout.proofs.NumberLaws.{once-here, times-at}
 
 pub times_set-at : (blocks : List (Option ℕ)) (i n : ℕ) → get_or blocks i None ≡ Some n → 0 < times_set n blocks
@@ -38,11 +38,11 @@ module _ (old new : Image) (blocks : List (Option ℕ)) (same : (n : ℕ) → 0 
 
 module _ (old new : Image) (card : CachedNode) (same : AreKept old new (Some card)) where
   pub of_runs : (n : ℕ) → 0 < times n card.fields.run_sectors → new n ≡ old n
-  unfolding named_by
+  unfolding namings_of
   of_runs n h = same n (omega arith)
 
   of_blocks : (n : ℕ) → 0 < times_set n card.blocks → new n ≡ old n
-  unfolding named_by
+  unfolding namings_of
   of_blocks n h = same n (omega arith)
 
   pub content-held : (kind : NodeKind) → HoldsContent old kind card → HoldsContent new kind card

@@ -4,7 +4,7 @@ use Rattle.disk.specs.Moments.{Image}
 use Rattle.model.specs.Sessions.Seats.{Seats, no_seats}
 use Rattle.model.specs.Trees.Tree.{Tree}
 use Rattle.layout.specs.CachedNodeLaws.{OneKept}
-use Rattle.layout.specs.Stands.{Version, AreKept, Kept, IsMark, IsVersion, MayKeep, By, Stands, StandsAs, StandsNow, current, seats_at, version_by}
+use Rattle.layout.specs.Stands.{Version, AreKept, Kept, IsMark, IsVersion, MayHaveSeats, By, TreeStands, StandsAs, StandsNow, current_version, seats_at, version_by}
 use Rattle.layout.specs.declared.versions.VersionNumber.{VersionNumber}
 use Rattle.layout.specs.declared.versions.VersionNumber.TheVariants as numbers
 use Rattle.seats.specs.Spelling.{seats_sector}
@@ -13,12 +13,12 @@ use Rattle.layout.proofs.FirstLaws.{one_tree}
 use Rattle.layout.proofs.SeatLaws.{spare_seats, version_spare}
 
 pub version_parts : (nodes : ℕ) (version : Version) (seats : Seats) → IsVersion nodes version seats
-    → (number : VersionNumber) × (mark : Option ℕ) × IsMark number nodes mark × MayKeep number mark seats × (version ≡ version_by number mark seats)
+    → (number : VersionNumber) × (mark : Option ℕ) × IsMark number nodes mark × MayHaveSeats number mark seats × (version ≡ version_by number mark seats)
 version_parts nodes version seats (By number mark of is may) = (number, mark, is, may, refl)
 
 -- a tree that stands in a version that a volume may have stands with its seats
-pub stands_by : (number : VersionNumber) (mark : Option ℕ) (size nodes : ℕ) (image : Image) (run : ℕ) (kept : Kept) → IsMark number nodes mark → MayKeep number mark kept.seats → AreKept run kept.seats
-    → Stands (version_by number mark kept.seats) size nodes image run kept.tree → StandsAs size nodes image run kept
+pub stands_by : (number : VersionNumber) (mark : Option ℕ) (size nodes : ℕ) (image : Image) (run : ℕ) (kept : Kept) → IsMark number nodes mark → MayHaveSeats number mark kept.seats → AreKept run kept.seats
+    → TreeStands (version_by number mark kept.seats) size nodes image run kept.tree → StandsAs size nodes image run kept
 stands_by number mark size nodes image run kept is may keeps stands = record {
   version = version_by number mark kept.seats;
   is_version = By number mark kept.seats is may;
@@ -26,7 +26,7 @@ stands_by number mark size nodes image run kept is may keeps stands = record {
   stands = stands;
 }
 
-pub current_stands : (size nodes : ℕ) (image : Image) (run : ℕ) (kept : Kept) → AreKept run kept.seats → Stands (current kept.seats) size nodes image run kept.tree → StandsAs size nodes image run kept
+pub current_stands : (size nodes : ℕ) (image : Image) (run : ℕ) (kept : Kept) → AreKept run kept.seats → TreeStands (current_version kept.seats) size nodes image run kept.tree → StandsAs size nodes image run kept
 current_stands size nodes image run kept keeps stands = stands_by numbers.Two None size nodes image run kept tt tt keeps stands
 
 pub stands_now : (size nodes : ℕ) (image : Image) (run : ℕ) (kept : Kept) → StandsNow size nodes image run kept → StandsAs size nodes image run kept

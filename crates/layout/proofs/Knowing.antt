@@ -7,7 +7,7 @@ use Rattle.disk.specs.Moments.{Image}
 use Rattle.model.specs.declared.node.NodeKind.{NodeKind}
 use Rattle.model.specs.declared.node.NodeKind.TheVariants as kind
 use Rattle.layout.specs.CachedNodes.{CachedNode}
-use Rattle.layout.specs.Known.{HasContent, IsCard, IsPlace, AreCards, MovesMarks, LaidAreCards, OneCardChange}
+use Rattle.layout.specs.Known.{HasContent, IsCard, IsNodePlace, AreCards, MovesMarks, LaidAreCards, OneCardChange}
 use Rattle.layout.specs.Laid.{HoldsContent, HoldsPlace}
 use Rattle.layout.specs.Marks.{named}
 use Rattle.layout.proofs.Changing.{AreAbove, named-set, apart_now}
@@ -16,7 +16,7 @@ content_known : (image : Image) (kind : NodeKind) (card : CachedNode) → HoldsC
 content_known image kind.File card holds = holds.unnamed
 content_known image kind.Directory card holds = record { count = holds.count; names = holds.names; stamped = holds.stamped }
 
-place_known : (image : Image) (place : ℕ) (card : Option CachedNode) → HoldsPlace image place card → IsPlace card
+place_known : (image : Image) (place : ℕ) (card : Option CachedNode) → HoldsPlace image place card → IsNodePlace card
 place_known image place None holds = tt
 place_known image place (Some card) holds = record {
   fits = holds.node.fits;
@@ -44,15 +44,15 @@ AreEach cards = (i : ℕ) (card : CachedNode) → get_or cards i None ≡ Some c
 
 pub each_card : (nodes : ℕ) (mark : ℕ → ℕ) (cards : List (Option CachedNode)) → AreCards nodes mark cards → AreEach cards
 each_card nodes mark cards known i card there = elim (cases_lt i nodes) [
-  | inl low ↦ subst IsPlace there (known.each i low)
+  | inl low ↦ subst IsNodePlace there (known.each i low)
   | inr high ↦ absurd (none-some card (sym (get_or_past cards i None (omega (arith, known.count))) ∙ there))
 ]
 
 pub each_above : (cards : List (Option CachedNode)) → AreEach cards → AreAbove cards
 each_above cards each i card there = let is = each i card there in is.number
 
-module _ (nodes : ℕ) (marked mark : ℕ → ℕ) (cards : List (Option CachedNode)) (place : ℕ) (is : Option CachedNode) (h : place < nodes) (old : AreCards nodes marked cards) (new : IsPlace is) (moves : MovesMarks nodes marked mark (get_or cards place None) is) where
-  each_now : (p : ℕ) → p < nodes → IsPlace (get_or (set cards place is) p None)
+module _ (nodes : ℕ) (marked mark : ℕ → ℕ) (cards : List (Option CachedNode)) (place : ℕ) (is : Option CachedNode) (h : place < nodes) (old : AreCards nodes marked cards) (new : IsNodePlace is) (moves : MovesMarks nodes marked mark (get_or cards place None) is) where
+  each_now : (p : ℕ) → p < nodes → IsNodePlace (get_or (set cards place is) p None)
   each_now p in_ = elim (cases_eq p place) [
     | inl one ↦
         let there : get_or (set cards place is) p None ≡ is = ap (λ (k : ℕ). get_or (set cards place is) k None) one ∙ get_or-set_same cards place is None (omega (arith, old.count)) in

@@ -7,7 +7,7 @@ use Rattle.disk.specs.Calls as calls
 use Rattle.disk.specs.Calls.{zero_sector}
 use Rattle.layout.specs.Stands as marks
 use Rattle.model.specs.Sessions.Seats.{Seats}
-use Rattle.layout.specs.Stands.{IsMark, Kept, MayKeep, Stands, StandsAs, mark_held, mark_sector, number_of, spare_by, version_by}
+use Rattle.layout.specs.Stands.{IsMark, Kept, MayHaveSeats, TreeStands, StandsAs, mark_held, mark_sector, number_of_version, spare_by, version_by}
 use Rattle.layout.specs.Superblock as first
 use Rattle.layout.specs.Superblock.{superblock}
 use Rattle.layout.specs.declared.versions.VersionNumber.{VersionNumber}
@@ -55,11 +55,11 @@ one_mark number nodes (Some a) None fits one other same = absurd (not_mark a (sy
 one_mark number nodes (Some a) (Some b) fits one other same =
     ap (λ (moved : ℕ). Some moved) (same_moved a b (mark_fits number nodes a fits one) (mark_fits number nodes b fits other) same)
 
-numbers_fit : (number : VersionNumber) → number_of number < 2 ^ 32
+numbers_fit : (number : VersionNumber) → number_of_version number < 2 ^ 32
 numbers_fit One = omega arith
 numbers_fit Two = omega arith
 
-numbers_apart : (a b : VersionNumber) → number_of a ≡ number_of b → a ≡ b
+numbers_apart : (a b : VersionNumber) → number_of_version a ≡ number_of_version b → a ≡ b
 numbers_apart One One same = refl
 numbers_apart Two Two same = refl
 numbers_apart One Two same = absurd (cc)
@@ -67,39 +67,39 @@ numbers_apart Two One same = absurd (cc)
 
 -- and the first sector the number
 pub one_number : (a b : VersionNumber) (sectors nodes run other_sectors other_nodes other_run : ℕ)
-    → superblock (number_of a) sectors nodes run ≡ superblock (number_of b) other_sectors other_nodes other_run → a ≡ b
+    → superblock (number_of_version a) sectors nodes run ≡ superblock (number_of_version b) other_sectors other_nodes other_run → a ≡ b
 one_number a b sectors nodes run other_sectors other_nodes other_run same = numbers_apart a b
-    (sym (number_back (number_of a) sectors nodes run (numbers_fit a))
-    ∙ (ap (λ (s : List ℕ). from_be_bytes w32 (drop 8 s)) same ∙ number_back (number_of b) other_sectors other_nodes other_run (numbers_fit b)))
+    (sym (number_back (number_of_version a) sectors nodes run (numbers_fit a))
+    ∙ (ap (λ (s : List ℕ). from_be_bytes w32 (drop 8 s)) same ∙ number_back (number_of_version b) other_sectors other_nodes other_run (numbers_fit b)))
 
-pub version_number : (number : VersionNumber) (mark : Option ℕ) (seats : Seats) → (version_by number mark seats).number ≡ number_of number
+pub version_number : (number : VersionNumber) (mark : Option ℕ) (seats : Seats) → (version_by number mark seats).number ≡ number_of_version number
 version_number One mark seats = refl
 version_number Two mark seats = refl
 
 pub first_number : (number : VersionNumber) (mark : Option ℕ) (seats : Seats) (size nodes run : ℕ)
-    → superblock (version_by number mark seats).number size nodes run ≡ superblock (number_of number) size nodes run
+    → superblock (version_by number mark seats).number size nodes run ≡ superblock (number_of_version number) size nodes run
 first_number number mark seats size nodes run = ap (λ (n : ℕ). superblock n size nodes run) (version_number number mark seats)
 
 -- so what stands on sectors stands in the version that both tell
 pub record StandsTold (number : VersionNumber) (mark : Option ℕ) (size nodes : ℕ) (image : Image) (run : ℕ) (kept : Kept) : Type 0 where
-  pub may : MayKeep number mark kept.seats
-  pub stands : Stands (version_by number mark kept.seats) size nodes image run kept.tree
+  pub may : MayHaveSeats number mark kept.seats
+  pub stands : TreeStands (version_by number mark kept.seats) size nodes image run kept.tree
 
 pub stands_told : (number : VersionNumber) (mark : Option ℕ) (size nodes : ℕ) (image : Image) (run : ℕ) (kept : Kept) (sectors other_nodes other_run : ℕ) → nodes < 2 ^ 32
-    → IsMark number nodes mark → image 0 ≡ superblock (number_of number) sectors other_nodes other_run → image 147 ≡ mark_held mark
+    → IsMark number nodes mark → image 0 ≡ superblock (number_of_version number) sectors other_nodes other_run → image 147 ≡ mark_held mark
     → StandsAs size nodes image run kept → StandsTold number mark size nodes image run kept
 stands_told number mark size nodes image run kept sectors other_nodes other_run fits is first marked stands =
     let seats = kept.seats in
     let parts = version_parts nodes stands.version seats stands.is_version in
-    let there : Stands (version_by parts.0 parts.1 seats) size nodes image run kept.tree =
-    subst (λ version. Stands version size nodes image run kept.tree) parts.4 stands.stands in
+    let there : TreeStands (version_by parts.0 parts.1 seats) size nodes image run kept.tree =
+    subst (λ version. TreeStands version size nodes image run kept.tree) parts.4 stands.stands in
     let same : parts.0 ≡ number = one_number parts.0 number size nodes run sectors other_nodes other_run
     (sym (first_number parts.0 parts.1 seats size nodes run) ∙ (sym there.first ∙ first)) in
     let mark_is : IsMark number nodes parts.1 = subst (λ (n : VersionNumber). IsMark n nodes parts.1) same parts.2 in
     let same_mark : parts.1 ≡ mark = one_mark number nodes parts.1 mark fits mark_is is
     (sym (version_spare parts.0 parts.1 seats 147 parts.3) ∙ (sym (there.laid.spare 147 (omega arith) (omega arith)) ∙ marked)) in
     record {
-      may = subst (λ (m : Option ℕ). MayKeep number m seats) same_mark (subst (λ (n : VersionNumber). MayKeep n parts.1 seats) same parts.3);
-      stands = subst (λ (m : Option ℕ). Stands (version_by number m seats) size nodes image run kept.tree) same_mark
-          (subst (λ (n : VersionNumber). Stands (version_by n parts.1 seats) size nodes image run kept.tree) same there);
+      may = subst (λ (m : Option ℕ). MayHaveSeats number m seats) same_mark (subst (λ (n : VersionNumber). MayHaveSeats n parts.1 seats) same parts.3);
+      stands = subst (λ (m : Option ℕ). TreeStands (version_by number m seats) size nodes image run kept.tree) same_mark
+          (subst (λ (n : VersionNumber). TreeStands (version_by n parts.1 seats) size nodes image run kept.tree) same there);
     }

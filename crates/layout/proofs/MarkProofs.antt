@@ -14,7 +14,7 @@ use Rattle.layout.specs.Stands.{Version}
 use Rattle.layout.specs.Superblock.{is_size}
 use Rattle.std.specs.Prelude.{IsTrue}
 use Rattle.layout.proofs.FirstLaws.{sized_parts}
-use Rattle.layout.specs.Marks.{mark_in, named_by, mark_by}
+use Rattle.layout.specs.Marks.{mark_in, namings_of, mark_by}
 use Rattle.layout.specs.Stands.{IsLaid}
 use Rattle.layout.proofs.CachedNodeLaws.{cards-back}
 use Rattle.layout.proofs.Frame.{held-still, node-kept}
@@ -110,7 +110,7 @@ marks_laid nodes count image places few shown = marks_of nodes image places (sho
 
 module _ (nodes : ℕ) (old new : Image) (marked mark : ℕ → ℕ) (cards : List (Option CachedNode)) (laid : AreLaid nodes old marked cards) (marks : (n : ℕ) → mark n ≡ marked n)
     (same_nodes : (place : ℕ) → place < nodes → new (node_sector place) ≡ old (node_sector place)) (same_data : (n : ℕ) → 0 < marked n → new n ≡ old n) where
-  kept_all : (place n : ℕ) → 0 < named_by n (get_or cards place None) → new n ≡ old n
+  kept_all : (place n : ℕ) → 0 < namings_of n (get_or cards place None) → new n ≡ old n
   kept_all place n some = same_data n (omega (arith, named-at n cards place, laid.marks n))
 
   held_at : (place : ℕ) (card : Option CachedNode) → place < nodes → get_or cards place None ≡ card → HoldsPlace old place card → HoldsPlace new place card

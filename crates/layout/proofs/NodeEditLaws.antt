@@ -3,7 +3,7 @@ use Rattle.std.proofs.Common.{◌≡◌, ◌≢◌, ◌≤◌, ◌<◌, ◌+◌,
 use Rattle.disk.specs.Moments.{Image, put}
 use Rattle.sector.specs.Placed.{placed}
 use Rattle.directory.specs.Listing.{by_stamp}
-use Rattle.directory.specs.Records.{IsDirectory, AreStamped}
+use Rattle.directory.specs.Records.{IsDirectory, NamesStamped}
 use Rattle.directory.specs.Spelling.{directory_sector}
 use Rattle.model.specs.declared.node.NodeKind.{NodeKind}
 use Rattle.model.specs.declared.node.NodeKind.TheVariants as kind
@@ -16,9 +16,9 @@ use Rattle.layout.specs.ChangeLaws.{ChangesOwn, ChangesCard, tree_with}
 use Rattle.layout.specs.Directories.{ChangesBlocks, block_of, block_put}
 use Rattle.layout.specs.Files.{below}
 use Rattle.layout.specs.Laid.{HoldsNode, HoldsCard, HoldsPlace, HoldsBytes, HoldsContent, names_of_block}
-use Rattle.layout.specs.Marks.{times, times_set, named_by, named}
+use Rattle.layout.specs.Marks.{times, times_set, namings_of, named}
 use Rattle.layout.specs.NodeEdits.{WritesPart, part_written, WritePart, WriteFile, FillBlock, CutFile, GrowFile, PutOneName, DropOneName, AreDirectories, ShowsOther, ShowOther, MakeNode, FreeNode}
-use Rattle.layout.specs.Steps.{Steps, Gives, ShowsSame}
+use Rattle.layout.specs.Steps.{NodeSteps, LaysTree, ShowsSame}
 use Rattle.layout.proofs.Answering.{tree-has}
 use Rattle.layout.proofs.Changing.{named-at, one_change}
 use Rattle.layout.proofs.DirectoryLaws.{puts_in_one, removes_in_two, rewriting, stays_stamped}
@@ -33,7 +33,7 @@ unfolding node_of
 node_of-bytes image card is = ap (λ (k : NodeKind). node_with card.fields (content_of image k card)) is
 
 -- the tree with a node for another that shows the same is the tree that an edit makes of its node
-module _ (nodes : ℕ) (old new : Image) (marked mark : ℕ → ℕ) (cards : List (Option CachedNode)) (place : ℕ) (was is : CachedNode) (steps : Steps nodes old new marked mark cards place was is) where
+module _ (nodes : ℕ) (old new : Image) (marked mark : ℕ → ℕ) (cards : List (Option CachedNode)) (place : ℕ) (was is : CachedNode) (steps : NodeSteps nodes old new marked mark cards place was is) where
   edited_as : (change : Node → Node) (node : Node) → node_of old was ≡ node → with (tree_of old cards) is.fields.number (change node) ≡ altered change (tree_of old cards) was.fields.number
   edited_as change node is_node =
       ap (λ (n : ℕ). with (tree_of old cards) n (change node)) steps.number
@@ -41,7 +41,7 @@ module _ (nodes : ℕ) (old new : Image) (marked mark : ℕ → ℕ) (cards : Li
       ∙ sym (altered-once change (tree_of old cards) was.fields.number (node_of old was) (tree-has old cards place was steps.laid.apart steps.there))
 
   gives_edit : (change : Node → Node) (node : Node) (content : Content) → ShowsSame was.fields is.fields → node_of old was ≡ node → change node ≡ node_with was.fields content
-      → Gives nodes new mark cards place is (with (tree_of old cards) is.fields.number (node_with is.fields content)) → Gives nodes new mark cards place is (altered change (tree_of old cards) was.fields.number)
+      → LaysTree nodes new mark cards place is (with (tree_of old cards) is.fields.number (node_with is.fields content)) → LaysTree nodes new mark cards place is (altered change (tree_of old cards) was.fields.number)
   gives_edit change node content shows is_node made gives = record {
     laid = gives.laid;
     tree_is = gives.tree_is ∙ ap (with (tree_of old cards) is.fields.number) (shown was.fields is.fields content shows ∙ sym made) ∙ edited_as change node is_node;
@@ -56,8 +56,8 @@ pub put-elsewhere : (image : Image) (target : ℕ) (content : List ℕ) (n : ℕ
 put-elsewhere image target content n off = rw (ne_eqb n target off) refl
 
 -- how often a cached node names a sector: as a run sector, or as a block
-pub named_by-parts : (n : ℕ) (card : CachedNode) → named_by n (Some card) ≡ times n card.fields.run_sectors + times_set n card.blocks
-unfolding named_by
+pub named_by-parts : (n : ℕ) (card : CachedNode) → namings_of n (Some card) ≡ times n card.fields.run_sectors + times_set n card.blocks
+unfolding namings_of
 named_by-parts n card = refl
 
 module _ (nodes : ℕ) (old : Image) (marked : ℕ → ℕ) (cards : List (Option CachedNode)) (place : ℕ) (card : CachedNode) (block sector from : ℕ) (part : List ℕ) (writes : WritesPart nodes old marked cards place card block sector from part) where
@@ -74,7 +74,7 @@ module _ (nodes : ℕ) (old : Image) (marked : ℕ → ℕ) (cards : List (Optio
   is_block =
       let some = times_set-at card.blocks block sector writes.is_set in
       let parts = named_by-parts sector card in
-      let all : named_by sector (Some card) ≤ named sector cards = subst (λ (c : Option CachedNode). named_by sector c ≤ named sector cards) writes.there (named-at sector cards place) in
+      let all : namings_of sector (Some card) ≤ named sector cards = subst (λ (c : Option CachedNode). namings_of sector c ≤ named sector cards) writes.there (named-at sector cards place) in
       let marks = writes.laid.marks sector in
       let few = writes.laid.once sector in
       record { behind = writes.laid.behind sector (omega arith); not_run = omega arith; once = omega arith }
@@ -108,7 +108,7 @@ module _ (nodes : ℕ) (old : Image) (marked : ℕ → ℕ) (cards : List (Optio
     others = λ n low off none again. elsewhere n (λ e.
         let some = times_set-at card.blocks block sector writes.is_set in
         let parts = named_by-parts sector card in
-        let same : named_by n (Some card) ≡ named_by sector (Some card) = ap (λ (s : ℕ). named_by s (Some card)) e in
+        let same : namings_of n (Some card) ≡ namings_of sector (Some card) = ap (λ (s : ℕ). namings_of s (Some card)) e in
         omega arith);
     marks = λ n. refl;
     once = writes.laid.once;
@@ -118,7 +118,7 @@ module _ (nodes : ℕ) (old : Image) (marked : ℕ → ℕ) (cards : List (Optio
   unnamed : card.names ≡ []
   unnamed = let tail : HoldsBytes old card = subst (λ (k : NodeKind). HoldsContent old k card) writes.file held.content in tail.unnamed
 
-  write : Gives nodes new marked cards place card (done (PutBytes card.fields.number (4096 * block + from) part) (tree_of old cards))
+  write : LaysTree nodes new marked cards place card (done (PutBytes card.fields.number (4096 * block + from) part) (tree_of old cards))
   write =
       let bytes = bytes_in old card.blocks card.fields.size in
       let there = file_there nodes old marked cards place card writes.laid writes.within writes.there writes.file in
@@ -126,7 +126,7 @@ module _ (nodes : ℕ) (old : Image) (marked : ℕ → ℕ) (cards : List (Optio
       let alone = is_block in
       let others = others_hold old new card.blocks block sector (λ n off some. elsewhere n off) (own_block.once alone.once block writes.is_set) in
       let bytes_now = writing old new card.blocks block sector from part (record { is_set = writes.is_set; whole = writes.whole; within = writes.in_block; written = here; others = others }) in
-      let steps : Steps nodes old new marked marked cards place card card = record { within = writes.within; there = writes.there; number = refl; laid = writes.laid; node = node; own = own } in
+      let steps : NodeSteps nodes old new marked marked cards place card card = record { within = writes.within; there = writes.there; number = refl; laid = writes.laid; node = node; own = own } in
       let long : card.fields.size ≡ length (overwritten bytes (4096 * block + from) part) = omega (arith, length-overwritten bytes (4096 * block + from) part, length-bytes_in old card.blocks card.fields.size, writes.in_file) in
       gives_edit nodes old new marked marked cards place card card steps (λ node. with_content node (File (overwritten (bytes_of node.content) (4096 * block + from) part))) (node_with card.fields (File bytes))
       (File (overwritten bytes (4096 * block + from) part)) (record { owner = refl; group = refl; acl = refl; change = refl; time_modify = refl }) (node_of-bytes old card writes.file) refl
@@ -182,10 +182,10 @@ grow_file nodes old new marked mark cards place was is count steps grows =
 
 -- ---- directories
 
-module _ (nodes : ℕ) (old new : Image) (marked mark : ℕ → ℕ) (cards : List (Option CachedNode)) (place : ℕ) (was is : CachedNode) (steps : Steps nodes old new marked mark cards place was is) (are : AreDirectories old was is) where
-  named_anew : (change : Keyed DirEntry → Keyed DirEntry) (one other : ℕ) → AreStamped is.names → ((i : ℕ) → i < length is.blocks → content_at new (get_or is.blocks i None) ≡ directory_sector (names_of_block i is.names))
+module _ (nodes : ℕ) (old new : Image) (marked mark : ℕ → ℕ) (cards : List (Option CachedNode)) (place : ℕ) (was is : CachedNode) (steps : NodeSteps nodes old new marked mark cards place was is) (are : AreDirectories old was is) where
+  named_anew : (change : Keyed DirEntry → Keyed DirEntry) (one other : ℕ) → NamesStamped is.names → ((i : ℕ) → i < length is.blocks → content_at new (get_or is.blocks i None) ≡ directory_sector (names_of_block i is.names))
       → by_stamp is.names ≡ change (by_stamp was.names)
-      → Gives nodes new mark cards place is (altered (λ node. with_content node (Directory (change (names_of node.content)))) (tree_of old cards) was.fields.number)
+      → LaysTree nodes new mark cards place is (altered (λ node. with_content node (Directory (change (names_of node.content)))) (tree_of old cards) was.fields.number)
   named_anew change one other stamped spelled map_is =
       gives_edit nodes old new marked mark cards place was is steps (λ node. with_content node (Directory (change (names_of node.content)))) (node_with was.fields (Directory (by_stamp was.names)))
       (Directory (change (by_stamp was.names))) are.shows (node_of-directory old was are.was_directory) refl
@@ -204,7 +204,7 @@ drop_one_name nodes old new marked mark cards place was is at stamp steps drops 
     let one = block_of at in
     let other = block_of (length was.names - 1) in
     let changes : ChangesBlocks was.names is.names one other = rw drops.names (removes_in_two was.names at drops.within) in
-    let stamped : AreStamped is.names = subst AreStamped (sym drops.names) (stays_stamped was.names at drops.within drops.directories.held.stamped) in
+    let stamped : NamesStamped is.names = subst NamesStamped (sym drops.names) (stays_stamped was.names at drops.within drops.directories.held.stamped) in
     named_anew nodes old new marked mark cards place was is steps drops.directories (λ names. without names stamp) one other stamped
     (rewriting old new was.blocks is.blocks was.names is.names one other drops.directories.held.spelled changes drops.blocks) drops.map_is
 
@@ -219,7 +219,7 @@ module _ (old new : Image) (was is : CachedNode) (shown : Shown) (shows : ShowsO
   content_there kind.Directory holds = record {
     count = ap length shows.names ∙ holds.count ∙ sym shows.size;
     names = subst IsDirectory (sym shows.names) holds.names;
-    stamped = subst AreStamped (sym shows.names) holds.stamped;
+    stamped = subst NamesStamped (sym shows.names) holds.stamped;
     spelled = λ i h.
         let long : length is.blocks ≡ length was.blocks = ap length shows.blocks in
         ap (λ (b : List (Option ℕ)). content_at new (get_or b i None)) shows.blocks

@@ -18,10 +18,10 @@ use Rattle.inode.proofs.ReadBack.{fields-back}
 use Rattle.layout.specs.CachedNodes.{CachedNode, node_sector, cards_in, content_of, node_of}
 use Rattle.layout.specs.CachedNodes.{node_with, tree_of}
 use Rattle.layout.specs.Laid.{AreNumbered, HoldsContent, HoldsPlace}
-use Rattle.layout.specs.Marks.{mark_in, named, named_by}
-use Rattle.layout.specs.Known.{IsPlace, HasContent}
+use Rattle.layout.specs.Marks.{mark_in, named, namings_of}
+use Rattle.layout.specs.Known.{IsNodePlace, HasContent}
 use Rattle.layout.specs.Rewriting.{in_form, in_second, all_second, second_image, AreRewritten, RewrittenStands, FormStays, IsLaidSecond, LaidSecond, KnownSecond, RewrittenCards, CurrentSecond}
-use Rattle.layout.specs.Stands.{Version, IsLaid, current}
+use Rattle.layout.specs.Stands.{Version, IsLaid, current_version}
 use Rattle.layout.proofs.CachedNodeLaws.{cards-back, zero_first, starts}
 use Rattle.layout.proofs.Changing.{named-at, tree-kept}
 use Rattle.layout.proofs.Frame.{content-held, of_runs, run_sectors-kept, node-kept}
@@ -64,8 +64,8 @@ from_at form place (card ∷ cards) (suc i) = from_at form (suc place) cards i �
 all_at : (form : ℕ → Form) (cards : List (Option CachedNode)) (i : ℕ) → get_or (cards_from form 0 cards) i None ≡ place_in (form i) (get_or cards i None)
 all_at form cards i = from_at form 0 cards i ∙ ap (λ (n : ℕ). place_in (form n) (get_or cards i None)) (omega arith)
 
-named_place : (n : ℕ) (form : Form) (card : Option CachedNode) → named_by n (place_in form card) ≡ named_by n card
-unfolding named_by
+named_place : (n : ℕ) (form : Form) (card : Option CachedNode) → namings_of n (place_in form card) ≡ namings_of n card
+unfolding namings_of
 named_place n form None = refl
 named_place n form (Some card) = refl
 
@@ -122,7 +122,7 @@ module _ (was is : Version) (size nodes : ℕ) (old new : Image) (cards : List (
   marks : (n : ℕ) → mark_in nodes new n ≡ mark_in nodes old n
   marks n = mark_in-same nodes old new (rewritten.bitmap 98 (omega arith) (omega arith)) (rewritten.bitmap 99 (omega arith) (omega arith)) n
 
-  kept : (place n : ℕ) → 0 < named_by n (get_or cards place None) → new n ≡ old n
+  kept : (place n : ℕ) → 0 < namings_of n (get_or cards place None) → new n ≡ old n
   kept place n some =
       let marked : 0 < mark_in nodes old n = omega (arith, some, named-at n cards place, laid.laid.marks n) in
       rewritten.region n (laid.laid.behind n marked) (below_size was size nodes old cards laid n marked)
@@ -131,7 +131,7 @@ module _ (was is : Version) (size nodes : ℕ) (old new : Image) (cards : List (
   held_at place None within there holds =
       rewritten.nodes_are place within ∙ (ap (in_form (is.form place)) holds ∙ free_in_form (is.form place))
   held_at place (Some card) within there holds =
-      let same : (n : ℕ) → 0 < named_by n (Some card) → new n ≡ old n = λ n some. kept place n (rw there some) in
+      let same : (n : ℕ) → 0 < namings_of n (Some card) → new n ≡ old n = λ n some. kept place n (rw there some) in
       let roomy : (card.form ≡ One) ⊎ (is.form place ≡ Two) = rw (laid.forms place card there) (rewritten.roomy place within) in
       record {
         node = record {
@@ -239,7 +239,7 @@ second_at (card ∷ cards) (suc i) = second_at cards i
 
 module _ (version : Version) (size nodes : ℕ) (image : Image) (cards : List (Option CachedNode)) (laid : IsLaid version size nodes image cards)
     (below : 148 + nodes ≤ size) where
-  pub then_second : AreRewritten version (current no_seats) size nodes image (second_image nodes image)
+  pub then_second : AreRewritten version (current_version no_seats) size nodes image (second_image nodes image)
   then_second = record {
     roomy = λ place within. inr refl;
     bitmap = λ n low high. rw (lt-leb 148 n (omega (arith, high)), lt-leb 100 n high) refl;
@@ -250,10 +250,10 @@ module _ (version : Version) (size nodes : ℕ) (image : Image) (cards : List (O
 
   laid_second : IsLaidSecond size nodes image cards
   laid_second = record {
-    laid = subst (IsLaid (current no_seats) size nodes (second_image nodes image)) (second_from 0 cards)
-        (laid_now version (current no_seats) size nodes image (second_image nodes image) cards laid below then_second);
+    laid = subst (IsLaid (current_version no_seats) size nodes (second_image nodes image)) (second_from 0 cards)
+        (laid_now version (current_version no_seats) size nodes image (second_image nodes image) cards laid below then_second);
     tree = ap (tree_of (second_image nodes image)) (sym (second_from 0 cards))
-        ∙ tree_now version (current no_seats) size nodes image (second_image nodes image) cards laid below then_second;
+        ∙ tree_now version (current_version no_seats) size nodes image (second_image nodes image) cards laid below then_second;
     shown = ap (tree_of image) (sym (second_from 0 cards)) ∙ tree_from image (λ i. Two) 0 cards;
   }
 
@@ -264,7 +264,7 @@ known_content : (of : NodeKind) (card : CachedNode) → HasContent of card → H
 known_content kind.File card has = has
 known_content kind.Directory card has = record { count = has.count; names = has.names; stamped = has.stamped }
 
-known_place : (card : Option CachedNode) → IsPlace card → IsPlace (in_second card)
+known_place : (card : Option CachedNode) → IsNodePlace card → IsNodePlace (in_second card)
 known_place None is = is
 known_place (Some card) is = record {
   fits = fits_in_form card.form Two card.fields (inr refl) is.fits;
@@ -291,7 +291,7 @@ apart_second cards apart i j a b off at_i at_j =
 pub known_as_second : KnownSecond
 known_as_second nodes mark cards known = record {
   count = ap length (sym (second_from 0 cards)) ∙ (length_from (λ i. Two) 0 cards ∙ known.count);
-  each = λ place within. subst IsPlace (sym (second_at cards place)) (known_place (get_or cards place None) (known.each place within));
+  each = λ place within. subst IsNodePlace (sym (second_at cards place)) (known_place (get_or cards place None) (known.each place within));
   apart = apart_second cards known.apart;
   marks = λ n. ap (named n) (sym (second_from 0 cards)) ∙ (named_from n (λ i. Two) 0 cards ∙ known.marks n);
   behind = known.behind;

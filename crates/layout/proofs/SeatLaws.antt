@@ -5,7 +5,7 @@ use Rattle.disk.specs.Calls.{zero_sector}
 use Rattle.model.specs.Sessions.Seats.{Seat, Seats, AreOfRuns, has_seat, no_seats}
 use Rattle.seats.specs.Spelling as spelled
 use Rattle.seats.specs.Spelling.{ArePlaces, seat_sector, seats_sector}
-use Rattle.layout.specs.Stands.{AreKept, MayKeep, mark_held, spare_by, version_by}
+use Rattle.layout.specs.Stands.{AreKept, MayHaveSeats, mark_held, spare_by, version_by}
 use Rattle.layout.specs.declared.versions.VersionNumber.{VersionNumber}
 use Rattle.layout.specs.declared.versions.VersionNumber.TheVariants as numbers
 
@@ -44,7 +44,7 @@ either_free false sector free = free
 pub spare_none : (n : ℕ) → spare_by no_seats None n ≡ zero_sector
 spare_none n = either_free (n == 147) (seats_sector (n - 100) no_seats) (seats_free (n - 100))
 
-pub version_spare : (number : VersionNumber) (mark : Option ℕ) (seats : Seats) (n : ℕ) → MayKeep number mark seats → (version_by number mark seats).spare n ≡ spare_by seats mark n
+pub version_spare : (number : VersionNumber) (mark : Option ℕ) (seats : Seats) (n : ℕ) → MayHaveSeats number mark seats → (version_by number mark seats).spare n ≡ spare_by seats mark n
 version_spare numbers.One mark seats n none = ap (λ (s : Seats). spare_by s mark n) (sym none)
 version_spare numbers.Two mark seats n may = refl
 

@@ -15,7 +15,7 @@ use Rattle.layout.specs.ChangeLaws.{ChangesCard}
 use Rattle.layout.specs.Files.{HoldBytes, over, EachWrite}
 use Rattle.layout.specs.Laid.{HoldsCard, HoldsBytes, HoldsContent, HoldsPlace, AreNumbered}
 use Rattle.layout.specs.Marks.{once_if, times_set}
-use Rattle.layout.specs.Steps.{Steps, Gives, FileStep, NamesStep, ShowsSame, SameStep, FileThere, OthersHold, EachOwn, EachChange}
+use Rattle.layout.specs.Steps.{NodeSteps, LaysTree, FileStep, NamesStep, ShowsSame, SameStep, FileThere, OthersHold, EachOwn, EachChange}
 use Rattle.model.specs.Trees.Edit.{overwritten, resized}
 use Rattle.layout.proofs.Frame.{times_set-at}
 use Rattle.layout.proofs.Changing.{one_change}
@@ -27,8 +27,8 @@ own_number : (cards : List (Option CachedNode)) (place : ℕ) (was is : CachedNo
 own_number cards place was is apart there same i other off at_i e = apart i place other was off at_i there (e ∙ same)
 
 -- a cached node that is held in place of another of its number
-pub put-step : (nodes : ℕ) (old new : Image) (marked mark : ℕ → ℕ) (cards : List (Option CachedNode)) (place : ℕ) (was is : CachedNode) (node : Node) → Steps nodes old new marked mark cards place was is → HoldsCard new place is → node_of new is ≡ node
-    → Gives nodes new mark cards place is (with (tree_of old cards) is.fields.number node)
+pub put-step : (nodes : ℕ) (old new : Image) (marked mark : ℕ → ℕ) (cards : List (Option CachedNode)) (place : ℕ) (was is : CachedNode) (node : Node) → NodeSteps nodes old new marked mark cards place was is → HoldsCard new place is → node_of new is ≡ node
+    → LaysTree nodes new mark cards place is (with (tree_of old cards) is.fields.number node)
 put-step nodes old new marked mark cards place was is node steps held node_is =
     let changes : ChangesCard nodes old new marked mark place (get_or cards place None) (Some is) =
     rw steps.there (record { held = held; number = steps.number; own = steps.own }) in
@@ -65,11 +65,11 @@ pub shown : (was is : Fields) (content : Content) → ShowsSame was is → node_
 shown was is content same = rw (same.owner, same.group, same.acl, same.change, same.time_modify) refl
 
 -- the node that stands there already
-same_tree : (nodes : ℕ) (old new : Image) (marked mark : ℕ → ℕ) (cards : List (Option CachedNode)) (place : ℕ) (was is : CachedNode) (bytes : List ℕ) → Steps nodes old new marked mark cards place was is → was.fields.kind ≡ kind.File
+same_tree : (nodes : ℕ) (old new : Image) (marked mark : ℕ → ℕ) (cards : List (Option CachedNode)) (place : ℕ) (was is : CachedNode) (bytes : List ℕ) → NodeSteps nodes old new marked mark cards place was is → was.fields.kind ≡ kind.File
     → was.fields.size ≡ length bytes → HoldBytes old was.blocks bytes → ShowsSame was.fields is.fields → with (tree_of old cards) is.fields.number (node_with is.fields (File bytes)) ≡ tree_of old cards
 same_tree nodes old new marked mark cards place was is bytes steps file long held same =
     let holds : HoldsCard old place was = subst (HoldsPlace old place) steps.there (steps.laid.held place steps.within) in
-    let still : Steps nodes old old marked marked cards place was was = record {
+    let still : NodeSteps nodes old old marked marked cards place was was = record {
       within = steps.within;
       there = steps.there;
       number = refl;

@@ -56,9 +56,9 @@ links-content : (n : ℕ) (image : Image) (kind : NodeKind) (card : CachedNode) 
 links-content n image kind.File card has = ap (λ (names : List Record). times n (numbers_of names)) (sym has)
 links-content n image kind.Directory card has = names_total (λ entry. one_if (eqb entry.number n)) card.names has.stamped ∙ links-names n card.names
 
-pub links-card : (n : ℕ) (image : Image) (card : CachedNode) → IsCard card → links_from n (node_of image card) ≡ times n (numbers_of card.names)
+pub links-cached : (n : ℕ) (image : Image) (card : CachedNode) → IsCard card → links_from n (node_of image card) ≡ times n (numbers_of card.names)
 unfolding node_of
-links-card n image card is = links-content n image card.fields.kind card is.content
+links-cached n image card is = links-content n image card.fields.kind card is.content
 
 entries-sum : (n : ℕ) (cards : List (Option CachedNode)) → sum_over (λ card. times n (numbers_of card.names)) cards ≡ times n (entry_numbers cards)
 entries-sum n [] = refl
@@ -82,7 +82,7 @@ module _ (nodes : ℕ) (mark : ℕ → ℕ) (cards : List (Option CachedNode)) (
 
   pub links-sum : (n : ℕ) → links_to (tree_of image cards) n ≡ times n (entry_numbers cards)
   links-sum n = any (links_from n)
-      ∙ sum_over-same (λ card. links_from n (node_of image card)) (λ card. times n (numbers_of card.names)) cards each (links-card n image) ∙ entries-sum n cards
+      ∙ sum_over-same (λ card. links_from n (node_of image card)) (λ card. times n (numbers_of card.names)) cards each (links-cached n image) ∙ entries-sum n cards
 
 pub each_sum : EachSum
 each_sum nodes image mark cards laid = known_sum nodes mark cards (laid_are_cards nodes image mark cards laid) image

@@ -5,8 +5,8 @@ use Rattle.model.specs.Trees.Keyed.{at}
 use Rattle.model.specs.Trees.Tree.{Tree}
 use Rattle.layout.specs.CachedNodes.{CachedNode, tree_of, card_in, cards_in, node_sector, node_of}
 use Rattle.layout.specs.Laid.{AreLaid, HoldsPlace, HoldsCard}
-use Rattle.layout.specs.Marks.{named_by}
-use Rattle.layout.specs.Stands.{Version, IsLaid, Stands, Kept, StandsAs}
+use Rattle.layout.specs.Marks.{namings_of}
+use Rattle.layout.specs.Stands.{Version, IsLaid, TreeStands, Kept, StandsAs}
 
 -- A cached node that is held is what is read. So a place that holds a cached node holds the one
 -- that is read, and cached nodes that are laid are those that are read: who looks for a tree looks
@@ -43,7 +43,8 @@ abbrev pub OneTree : Type 0
 OneTree =
     (a b : Version) (size other_size nodes other_nodes run other_run : ℕ) (image : Image)
     (tree other : Tree)
-    → Stands a size nodes image run tree → Stands b other_size other_nodes image other_run other
+    → TreeStands a size nodes image run tree
+    → TreeStands b other_size other_nodes image other_run other
     → SameVolume size other_size nodes other_nodes run other_run tree other
 
 -- and for the same seats beside it
@@ -61,12 +62,12 @@ OneKept =
 -- that an image stands for a tree has one proof at most
 abbrev pub OneProof : Type 0
 OneProof = (version : Version) (size nodes : ℕ) (image : Image) (run : ℕ) (tree : Tree)
-    (a b : Stands version size nodes image run tree) → a ≡ b
+    (a b : TreeStands version size nodes image run tree) → a ≡ b
 
 -- Where what a cached node names is kept, the cached node is held still, and is the same node
 
 abbrev pub AreKept : Image → Image → Option CachedNode → Type 0
-AreKept old new card = (n : ℕ) → 0 < named_by n card → new n ≡ old n
+AreKept old new card = (n : ℕ) → 0 < namings_of n card → new n ≡ old n
 
 pub record KeepsCard (old new : Image) (place : ℕ) (card : CachedNode) : Type 0 where
   pub held : HoldsCard old place card → HoldsCard new place card
@@ -80,7 +81,8 @@ Frame =
 
 -- The tree's node of a number is that of the cached node of this number, and there is none where no
 -- cached node has it
-pub record Answers (image : Image) (cards : List (Option CachedNode)) (number : ℕ) : Type 0 where
+pub record FindsCached (image : Image) (cards : List (Option CachedNode)) (number : ℕ)
+    : Type 0 where
   pub found : (place : ℕ) (card : CachedNode) → slice_index_or cards place None ≡ Some card
       → card.fields.number ≡ number
       → at number (tree_of image cards) ≡ Some (node_of image card)
@@ -93,4 +95,4 @@ abbrev pub EachAnswer : Type 0
 EachAnswer =
     (nodes : ℕ) (image : Image) (mark : ℕ → ℕ) (cards : List (Option CachedNode))
     → AreLaid nodes image mark cards
-    → (number : ℕ) → Answers image cards number
+    → (number : ℕ) → FindsCached image cards number

@@ -5,7 +5,7 @@ use Rattle.model.specs.Trees.Keyed.{with, without}
 use Rattle.model.specs.Trees.Tree.{Tree}
 use Rattle.layout.specs.CachedNodes.{CachedNode, node_sector, node_of, tree_of}
 use Rattle.layout.specs.Laid.{AreLaid, HoldsPlace}
-use Rattle.layout.specs.Marks.{named_by}
+use Rattle.layout.specs.Marks.{namings_of}
 
 -- the tree with a cached node, or without it where the cached node is gone
 abbrev pub tree_with : Image → Tree → (was is : Option CachedNode) → Tree
@@ -30,9 +30,10 @@ IsSameNumber (Some old) (Some new) = new.fields.number ≡ old.fields.number
 -- or the one that was there. The marks follow the cached node.
 pub record ChangesOwn (nodes : ℕ) (old new : Image) (marked mark : ℕ → ℕ) (place : ℕ)
     (was is : Option CachedNode) : Type 0 where
-  pub others : (n : ℕ) → 148 ≤ n → n ≢ node_sector place → named_by n was ≡ 0 → named_by n is ≡ 0
+  pub others : (n : ℕ) → 148 ≤ n → n ≢ node_sector place → namings_of n was ≡ 0 → namings_of n is
+      ≡ 0
       → new n ≡ old n
-  pub marks : (n : ℕ) → mark n + named_by n was ≡ marked n + named_by n is
+  pub marks : (n : ℕ) → mark n + namings_of n was ≡ marked n + namings_of n is
   pub once : (n : ℕ) → mark n ≤ 1
   pub behind : (n : ℕ) → 0 < mark n → 148 + nodes ≤ n
 

@@ -2,7 +2,7 @@
 -- of them.
 use Rattle.std.specs.Prelude.{◌≡◌, ◌≢◌, ◌<◌, ◌-◌, ◌/◌, ◌++◌, ℕ, List, [], ◌∷◌, Option, None, length, slice_index_or}
 use Rattle.disk.specs.Moments.{Image}
-use Rattle.directory.specs.Records.{Record, with_record, without_place, place_of, name_of, AreStamped}
+use Rattle.directory.specs.Records.{Record, with_record, without_place, place_of, name_of, NamesStamped}
 use Rattle.directory.specs.Spelling.{directory_sector}
 use Rattle.layout.specs.CachedNodes.{content_at}
 use Rattle.layout.specs.Laid.{names_of_block, AreSpelled}
@@ -58,10 +58,10 @@ NoHoles =
 -- stamps stay apart
 
 abbrev pub StaysStamped : Type 0
-StaysStamped = (names : List Record) (place : ℕ) → place < length names → AreStamped names
-    → AreStamped (without_place names place)
+StaysStamped = (names : List Record) (place : ℕ) → place < length names → NamesStamped names
+    → NamesStamped (without_place names place)
 
 abbrev pub PutsStamped : Type 0
-PutsStamped = (names : List Record) (new : Record) → AreStamped names → 0 < new.0
+PutsStamped = (names : List Record) (new : Record) → NamesStamped names → 0 < new.0
     → ((i : ℕ) (d : Record) → i < length names → (slice_index_or names i d).0 ≢ new.0)
-    → AreStamped (names ++ new ∷ [])
+    → NamesStamped (names ++ new ∷ [])

@@ -8,7 +8,7 @@ use Rattle.model.specs.declared.node.NodeKind.TheVariants as kind
 use Rattle.model.specs.Trees.Fresh.{fresh_tree, fresh_root}
 use Rattle.model.specs.Trees.Tree.{root}
 use Rattle.layout.specs.CachedNodes.{node_sector}
-use Rattle.layout.specs.Stands.{Version, Stands}
+use Rattle.layout.specs.Stands.{Version, TreeStands}
 use Rattle.layout.specs.Superblock.{superblock, is_size}
 
 -- the root as a node's sector has it
@@ -39,4 +39,4 @@ pub record IsFresh (version : Version) (size nodes : ℕ) (image : Image) : Type
 abbrev pub FreshStands : Type 0
 FreshStands =
     (version : Version) (size nodes : ℕ) (image : Image) → IsFresh version size nodes image
-    → Stands version size nodes image 0 fresh_tree
+    → TreeStands version size nodes image 0 fresh_tree

@@ -7,12 +7,12 @@ pub record Health : Type 0 where
   pub is_down : Bool
 
 -- the device was down before, or a failure is counted and it is down from now on
-pub record Fails (old new : Health) : Type 0 where
+pub record GoesDown (old new : Health) : Type 0 where
   pub down : new.is_down ≡ true
   pub cause : ((old.is_down ≡ true) × (new ≡ old)) ⊎ IsCounted old.failed new.failed
 
 -- a call that only reads, and may be refused for the device: where it is, the device failed; where
 -- it is not, it did not
-pub record Reads (old new : Health) (faulted : Type 0) : Type 0 where
-  pub fails : faulted → Fails old new
+pub record FailsOrStays (old new : Health) (faulted : Type 0) : Type 0 where
+  pub fails : faulted → GoesDown old new
   pub stays : (faulted → ⊥) → new ≡ old

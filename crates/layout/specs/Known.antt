@@ -9,17 +9,17 @@ use Rattle.model.specs.declared.node.NodeKind.TheVariants as kind
 use Rattle.inode.specs.Fields.{IsInode}
 use Rattle.extents.specs.Runs.{AreRunsOf}
 use Rattle.extents.specs.Sector.{IsRun}
-use Rattle.directory.specs.Records.{IsDirectory, AreStamped}
+use Rattle.directory.specs.Records.{IsDirectory, NamesStamped}
 use Rattle.layout.specs.CachedNodes.{CachedNode, block_count}
 use Rattle.layout.specs.ChangeLaws.{IsOwnNumber}
 use Rattle.layout.specs.Laid.{AreLaid, AreNumbered}
-use Rattle.layout.specs.Marks.{named, named_by}
+use Rattle.layout.specs.Marks.{named, namings_of}
 
 -- a directory's names are as many as its size says
 pub record HasNames (card : CachedNode) : Type 0 where
   pub count : length card.names ≡ card.fields.size
   pub names : IsDirectory card.names
-  pub stamped : AreStamped card.names
+  pub stamped : NamesStamped card.names
 
 abbrev pub HasContent : NodeKind → CachedNode → Type 0
 HasContent kind.File card = card.names ≡ []
@@ -34,14 +34,14 @@ pub record IsCard (card : CachedNode) : Type 0 where
   pub blocks : length card.blocks ≡ block_count card.fields
   pub content : HasContent card.fields.kind card
 
-abbrev pub IsPlace : Option CachedNode → Type 0
-IsPlace None = Unit {0}
-IsPlace (Some card) = IsCard card
+abbrev pub IsNodePlace : Option CachedNode → Type 0
+IsNodePlace None = Unit {0}
+IsNodePlace (Some card) = IsCard card
 
 -- the cached nodes of a table, and marks that are what they name
 pub record AreCards (nodes : ℕ) (mark : ℕ → ℕ) (cards : List (Option CachedNode)) : Type 0 where
   pub count : length cards ≡ nodes
-  pub each : (place : ℕ) → place < nodes → IsPlace (slice_index_or cards place None)
+  pub each : (place : ℕ) → place < nodes → IsNodePlace (slice_index_or cards place None)
   pub apart : AreNumbered cards
   pub marks : (n : ℕ) → named n cards ≡ mark n
   pub behind : (n : ℕ) → 0 < mark n → 148 + nodes ≤ n
@@ -56,7 +56,7 @@ LaidAreCards =
 
 -- the marks follow the cached node that stands at a place now, in place of the one that was there
 pub record MovesMarks (nodes : ℕ) (marked mark : ℕ → ℕ) (was is : Option CachedNode) : Type 0 where
-  pub marks : (n : ℕ) → mark n + named_by n was ≡ marked n + named_by n is
+  pub marks : (n : ℕ) → mark n + namings_of n was ≡ marked n + namings_of n is
   pub once : (n : ℕ) → mark n ≤ 1
   pub behind : (n : ℕ) → 0 < mark n → 148 + nodes ≤ n
 
@@ -65,6 +65,6 @@ abbrev pub OneCardChange : Type 0
 OneCardChange =
     (nodes : ℕ) (marked mark : ℕ → ℕ) (cards : List (Option CachedNode)) (place : ℕ)
     (is : Option CachedNode)
-    → place < nodes → AreCards nodes marked cards → IsOwnNumber cards place is → IsPlace is
+    → place < nodes → AreCards nodes marked cards → IsOwnNumber cards place is → IsNodePlace is
     → MovesMarks nodes marked mark (slice_index_or cards place None) is
     → AreCards nodes mark (set cards place is)

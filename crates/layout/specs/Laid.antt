@@ -10,7 +10,7 @@ use Rattle.inode.specs.Spelling.{inode_sector}
 use Rattle.extents.specs.declared.run.Run.{Run}
 use Rattle.extents.specs.Runs.{AreRunsOf}
 use Rattle.extents.specs.Sector.{run_sector, IsRun}
-use Rattle.directory.specs.Records.{Record, IsDirectory, AreStamped}
+use Rattle.directory.specs.Records.{Record, IsDirectory, NamesStamped}
 use Rattle.directory.specs.Spelling.{directory_sector}
 use Rattle.layout.specs.CachedNodes.{CachedNode, node_sector, block_count, content_at, byte_at}
 use Rattle.layout.specs.Marks.{named}
@@ -43,7 +43,7 @@ AreSpelled image blocks names = (i : ℕ) → i < length blocks
 pub record HoldsNames (image : Image) (card : CachedNode) : Type 0 where
   pub count : length card.names ≡ card.fields.size
   pub names : IsDirectory card.names
-  pub stamped : AreStamped card.names
+  pub stamped : NamesStamped card.names
   pub spelled : AreSpelled image card.blocks card.names
 
 abbrev pub HoldsContent : Image → NodeKind → CachedNode → Type 0

@@ -12,7 +12,7 @@ use Rattle.extents.specs.declared.run.Run.{Run}
 use Rattle.extents.specs.Runs.{AreRising, AreRunsOf}
 use Rattle.layout.specs.CachedNodes.{CachedNode}
 use Rattle.layout.specs.Laid.{HoldsNode, HoldsContent, HoldsPlace, AreLaid}
-use Rattle.layout.specs.Stands.{Version, HaveForms, IsLaid, Stands}
+use Rattle.layout.specs.Stands.{Version, HaveForms, IsLaid, TreeStands}
 
 AreRising-prop : (from count : ℕ) (runs : List Run) → IsProp (AreRising from count runs)
 AreRising-prop from count [] = Unit-prop
@@ -55,6 +55,6 @@ IsLaid-prop version size nodes image cards = Prim.hlevel (props, AreLaid-prop, H
 Tree-set : IsSet Tree
 Tree-set = Prim.hlevel props
 
-pub Stands-prop : (version : Version) (size nodes : ℕ) (image : Image) (run : ℕ) (tree : Tree)
-    → IsProp (Stands version size nodes image run tree)
-Stands-prop version size nodes image run tree = Prim.hlevel (props, IsLaid-prop, Tree-set)
+pub TreeStands-prop : (version : Version) (size nodes : ℕ) (image : Image) (run : ℕ) (tree : Tree)
+    → IsProp (TreeStands version size nodes image run tree)
+TreeStands-prop version size nodes image run tree = Prim.hlevel (props, IsLaid-prop, Tree-set)

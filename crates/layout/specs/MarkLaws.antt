@@ -9,7 +9,7 @@ use Rattle.model.specs.Trees.Tree.{Tree}
 use Rattle.layout.specs.CachedNodes.{CachedNode, cards_in, tree_of}
 use Rattle.layout.specs.Laid.{AreLaid}
 use Rattle.layout.specs.Marks.{once_if, mark_in, mark_by}
-use Rattle.layout.specs.Stands.{Version, HaveForms, IsLaid, Stands}
+use Rattle.layout.specs.Stands.{Version, HaveForms, IsLaid, TreeStands}
 
 -- one sector more is marked, or one less
 pub record MarksChange (first : ℕ) (places : List Bool) (place : ℕ) : Type 0 where
@@ -67,9 +67,9 @@ KeptAlone =
 -- so of images that are told up to these sectors it does not matter which one is meant
 abbrev pub StandsAlone : Type 0
 StandsAlone = (version : Version) (size nodes : ℕ) (old new : Image) (run : ℕ) (tree : Tree)
-    → Stands version size nodes old run tree → new 0 ≡ old 0
+    → TreeStands version size nodes old run tree → new 0 ≡ old 0
     → ((n : ℕ) → 98 ≤ n → n < size → new n ≡ old n)
-    → Stands version size nodes new run tree
+    → TreeStands version size nodes new run tree
 
 -- Where all places are marked, the tree is charged for all of them: so where it is charged for
 -- less, a place is free

@@ -19,13 +19,13 @@ times_set n (None ∷ blocks) = times_set n blocks
 times_set n (Some sector ∷ blocks) = once_if (n == sector) + times_set n blocks
 
 -- how often a node, and how often all of them, name it: as a run sector, or as a block
-unfoldable pub named_by : (n : ℕ) → Option CachedNode → ℕ
-named_by n None = 0
-named_by n (Some card) = times n card.fields.run_sectors + times_set n card.blocks
+unfoldable pub namings_of : (n : ℕ) → Option CachedNode → ℕ
+namings_of n None = 0
+namings_of n (Some card) = times n card.fields.run_sectors + times_set n card.blocks
 
 abbrev pub named : (n : ℕ) → List (Option CachedNode) → ℕ
 named n [] = 0
-named n (card ∷ cards) = named_by n card + named n cards
+named n (card ∷ cards) = namings_of n card + named n cards
 
 -- The mark of a sector: 0 in front of the data region; from there on the bit of its place in the
 -- two bitmap sectors, or, of a set of places in memory, whether its place is used

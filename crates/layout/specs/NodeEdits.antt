@@ -4,7 +4,7 @@ use Rattle.disk.specs.Moments.{Image, put}
 use Rattle.disk.specs.Calls.{zero_sector}
 use Rattle.sector.specs.Placed.{placed}
 use Rattle.directory.specs.Listing.{by_stamp}
-use Rattle.directory.specs.Records.{Record, IsDirectory, AreStamped, with_record, without_place}
+use Rattle.directory.specs.Records.{Record, IsDirectory, NamesStamped, with_record, without_place}
 use Rattle.extents.specs.Runs.{with_holes}
 use Rattle.model.specs.declared.node.NodeKind.TheVariants as kind
 use Rattle.model.specs.Trees.Edit.{Shown, PutNode, DropNode, Show, PutName, DropName, PutBytes, SetSize, done}
@@ -15,7 +15,7 @@ use Rattle.layout.specs.Directories.{RewritesBlocks, block_of, block_put}
 use Rattle.layout.specs.Files.{over, CutsBlocks}
 use Rattle.layout.specs.Laid.{AreLaid, HoldsNode, HoldsNames, HoldsContent}
 use Rattle.layout.specs.Marks.{times_set}
-use Rattle.layout.specs.Steps.{Steps, Gives, ShowsSame}
+use Rattle.layout.specs.Steps.{NodeSteps, LaysTree, ShowsSame}
 
 -- Files
 
@@ -49,7 +49,7 @@ WritePart =
     (card : CachedNode)
     (block sector from : ℕ) (part : List ℕ)
     → WritesPart nodes old marked cards place card block sector from part
-    → Gives nodes (part_written old sector from part) marked cards place card
+    → LaysTree nodes (part_written old sector from part) marked cards place card
     (done (PutBytes card.fields.number (4096 * block + from) part) (tree_of old cards))
 
 -- bytes are written from a place on, over however many blocks: holes on the way are filled, and the
@@ -65,9 +65,9 @@ WriteFile =
     (nodes : ℕ) (old new : Image) (marked mark : ℕ → ℕ) (cards : List (Option CachedNode))
     (place : ℕ)
     (was is : CachedNode)
-    (offset : ℕ) (bytes : List ℕ) → Steps nodes old new marked mark cards place was is
+    (offset : ℕ) (bytes : List ℕ) → NodeSteps nodes old new marked mark cards place was is
     → WritesFile old new was is offset bytes
-    → Gives nodes new mark cards place is
+    → LaysTree nodes new mark cards place is
     (done (PutBytes was.fields.number offset bytes) (tree_of old cards))
 
 -- a hole gets a sector of zeros, beside what its runs want
@@ -85,9 +85,9 @@ FillBlock =
     (nodes : ℕ) (old new : Image) (marked mark : ℕ → ℕ) (cards : List (Option CachedNode))
     (place : ℕ)
     (was is : CachedNode)
-    (block sector : ℕ) → Steps nodes old new marked mark cards place was is
+    (block sector : ℕ) → NodeSteps nodes old new marked mark cards place was is
     → FillsBlock old new was is block sector
-    → Gives nodes new mark cards place is (tree_of old cards)
+    → LaysTree nodes new mark cards place is (tree_of old cards)
 
 -- a file is cut: its blocks from `count` on go, and zeros stand past its size in the last one that
 -- stays
@@ -101,8 +101,9 @@ CutFile =
     (nodes : ℕ) (old new : Image) (marked mark : ℕ → ℕ) (cards : List (Option CachedNode))
     (place : ℕ)
     (was is : CachedNode)
-    (count : ℕ) → Steps nodes old new marked mark cards place was is → CutsFile old new was is count
-    → Gives nodes new mark cards place is
+    (count : ℕ) → NodeSteps nodes old new marked mark cards place was is
+    → CutsFile old new was is count
+    → LaysTree nodes new mark cards place is
     (done (SetSize was.fields.number is.fields.size) (tree_of old cards))
 
 -- a file grows by holes
@@ -117,9 +118,9 @@ GrowFile =
     (nodes : ℕ) (old new : Image) (marked mark : ℕ → ℕ) (cards : List (Option CachedNode))
     (place : ℕ)
     (was is : CachedNode)
-    (count : ℕ) → Steps nodes old new marked mark cards place was is
+    (count : ℕ) → NodeSteps nodes old new marked mark cards place was is
     → GrowsFile old new was is count
-    → Gives nodes new mark cards place is
+    → LaysTree nodes new mark cards place is
     (done (SetSize was.fields.number is.fields.size) (tree_of old cards))
 
 -- Directories
@@ -136,7 +137,7 @@ pub record AreDirectories (old : Image) (was is : CachedNode) : Type 0 where
 -- a name is put after the last one, or in the place of its record
 pub record PutsName (old new : Image) (was is : CachedNode) (entry : Record) : Type 0 where
   pub directories : AreDirectories old was is
-  pub stamped : AreStamped is.names
+  pub stamped : NamesStamped is.names
   pub names : is.names ≡ with_record was.names entry
   pub blocks : RewritesBlocks old new was.blocks is.blocks is.names (block_put was.names entry)
       (block_put was.names entry)
@@ -147,9 +148,9 @@ PutOneName =
     (nodes : ℕ) (old new : Image) (marked mark : ℕ → ℕ) (cards : List (Option CachedNode))
     (place : ℕ)
     (was is : CachedNode)
-    (entry : Record) → Steps nodes old new marked mark cards place was is
+    (entry : Record) → NodeSteps nodes old new marked mark cards place was is
     → PutsName old new was is entry
-    → Gives nodes new mark cards place is
+    → LaysTree nodes new mark cards place is
     (done (PutName was.fields.number entry.0 entry.1) (tree_of old cards))
 
 -- a name is dropped, and the last record moves into its place
@@ -166,9 +167,9 @@ DropOneName =
     (nodes : ℕ) (old new : Image) (marked mark : ℕ → ℕ) (cards : List (Option CachedNode))
     (place : ℕ)
     (was is : CachedNode)
-    (at stamp : ℕ) → Steps nodes old new marked mark cards place was is
+    (at stamp : ℕ) → NodeSteps nodes old new marked mark cards place was is
     → DropsName old new was is at stamp
-    → Gives nodes new mark cards place is
+    → LaysTree nodes new mark cards place is
     (done (DropName was.fields.number stamp) (tree_of old cards))
 
 -- Nodes
@@ -191,9 +192,10 @@ ShowOther =
     (nodes : ℕ) (old new : Image) (marked mark : ℕ → ℕ) (cards : List (Option CachedNode))
     (place : ℕ)
     (was is : CachedNode)
-    (shown : Shown) → Steps nodes old new marked mark cards place was is
+    (shown : Shown) → NodeSteps nodes old new marked mark cards place was is
     → ShowsOther old new was is shown
-    → Gives nodes new mark cards place is (done (Show was.fields.number shown) (tree_of old cards))
+    → LaysTree nodes new mark cards place is
+    (done (Show was.fields.number shown) (tree_of old cards))
 
 -- a node is made at a free place
 pub record MakesNode (nodes : ℕ) (old new : Image) (marked mark : ℕ → ℕ)
@@ -213,7 +215,7 @@ MakeNode =
     (place : ℕ)
     (is : CachedNode)
     → MakesNode nodes old new marked mark cards place is
-    → Gives nodes new mark cards place is
+    → LaysTree nodes new mark cards place is
     (done (PutNode is.fields.number (node_of new is)) (tree_of old cards))
 
 -- a node is removed: its place is zero, and what it named is free

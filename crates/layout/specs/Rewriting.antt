@@ -11,7 +11,7 @@ use Rattle.model.specs.Trees.Tree.{Tree}
 use Rattle.disk.specs.Calls.{zero_sector}
 use Rattle.layout.specs.CachedNodes.{CachedNode, node_sector, cards_in, tree_of}
 use Rattle.layout.specs.Known.{AreCards}
-use Rattle.layout.specs.Stands.{Version, HaveCurrentForms, IsLaid, Stands, current}
+use Rattle.layout.specs.Stands.{Version, HaveCurrentForms, IsLaid, TreeStands, current_version}
 use Rattle.layout.specs.Superblock.{superblock}
 
 -- what the sector of a place becomes: the node that is there, in this form; a free place stays
@@ -38,15 +38,15 @@ pub record IsRewritten (was is : Version) (size nodes run : ℕ) (old new : Imag
 abbrev pub RewrittenStands : Type 0
 RewrittenStands =
     (was is : Version) (size nodes run later : ℕ) (old new : Image) (tree : Tree)
-    → Stands was size nodes old run tree → run ≤ later → later < 2 ^ 32
+    → TreeStands was size nodes old run tree → run ≤ later → later < 2 ^ 32
     → IsRewritten was is size nodes later old new
-    → Stands is size nodes new later tree
+    → TreeStands is size nodes new later tree
 
 -- and a node that has the form is left as it is
 abbrev pub FormStays : Type 0
 FormStays =
     (version : Version) (size nodes run : ℕ) (image : Image) (tree : Tree) (place : ℕ)
-    → Stands version size nodes image run tree → place < nodes
+    → TreeStands version size nodes image run tree → place < nodes
     → in_form (version.form place) (image (node_sector place)) ≡ image (node_sector place)
 
 -- The cached nodes of a volume as they are once each of its nodes has form two
@@ -66,7 +66,8 @@ second_image nodes image n =
 -- A volume that is laid is so in form two as well, with the same tree
 pub record IsLaidSecond (size nodes : ℕ) (image : Image) (cards : List (Option CachedNode))
     : Type 0 where
-  pub laid : IsLaid (current no_seats) size nodes (second_image nodes image) (all_second cards)
+  pub laid : IsLaid (current_version no_seats) size nodes (second_image nodes image)
+      (all_second cards)
   pub tree : tree_of (second_image nodes image) (all_second cards) ≡ tree_of image cards
   pub shown : tree_of image (all_second cards) ≡ tree_of image cards
 
@@ -86,7 +87,7 @@ KnownSecond =
 abbrev pub RewrittenCards : Type 0
 RewrittenCards =
     (was is : Version) (size nodes run later : ℕ) (old new : Image) (tree : Tree)
-    → Stands was size nodes old run tree → IsRewritten was is size nodes later old new
+    → TreeStands was size nodes old run tree → IsRewritten was is size nodes later old new
     → all_second (cards_in nodes new) ≡ all_second (cards_in nodes old)
 
 -- which are those of a volume in the current version

@@ -66,16 +66,16 @@ version_2 mark seats = record {
 }
 
 -- the version that volumes are made in and served in
-abbrev pub current : Seats → Version
-current seats = version_2 None seats
+abbrev pub current_version : Seats → Version
+current_version seats = version_2 None seats
 
 -- its number
-abbrev pub current_number : ℕ
-current_number = 2
+abbrev pub served_version : ℕ
+served_version = 2
 
-abbrev pub number_of : VersionNumber → ℕ
-number_of numbers.One = 1
-number_of numbers.Two = 2
+abbrev pub number_of_version : VersionNumber → ℕ
+number_of_version numbers.One = 1
+number_of_version numbers.Two = 2
 
 abbrev pub version_by : VersionNumber → (mark : Option ℕ) → Seats → Version
 version_by numbers.One mark seats = version_1 mark
@@ -89,15 +89,15 @@ IsMark numbers.One nodes (Some moved) = (0 < moved) × (moved ≤ nodes)
 IsMark numbers.Two nodes (Some moved) = moved ≡ nodes
 
 -- seats stand in version 2 alone, once its mark is gone
-abbrev pub MayKeep : VersionNumber → (mark : Option ℕ) → Seats → Type 0
-MayKeep numbers.One mark seats = seats ≡ no_seats
-MayKeep numbers.Two None seats = ⊤
-MayKeep numbers.Two (Some moved) seats = seats ≡ no_seats
+abbrev pub MayHaveSeats : VersionNumber → (mark : Option ℕ) → Seats → Type 0
+MayHaveSeats numbers.One mark seats = seats ≡ no_seats
+MayHaveSeats numbers.Two None seats = ⊤
+MayHaveSeats numbers.Two (Some moved) seats = seats ≡ no_seats
 
 -- the versions that a volume of so many nodes may have, each with the seats that it keeps
 pub data IsVersion (nodes : ℕ) : Version → Seats → Type 0 where
   By : (number : VersionNumber) (mark : Option ℕ) (seats : Seats) → IsMark number nodes mark
-      → MayKeep number mark seats → IsVersion nodes (version_by number mark seats) seats
+      → MayHaveSeats number mark seats → IsVersion nodes (version_by number mark seats) seats
 
 -- the seats of a volume that was mounted so often: they can be spelled, and each is of a session of
 -- its own, which was made in one of these runs
@@ -113,7 +113,7 @@ HaveForms version cards =
 
 -- in the current version, whatever seats it keeps
 abbrev pub HaveCurrentForms : List (Option CachedNode) → Type 0
-HaveCurrentForms cards = HaveForms (current no_seats) cards
+HaveCurrentForms cards = HaveForms (current_version no_seats) cards
 
 -- The sectors from 98 on hold these cached nodes: the bitmap marks what they name, and nothing past
 -- the last sector
@@ -127,7 +127,7 @@ pub record IsLaid (version : Version) (size nodes : ℕ) (image : Image)
 -- The sectors of a volume of so many sectors and nodes, mounted `run` times, stand for the tree:
 -- they hold the cached nodes that are read of them, the tree is that of these cached nodes, it is
 -- well formed, and no stamp in it is of a later run.
-pub record Stands (version : Version) (size nodes : ℕ) (image : Image) (run : ℕ)
+pub record TreeStands (version : Version) (size nodes : ℕ) (image : Image) (run : ℕ)
     (tree : Tree) : Type 0 where
   pub sized : IsTrue (is_size size nodes)
   pub counted : run < 2 ^ 32
@@ -159,9 +159,9 @@ pub record StandsAs (size nodes : ℕ) (image : Image) (run : ℕ) (kept : Kept)
   pub version : Version
   pub is_version : IsVersion nodes version kept.seats
   pub keeps : AreKept run kept.seats
-  pub stands : Stands version size nodes image run kept.tree
+  pub stands : TreeStands version size nodes image run kept.tree
 
 -- They stand for both in the current one
 pub record StandsNow (size nodes : ℕ) (image : Image) (run : ℕ) (kept : Kept) : Type 0 where
   pub keeps : AreKept run kept.seats
-  pub stands : Stands (current kept.seats) size nodes image run kept.tree
+  pub stands : TreeStands (current_version kept.seats) size nodes image run kept.tree

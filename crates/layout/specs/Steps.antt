@@ -15,7 +15,7 @@ use Rattle.layout.specs.Marks.{once_if, times_set}
 
 -- The cached node `was` at a place becomes `is`, of the same number: the node's sectors are
 -- written, and its own alone have changed
-pub record Steps (nodes : ℕ) (old new : Image) (marked mark : ℕ → ℕ)
+pub record NodeSteps (nodes : ℕ) (old new : Image) (marked mark : ℕ → ℕ)
     (cards : List (Option CachedNode))
     (place : ℕ)
     (was is : CachedNode) : Type 0 where
@@ -27,7 +27,7 @@ pub record Steps (nodes : ℕ) (old new : Image) (marked mark : ℕ → ℕ)
   pub own : ChangesOwn nodes old new marked mark place (Some was) (Some is)
 
 -- Then the cached nodes are laid, and the tree is this one
-pub record Gives (nodes : ℕ) (new : Image) (mark : ℕ → ℕ) (cards : List (Option CachedNode))
+pub record LaysTree (nodes : ℕ) (new : Image) (mark : ℕ → ℕ) (cards : List (Option CachedNode))
     (place : ℕ)
     (is : CachedNode)
     (tree : Tree) : Type 0 where
@@ -40,10 +40,10 @@ FileStep =
     (nodes : ℕ) (old new : Image) (marked mark : ℕ → ℕ) (cards : List (Option CachedNode))
     (place : ℕ)
     (was is : CachedNode)
-    (bytes : List ℕ) → Steps nodes old new marked mark cards place was is
+    (bytes : List ℕ) → NodeSteps nodes old new marked mark cards place was is
     → is.fields.kind ≡ kind.File → is.names ≡ []
     → is.fields.size ≡ length bytes → HoldBytes new is.blocks bytes
-    → Gives nodes new mark cards place is
+    → LaysTree nodes new mark cards place is
     (with (tree_of old cards) is.fields.number (node_with is.fields (File bytes)))
 
 -- a directory gets these names
@@ -52,10 +52,10 @@ NamesStep =
     (nodes : ℕ) (old new : Image) (marked mark : ℕ → ℕ) (cards : List (Option CachedNode))
     (place : ℕ)
     (was is : CachedNode)
-    (names : Keyed DirEntry) → Steps nodes old new marked mark cards place was is
+    (names : Keyed DirEntry) → NodeSteps nodes old new marked mark cards place was is
     → is.fields.kind ≡ kind.Directory
     → HoldsNames new is → by_stamp is.names ≡ names
-    → Gives nodes new mark cards place is
+    → LaysTree nodes new mark cards place is
     (with (tree_of old cards) is.fields.number (node_with is.fields (Directory names)))
 
 -- a file gets other blocks, and neither bytes nor fields that the tree shows: the tree stays
@@ -72,13 +72,13 @@ SameStep =
     (nodes : ℕ) (old new : Image) (marked mark : ℕ → ℕ) (cards : List (Option CachedNode))
     (place : ℕ)
     (was is : CachedNode)
-    (bytes : List ℕ) → Steps nodes old new marked mark cards place was is
+    (bytes : List ℕ) → NodeSteps nodes old new marked mark cards place was is
     → was.fields.kind ≡ kind.File
     → is.fields.kind ≡ kind.File → is.names ≡ [] → was.fields.size ≡ length bytes
     → is.fields.size ≡ length bytes
     → HoldBytes old was.blocks bytes → HoldBytes new is.blocks bytes
     → ShowsSame was.fields is.fields
-    → Gives nodes new mark cards place is (tree_of old cards)
+    → LaysTree nodes new mark cards place is (tree_of old cards)
 
 -- a file of a laid volume holds the bytes that are read, and zeros past them
 abbrev pub FileThere : Type 0

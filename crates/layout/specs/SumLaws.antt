@@ -3,7 +3,7 @@
 use Rattle.std.specs.Prelude.{◌≡◌, ◌+◌, ◌==◌, ◌<◌, ◌++◌, ℕ, List, [], ◌∷◌, Option, Some, None, All, map, length, if◌then◌else◌}
 use Rattle.disk.specs.Moments.{Image}
 use Rattle.directory.specs.Listing.{by_stamp}
-use Rattle.directory.specs.Records.{Record, AreStamped}
+use Rattle.directory.specs.Records.{Record, NamesStamped}
 use Rattle.model.specs.Trees.Charge.{charge, charge_of_blocks}
 use Rattle.model.specs.Trees.Keyed.{total}
 use Rattle.model.specs.Trees.Tree.{Node, DirEntry, root}
@@ -37,7 +37,7 @@ other_numbers (Some card ∷ cards) =
 
 abbrev pub NamesTotal : Type 0
 NamesTotal =
-    (worth : DirEntry → ℕ) (names : List Record) → AreStamped names
+    (worth : DirEntry → ℕ) (names : List Record) → NamesStamped names
     → total worth (by_stamp names) ≡ total worth names
 
 pub record Sums (image : Image) (cards : List (Option CachedNode)) : Type 0 where

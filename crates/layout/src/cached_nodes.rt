@@ -6,7 +6,7 @@ ghost use Rattle.layout.specs.Known.{LaidAreCards, OneCardChange};
 /// A cached node that is held is what is read: so who looks for cached nodes looks at those that
 /// are read alone.
 pub fn read_back()
-    ensures card { CardReadsBack }
+    ensures cached { CardReadsBack }
     ensures cards { CardsReadBack }
     ensures only_card { OnlyCard }
     ensures only_cards { OnlyCards }

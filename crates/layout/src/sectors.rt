@@ -2,7 +2,7 @@
 
 ghost use Rattle.std.specs.Prelude.{◌≡◌, ◌<◌, ℕ, IfOk, is_err, IsTrue};
 ghost use Rattle.disk.specs.Moments.{Image};
-ghost use Rattle.layout.specs.Health.{Health, Reads};
+ghost use Rattle.layout.specs.Health.{Health, FailsOrStays};
 
 use disk::SECTOR;
 use thiserror::Error;
@@ -38,5 +38,6 @@ pub trait Sectors {
         requires { n < size (kept self.old) }
         ensures content { keeps_word → IfOk result (λ content. content ≡ image (kept self.old) n) }
         ensures kept { kept self.new ≡ kept self.old }
-        ensures health { Reads (health self.old) (health self.new) (IsTrue (is_err result)) };
+        ensures health { FailsOrStays (health self.old) (health self.new)
+            (IsTrue (is_err result)) };
 }

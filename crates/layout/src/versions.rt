@@ -22,14 +22,14 @@ pub enum VersionNumber {
 }
 
 impl VersionNumber {
-    ghost use Rattle.layout.specs.Stands.{number_of};
+    ghost use Rattle.layout.specs.Stands.{number_of_version};
 
     /// The version that volumes are made in and served in.
     pub const CURRENT: VersionNumber = VersionNumber::Two;
 
     /// The number in the first sector.
     pub fn number(self) -> u32
-        ensures { result ≡ number_of self }
+        ensures { result ≡ number_of_version self }
     {
         match self {
             VersionNumber::One => 1,

@@ -10,7 +10,7 @@ use Rattle.journal.specs.Settled.{AreSame}
 use Rattle.journal.proofs.Images.{put_same, put_other}
 use Rattle.layout.specs.CachedNodes.{CachedNode, node_sector, cards_in}
 use Rattle.layout.specs.Rewriting.{all_second, IsRewritten}
-use Rattle.layout.specs.Stands.{By, Version, IsMark, MayKeep, Stands, StandsAs, bare, current, version_1, version_2}
+use Rattle.layout.specs.Stands.{By, Version, IsMark, MayHaveSeats, TreeStands, StandsAs, bare, current_version, version_1, version_2}
 use Rattle.layout.specs.declared.versions.VersionNumber.TheVariants as numbers
 use Rattle.layout.proofs.FirstLaws.{sized_parts}
 use Rattle.layout.proofs.SeatLaws.{no_seats_kept, spare_none, spare_other}
@@ -26,11 +26,11 @@ use Rattle.migration.proofs.Reaching.{Reached, in_all, begins_reached, plan_fron
 
 -- Where the kept sectors are the same
 
-module _ (version : Version) (size nodes run : ℕ) (a b : Image) (tree : Tree) (same : AreSame size a b) (stands : Stands version size nodes a run tree) where
+module _ (version : Version) (size nodes run : ℕ) (a b : Image) (tree : Tree) (same : AreSame size a b) (stands : TreeStands version size nodes a run tree) where
   behind : (n : ℕ) → 98 ≤ n → n < size → b n ≡ a n
   behind n above below = sym (same n (inr above, below))
 
-  stands_same : Stands version size nodes b run tree
+  stands_same : TreeStands version size nodes b run tree
   stands_same =
       let parts = sized_parts size nodes stands.sized in
       stands_alone version size nodes a b run tree stands (sym (same 0 (inl refl, omega (arith, parts.room)))) behind
@@ -78,11 +78,11 @@ module _ (keeps_word : Type 0) (moved : ℕ) (cards : List (Option CachedNode)) 
 
 -- The mark
 
-none_kept : (mark : Option ℕ) → MayKeep numbers.Two mark no_seats
+none_kept : (mark : Option ℕ) → MayHaveSeats numbers.Two mark no_seats
 none_kept None = tt
 none_kept (Some moved) = refl
 
-module _ (mark : Option ℕ) (size nodes run : ℕ) (image : Image) (tree : Tree) (stands : Stands (version_2 mark no_seats) size nodes image run tree) where
+module _ (mark : Option ℕ) (size nodes run : ℕ) (image : Image) (tree : Tree) (stands : TreeStands (version_2 mark no_seats) size nodes image run tree) where
   abbrev none : Update
   none = record { target = 147; content = zero_sector }
 
@@ -92,7 +92,7 @@ module _ (mark : Option ℕ) (size nodes run : ℕ) (image : Image) (tree : Tree
   others : (n : ℕ) → (147 ≡ n → ⊥) → without n ≡ image n
   others n other = put_other image none n other
 
-  clears : IsRewritten (version_2 mark no_seats) (current no_seats) size nodes run image without
+  clears : IsRewritten (version_2 mark no_seats) (current_version no_seats) size nodes run image without
   clears = record {
     first = others 0 (λ e. omega arith) ∙ stands.first;
     others = record {
@@ -107,11 +107,11 @@ module _ (mark : Option ℕ) (size nodes run : ℕ) (image : Image) (tree : Tree
     };
   }
 
-  cleared_stands : Stands (current no_seats) size nodes without run tree
-  cleared_stands = rewritten_stands (version_2 mark no_seats) (current no_seats) size nodes run run image without tree stands (omega arith) stands.counted clears
+  cleared_stands : TreeStands (current_version no_seats) size nodes without run tree
+  cleared_stands = rewritten_stands (version_2 mark no_seats) (current_version no_seats) size nodes run run image without tree stands (omega arith) stands.counted clears
 
   cleared_cards : all_second (cards_in nodes without) ≡ all_second (cards_in nodes image)
-  cleared_cards = rewritten_cards (version_2 mark no_seats) (current no_seats) size nodes run run image without tree stands clears
+  cleared_cards = rewritten_cards (version_2 mark no_seats) (current_version no_seats) size nodes run run image without tree stands clears
 
   either_stands : IsMark numbers.Two nodes mark → (c : ℕ) → c ≤ 1
       → (is : StandsAs size nodes (applied_all (take c (clearing_updates ∷ [])) image) run (bare tree)) × (is.version.number ≡ 2)
@@ -126,7 +126,7 @@ module _ (mark : Option ℕ) (size nodes run : ℕ) (image : Image) (tree : Tree
   )
   either_stands marked (suc zero) few = (
     record {
-      version = current no_seats;
+      version = current_version no_seats;
       is_version = By numbers.Two None no_seats tt tt;
       keeps = no_seats_kept run;
       stands = cleared_stands;
@@ -152,7 +152,7 @@ module _ (keeps_word : Type 0) (old new : Log) where
       let there = cleared_stands mark old.size nodes run old.base tree stands in
       let without = applied clearing_updates old.base in
       record {
-        stands = stands_same (current no_seats) old.size nodes run without new.base tree (has.base word) there;
-        cards = ap all_second (cards_same (current no_seats) old.size nodes run without new.base tree (has.base word) there)
+        stands = stands_same (current_version no_seats) old.size nodes run without new.base tree (has.base word) there;
+        cards = ap all_second (cards_same (current_version no_seats) old.size nodes run without new.base tree (has.base word) there)
             ∙ cleared_cards mark old.size nodes run old.base tree stands;
       }

@@ -13,7 +13,7 @@ use Rattle.inode.specs.Spelling.{inode_sector}
 use Rattle.layout.specs.CachedNodes.{CachedNode, node_sector, cards_in}
 use Rattle.layout.specs.Laid.{HoldsPlace}
 use Rattle.layout.specs.Rewriting.{in_form, in_second, all_second, IsRewritten}
-use Rattle.layout.specs.Stands.{By, IsMark, Stands, StandsAs, bare, mark_sector, moved_by, spare_by, Version, version_1}
+use Rattle.layout.specs.Stands.{By, IsMark, TreeStands, StandsAs, bare, mark_sector, moved_by, spare_by, Version, version_1}
 use Rattle.layout.specs.declared.versions.VersionNumber.TheVariants as numbers
 use Rattle.layout.proofs.FirstLaws.{sized_parts}
 use Rattle.layout.proofs.SeatLaws.{no_seats_kept, spare_other}
@@ -28,7 +28,7 @@ pub record Reached (size run : ℕ) (tree : Tree) (cards : List (Option CachedNo
   pub mark : Option ℕ
   pub marked : IsMark numbers.One (length cards) mark
   pub told : moved_by mark ≡ moved
-  pub stands : Stands (version_1 mark) size (length cards) image run tree
+  pub stands : TreeStands (version_1 mark) size (length cards) image run tree
   pub read : cards ≡ all_second (cards_in (length cards) image)
 
 -- Forms and spare sectors of version 1
@@ -156,7 +156,7 @@ abbrev pub in_all : (nodes moved : ℕ) → ℕ
 in_all nodes moved = (nodes - moved + 46) / 47
 
 pub begins_reached : (mark : Option ℕ) (moved run size : ℕ) (tree : Tree) (cards : List (Option CachedNode)) (image : Image) → IsMark numbers.One (length cards) mark → moved_by mark ≡ moved
-    → Stands (version_1 mark) size (length cards) image run tree → cards ≡ all_second (cards_in (length cards) image) → moved ≤ length cards
+    → TreeStands (version_1 mark) size (length cards) image run tree → cards ≡ all_second (cards_in (length cards) image) → moved ≤ length cards
     → Reached size run tree cards (min (length cards) (moved + 47 * 0)) image
 begins_reached mark moved run size tree cards image marked told stands read within =
     subst (λ (m : ℕ). Reached size run tree cards m image) (let q : moved ≡ min (length cards) (moved + 47 * 0) = omega arith in q)
@@ -203,7 +203,7 @@ all_marked nodes None some told = absurd (omega arith)
 all_marked nodes (Some moved) some told = ap Some told
 
 pub reached_all : (size run : ℕ) (tree : Tree) (cards : List (Option CachedNode)) (image : Image) → Reached size run tree cards (length cards) image
-    → Stands (version_1 (Some (length cards))) size (length cards) image run tree
+    → TreeStands (version_1 (Some (length cards))) size (length cards) image run tree
 reached_all size run tree cards image reached =
     let parts = sized_parts size (length cards) reached.stands.sized in
-    subst (λ (mark : Option ℕ). Stands (version_1 mark) size (length cards) image run tree) (all_marked (length cards) reached.mark parts.some reached.told) reached.stands
+    subst (λ (mark : Option ℕ). TreeStands (version_1 mark) size (length cards) image run tree) (all_marked (length cards) reached.mark parts.some reached.told) reached.stands

@@ -10,7 +10,7 @@ use Rattle.journal.proofs.Images.{Out, Fit, Out-join, put_same, put_other, appli
 use Rattle.journal.proofs.Lists.{applied_at, applied-push, targets-push, targets_of-Fit}
 use Rattle.layout.specs.CachedNodes.{CachedNode, node_sector}
 use Rattle.layout.specs.Stands.{mark_sector}
-use Rattle.migration.specs.Commits.{AreTransactions, IsTransaction}
+use Rattle.migration.specs.Commits.{AreTransactions, FitsJournal}
 use Rattle.migration.specs.Plans.{moved_node, mark_update, step, step_at}
 
 -- the nodes of so many places
@@ -73,7 +73,7 @@ Fit-push size (t ∷ ts) x low high fit out =
     (fit.0, fit.1, Out-join ts (x ∷ []) t fit.2 ((λ same. out.0 (sym same)), tt), Fit-push size ts x low high fit.3 out.1)
 
 pub step_takes : (size : ℕ) (cards : List (Option CachedNode)) (from count : ℕ) → count ≤ 47 → 148 ≤ size → node_sector (from + count) ≤ size
-    → IsTransaction size (step cards from count)
+    → FitsJournal size (step cards from count)
 step_takes size cards from count few large below =
     let nodes = nodes_of cards from count in
     record {

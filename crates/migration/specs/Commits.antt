@@ -9,12 +9,12 @@ use Rattle.journal.specs.Settled.{AreSame}
 use Rattle.migration.specs.Migrations.{Rests}
 
 -- a transaction that the journal takes, and a list of them
-pub record IsTransaction (size : ℕ) (updates : List Update) : Type 0 where
+pub record FitsJournal (size : ℕ) (updates : List Update) : Type 0 where
   pub few : length updates ≤ max_updates
   pub fit : AreTargets size (targets updates)
 
 abbrev pub AreTransactions : (size : ℕ) → List (List Update) → Type 0
-AreTransactions size list = AllByRecursion (IsTransaction size) list
+AreTransactions size list = AllByRecursion (FitsJournal size) list
 
 -- However it ends: at every moment since, a map left is one left before, or settles to the base
 -- with a front of these transactions.

@@ -5,7 +5,7 @@ use Rattle.journal.specs.Log.{Log}
 use Rattle.journal.specs.Settled.{Settles}
 use Rattle.layout.specs.CachedNodes.{CachedNode, cards_in}
 use Rattle.layout.specs.Rewriting.{all_second}
-use Rattle.layout.specs.Stands.{Version, IsMark, Stands, StandsAs, bare, current, moved_by, version_1, version_2}
+use Rattle.layout.specs.Stands.{Version, IsMark, TreeStands, StandsAs, bare, current_version, moved_by, version_1, version_2}
 use Rattle.layout.specs.declared.versions.VersionNumber.TheVariants as numbers
 use Rattle.model.specs.Sessions.Seats.{no_seats}
 use Rattle.model.specs.Trees.Tree.{Tree}
@@ -29,7 +29,7 @@ AddsStill number nodes run tree old new =
 -- What stood in one version stands in the other: the same tree, with the same cached nodes but for
 -- their forms
 pub record IsMoved (is : Version) (nodes run : ℕ) (tree : Tree) (old new : Log) : Type 0 where
-  pub stands : Stands is old.size nodes new.base run tree
+  pub stands : TreeStands is old.size nodes new.base run tree
   pub cards : all_second (cards_in nodes new.base) ≡ all_second (cards_in nodes old.base)
 
 -- a journal in which nothing waits
@@ -39,34 +39,35 @@ pub record Rests (log : Log) : Type 0 where
 
 -- What a migration begins with: the tree stands in version 1, whose mark tells so many places, and
 -- the nodes are those of its sectors
-pub record Begins (mark : Option ℕ) (moved run : ℕ) (tree : Tree) (cards : List (Option CachedNode))
+pub record BeginsMoving (mark : Option ℕ) (moved run : ℕ) (tree : Tree)
+    (cards : List (Option CachedNode))
     (log : Log) : Type 0 where
   pub marked : IsMark numbers.One (length cards) mark
   pub told : moved_by mark ≡ moved
-  pub stands : Stands (version_1 mark) log.size (length cards) log.base run tree
+  pub stands : TreeStands (version_1 mark) log.size (length cards) log.base run tree
   pub read : cards ≡ all_second (cards_in (length cards) log.base)
 
 -- At each moment the tree stands in version 1, under the count that it had
 abbrev pub MovesSafely : (moved : ℕ) → List (Option CachedNode) → (old new : Log) → Type 0
 MovesSafely moved cards old new =
-    (mark : Option ℕ) (run : ℕ) (tree : Tree) → Begins mark moved run tree cards old
+    (mark : Option ℕ) (run : ℕ) (tree : Tree) → BeginsMoving mark moved run tree cards old
     → AddsStill 1 (length cards) run tree old new
 
 -- and in the end the mark tells all places
 abbrev pub HasMovedAll : (moved : ℕ) → List (Option CachedNode) → (old new : Log) → Type 0
 HasMovedAll moved cards old new =
-    (mark : Option ℕ) (run : ℕ) (tree : Tree) → Begins mark moved run tree cards old
+    (mark : Option ℕ) (run : ℕ) (tree : Tree) → BeginsMoving mark moved run tree cards old
     → IsMoved (version_1 (Some (length cards))) (length cards) run tree old new
 
 -- The mark is taken away from version 2, in which the tree stands at each moment
 abbrev pub ClearsSafely : (old new : Log) → Type 0
 ClearsSafely old new =
     (mark : Option ℕ) (nodes run : ℕ) (tree : Tree) → IsMark numbers.Two nodes mark
-    → Stands (version_2 mark no_seats) old.size nodes old.base run tree
+    → TreeStands (version_2 mark no_seats) old.size nodes old.base run tree
     → AddsStill 2 nodes run tree old new
 
 abbrev pub HasCleared : (old new : Log) → Type 0
 HasCleared old new =
     (mark : Option ℕ) (nodes run : ℕ) (tree : Tree) → IsMark numbers.Two nodes mark
-    → Stands (version_2 mark no_seats) old.size nodes old.base run tree
-    → IsMoved (current no_seats) nodes run tree old new
+    → TreeStands (version_2 mark no_seats) old.size nodes old.base run tree
+    → IsMoved (current_version no_seats) nodes run tree old new

@@ -1,10 +1,10 @@
 //! Transactions that are flushed, each before the next one.
 
 ghost use Rattle.std.specs.Prelude.{◌≡◌, [], ◌∷◌, map, OnOk, IfErr};
-ghost use Rattle.journal.specs.Journal.{log_of, failures_of};
+ghost use Rattle.journal.specs.Journal.{log_of, journal_failures};
 ghost use Rattle.journal.specs.Log.{IsSettled};
 ghost use Rattle.journal.specs.Phase.{FailsCounted};
-ghost use Rattle.migration.specs.Commits.{AreTransactions, Commits, HasCommitted, IsTransaction};
+ghost use Rattle.migration.specs.Commits.{AreTransactions, Commits, HasCommitted, FitsJournal};
 ghost use Rattle.migration.specs.Migrations.{Rests};
 
 use disk::{Device, Update};
@@ -17,14 +17,15 @@ pub(crate) fn commit<D: Device>(
     updates: Vec<Update>,
 ) -> Result<(), JournalFault>
     requires rests { Rests (log_of journal.old) }
-    requires takes { IsTransaction (log_of journal.old).size updates.items }
+    requires takes { FitsJournal (log_of journal.old).size updates.items }
     ensures commits { Commits D.keeps_word (updates.items ∷ [])
         (log_of journal.old) (log_of journal.new) }
     ensures ok { OnOk result (HasCommitted D.keeps_word (updates.items ∷ [])
         (log_of journal.old) (log_of journal.new)) }
     ensures settled { D.keeps_word → OnOk result (IsSettled (log_of journal.new)) }
     // Refused
-    ensures failures { FailsCounted (failures_of journal.old) (failures_of journal.new) result }
+    ensures failures { FailsCounted (journal_failures journal.old) (journal_failures journal.new)
+        result }
     ensures refuses { IfErr result (λ fault. fault ≡ JournalFault.Fault) }
 {
     journal.apply(updates)?;
@@ -46,7 +47,8 @@ pub(crate) fn commit_all<D: Device>(
         (map (λ updates. updates.items) transactions.items)
         (log_of journal.old) (log_of journal.new)) }
     // Refused
-    ensures failures { FailsCounted (failures_of journal.old) (failures_of journal.new) result }
+    ensures failures { FailsCounted (journal_failures journal.old) (journal_failures journal.new)
+        result }
     ensures refuses { IfErr result (λ fault. fault ≡ JournalFault.Fault) }
 {
     for updates in transactions {

@@ -2,7 +2,7 @@
 
 ghost use Rattle.std.specs.Prelude.{◌≡◌, ◌≤◌, ◌<◌, IfOk, IfErr, OnOk, OnErr};
 ghost use Rattle.disk.specs.Cause.{IsCounted};
-ghost use Rattle.journal.specs.Journal.{log_of, failures_of};
+ghost use Rattle.journal.specs.Journal.{log_of, journal_failures};
 ghost use Rattle.journal.specs.Log.{IsSettled};
 ghost use Rattle.migration.specs.Migrations.{ClearsSafely, HasCleared, Rests};
 ghost use Rattle.migration.specs.Plans.{clearing_updates};
@@ -43,9 +43,10 @@ pub fn clear<D: Device>(journal: &mut Journal<D>, updates: Vec<Update>) -> Resul
     ensures settled { D.keeps_word → OnOk result (IsSettled (log_of journal.new)) }
     ensures size { (log_of journal.new).size ≡ (log_of journal.old).size }
     // Refused
-    ensures later { failures_of journal.old ≤ failures_of journal.new }
-    ensures cause { OnErr result (IsCounted (failures_of journal.old) (failures_of journal.new)) }
-    ensures none { OnOk result (failures_of journal.new ≡ failures_of journal.old) }
+    ensures later { journal_failures journal.old ≤ journal_failures journal.new }
+    ensures cause { OnErr result
+        (IsCounted (journal_failures journal.old) (journal_failures journal.new)) }
+    ensures none { OnOk result (journal_failures journal.new ≡ journal_failures journal.old) }
     ensures refuses { IfErr result (λ fault. fault ≡ JournalFault.Fault) }
 {
     commit(journal, updates)

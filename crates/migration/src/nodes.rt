@@ -2,7 +2,7 @@
 
 ghost use Rattle.std.specs.Prelude.{◌≡◌, ◌≤◌, ◌+◌, length, OnOk, IsErrOf};
 ghost use Rattle.disk.specs.Cause.{IsCounted};
-ghost use Rattle.journal.specs.Journal.{log_of, failures_of};
+ghost use Rattle.journal.specs.Journal.{log_of, journal_failures};
 ghost use Rattle.migration.specs.Migrations.{HasMovedAll, MovesSafely, Rests};
 ghost use Rattle.migration.specs.Plans.{FitSecond};
 
@@ -42,11 +42,11 @@ pub fn migrate<D: Device>(
     // Refused
     ensures memory { IsErrOf result MigrationFault.Memory
         → log_of journal.new ≡ log_of journal.old }
-    ensures later { failures_of journal.old ≤ failures_of journal.new }
+    ensures later { journal_failures journal.old ≤ journal_failures journal.new }
     ensures cause { IsErrOf result MigrationFault.Device
-        → IsCounted (failures_of journal.old) (failures_of journal.new) }
+        → IsCounted (journal_failures journal.old) (journal_failures journal.new) }
     ensures none { (¬ IsErrOf result MigrationFault.Device)
-        → failures_of journal.new ≡ failures_of journal.old }
+        → journal_failures journal.new ≡ journal_failures journal.old }
 {
     let transactions = plan(alloc, table, moved)?;
     commit_all(journal, transactions)?;

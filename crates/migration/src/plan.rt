@@ -18,13 +18,13 @@ use std::alloc::{AllocError, Global};
 const PLACES_AT_ONCE: u32 = 47;
 
 /// A node in form two.
-fn moved_node(place: u32, card: &CachedNode) -> Update
-    requires fit { IsInode Two card.now.fields }
+fn moved_node(place: u32, cached: &CachedNode) -> Update
+    requires fit { IsInode Two cached.now.fields }
     requires small { NODES + place < 2 ^ 32 }
-    ensures { plans.moved_node place (Some card.now) ≡ result ∷ [] }
+    ensures { plans.moved_node place (Some cached.now) ≡ result ∷ [] }
 {
     let mut content = [0; SECTOR];
-    to_sector(&card.inode, Form::Two, &mut content);
+    to_sector(&cached.inode, Form::Two, &mut content);
     Update {
         target: NODES + place,
         content,
@@ -50,8 +50,8 @@ fn transaction(alloc: Global, table: &Table, from: u32, to: u32) -> Result<Vec<U
 {
     let mut updates = Vec::with_capacity(alloc, (to - from) as usize + 1)?;
     for place in from..to {
-        if let Some(card) = table.card(place) {
-            updates.push(moved_node(place, card))?;
+        if let Some(cached) = table.cached(place) {
+            updates.push(moved_node(place, cached))?;
         }
     }
     updates.push(mark_update(to))?;

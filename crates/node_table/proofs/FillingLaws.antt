@@ -18,7 +18,7 @@ use Rattle.layout.specs.SumLaws.{sum_over}
 use Rattle.layout.proofs.NumberLaws.{once-off, once-at}
 use Rattle.node_table.specs.declared.table.TheConstants.Table.{MAX_NODES}
 use Rattle.node_table.specs.Index.{key_at, entries_from, AreDifferent}
-use Rattle.node_table.specs.Tables.{number_at, HaveOwnPlaces, AreNumbered, AreFew, charge_of_all, count_of_all, vacant, IsKept}
+use Rattle.node_table.specs.Tables.{node_number_at, HaveOwnPlaces, AreNumbered, AreFew, charge_of_all, count_of_all, vacant, IsIndexed}
 use Rattle.node_table.proofs.IndexLaws.{at-entry}
 use Rattle.node_table.proofs.TableLaws.{times-push}
 
@@ -102,23 +102,23 @@ some-from (Some card) is = record { one = card; is = refl }
 
 -- ---- the entries
 
-told-later : (first : ℕ) (card : Option CachedNode) (cards : List (Option CachedNode)) (entry : ℕ × ℕ) → (first + 1 ≤ entry.1) × (number_at cards (entry.1 - (first + 1)) ≡ Some entry.0)
-    → (first ≤ entry.1) × (number_at (card ∷ cards) (entry.1 - first) ≡ Some entry.0)
+told-later : (first : ℕ) (card : Option CachedNode) (cards : List (Option CachedNode)) (entry : ℕ × ℕ) → (first + 1 ≤ entry.1) × (node_number_at cards (entry.1 - (first + 1)) ≡ Some entry.0)
+    → (first ≤ entry.1) × (node_number_at (card ∷ cards) (entry.1 - first) ≡ Some entry.0)
 told-later first card cards entry told =
     let low = told.0 in
     let e : entry.1 - first ≡ suc (entry.1 - (first + 1)) = omega arith in
-    (omega arith, ap (number_at (card ∷ cards)) e ∙ told.1)
+    (omega arith, ap (node_number_at (card ∷ cards)) e ∙ told.1)
 
 -- each is of a node
 entries-told : (first : ℕ) (cards : List (Option CachedNode)) (i : ℕ) → i < length (entries_from first cards)
-    → (first ≤ (get_or (entries_from first cards) i (0, 0)).1) × (number_at cards ((get_or (entries_from first cards) i (0, 0)).1 - first) ≡ Some (get_or (entries_from first cards) i (0, 0)).0)
+    → (first ≤ (get_or (entries_from first cards) i (0, 0)).1) × (node_number_at cards ((get_or (entries_from first cards) i (0, 0)).1 - first) ≡ Some (get_or (entries_from first cards) i (0, 0)).0)
 entries-told first [] i h = absurd (omega arith)
 entries-told first (None ∷ cards) i h = told-later first None cards (get_or (entries_from (first + 1) cards) i (0, 0)) (entries-told (first + 1) cards i h)
-entries-told first (Some one ∷ cards) zero h = let e : first - first ≡ 0 = omega arith in (omega arith, ap (number_at (Some one ∷ cards)) e)
+entries-told first (Some one ∷ cards) zero h = let e : first - first ≡ 0 = omega arith in (omega arith, ap (node_number_at (Some one ∷ cards)) e)
 entries-told first (Some one ∷ cards) (suc i) h = told-later first (Some one) cards (get_or (entries_from (first + 1) cards) i (0, 0)) (entries-told (first + 1) cards i (omega arith))
 
 -- each node has one
-entries-listed : (first : ℕ) (cards : List (Option CachedNode)) (place number : ℕ) → number_at cards place ≡ Some number → Contains (entries_from first cards) (number, first + place)
+entries-listed : (first : ℕ) (cards : List (Option CachedNode)) (place number : ℕ) → node_number_at cards place ≡ Some number → Contains (entries_from first cards) (number, first + place)
 entries-listed first [] place number is = absurd (some≢none number (sym is))
 entries-listed first (None ∷ cards) zero number is = absurd (some≢none number (sym is))
 entries-listed first (None ∷ cards) (suc place) number is =
@@ -192,18 +192,18 @@ rising-above least (entry ∷ index) rise first =
         subst (λ (j : ℕ). key_at index i < key_at (entry ∷ index) j) e low
 
 module _ (cards : List (Option CachedNode)) (index : Keyed ℕ) (moved : IsPermutation (entries_from 0 cards) index) where
-  told : (number place : ℕ) → Contains index (number, place) → number_at cards place ≡ Some number
+  told : (number place : ℕ) → Contains index (number, place) → node_number_at cards place ≡ Some number
   told number place has =
       let found = Contains-permutation index (entries_from 0 cards) (number, place) (IsPermutation-sym (entries_from 0 cards) index moved) has in
       let is : get_or (entries_from 0 cards) found.0 (0, 0) ≡ (number, place) = get_or_default (entries_from 0 cards) found.0 (0, 0) (number, place) found.1 ∙ found.2 in
       let there = (entries-told 0 cards found.0 found.1).1 in
       let whole : place - 0 ≡ place = omega arith in
-      ap (number_at cards) (sym whole) ∙ ap (λ (entry : ℕ × ℕ). number_at cards (entry.1 - 0)) (sym is) ∙ there ∙ ap (λ (entry : ℕ × ℕ). Some entry.0) is
+      ap (node_number_at cards) (sym whole) ∙ ap (λ (entry : ℕ × ℕ). node_number_at cards (entry.1 - 0)) (sym is) ∙ there ∙ ap (λ (entry : ℕ × ℕ). Some entry.0) is
 
-  told-at : (i : ℕ) → i < length index → number_at cards (get_or index i (0, 0)).1 ≡ Some (key_at index i)
+  told-at : (i : ℕ) → i < length index → node_number_at cards (get_or index i (0, 0)).1 ≡ Some (key_at index i)
   told-at i h = told (key_at index i) (get_or index i (0, 0)).1 (Contains-get_or index i (0, 0) h)
 
-  listed : (number place : ℕ) → number_at cards place ≡ Some number → Contains index (number, place)
+  listed : (number place : ℕ) → node_number_at cards place ≡ Some number → Contains index (number, place)
   listed number place is =
       let whole : 0 + place ≡ place = omega arith in
       Contains-permutation (entries_from 0 cards) index (number, place) moved (subst (λ (p : ℕ). Contains (entries_from 0 cards) (number, p)) whole (entries-listed 0 cards place number is))
@@ -218,7 +218,7 @@ module _ (cards : List (Option CachedNode)) (index : Keyed ℕ) (moved : IsPermu
       omega (arith, two, entries-once 0 cards (get_or index i (0, 0)).1, sum_by-IsPermutation (is_for (get_or index i (0, 0)).1) (entries_from 0 cards) index moved)
 
   pub filled : (free : List ℕ) (charge : ℕ) → length cards ≤ MAX_NODES → AreNumbered cards → AreFew cards → IsNonDecreasingBy (λ entry. entry.0) index → AreDifferent index
-      → ((n : ℕ) → times n free ≡ vacant n cards) → length free + count_of_all cards ≡ length cards → charge ≡ charge_of_all cards → IsKept cards index free charge
+      → ((n : ℕ) → times n free ≡ vacant n cards) → length free + count_of_all cards ≡ length cards → charge ≡ charge_of_all cards → IsIndexed cards index free charge
   filled free charge few numbered each sorted differ places count charge_is =
       let long : length index ≡ count_of_all cards = length_permutation (entries_from 0 cards) index moved ∙ entries-count 0 cards in
       let rise : (i : ℕ) → i + 1 < length index → key_at index i < key_at index (i + 1) =

@@ -10,8 +10,8 @@ use Rattle.model.specs.Trees.Keyed.{Keyed, at}
 use Rattle.model.proofs.Trees.KeyedLaws.{at-first, at-rest}
 use Rattle.model.proofs.Facts.OptionLaws.{some≢none}
 use Rattle.layout.specs.CachedNodes.{CachedNode}
-use Rattle.node_table.specs.Tables.{number_of, number_at, HaveOwnPlaces, HasNot}
-use Rattle.node_table.specs.Overlays.{changed, HaveOwnPlace, AreWithin, change_at, Overlaid, IsMade, IsFresh, CanBecome}
+use Rattle.node_table.specs.Tables.{node_number, node_number_at, HaveOwnPlaces, HasNoNode}
+use Rattle.node_table.specs.Overlays.{overlaid, HaveOwnPlace, PlacesWithin, change_at, Overlaid, IsMade, IsFresh, CanBecome}
 
 number_same : (found : Option ℕ) (number : ℕ) → (found ≡ Some number) ⊎ (found ≢ Some number)
 number_same None number = inr (λ e. some≢none number (sym e))
@@ -43,27 +43,27 @@ at-some changes place i h key none = off-each changes place i none h key
 
 -- ---- the cached nodes with changes
 
-pub changed-length : (cards : List (Option CachedNode)) (changes : Keyed (Option CachedNode)) → length (changed cards changes) ≡ length cards
+pub changed-length : (cards : List (Option CachedNode)) (changes : Keyed (Option CachedNode)) → length (overlaid cards changes) ≡ length cards
 changed-length cards [] = refl
-changed-length cards (change ∷ changes) = length-set (changed cards changes) change.0 change.1 ∙ changed-length cards changes
+changed-length cards (change ∷ changes) = length-set (overlaid cards changes) change.0 change.1 ∙ changed-length cards changes
 
-pub changed-off : (cards : List (Option CachedNode)) (changes : Keyed (Option CachedNode)) (place : ℕ) → at place changes ≡ None → get_or (changed cards changes) place None ≡ get_or cards place None
+pub changed-off : (cards : List (Option CachedNode)) (changes : Keyed (Option CachedNode)) (place : ℕ) → at place changes ≡ None → get_or (overlaid cards changes) place None ≡ get_or cards place None
 changed-off cards [] place none = refl
 changed-off cards (change ∷ changes) place none =
-    get_or-set_other (changed cards changes) change.0 place change.1 None (other-place change changes place none) ∙ changed-off cards changes place (rest-none change changes place none)
+    get_or-set_other (overlaid cards changes) change.0 place change.1 None (other-place change changes place none) ∙ changed-off cards changes place (rest-none change changes place none)
 
-pub changed-here : (cards : List (Option CachedNode)) (changes : Keyed (Option CachedNode)) (i : ℕ) → HaveOwnPlace changes → AreWithin (length cards) changes → i < length changes
-    → get_or (changed cards changes) (change_at changes i).0 None ≡ (change_at changes i).1
+pub changed-here : (cards : List (Option CachedNode)) (changes : Keyed (Option CachedNode)) (i : ℕ) → HaveOwnPlace changes → PlacesWithin (length cards) changes → i < length changes
+    → get_or (overlaid cards changes) (change_at changes i).0 None ≡ (change_at changes i).1
 changed-here cards [] i own within h = absurd (omega arith)
-changed-here cards (change ∷ changes) zero own within h = get_or-set_same (changed cards changes) change.0 change.1 None (omega (arith, changed-length cards changes, within.0))
+changed-here cards (change ∷ changes) zero own within h = get_or-set_same (overlaid cards changes) change.0 change.1 None (omega (arith, changed-length cards changes, within.0))
 changed-here cards (change ∷ changes) (suc i) own within h =
-    get_or-set_other (changed cards changes) change.0 (change_at changes i).0 change.1 None (off-each changes change.0 i own.0 (omega arith)) ∙ changed-here cards changes i own.1 within.1 (omega arith)
+    get_or-set_other (overlaid cards changes) change.0 (change_at changes i).0 change.1 None (off-each changes change.0 i own.0 (omega arith)) ∙ changed-here cards changes i own.1 within.1 (omega arith)
 
 -- a change that is read tells the cached node of its place
-pub read-change : (cards : List (Option CachedNode)) (changes : Keyed (Option CachedNode)) (i place : ℕ) (read : ℕ × Option CachedNode) → HaveOwnPlace changes → AreWithin (length cards) changes → i < length changes
-    → (change_at changes i).0 ≡ place → read ≡ get_or changes i read → get_or (changed cards changes) place None ≡ read.1
+pub read-change : (cards : List (Option CachedNode)) (changes : Keyed (Option CachedNode)) (i place : ℕ) (read : ℕ × Option CachedNode) → HaveOwnPlace changes → PlacesWithin (length cards) changes → i < length changes
+    → (change_at changes i).0 ≡ place → read ≡ get_or changes i read → get_or (overlaid cards changes) place None ≡ read.1
 read-change cards changes i place read own within h key is =
-    ap (λ (k : ℕ). get_or (changed cards changes) k None) (sym key) ∙ changed-here cards changes i own within h
+    ap (λ (k : ℕ). get_or (overlaid cards changes) k None) (sym key) ∙ changed-here cards changes i own within h
     ∙ ap (λ (change : ℕ × Option CachedNode). change.1) (sym (is ∙ get_or_default changes i read (0, None) h))
 
 pub copied-some : (found : Option (Bor CachedNode)) (there : Option CachedNode) → there ≡ option_copied found → IfSome found (λ card. there ≡ Some card.now)
@@ -75,7 +75,7 @@ copied-none None there is = is
 copied-none (Some card) there is = tt
 
 -- no change is for the place, so the table's cached node stands there
-pub unchanged : (table : List (Option CachedNode)) (changes : Keyed (Option CachedNode)) (looked : Keyed (Option CachedNode)) (seen : Overlaid) (place : ℕ) → looked ≡ changes → record { table = table; cards = changed table changes } ≡ seen
+pub unchanged : (table : List (Option CachedNode)) (changes : Keyed (Option CachedNode)) (looked : Keyed (Option CachedNode)) (seen : Overlaid) (place : ℕ) → looked ≡ changes → record { table = table; cards = overlaid table changes } ≡ seen
     → ((i : ℕ) → i < length looked → (change_at looked i).0 ≢ place) → record { none : at place changes ≡ None; same : get_or seen.cards place None ≡ get_or table place None }
 unchanged table changes looked seen place is view off =
     let none = at-off changes place (subst (λ (l : Keyed (Option CachedNode)). (i : ℕ) → i < length l → (change_at l i).0 ≢ place) is off) in
@@ -84,12 +84,12 @@ unchanged table changes looked seen place is view off =
 -- ---- another cached node in a change
 
 pub changed-exchange : (cards : List (Option CachedNode)) (changes : Keyed (Option CachedNode)) (i : ℕ) (card : Option CachedNode) → HaveOwnPlace changes → i < length changes
-    → changed cards (set changes i ((change_at changes i).0, card)) ≡ set (changed cards changes) (change_at changes i).0 card
+    → overlaid cards (set changes i ((change_at changes i).0, card)) ≡ set (overlaid cards changes) (change_at changes i).0 card
 changed-exchange cards [] i card own h = absurd (omega arith)
-changed-exchange cards (change ∷ changes) zero card own h = sym (set-set (changed cards changes) change.0 change.1 card)
+changed-exchange cards (change ∷ changes) zero card own h = sym (set-set (overlaid cards changes) change.0 change.1 card)
 changed-exchange cards (change ∷ changes) (suc i) card own h =
     ap (λ (l : List (Option CachedNode)). set l change.0 change.1) (changed-exchange cards changes i card own.1 (omega arith))
-    ∙ set_comm (changed cards changes) (change_at changes i).0 change.0 card change.1 (off-each changes change.0 i own.0 (omega arith))
+    ∙ set_comm (overlaid cards changes) (change_at changes i).0 change.0 card change.1 (off-each changes change.0 i own.0 (omega arith))
 
 at-exchange : (changes : Keyed (Option CachedNode)) (place i : ℕ) (card : Option CachedNode) → at place changes ≡ None → at place (set changes i ((change_at changes i).0, card)) ≡ None
 at-exchange [] place i card none = none
@@ -102,7 +102,7 @@ own-exchange [] i card own = tt
 own-exchange (change ∷ changes) zero card own = own
 own-exchange (change ∷ changes) (suc i) card own = (at-exchange changes change.0 i card own.0, own-exchange changes i card own.1)
 
-pub within-exchange : (count : ℕ) (changes : Keyed (Option CachedNode)) (i : ℕ) (card : Option CachedNode) → AreWithin count changes → AreWithin count (set changes i ((change_at changes i).0, card))
+pub within-exchange : (count : ℕ) (changes : Keyed (Option CachedNode)) (i : ℕ) (card : Option CachedNode) → PlacesWithin count changes → PlacesWithin count (set changes i ((change_at changes i).0, card))
 within-exchange count [] i card within = tt
 within-exchange count (change ∷ changes) zero card within = within
 within-exchange count (change ∷ changes) (suc i) card within = (within.0, within-exchange count changes i card within.1)
@@ -110,20 +110,20 @@ within-exchange count (change ∷ changes) (suc i) card within = (within.0, with
 -- ---- a further change
 
 changed-first : (cards : List (Option CachedNode)) (changes : Keyed (Option CachedNode)) (place : ℕ) (card : Option CachedNode) → at place changes ≡ None
-    → changed (set cards place card) changes ≡ set (changed cards changes) place card
+    → overlaid (set cards place card) changes ≡ set (overlaid cards changes) place card
 changed-first cards [] place card none = refl
 changed-first cards (change ∷ changes) place card none =
     ap (λ (l : List (Option CachedNode)). set l change.0 change.1) (changed-first cards changes place card (rest-none change changes place none))
-    ∙ set_comm (changed cards changes) place change.0 card change.1 (other-place change changes place none)
+    ∙ set_comm (overlaid cards changes) place change.0 card change.1 (other-place change changes place none)
 
 -- the last change may be made first
 pub changed-last : (cards : List (Option CachedNode)) (changes : Keyed (Option CachedNode)) (place : ℕ) (card : Option CachedNode)
-    → changed cards (changes ++ (place, card) ∷ []) ≡ changed (set cards place card) changes
+    → overlaid cards (changes ++ (place, card) ∷ []) ≡ overlaid (set cards place card) changes
 changed-last cards [] place card = refl
 changed-last cards (change ∷ changes) place card = ap (λ (l : List (Option CachedNode)). set l change.0 change.1) (changed-last cards changes place card)
 
 pub changed-push : (cards : List (Option CachedNode)) (changes : Keyed (Option CachedNode)) (place : ℕ) (card : Option CachedNode) → at place changes ≡ None
-    → changed cards (changes ++ (place, card) ∷ []) ≡ set (changed cards changes) place card
+    → overlaid cards (changes ++ (place, card) ∷ []) ≡ set (overlaid cards changes) place card
 changed-push cards changes place card none = changed-last cards changes place card ∙ changed-first cards changes place card none
 
 at-push : (changes : Keyed (Option CachedNode)) (other place : ℕ) (card : Option CachedNode) → at other changes ≡ None → other ≢ place → at other (changes ++ (place, card) ∷ []) ≡ None
@@ -136,7 +136,7 @@ own-push [] place card own none = (refl, tt)
 own-push (change ∷ changes) place card own none =
     (at-push changes change.0 place card own.0 (λ e. other-place change changes place none (sym e)), own-push changes place card own.1 (rest-none change changes place none))
 
-pub within-push : (count : ℕ) (changes : Keyed (Option CachedNode)) (place : ℕ) (card : Option CachedNode) → AreWithin count changes → place < count → AreWithin count (changes ++ (place, card) ∷ [])
+pub within-push : (count : ℕ) (changes : Keyed (Option CachedNode)) (place : ℕ) (card : Option CachedNode) → PlacesWithin count changes → place < count → PlacesWithin count (changes ++ (place, card) ∷ [])
 within-push count [] place card within h = (h, tt)
 within-push count (change ∷ changes) place card within h = (within.0, within-push count changes place card within.1 h)
 
@@ -159,26 +159,26 @@ own-front (change ∷ changes) place card own =
 -- ---- the place of a number
 
 -- where no change puts the number, a node has it only at a place without a change
-there-unchanged : (cards : List (Option CachedNode)) (changes : Keyed (Option CachedNode)) (place number : ℕ) → ((i : ℕ) → i < length changes → number_of (change_at changes i).1 ≢ Some number)
-    → number_at (changed cards changes) place ≡ Some number → (at place changes ≡ None) × (number_at cards place ≡ Some number)
+there-unchanged : (cards : List (Option CachedNode)) (changes : Keyed (Option CachedNode)) (place number : ℕ) → ((i : ℕ) → i < length changes → node_number (change_at changes i).1 ≢ Some number)
+    → node_number_at (overlaid cards changes) place ≡ Some number → (at place changes ≡ None) × (node_number_at cards place ≡ Some number)
 there-unchanged cards [] place number none is = (refl, is)
 there-unchanged cards (change ∷ changes) place number none is = elim (cases_eq place change.0) [
   | inl here ↦
-      elim (cases_lt change.0 (length (changed cards changes))) [
-        | inl low ↦ absurd (none 0 (omega arith) (ap number_of (sym (get_or-set_same (changed cards changes) change.0 change.1 None low)) ∙ ap (number_at (set (changed cards changes) change.0 change.1)) (sym here) ∙ is))
-        | inr high ↦ absurd (some≢none number (sym is ∙ ap number_of (get_or_past (set (changed cards changes) change.0 change.1) place None (omega (arith, length-set (changed cards changes) change.0 change.1)))))
+      elim (cases_lt change.0 (length (overlaid cards changes))) [
+        | inl low ↦ absurd (none 0 (omega arith) (ap node_number (sym (get_or-set_same (overlaid cards changes) change.0 change.1 None low)) ∙ ap (node_number_at (set (overlaid cards changes) change.0 change.1)) (sym here) ∙ is))
+        | inr high ↦ absurd (some≢none number (sym is ∙ ap node_number (get_or_past (set (overlaid cards changes) change.0 change.1) place None (omega (arith, length-set (overlaid cards changes) change.0 change.1)))))
       ]
   | inr off ↦
-      let rest = there-unchanged cards changes place number (λ i h. none (suc i) (omega arith)) (ap number_of (sym (get_or-set_other (changed cards changes) change.0 place change.1 None off)) ∙ is) in
+      let rest = there-unchanged cards changes place number (λ i h. none (suc i) (omega arith)) (ap node_number (sym (get_or-set_other (overlaid cards changes) change.0 place change.1 None off)) ∙ is) in
       (none-more change changes place off rest.0, rest.1)
 ]
 
-pub has-not : (cards : List (Option CachedNode)) (changes : Keyed (Option CachedNode)) (number : ℕ) → ((i : ℕ) → i < length changes → number_of (change_at changes i).1 ≢ Some number)
-    → HasNot cards number → HasNot (changed cards changes) number
+pub has-not : (cards : List (Option CachedNode)) (changes : Keyed (Option CachedNode)) (number : ℕ) → ((i : ℕ) → i < length changes → node_number (change_at changes i).1 ≢ Some number)
+    → HasNoNode cards number → HasNoNode (overlaid cards changes) number
 has-not cards changes number none absent place is = absent place (there-unchanged cards changes place number none is).1
 
-pub has-not_changed : (cards : List (Option CachedNode)) (changes : Keyed (Option CachedNode)) (number place : ℕ) → ((i : ℕ) → i < length changes → number_of (change_at changes i).1 ≢ Some number)
-    → HaveOwnPlaces cards → number_at cards place ≡ Some number → at place changes ≢ None → HasNot (changed cards changes) number
+pub has-not_changed : (cards : List (Option CachedNode)) (changes : Keyed (Option CachedNode)) (number place : ℕ) → ((i : ℕ) → i < length changes → node_number (change_at changes i).1 ≢ Some number)
+    → HaveOwnPlaces cards → node_number_at cards place ≡ Some number → at place changes ≢ None → HasNoNode (overlaid cards changes) number
 has-not_changed cards changes number place none own there put other is =
     let left = there-unchanged cards changes other number none is in
     put (ap (λ (k : ℕ). at k changes) (own place other number there left.1) ∙ left.0)
@@ -187,16 +187,16 @@ has-not_changed cards changes number place none own there put other is =
 
 module _ (cards target : List (Option CachedNode)) (place : ℕ) (card : Option CachedNode) (here : place < length cards → get_or target place None ≡ card) (long : length target ≡ length cards) where
   -- the place has the target's number
-  same-here : number_at (set cards place card) place ≡ number_at target place
+  same-here : node_number_at (set cards place card) place ≡ node_number_at target place
   same-here = elim (cases_lt place (length cards)) [
-    | inl low ↦ ap number_of (get_or-set_same cards place card None low ∙ sym (here low))
-    | inr high ↦ ap number_of (get_or_past (set cards place card) place None (omega (arith, length-set cards place card)) ∙ sym (get_or_past target place None (omega (arith, long))))
+    | inl low ↦ ap node_number (get_or-set_same cards place card None low ∙ sym (here low))
+    | inr high ↦ ap node_number (get_or_past (set cards place card) place None (omega (arith, length-set cards place card)) ∙ sym (get_or_past target place None (omega (arith, long))))
   ]
 
   made-before : (other number : ℕ) → IsMade (set cards place card) target other number → (other ≢ place) × IsMade cards target other number
   made-before other number made = elim (cases_eq other place) [
-    | inl e ↦ absurd (made.before (ap (number_at (set cards place card)) e ∙ same-here ∙ ap (number_at target) (sym e) ∙ made.now))
-    | inr off ↦ (off, record { now = made.now; before = λ was. made.before (ap number_of (get_or-set_other cards place other card None off) ∙ was) })
+    | inl e ↦ absurd (made.before (ap (node_number_at (set cards place card)) e ∙ same-here ∙ ap (node_number_at target) (sym e) ∙ made.now))
+    | inr off ↦ (off, record { now = made.now; before = λ was. made.before (ap node_number (get_or-set_other cards place other card None off) ∙ was) })
   ]
 
   pub nearer : CanBecome cards target → CanBecome (set cards place card) target
@@ -205,12 +205,12 @@ module _ (cards target : List (Option CachedNode)) (place : ℕ) (card : Option 
       some = fresh.some;
       above = λ one less is. elim (cases_eq one place) [
         | inl e ↦
-            let now : number_at target place ≡ Some less = sym same-here ∙ ap (number_at (set cards place card)) (sym e) ∙ is in
-            elim (number_same (number_at cards place) less) [
+            let now : node_number_at target place ≡ Some less = sym same-here ∙ ap (node_number_at (set cards place card)) (sym e) ∙ is in
+            elim (number_same (node_number_at cards place) less) [
               | inl there ↦ fresh.above place less there
               | inr apart ↦ absurd (was.0 (can.one other number place less was.1 (record { now = now; before = apart })))
             ]
-        | inr off ↦ fresh.above one less (ap number_of (sym (get_or-set_other cards place one card None off)) ∙ is)
+        | inr off ↦ fresh.above one less (ap node_number (sym (get_or-set_other cards place one card None off)) ∙ is)
       ];
     };
     one = λ other number another less made made_too. can.one other number another less (made-before other number made).1 (made-before another less made_too).1;
@@ -220,21 +220,21 @@ module _ (cards target : List (Option CachedNode)) (place : ℕ) (card : Option 
 
 pub record IsSettling (cards target : List (Option CachedNode)) (left : Keyed (Option CachedNode)) : Type 0 where
   pub can : CanBecome cards target
-  pub leads : changed cards left ≡ target
+  pub leads : overlaid cards left ≡ target
   pub own : HaveOwnPlace left
 
 module _ (cards target : List (Option CachedNode)) (left : Keyed (Option CachedNode)) (place : ℕ) (card : Option CachedNode) (settling : IsSettling cards target (left ++ (place, card) ∷ [])) where
   front : HaveOwnPlace left × (at place left ≡ None)
   front = own-front left place card settling.own
 
-  led : changed (set cards place card) left ≡ target
+  led : overlaid (set cards place card) left ≡ target
   led = sym (changed-last cards left place card) ∙ settling.leads
 
   target-here : place < length cards → get_or target place None ≡ card
   target-here low = ap (λ (l : List (Option CachedNode)). get_or l place None) (sym led) ∙ changed-off (set cards place card) left place front.1 ∙ get_or-set_same cards place card None low
 
-  pub settle-fresh : (number : ℕ) → number_of card ≡ Some number → place < length cards → number_at cards place ≢ Some number → IsFresh cards number
-  settle-fresh number is low before = settling.can.fresh place number (record { now = ap number_of (target-here low) ∙ is; before = before })
+  pub settle-fresh : (number : ℕ) → node_number card ≡ Some number → place < length cards → node_number_at cards place ≢ Some number → IsFresh cards number
+  settle-fresh number is low before = settling.can.fresh place number (record { now = ap node_number (target-here low) ∙ is; before = before })
 
   pub settle-step : IsSettling (set cards place card) target left
   settle-step = record {

@@ -15,7 +15,7 @@ use Rattle.layout.specs.SumLaws.{sum_over}
 use Rattle.layout.proofs.Formatted.{nones-at}
 use Rattle.node_table.specs.declared.table.TheConstants.Table.{MAX_NODES}
 use Rattle.node_table.specs.Index.{key_at}
-use Rattle.node_table.specs.Tables.{number_of, number_at, HaveOwnPlaces, AreBelow, IsFree, charge_of, charge_there, charge_of_all, count_of_all, vacancy, vacant, IsKept}
+use Rattle.node_table.specs.Tables.{node_number, node_number_at, HaveOwnPlaces, AreBelow, IsFree, charge_of, charge_there, charge_of_all, count_of_all, vacancy, vacant, IsIndexed}
 use Rattle.node_table.proofs.IndexLaws.{with-last, without-entry}
 
 -- ---- sums
@@ -92,7 +92,7 @@ free-vacant (None ∷ cards) zero some = record { within = omega arith; free = r
 free-vacant (Some one ∷ cards) zero some = absurd (omega arith)
 free-vacant (one ∷ cards) (suc place) some = let rest = free-vacant cards place some in record { within = omega (arith, rest.within); free = rest.free }
 
-vacant-taken : (cards : List (Option CachedNode)) (place number : ℕ) → number_at cards place ≡ Some number → vacant place cards ≡ 0
+vacant-taken : (cards : List (Option CachedNode)) (place number : ℕ) → node_number_at cards place ≡ Some number → vacant place cards ≡ 0
 vacant-taken [] place number is = refl
 vacant-taken (None ∷ cards) zero number is = absurd (some≢none number (sym is))
 vacant-taken (Some one ∷ cards) zero number is = refl
@@ -100,17 +100,17 @@ vacant-taken (one ∷ cards) (suc place) number is = vacant-taken cards place nu
 
 -- ---- numbers
 
-pub within-numbered : (cards : List (Option CachedNode)) (place number : ℕ) → number_at cards place ≡ Some number → place < length cards
+pub within-numbered : (cards : List (Option CachedNode)) (place number : ℕ) → node_number_at cards place ≡ Some number → place < length cards
 within-numbered cards place number is = elim (cases_lt place (length cards)) [
   | inl low ↦ low
-  | inr high ↦ absurd (some≢none number (sym is ∙ ap number_of (get_or_past cards place None high)))
+  | inr high ↦ absurd (some≢none number (sym is ∙ ap node_number (get_or_past cards place None high)))
 ]
 
-number-here : (cards : List (Option CachedNode)) (place : ℕ) (card : Option CachedNode) → place < length cards → number_at (set cards place card) place ≡ number_of card
-number-here cards place card h = ap number_of (get_or-set_same cards place card None h)
+number-here : (cards : List (Option CachedNode)) (place : ℕ) (card : Option CachedNode) → place < length cards → node_number_at (set cards place card) place ≡ node_number card
+number-here cards place card h = ap node_number (get_or-set_same cards place card None h)
 
-number-elsewhere : (cards : List (Option CachedNode)) (place : ℕ) (card : Option CachedNode) (n : ℕ) → n ≢ place → number_at (set cards place card) n ≡ number_at cards n
-number-elsewhere cards place card n off = ap number_of (get_or-set_other cards place n card None off)
+number-elsewhere : (cards : List (Option CachedNode)) (place : ℕ) (card : Option CachedNode) (n : ℕ) → n ≢ place → node_number_at (set cards place card) n ≡ node_number_at cards n
+number-elsewhere cards place card n off = ap node_number (get_or-set_other cards place n card None off)
 
 each-set : (cards : List (Option CachedNode)) (place : ℕ) (card : Option CachedNode) → place < length cards → ((one : CachedNode) → card ≡ Some one → length one.blocks ≤ 4096)
     → ((p : ℕ) (one : CachedNode) → get_or cards p None ≡ Some one → length one.blocks ≤ 4096) → (p : ℕ) (one : CachedNode) → get_or (set cards place card) p None ≡ Some one → length one.blocks ≤ 4096
@@ -124,15 +124,15 @@ counts : (cards : List (Option CachedNode)) (place : ℕ) (card : Option CachedN
     → count_of_all (set cards place card) + worth_there (λ c. 1) (get_or cards place None) ≡ count_of_all cards + worth_there (λ c. 1) card
 counts = sum-set (λ c. 1)
 
-count-there : (card : Option CachedNode) (number : ℕ) → number_of card ≡ Some number → worth_there (λ c. 1) card ≡ 1
+count-there : (card : Option CachedNode) (number : ℕ) → node_number card ≡ Some number → worth_there (λ c. 1) card ≡ 1
 count-there None number is = absurd (some≢none number (sym is))
 count-there (Some card) number is = refl
 
 -- ---- a node is made
 
-module _ (cards : List (Option CachedNode)) (index : Keyed ℕ) (free : List ℕ) (charge place : ℕ) (card : CachedNode) (kept : IsKept cards index free charge) (is_free : IsFree cards place) (some : 0 < card.fields.number) (below : AreBelow cards card.fields.number) where
-  number_of_none : number_at cards place ≡ None
-  number_of_none = ap number_of is_free.free
+module _ (cards : List (Option CachedNode)) (index : Keyed ℕ) (free : List ℕ) (charge place : ℕ) (card : CachedNode) (kept : IsIndexed cards index free charge) (is_free : IsFree cards place) (some : 0 < card.fields.number) (below : AreBelow cards card.fields.number) where
+  number_of_none : node_number_at cards place ≡ None
+  number_of_none = ap node_number is_free.free
 
   fresh : (n : ℕ) → at card.fields.number index ≡ Some n → ⊥
   fresh n is = let under : card.fields.number < card.fields.number = below n card.fields.number (kept.found card.fields.number n is) in omega arith
@@ -140,20 +140,20 @@ module _ (cards : List (Option CachedNode)) (index : Keyed ℕ) (free : List ℕ
   pushed : with index card.fields.number place ≡ index ++ (card.fields.number, place) ∷ []
   pushed = with-last index 0 card.fields.number place kept.rising (λ k v is. below v k (kept.found k v is))
 
-  found_made : (number n : ℕ) → at number (with index card.fields.number place) ≡ Some n → number_at (set cards place (Some card)) n ≡ Some number
+  found_made : (number n : ℕ) → at number (with index card.fields.number place) ≡ Some n → node_number_at (set cards place (Some card)) n ≡ Some number
   found_made number n is = elim (cases_eq number card.fields.number) [
     | inl one ↦
         let here : place ≡ n = same_Some place n (sym (at-with_same index card.fields.number place) ∙ ap (λ (k : ℕ). at k (with index card.fields.number place)) (sym one) ∙ is) in
-        ap (number_at (set cards place (Some card))) (sym here) ∙ number-here cards place (Some card) is_free.within ∙ ap (λ (k : ℕ). Some k) (sym one)
+        ap (node_number_at (set cards place (Some card))) (sym here) ∙ number-here cards place (Some card) is_free.within ∙ ap (λ (k : ℕ). Some k) (sym one)
     | inr off ↦
-        let there : number_at cards n ≡ Some number = kept.found number n (sym (at-with_other index card.fields.number number place off) ∙ is) in
-        number-elsewhere cards place (Some card) n (λ e. some≢none number (sym there ∙ ap (number_at cards) e ∙ number_of_none)) ∙ there
+        let there : node_number_at cards n ≡ Some number = kept.found number n (sym (at-with_other index card.fields.number number place off) ∙ is) in
+        number-elsewhere cards place (Some card) n (λ e. some≢none number (sym there ∙ ap (node_number_at cards) e ∙ number_of_none)) ∙ there
   ]
 
-  indexed_made : (number n : ℕ) → number_at (set cards place (Some card)) n ≡ Some number → at number (with index card.fields.number place) ≡ Some n
+  indexed_made : (number n : ℕ) → node_number_at (set cards place (Some card)) n ≡ Some number → at number (with index card.fields.number place) ≡ Some n
   indexed_made number n is = elim (cases_eq n place) [
     | inl here ↦
-        let one : card.fields.number ≡ number = same_Some card.fields.number number (sym (number-here cards place (Some card) is_free.within) ∙ ap (number_at (set cards place (Some card))) (sym here) ∙ is) in
+        let one : card.fields.number ≡ number = same_Some card.fields.number number (sym (number-here cards place (Some card) is_free.within) ∙ ap (node_number_at (set cards place (Some card))) (sym here) ∙ is) in
         ap (λ (k : ℕ). at k (with index card.fields.number place)) (sym one) ∙ at-with_same index card.fields.number place ∙ ap (λ (k : ℕ). Some k) (sym here)
     | inr off ↦
         let there : at number index ≡ Some n = kept.indexed number n (sym (number-elsewhere cards place (Some card) n off) ∙ is) in
@@ -161,7 +161,7 @@ module _ (cards : List (Option CachedNode)) (index : Keyed ℕ) (free : List ℕ
   ]
 
   pub made : (left : List ℕ) (charged : ℕ) → length card.blocks ≤ 4096 → ((n : ℕ) → times n left + times n (place ∷ []) ≡ times n free) → length left + 1 ≡ length free → charged ≡ charge + charge_of card
-      → IsKept (set cards place (Some card)) (index ++ (card.fields.number, place) ∷ []) left charged
+      → IsIndexed (set cards place (Some card)) (index ++ (card.fields.number, place) ∷ []) left charged
   made left charged few taken len charged_is =
       let none : get_or cards place None ≡ None = is_free.free in
       let no_charge : charge_there (get_or cards place None) ≡ 0 = ap charge_there none in
@@ -184,12 +184,12 @@ module _ (cards : List (Option CachedNode)) (index : Keyed ℕ) (free : List ℕ
 
 -- ---- a node is replaced
 
-pub replaced : (cards : List (Option CachedNode)) (index : Keyed ℕ) (free : List ℕ) (charge place charged : ℕ) (card : CachedNode) → IsKept cards index free charge → number_at cards place ≡ Some card.fields.number
-    → length card.blocks ≤ 4096 → charged + charge_there (get_or cards place None) ≡ charge + charge_of card → IsKept (set cards place (Some card)) index free charged
+pub replaced : (cards : List (Option CachedNode)) (index : Keyed ℕ) (free : List ℕ) (charge place charged : ℕ) (card : CachedNode) → IsIndexed cards index free charge → node_number_at cards place ≡ Some card.fields.number
+    → length card.blocks ≤ 4096 → charged + charge_there (get_or cards place None) ≡ charge + charge_of card → IsIndexed (set cards place (Some card)) index free charged
 replaced cards index free charge place charged card kept there few charged_is =
     let within = within-numbered cards place card.fields.number there in
-    let same : (n : ℕ) → number_at (set cards place (Some card)) n ≡ number_at cards n = λ n. elim (cases_eq n place) [
-      | inl here ↦ ap (number_at (set cards place (Some card))) here ∙ number-here cards place (Some card) within ∙ sym there ∙ ap (number_at cards) (sym here)
+    let same : (n : ℕ) → node_number_at (set cards place (Some card)) n ≡ node_number_at cards n = λ n. elim (cases_eq n place) [
+      | inl here ↦ ap (node_number_at (set cards place (Some card))) here ∙ number-here cards place (Some card) within ∙ sym there ∙ ap (node_number_at cards) (sym here)
       | inr off ↦ number-elsewhere cards place (Some card) n off
     ] in
     record {
@@ -209,31 +209,31 @@ replaced cards index free charge place charged card kept there few charged_is =
 
 -- ---- a node is removed
 
-module _ (cards : List (Option CachedNode)) (index : Keyed ℕ) (free : List ℕ) (charge place number : ℕ) (kept : IsKept cards index free charge) (there : number_at cards place ≡ Some number) where
+module _ (cards : List (Option CachedNode)) (index : Keyed ℕ) (free : List ℕ) (charge place number : ℕ) (kept : IsIndexed cards index free charge) (there : node_number_at cards place ≡ Some number) where
   within : place < length cards
   within = within-numbered cards place number there
 
-  gone : number_at (set cards place None) place ≡ None
+  gone : node_number_at (set cards place None) place ≡ None
   gone = number-here cards place None within
 
-  found_removed : (other n : ℕ) → at other (without index number) ≡ Some n → number_at (set cards place None) n ≡ Some other
+  found_removed : (other n : ℕ) → at other (without index number) ≡ Some n → node_number_at (set cards place None) n ≡ Some other
   found_removed other n is = elim (cases_eq other number) [
     | inl one ↦ absurd (some≢none n (sym is ∙ ap (λ (k : ℕ). at k (without index number)) one ∙ at-without_same index number))
     | inr off ↦
-        let found : number_at cards n ≡ Some other = kept.found other n (sym (at-without_other index number other off) ∙ is) in
-        number-elsewhere cards place None n (λ e. off (same_Some other number (sym found ∙ ap (number_at cards) e ∙ there))) ∙ found
+        let found : node_number_at cards n ≡ Some other = kept.found other n (sym (at-without_other index number other off) ∙ is) in
+        number-elsewhere cards place None n (λ e. off (same_Some other number (sym found ∙ ap (node_number_at cards) e ∙ there))) ∙ found
   ]
 
-  indexed_removed : (other n : ℕ) → number_at (set cards place None) n ≡ Some other → at other (without index number) ≡ Some n
+  indexed_removed : (other n : ℕ) → node_number_at (set cards place None) n ≡ Some other → at other (without index number) ≡ Some n
   indexed_removed other n is = elim (cases_eq n place) [
-    | inl here ↦ absurd (some≢none other (sym is ∙ ap (number_at (set cards place None)) here ∙ gone))
+    | inl here ↦ absurd (some≢none other (sym is ∙ ap (node_number_at (set cards place None)) here ∙ gone))
     | inr off ↦
         let at_n : at other index ≡ Some n = kept.indexed other n (sym (number-elsewhere cards place None n off) ∙ is) in
         at-without_other index number other (λ e. off (same_Some n place (sym at_n ∙ ap (λ (k : ℕ). at k index) e ∙ kept.indexed number place there))) ∙ at_n
   ]
 
   pub removed : (i charged : ℕ) → i < length index → key_at index i ≡ number → charged + charge_there (get_or cards place None) ≡ charge
-      → IsKept (set cards place None) (remove index i) (free ++ place ∷ []) charged
+      → IsIndexed (set cards place None) (remove index i) (free ++ place ∷ []) charged
   removed i charged h is charged_is =
       let left : without index number ≡ remove index i = ap (without index) (sym is) ∙ without-entry index 0 i kept.rising h in
       let longer = length-append free (place ∷ []) in
@@ -295,7 +295,7 @@ nones-more zero = refl
 nones-more (suc count) = let next : suc count + 1 ≡ suc (count + 1) = omega arith in ap (λ (l : List (Option CachedNode)). None ∷ l) (nones-more count) ∙ ap (λ (n : ℕ). replicate n None) (sym next)
 
 -- the last free place, if there is one
-pub free_found : (cards : List (Option CachedNode)) (index : Keyed ℕ) (free : List ℕ) (charge i : ℕ) (found : Option ℕ) → IsKept cards index free charge → found ≡ slice_get free i → IfSome found (IsFree cards)
+pub free_found : (cards : List (Option CachedNode)) (index : Keyed ℕ) (free : List ℕ) (charge i : ℕ) (found : Option ℕ) → IsIndexed cards index free charge → found ≡ slice_get free i → IfSome found (IsFree cards)
 free_found cards index free charge i None kept is = tt
 free_found cards index free charge i (Some place) kept is =
     let there = times-some place free i 0 (slice_get_within free i place (sym is)) (get_or_from_slice_get free i place 0 (sym is)) in
@@ -305,13 +305,13 @@ none-worth : (worth : CachedNode → ℕ) (count : ℕ) → sum_over worth (repl
 none-worth worth zero = refl
 none-worth worth (suc count) = none-worth worth count
 
-pub kept_none : (count : ℕ) (free : List ℕ) → count ≤ MAX_NODES → AreFirst count free → length free ≡ count → IsKept (replicate count None) [] free 0
+pub kept_none : (count : ℕ) (free : List ℕ) → count ≤ MAX_NODES → AreFirst count free → length free ≡ count → IsIndexed (replicate count None) [] free 0
 kept_none count free few are len = record {
   few = omega (arith, length-replicate {A = Option CachedNode} count None);
   each = λ place card is. absurd (some≢none card (sym is ∙ nones-at count place));
   rising = tt;
   found = λ number place is. absurd (some≢none place (sym is));
-  indexed = λ number place is. absurd (some≢none number (sym is ∙ ap number_of (nones-at count place)));
+  indexed = λ number place is. absurd (some≢none number (sym is ∙ ap node_number (nones-at count place)));
   places = are;
   whole = omega (arith, length-replicate {A = Option CachedNode} count None);
   count_is = sym (none-worth (λ c. 1) count);
@@ -319,6 +319,6 @@ kept_none count free few are len = record {
 }
 
 -- each number has one place, also among the cached nodes by their other name
-pub own-places : (cards : List (Option CachedNode)) (index : Keyed ℕ) (free : List ℕ) (charge : ℕ) (seen : List (Option CachedNode)) → IsKept cards index free charge → cards ≡ seen → HaveOwnPlaces seen
+pub own-places : (cards : List (Option CachedNode)) (index : Keyed ℕ) (free : List ℕ) (charge : ℕ) (seen : List (Option CachedNode)) → IsIndexed cards index free charge → cards ≡ seen → HaveOwnPlaces seen
 own-places cards index free charge seen kept is =
     subst HaveOwnPlaces is (λ place other number here there. same_Some place other (sym (kept.indexed number place here) ∙ kept.indexed number other there))

@@ -3,7 +3,7 @@ use Rattle.std.specs.Prelude.{◌≡◌, ◌≢◌, ◌<◌, ℕ, List, [], ◌�
 use Rattle.std.specs.Prelude.{slice_index_or}
 use Rattle.model.specs.Trees.Keyed.{Keyed, at}
 use Rattle.layout.specs.CachedNodes.{CachedNode}
-use Rattle.node_table.specs.Tables.{number_at, AreBelow}
+use Rattle.node_table.specs.Tables.{node_number_at, AreBelow}
 
 -- the cached nodes of a table, and the ones that stand now
 pub record Overlaid : Type 0 where
@@ -13,9 +13,10 @@ pub record Overlaid : Type 0 where
 -- Changes: cached nodes, or none, by the places that they are for
 
 -- the cached nodes with these changes
-abbrev pub changed : List (Option CachedNode) → Keyed (Option CachedNode) → List (Option CachedNode)
-changed cards [] = cards
-changed cards (change ∷ changes) = set (changed cards changes) change.0 change.1
+abbrev pub overlaid : List (Option CachedNode) → Keyed (Option CachedNode)
+    → List (Option CachedNode)
+overlaid cards [] = cards
+overlaid cards (change ∷ changes) = set (overlaid cards changes) change.0 change.1
 
 -- no place has two
 abbrev pub HaveOwnPlace : Keyed (Option CachedNode) → Type 0
@@ -23,9 +24,9 @@ HaveOwnPlace [] = Unit {0}
 HaveOwnPlace (change ∷ changes) = (at change.0 changes ≡ None) × HaveOwnPlace changes
 
 -- each is for one of so many places
-abbrev pub AreWithin : (count : ℕ) → Keyed (Option CachedNode) → Type 0
-AreWithin count [] = Unit {0}
-AreWithin count (change ∷ changes) = (change.0 < count) × AreWithin count changes
+abbrev pub PlacesWithin : (count : ℕ) → Keyed (Option CachedNode) → Type 0
+PlacesWithin count [] = Unit {0}
+PlacesWithin count (change ∷ changes) = (change.0 < count) × PlacesWithin count changes
 
 -- change i
 abbrev pub change_at : Keyed (Option CachedNode) → (i : ℕ) → ℕ × Option CachedNode
@@ -35,8 +36,8 @@ change_at changes i = slice_index_or changes i (0, None)
 
 -- a node stands at a place where none of its number stood
 pub record IsMade (old new : List (Option CachedNode)) (place number : ℕ) : Type 0 where
-  pub now : number_at new place ≡ Some number
-  pub before : number_at old place ≢ Some number
+  pub now : node_number_at new place ≡ Some number
+  pub before : node_number_at old place ≢ Some number
 
 -- a number above 0 and above those of all nodes
 pub record IsFresh (cards : List (Option CachedNode)) (number : ℕ) : Type 0 where

@@ -8,28 +8,28 @@ use Rattle.layout.specs.SumLaws.{sum_over}
 
 -- the number of a node, and of the one at a place
 
-abbrev pub number_of : Option CachedNode → Option ℕ
-number_of None = None
-number_of (Some card) = Some card.fields.number
+abbrev pub node_number : Option CachedNode → Option ℕ
+node_number None = None
+node_number (Some card) = Some card.fields.number
 
-abbrev pub number_at : List (Option CachedNode) → (place : ℕ) → Option ℕ
-number_at cards place = number_of (slice_index_or cards place None)
+abbrev pub node_number_at : List (Option CachedNode) → (place : ℕ) → Option ℕ
+node_number_at cards place = node_number (slice_index_or cards place None)
 
 -- each number has one place
 abbrev pub HaveOwnPlaces : List (Option CachedNode) → Type 0
-HaveOwnPlaces cards = (place other number : ℕ) → number_at cards place ≡ Some number
-    → number_at cards other ≡ Some number → place ≡ other
+HaveOwnPlaces cards = (place other number : ℕ) → node_number_at cards place ≡ Some number
+    → node_number_at cards other ≡ Some number → place ≡ other
 
 -- no node has the number, and each one has a lower one
-abbrev pub HasNot : List (Option CachedNode) → (number : ℕ) → Type 0
-HasNot cards number = (place : ℕ) → number_at cards place ≢ Some number
+abbrev pub HasNoNode : List (Option CachedNode) → (number : ℕ) → Type 0
+HasNoNode cards number = (place : ℕ) → node_number_at cards place ≢ Some number
 
 abbrev pub AreBelow : List (Option CachedNode) → (number : ℕ) → Type 0
-AreBelow cards number = (place other : ℕ) → number_at cards place ≡ Some other → other < number
+AreBelow cards number = (place other : ℕ) → node_number_at cards place ≡ Some other → other < number
 
 -- each number is above 0
 abbrev pub AreNumbered : List (Option CachedNode) → Type 0
-AreNumbered cards = (place number : ℕ) → number_at cards place ≡ Some number → 0 < number
+AreNumbered cards = (place number : ℕ) → node_number_at cards place ≡ Some number → 0 < number
 
 -- a place that is there and free
 pub record IsFree (cards : List (Option CachedNode)) (place : ℕ) : Type 0 where
@@ -72,14 +72,15 @@ vacant zero (card ∷ cards) = vacancy card
 vacant (suc place) (card ∷ cards) = vacant place cards
 
 -- The places by number, the free places, and the sum of the charges, beside the cached nodes
-pub record IsKept (cards : List (Option CachedNode)) (index : Keyed ℕ) (free : List ℕ) (charge : ℕ)
+pub record IsIndexed (cards : List (Option CachedNode)) (index : Keyed ℕ) (free : List ℕ)
+    (charge : ℕ)
     : Type 0 where
   pub few : length cards ≤ 16384
   pub each : AreFew cards
   pub rising : IsAbove 0 index
   pub found : (number place : ℕ) → at number index ≡ Some place
-      → number_at cards place ≡ Some number
-  pub indexed : (number place : ℕ) → number_at cards place ≡ Some number
+      → node_number_at cards place ≡ Some number
+  pub indexed : (number place : ℕ) → node_number_at cards place ≡ Some number
       → at number index ≡ Some place
   pub places : (place : ℕ) → times place free ≡ vacant place cards
   pub whole : length index + length free ≡ length cards

@@ -26,13 +26,13 @@ impl Model for CachedNode {
 
     ghost Value = { layout.CachedNode };
 
-    ghost view = { λ card. seen card.form card.inode card.runs card.blocks card.names };
+    ghost view = { λ cached. seen cached.form cached.inode cached.runs cached.blocks cached.names };
 }
 
 impl CachedNode {
     /// The same cached node once more, which shares the memory of its runs and blocks.
     pub fn try_clone(&self, alloc: Global) -> Result<CachedNode, AllocError>
-        ensures { IfOk result (λ card. card ≡ self.now) }
+        ensures { IfOk result (λ cached. cached ≡ self.now) }
     {
         Ok(CachedNode {
             form: self.form,

@@ -1,8 +1,8 @@
 //! What a change does to a table.
 
 ghost use Rattle.std.specs.Prelude.{◌≡◌, ◌≢◌, ◌<◌, Some, None, length, set};
-ghost use Rattle.node_table.specs.Overlays.{changed, HaveOwnPlace, IsFresh, CanBecome};
-ghost use Rattle.node_table.specs.Tables.{number_at};
+ghost use Rattle.node_table.specs.Overlays.{overlaid, HaveOwnPlace, IsFresh, CanBecome};
+ghost use Rattle.node_table.specs.Tables.{node_number_at};
 
 use crate::cached_node::CachedNode;
 use crate::table::Table;
@@ -40,32 +40,33 @@ impl Table {
     /// Puts changes into the table: takes no memory, and is never refused. A place that the table
     /// has not got is left out.
     pub fn settle(&mut self, changes: Changes)
-        requires { CanBecome self.old (changed self.old changes) }
-        ensures { self.new ≡ changed self.old changes }
+        requires { CanBecome self.old (overlaid self.old changes) }
+        ensures { self.new ≡ overlaid self.old changes }
     {
         let Changes { mut list } = changes;
-        while let Some((place, card)) = list.pop() {
-            match card {
-                Some(card) => self.put(place, card),
+        while let Some((place, cached)) = list.pop() {
+            match cached {
+                Some(cached) => self.put(place, cached),
                 None => self.vacate(place),
             }
         }
     }
 
     /// Puts a node into a place, as the next version of the one there or in its stead.
-    fn put(&mut self, place: u32, card: CachedNode)
-        requires { place < length self.old → number_at self.old place ≢ Some card.fields.number
-            → IsFresh self.old card.fields.number }
-        ensures { self.new ≡ set self.old place (Some card) }
+    fn put(&mut self, place: u32, cached: CachedNode)
+        requires { place < length self.old
+            → node_number_at self.old place ≢ Some cached.fields.number
+            → IsFresh self.old cached.fields.number }
+        ensures { self.new ≡ set self.old place (Some cached) }
     {
         if place >= self.places() {
             return;
         }
-        if self.number(place) == Some(card.inode.number) {
-            self.replace(place, card);
+        if self.number(place) == Some(cached.inode.number) {
+            self.replace(place, cached);
         } else {
             self.vacate(place);
-            self.make(place, card);
+            self.make(place, cached);
         }
     }
 
@@ -80,8 +81,8 @@ impl Table {
 
     /// The number of the node at a place.
     fn number(&self, place: u32) -> Option<u64>
-        ensures { result ≡ number_at self.now place }
+        ensures { result ≡ node_number_at self.now place }
     {
-        Some(self.card(place)?.inode.number)
+        Some(self.cached(place)?.inode.number)
     }
 }

@@ -29,9 +29,9 @@ pub(crate) fn entries(
     ensures room { IfOk result (λ index. vec_capacity index ≡ length cards.now) }
 {
     let mut index = Vec::with_capacity(alloc, cards.len())?;
-    for (place, card) in cards.iter().enumerate() {
-        if let Some(card) = card {
-            index.push_reserved((card.inode.number, place as u32));
+    for (place, cached) in cards.iter().enumerate() {
+        if let Some(cached) = cached {
+            index.push_reserved((cached.inode.number, place as u32));
         }
     }
     Ok(index)

@@ -1,8 +1,8 @@
 //! Cached nodes in place of some of a table's, for the time of a change.
 
 ghost use Rattle.std.specs.Prelude.{◌≡◌, ◌≢◌, ◌<◌, ℕ, Some, None, length, set, slice_index_or, IfOk, IfSome, IfNone, OnOk, OnErr, IsOk};
-ghost use Rattle.node_table.specs.Overlays.{changed, change_at};
-ghost use Rattle.node_table.specs.Tables.{number_of, number_at, HasNot, IsFree, AreTaken};
+ghost use Rattle.node_table.specs.Overlays.{overlaid, change_at};
+ghost use Rattle.node_table.specs.Tables.{node_number, node_number_at, HasNoNode, IsFree, AreTaken};
 
 use crate::cached_node::CachedNode;
 use crate::changes::Changes;
@@ -24,17 +24,17 @@ pub struct Overlay<'a> {
 
 impl<'a> Model for Overlay<'a> {
     ghost use Rattle.std.specs.Prelude.{length};
-    ghost use Rattle.node_table.specs.Overlays.{Overlaid, changed, HaveOwnPlace, AreWithin};
+    ghost use Rattle.node_table.specs.Overlays.{Overlaid, overlaid, HaveOwnPlace, PlacesWithin};
 
     ghost Value = { Overlaid };
 
     ghost view = { λ overlay. record {
       table = overlay.table.now;
-      cards = changed overlay.table.now overlay.changes.items;
+      cards = overlaid overlay.table.now overlay.changes.items;
     } };
 
     ghost invariant = { λ overlay. HaveOwnPlace overlay.changes.items
-        × AreWithin (length overlay.table.now) overlay.changes.items };
+        × PlacesWithin (length overlay.table.now) overlay.changes.items };
 }
 
 impl<'a> Overlay<'a> {
@@ -62,21 +62,21 @@ impl<'a> Overlay<'a> {
     }
 
     /// The cached node at a place.
-    pub fn card(&self, place: u32) -> Option<&CachedNode>
-        ensures some { IfSome result (λ card.
-            slice_index_or self.now.cards place None ≡ Some card.now) }
+    pub fn cached(&self, place: u32) -> Option<&CachedNode>
+        ensures some { IfSome result (λ cached.
+            slice_index_or self.now.cards place None ≡ Some cached.now) }
         ensures none { IfNone result (slice_index_or self.now.cards place None ≡ None) }
     {
         match change_of(&self.changes, place) {
             Some(i) => self.changes[i].1.as_ref(),
-            None => self.table.card(place),
+            None => self.table.cached(place),
         }
     }
 
     /// The place of a node of a number.
     pub fn find(&self, number: u64) -> Option<u32>
-        ensures some { IfSome result (λ place. number_at self.now.cards place ≡ Some number) }
-        ensures none { IfNone result (HasNot self.now.cards number) }
+        ensures some { IfSome result (λ place. node_number_at self.now.cards place ≡ Some number) }
+        ensures none { IfNone result (HasNoNode self.now.cards number) }
     {
         if let Some(i) = change_to(&self.changes, number) {
             return Some(self.changes[i].0);
@@ -95,7 +95,7 @@ impl<'a> Overlay<'a> {
         ensures none { IfNone result (AreTaken self.now.cards) }
     {
         match self.table.free_place() {
-            Some(place) if self.card(place).is_none() => Some(place),
+            Some(place) if self.cached(place).is_none() => Some(place),
             _ => self.first_free(),
         }
     }
@@ -106,7 +106,7 @@ impl<'a> Overlay<'a> {
         ensures none { IfNone result (AreTaken self.now.cards) }
     {
         for place in 0..self.places() {
-            if self.card(place).is_none() {
+            if self.cached(place).is_none() {
                 return Some(place);
             }
         }
@@ -116,7 +116,7 @@ impl<'a> Overlay<'a> {
     /// Takes the cached node of a place out: none stands there then. It is a copy where it was the
     /// table's. An `Err` changes nothing.
     pub fn take(&mut self, place: u32) -> Result<Option<CachedNode>, AllocError>
-        ensures card { IfOk result (λ card. card ≡ slice_index_or self.old.cards place None) }
+        ensures cached { IfOk result (λ cached. cached ≡ slice_index_or self.old.cards place None) }
         ensures cards { OnOk result (self.new.cards ≡ set self.old.cards place None) }
         ensures table { self.new.table ≡ self.old.table }
         ensures err { OnErr result (self.new.cards ≡ self.old.cards) }
@@ -124,12 +124,12 @@ impl<'a> Overlay<'a> {
         if let Some(i) = change_of(&self.changes, place) {
             return Ok(take_from(&mut self.changes, i));
         }
-        let Some(card) = self.table.card(place) else {
+        let Some(cached) = self.table.cached(place) else {
             return Ok(None);
         };
-        let card = card.try_clone(self.alloc)?;
+        let cached = cached.try_clone(self.alloc)?;
         self.changes.push((place, None))?;
-        Ok(Some(card))
+        Ok(Some(cached))
     }
 
     /// Puts a cached node, or none, into a place. An `Err` changes nothing.
@@ -138,24 +138,24 @@ impl<'a> Overlay<'a> {
     ///
     /// `AllocError`, never where another cached node than the table's stands there, or none in its
     /// place.
-    pub fn put(&mut self, place: u32, card: Option<CachedNode>) -> Result<(), AllocError>
+    pub fn put(&mut self, place: u32, cached: Option<CachedNode>) -> Result<(), AllocError>
         requires { place < length self.old.cards }
-        ensures cards { OnOk result (self.new.cards ≡ set self.old.cards place card) }
+        ensures cards { OnOk result (self.new.cards ≡ set self.old.cards place cached) }
         ensures table { self.new.table ≡ self.old.table }
         ensures err { OnErr result (self.new.cards ≡ self.old.cards) }
         ensures again { slice_index_or self.old.cards place None
             ≢ slice_index_or self.old.table place None → IsOk result }
     {
         match change_of(&self.changes, place) {
-            Some(i) => put_into(&mut self.changes, i, card),
-            None => self.changes.push((place, card))?,
+            Some(i) => put_into(&mut self.changes, i, cached),
+            None => self.changes.push((place, cached))?,
         }
         Ok(())
     }
 
     /// What is to be done to the table, which is borrowed no longer.
     pub fn into_changes(self) -> Changes
-        ensures { changed self.entry.table result ≡ self.entry.cards }
+        ensures { overlaid self.entry.table result ≡ self.entry.cards }
     {
         let Overlay { changes, .. } = self;
         Changes::new(changes)
@@ -175,20 +175,20 @@ fn change_of(changes: &[(u32, Option<CachedNode>)], place: u32) -> Option<usize>
 /// Where a change stands that puts a node of this number.
 fn change_to(changes: &[(u32, Option<CachedNode>)], number: u64) -> Option<usize>
     ensures within { IfSome result (λ i. i < length changes.now) }
-    ensures some { IfSome result (λ i. number_of (change_at changes.now i).1 ≡ Some number) }
+    ensures some { IfSome result (λ i. node_number (change_at changes.now i).1 ≡ Some number) }
     ensures none { IfNone result ((i : ℕ)
-        → i < length changes.now → number_of (change_at changes.now i).1 ≢ Some number) }
+        → i < length changes.now → node_number (change_at changes.now i).1 ≢ Some number) }
 {
     changes.iter().position(|change| change
         .1
         .as_ref()
-        .is_some_and(|card| card.inode.number == number))
+        .is_some_and(|cached| cached.inode.number == number))
 }
 
 /// Takes the cached node out of a change.
 fn take_from(changes: &mut Vec<(u32, Option<CachedNode>)>, i: usize) -> Option<CachedNode>
     requires { i < length changes.old.items }
-    ensures card { result ≡ (change_at changes.old.items i).1 }
+    ensures cached { result ≡ (change_at changes.old.items i).1 }
     ensures changes { changes.new.items
         ≡ set changes.old.items i ((change_at changes.old.items i).0, None) }
 {
@@ -196,10 +196,10 @@ fn take_from(changes: &mut Vec<(u32, Option<CachedNode>)>, i: usize) -> Option<C
 }
 
 /// Puts a cached node, or none, into a change.
-fn put_into(changes: &mut Vec<(u32, Option<CachedNode>)>, i: usize, card: Option<CachedNode>)
+fn put_into(changes: &mut Vec<(u32, Option<CachedNode>)>, i: usize, cached: Option<CachedNode>)
     requires { i < length changes.old.items }
     ensures { changes.new.items
-        ≡ set changes.old.items i ((change_at changes.old.items i).0, card) }
+        ≡ set changes.old.items i ((change_at changes.old.items i).0, cached) }
 {
-    changes[i].1 = card;
+    changes[i].1 = cached;
 }

@@ -2,7 +2,7 @@
 
 ghost use Rattle.std.specs.Prelude.{◌≡◌, ◌≤◌, ◌<◌, ◌+◌, ℕ, List, [], ◌∷◌, Some, None, length, vec_capacity, replicate, set, slice_index_or, IfOk, IfSome, IfNone, OnOk, IsErrOf};
 ghost use Rattle.layout.specs.Marks.{times};
-ghost use Rattle.node_table.specs.Tables.{number_at, HasNot, HaveOwnPlaces, AreNumbered, AreBelow, IsFree, AreFew, charge_there, charge_of_all, count_of_all, vacant};
+ghost use Rattle.node_table.specs.Tables.{node_number_at, HasNoNode, HaveOwnPlaces, AreNumbered, AreBelow, IsFree, AreFew, charge_there, charge_of_all, count_of_all, vacant};
 ghost use Rattle.model.specs.Trees.Charge.{charge_of_blocks};
 
 use crate::cached_node::CachedNode;
@@ -30,14 +30,14 @@ pub struct Table {
 impl Model for Table {
     ghost use Rattle.std.specs.Prelude.{List, Option, vec_capacity};
     ghost use Rattle.layout.specs.CachedNodes as layout;
-    ghost use Rattle.node_table.specs.Tables.{IsKept, HasCapacity};
+    ghost use Rattle.node_table.specs.Tables.{IsIndexed, HasCapacity};
 
     ghost Value = { List (Option layout.CachedNode) };
 
     ghost view = { λ table. table.cards.items };
 
     ghost invariant = { λ table.
-        IsKept table.cards.items table.index.items table.free.items table.charge
+        IsIndexed table.cards.items table.index.items table.free.items table.charge
         × HasCapacity table.cards.items (vec_capacity table.index) (vec_capacity table.free) };
 }
 
@@ -103,21 +103,22 @@ impl Table {
     }
 
     /// The cached node at a place.
-    pub fn card(&self, place: u32) -> Option<&CachedNode>
-        ensures some { IfSome result (λ card. slice_index_or self.now place None ≡ Some card.now) }
+    pub fn cached(&self, place: u32) -> Option<&CachedNode>
+        ensures some { IfSome result
+            (λ cached. slice_index_or self.now place None ≡ Some cached.now) }
         ensures none { IfNone result (slice_index_or self.now place None ≡ None) }
     {
         match self.cards.get(place as usize) {
-            Some(Some(card)) => Some(card),
+            Some(Some(cached)) => Some(cached),
             _ => None,
         }
     }
 
     /// The place of the node of a number.
     pub fn find(&self, number: u64) -> Option<u32>
-        ensures some { IfSome result (λ place. number_at self.now place ≡ Some number) }
+        ensures some { IfSome result (λ place. node_number_at self.now place ≡ Some number) }
         ensures only { HaveOwnPlaces self.now }
-        ensures none { IfNone result (HasNot self.now number) }
+        ensures none { IfNone result (HasNoNode self.now number) }
     {
         let i = entry_of(&self.index, number)?;
         Some(self.index[i].1)
@@ -147,31 +148,31 @@ impl Table {
     }
 
     /// Puts a node whose number is above all others into a free place.
-    pub fn make(&mut self, place: u32, card: CachedNode)
+    pub fn make(&mut self, place: u32, cached: CachedNode)
         requires free { IsFree self.old place }
-        requires some { 0 < card.fields.number }
-        requires above { AreBelow self.old card.fields.number }
-        ensures { self.new ≡ set self.old place (Some card) }
+        requires some { 0 < cached.fields.number }
+        requires above { AreBelow self.old cached.fields.number }
+        ensures { self.new ≡ set self.old place (Some cached) }
     {
         take_free(&mut self.free, place);
-        self.index.push_reserved((card.inode.number, place));
-        self.charge += blocks_charge(&card.blocks);
-        put_card(&mut self.cards, place, Some(card));
+        self.index.push_reserved((cached.inode.number, place));
+        self.charge += blocks_charge(&cached.blocks);
+        put_card(&mut self.cards, place, Some(cached));
     }
 
     /// Puts a cached node into the place of the one of its number.
-    pub fn replace(&mut self, place: u32, card: CachedNode)
-        requires { number_at self.old place ≡ Some card.fields.number }
-        ensures { self.new ≡ set self.old place (Some card) }
+    pub fn replace(&mut self, place: u32, cached: CachedNode)
+        requires { node_number_at self.old place ≡ Some cached.fields.number }
+        ensures { self.new ≡ set self.old place (Some cached) }
     {
         self.charge -= charge_at(&self.cards, place);
-        self.charge += blocks_charge(&card.blocks);
-        put_card(&mut self.cards, place, Some(card));
+        self.charge += blocks_charge(&cached.blocks);
+        put_card(&mut self.cards, place, Some(cached));
     }
 
     /// Removes the node of a number from its place.
     pub fn remove(&mut self, place: u32, number: u64)
-        requires there { number_at self.old place ≡ Some number }
+        requires there { node_number_at self.old place ≡ Some number }
         ensures { self.new ≡ set self.old place None }
     {
         let Some(i) = entry_of(&self.index, number) else {
@@ -193,8 +194,8 @@ fn free_places(alloc: Global, cards: &[Option<CachedNode>]) -> Result<Vec<u32>, 
     ensures room { IfOk result (λ free. vec_capacity free ≡ length cards.now) }
 {
     let mut free = Vec::with_capacity(alloc, cards.len())?;
-    for (place, card) in cards.iter().enumerate() {
-        if card.is_none() {
+    for (place, cached) in cards.iter().enumerate() {
+        if cached.is_none() {
             free.push_reserved(place as u32);
         }
     }
@@ -208,9 +209,9 @@ fn charge_of_cards(cards: &[Option<CachedNode>]) -> u64
     ensures few { AreFew cards.now }
 {
     let mut charge = 0;
-    for card in cards {
-        if let Some(card) = card {
-            charge += blocks_charge(&card.blocks);
+    for cached in cards {
+        if let Some(cached) = cached {
+            charge += blocks_charge(&cached.blocks);
         }
     }
     charge
@@ -259,15 +260,15 @@ fn charge_at(cards: &[Option<CachedNode>], place: u32) -> u64
     ensures { result ≡ charge_there (slice_index_or cards.now place None) }
 {
     match cards.get(place as usize) {
-        Some(Some(card)) => blocks_charge(&card.blocks),
+        Some(Some(cached)) => blocks_charge(&cached.blocks),
         _ => 0,
     }
 }
 
 /// Puts a cached node, or none, into a place.
-fn put_card(cards: &mut Vec<Option<CachedNode>>, place: u32, card: Option<CachedNode>)
+fn put_card(cards: &mut Vec<Option<CachedNode>>, place: u32, cached: Option<CachedNode>)
     requires { place < length cards.old.items }
-    ensures { cards.new.items ≡ set cards.old.items place card }
+    ensures { cards.new.items ≡ set cards.old.items place cached }
 {
-    cards[place as usize] = card;
+    cards[place as usize] = cached;
 }

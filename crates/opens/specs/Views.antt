@@ -8,7 +8,7 @@ use Rattle.model.specs.Trees.Keyed.{at}
 use Rattle.model.specs.Sessions.Opens as model
 use Rattle.model.specs.Operations.Operation.{StateId}
 use Rattle.model.specs.Sessions.StateIds as states
-use Rattle.model.specs.Sessions.StateIds.{carried, is_like, is_table_full, open_named, state_of}
+use Rattle.model.specs.Sessions.StateIds.{carried, is_like, is_table_full, open_named, open_stateid}
 use Rattle.wire.specs.SmallViews.{state_view}
 use Rattle.opens.specs.declared.found.Found.{Found}
 use Rattle.opens.specs.declared.found.Found.TheVariants as found
@@ -66,8 +66,8 @@ pub record IsNamed (run : ℕ) (other : List ℕ) (opens : model.Opens) (entry :
   pub serial_is : serial_in other ≡ entry.serial
 
 -- the stateid of an open that was made or joined
-abbrev pub named_by : (run : ℕ) → states.Opened → StateId
-named_by run opened = state_of run opened.serial opened.state.seqid
+abbrev pub opened_stateid : (run : ℕ) → states.Opened → StateId
+opened_stateid run opened = open_stateid run opened.serial opened.state.seqid
 
 -- the context of the operation that a stateid is an argument of
 pub record StandsAt (standing : StateIdContext) (context : Context) : Type 0 where

@@ -4,7 +4,7 @@ ghost use Rattle.std.specs.Prelude.{◌≡◌};
 ghost use Rattle.std.specs.Option.{option_map};
 ghost use Rattle.model.specs.Operations.Context.{Context};
 ghost use Rattle.model.specs.Operations.Refusal.{first_refusal};
-ghost use Rattle.model.specs.Sessions.StateIds.{access_refusals, by_seqid, close_refusals, is_anonymous, is_current, meant, state_of};
+ghost use Rattle.model.specs.Sessions.StateIds.{access_refusals, by_seqid, close_refusals, is_anonymous, is_current, meant, open_stateid};
 ghost use Rattle.wire.specs.SmallViews.{state_view};
 ghost use Rattle.opens.specs.Views.{found_of, open_of, serial_in, StandsAt};
 
@@ -54,7 +54,7 @@ fn is_current(state: &StateId) -> bool
 
 // The stateid of an open: the run in 4 bytes, its serial in 8.
 pub(crate) fn state_id(run: u32, serial: u64, seqid: u32) -> StateId
-    ensures { state_view result ≡ state_of run serial seqid }
+    ensures { state_view result ≡ open_stateid run serial seqid }
 {
     let mut other = [0; 12];
     other[..4].copy_from_slice(&run.to_be_bytes());

@@ -28,7 +28,7 @@ impl Opens {
     ghost use Rattle.model.specs.Sessions.Opens.{no_opens};
     ghost use Rattle.model.specs.Sessions.StateIds.{found, is_table_full, open_like, open_named, opened, without_clients, without_number, without_open};
     ghost use Rattle.wire.specs.SmallViews.{state_view};
-    ghost use Rattle.opens.specs.Views.{found_of, named_by, open_of, opens_of, CanOpen, HasMemory, IsAt, IsLike, IsNamed, StandsAt};
+    ghost use Rattle.opens.specs.Views.{found_of, opened_stateid, open_of, opens_of, CanOpen, HasMemory, IsAt, IsLike, IsNamed, StandsAt};
 
     /// A run begins with none.
     pub fn new(alloc: Global) -> Opens
@@ -90,7 +90,7 @@ impl Opens {
         requires serial { CanOpen (opens_of self.old) (open_of asked) }
         ensures opens { opens_of self.new ≡ (opened (opens_of self.old) (open_of asked)).opens }
         ensures state { state_view result
-            ≡ named_by run (opened (opens_of self.old) (open_of asked)) }
+            ≡ opened_stateid run (opened (opens_of self.old) (open_of asked)) }
     {
         if let Some(place) = self.position_like(&asked) {
             let entry = &mut self.list[place];

@@ -15,7 +15,7 @@ use Rattle.server.specs.declared.fault.ServerFault.TheVariants as faults
 use Rattle.server.specs.declared.server.Server.{Server}
 use Rattle.peer.specs.Calls.{Goes, IsNone, IsOne, IsEnd, RefusesBytes, RefusesOutput}
 use Rattle.peer.specs.Partings.{parting_of}
-use Rattle.peer.specs.Steps.{AreAll, Tally, IsTallied, Carries, HasWorked, Turned, Wrote, Read_broken, Write_broken, Reason, Dismissed, Read_over, Write_over, Closes, Was_closed, Has_none, Parts, Advances, Runs, Gives, Sends, EndsPeer, unsent}
+use Rattle.peer.specs.Steps.{AreAll, Tally, IsTallied, Carries, HasWorked, Turned, Wrote, Read_broken, Write_broken, Reason, Dismissed, Read_over, Write_over, Closes, Was_closed, Has_none, Parts, Advances, Runs, GivesNoTurn, Sends, EndsPeer, unsent}
 use Rattle.peer.specs.Streams.{IsOver}
 use Rattle.peer.specs.declared.pace.Pace.{Pace}
 use Rattle.peer.specs.declared.pace.Pace.TheVariants as paces
@@ -201,7 +201,7 @@ pub reply_then : {D S : Type 0} {g : Ghosts D} {h : stream.Ghosts S} {keeps : Ty
     (result : Result Pace Parting) → Goes keeps old between (IsOne (Did (Turns before.conn now) said))
     → mid.stream ≡ before.stream → mid.inbox ≡ before.inbox → mid.conn ≡ before.conn → unsent mid.stage ≡ unsent before.stage
     → (mid.stage ≡ stages.Ends → ⊥)
-    → Gives keeps between new mid after result → Runs keeps old new before after result
+    → GivesNoTurn keeps between new mid after result → Runs keeps old new before after result
 reply_then {h = h} {keeps = keeps} {old = old} {between = between} {new = new} before mid after now said result one same inbox conn left stays gives =
     let first : Tally = record nothing { turns = 1 } in
     let rest : Tally = gives.tally in
@@ -301,7 +301,7 @@ pub gives_then : {D S : Type 0} {g : Ghosts D} {h : stream.Ghosts S} {keeps : Ty
     (result : Result Pace Parting) → Goes keeps old new (IsOne (Did (Takes before.conn) (gave (Some reply))))
     → mid.stream ≡ before.stream → mid.inbox ≡ before.inbox → mid.conn ≡ before.conn
     → unsent before.stage ≡ [] → unsent mid.stage ≡ reply.items
-    → Sends mid after result → Gives keeps old new before after result
+    → Sends mid after result → GivesNoTurn keeps old new before after result
 gives_then {S = S} {h = h} {new = new} before mid after reply result one same inbox conn none left sends =
     let tally : Tally = record nothing { given = reply.items; written = sends.written } in
     record {
@@ -325,7 +325,7 @@ gives_then {S = S} {h = h} {new = new} before mid after reply result one same in
 pub gives_none : {D S : Type 0} {g : Ghosts D} {h : stream.Ghosts S} {keeps : Type 0} {old new : Server D g} (before after : Peer S h)
     → Goes keeps old new (IsOne (Did (Takes before.conn) (gave None)))
     → after.stream ≡ before.stream → after.inbox ≡ before.inbox → after.conn ≡ before.conn → unsent after.stage ≡ unsent before.stage
-    → (after.stage ≡ stages.Ends → ⊥) → Gives keeps old new before after (Ok paces.Goes)
+    → (after.stage ≡ stages.Ends → ⊥) → GivesNoTurn keeps old new before after (Ok paces.Goes)
 gives_none before after one same inbox conn left stays = record {
   tally = nothing;
   carries = carries_calls before after [] [] 0 (tally_given before.conn None [] one) inbox same conn left stays;
@@ -338,7 +338,7 @@ gives_none before after one same inbox conn left stays = record {
 pub refuses_reply : {D S : Type 0} {g : Ghosts D} {h : stream.Ghosts S} {keeps : Type 0} {old new : Server D g} (before after : Peer S h) (fault : ServerFault)
     → RefusesOutput old new before.conn fault
     → after.stream ≡ before.stream → after.inbox ≡ before.inbox → after.conn ≡ before.conn → unsent after.stage ≡ unsent before.stage
-    → (after.stage ≡ stages.Ends → ⊥) → Gives keeps old new before after (Err (parting_of fault))
+    → (after.stage ≡ stages.Ends → ⊥) → GivesNoTurn keeps old new before after (Err (parting_of fault))
 refuses_reply {h = h} {old = old} {new = new} before after fault refuses same inbox conn left stays = record {
   tally = nothing;
   carries =

@@ -6,20 +6,20 @@ use Rattle.model.specs.Server.Runs.{Event, Arrives, Turns, HangsUp, Takes}
 use Rattle.model.specs.Trees.Tree.{Tree}
 use Rattle.server.specs.Connections.{turn_view}
 use Rattle.server.specs.Refused.{IsUntouched, HasTurned, RefusesTurn, RefusesHangUp, connection_at, view}
-use Rattle.server.specs.Seen.{Seen, Said, Call, Did, Done, Took, Turned, Does, IsServed, IsTurned, Stays}
+use Rattle.server.specs.Seen.{Seen, Said, ServerCall, Did, Done, Took, Turned, Does, IsServed, IsTurned, Stays}
 use Rattle.server.specs.Seen as served
-use Rattle.server.specs.Views.{Serves, Turning, failures_of, files_of, gave, seen_with, volume_of, world_of}
+use Rattle.server.specs.Views.{Serves, Turning, server_failures, files_of, gave, seen_with, volume_of, world_of}
 use Rattle.server.specs.declared.fault.ServerFault.{ServerFault}
 use Rattle.server.specs.declared.fault.ServerFault.TheVariants as faults
 use Rattle.server.specs.declared.server.Server.{Server}
 use Rattle.server.specs.declared.turn.Turn.{Turn}
 use Rattle.volume.specs.VolumeState.{IsRecent}
-use Rattle.peer.specs.Calls.{Makes, Goes, IsNone, IsOne, AreTurns, IsHangUp, IsEnd, HasGone, RefusesBytes, RefusesOutput}
+use Rattle.peer.specs.Calls.{MakesCalls, Goes, IsNone, IsOne, AreTurns, IsHangUp, IsEnd, HasGone, RefusesBytes, RefusesOutput}
 
 -- Calls after calls
 
-follows : (first between : Seen) (calls : List Call) → IsServed first calls between
-    → (more : List Call) (new : Seen) → IsServed between more new → IsServed first (more ++ calls) new
+follows : (first between : Seen) (calls : List ServerCall) → IsServed first calls between
+    → (more : List ServerCall) (new : Seen) → IsServed between more new → IsServed first (more ++ calls) new
 follows first between calls before [] new served.Begins = before
 follows first between calls before (call ∷ more) new (served.Goes_on event said after does) =
     served.IsServed.Goes_on event said (follows first between calls before more _ after) does
@@ -31,14 +31,14 @@ follows first between calls before more new (served.Keeps_on after keeps) =
     served.IsServed.Keeps_on (follows first between calls before more _ after) keeps
 
 -- first these, then those
-pub goes_on : {D : Type 0} {g : Ghosts D} {keeps : Type 0} {old between new : Server D g} {first then kind : List Call → Type 0}
-    → ((calls more : List Call) → first calls → then more → kind (more ++ calls))
+pub goes_on : {D : Type 0} {g : Ghosts D} {keeps : Type 0} {old between new : Server D g} {first then kind : List ServerCall → Type 0}
+    → ((calls more : List ServerCall) → first calls → then more → kind (more ++ calls))
     → Goes keeps old between first → Goes keeps between new then → Goes keeps old new kind
 goes_on {old = old} {between = between} {new = new} {first = first} {then = then} {kind = kind} both before after = record {
   up = λ up. before.up (after.up up);
   made = λ keeps up recent is.
-      let one : Makes old between recent first = before.made keeps (after.up up) recent is in
-      let two : Makes between new one.after then = after.made keeps up one.after one.ready in
+      let one : MakesCalls old between recent first = before.made keeps (after.up up) recent is in
+      let two : MakesCalls between new one.after then = after.made keeps up one.after one.ready in
       record {
         after = two.after;
         calls = two.calls ++ one.calls;
@@ -49,12 +49,12 @@ goes_on {old = old} {between = between} {new = new} {first = first} {then = then
 }
 
 -- calls of one kind are of another
-pub goes_as : {D : Type 0} {g : Ghosts D} {keeps : Type 0} {old new : Server D g} {first kind : List Call → Type 0}
-    → ((calls : List Call) → first calls → kind calls) → Goes keeps old new first → Goes keeps old new kind
+pub goes_as : {D : Type 0} {g : Ghosts D} {keeps : Type 0} {old new : Server D g} {first kind : List ServerCall → Type 0}
+    → ((calls : List ServerCall) → first calls → kind calls) → Goes keeps old new first → Goes keeps old new kind
 goes_as {old = old} {new = new} {first = first} shows goes = record {
   up = goes.up;
   made = λ keeps up recent is.
-      let one : Makes old new recent first = goes.made keeps up recent is in
+      let one : MakesCalls old new recent first = goes.made keeps up recent is in
       record { after = one.after; calls = one.calls; ready = one.ready; are = shows one.calls one.are; served = one.served };
 }
 
@@ -94,7 +94,7 @@ untouched {old = old} {new = new} same = record {
 }
 
 -- a server that is down is none to speak of
-pub failed_call : {D : Type 0} {g : Ghosts D} {keeps : Type 0} {old new : Server D g} {kind : List Call → Type 0}
+pub failed_call : {D : Type 0} {g : Ghosts D} {keeps : Type 0} {old new : Server D g} {kind : List ServerCall → Type 0}
     → (volume_of new).is_down ≡ true → Goes keeps old new kind
 failed_call down = record {
   up = λ up. let never : ⊥ = cc in absurd never;
@@ -122,7 +122,7 @@ fed old new connection piece (Ok count) files serves =
     one_call {old = old} {new = new} (Arrives connection piece) (Took (Some count)) (still_up old new files) (λ keeps up. serves keeps)
 fed old new connection piece (Err fault) files serves = tt
 
-untouched_by : {D : Type 0} {g : Ghosts D} (old new : Server D g) → world_of new ≡ world_of old → files_of new ≡ files_of old → failures_of new ≡ failures_of old
+untouched_by : {D : Type 0} {g : Ghosts D} (old new : Server D g) → world_of new ≡ world_of old → files_of new ≡ files_of old → server_failures new ≡ server_failures old
     → IsUntouched (view old) (view new)
 untouched_by old new world files failures = (world, same_volume old new files, failures)
 
@@ -132,7 +132,7 @@ pub refuses_bytes : {D : Type 0} {g : Ghosts D} {keeps : Type 0} (old new : Serv
     → (IsErrOf result faults.NoConnection → connection_at (view old) connection ≡ None)
     → IfErr result (λ fault. (fault ≡ faults.Full → ⊥) × (fault ≡ faults.Memory → ⊥))
     → IfErr result (λ fault. (fault ≡ faults.Closed → ⊥) → world_of new ≡ world_of old)
-    → files_of new ≡ files_of old → failures_of new ≡ failures_of old
+    → files_of new ≡ files_of old → server_failures new ≡ server_failures old
     → IfErr result (RefusesBytes keeps old new connection piece)
 refuses_bytes old new connection piece (Ok count) closes down none only same files failures = tt
 refuses_bytes old new connection piece (Err faults.Closed) closes down none only same files failures =
@@ -165,7 +165,7 @@ pub refuses_output : {D : Type 0} {g : Ghosts D} (old new : Server D g) (connect
     → (IsErrOf result faults.NoConnection ↔ (connection_at (view old) connection ≡ None))
     → IfErr result (λ fault. fault ≡ faults.NoConnection)
     → OnErr result (world_of new ≡ world_of old)
-    → files_of new ≡ files_of old → failures_of new ≡ failures_of old
+    → files_of new ≡ files_of old → server_failures new ≡ server_failures old
     → IfErr result (RefusesOutput old new connection)
 refuses_output old new connection (Ok output) none only same files failures = tt
 refuses_output old new connection (Err fault) none only same files failures =
@@ -182,8 +182,8 @@ refused_turn connection faults.Full refuses = absurd refuses
 
 -- A hang-up
 
-turns_then : (connection now : ℕ) (first old new : Seen) (calls : List Call) → IsServed first calls old → AreTurns connection now calls
-    → IsTurned connection now old new → (more : List Call) × IsServed first more new × AreTurns connection now more
+turns_then : (connection now : ℕ) (first old new : Seen) (calls : List ServerCall) → IsServed first calls old → AreTurns connection now calls
+    → IsTurned connection now old new → (more : List ServerCall) × IsServed first more new × AreTurns connection now more
 turns_then connection now first old new calls before are Stays = (calls, before, are)
 turns_then connection now first old new calls before are (served.Goes_on {between = between} {said = said} busy does more) =
     turns_then connection now first between new (Did (Turns connection now) said ∷ calls)
@@ -250,7 +250,7 @@ pub hangs_nothing : {D : Type 0} {g : Ghosts D} {keeps : Type 0} {old new : Serv
     → Goes keeps old new IsNone → Goes keeps old new (IsEnd connection)
 hangs_nothing connection none =
     goes_as {first = IsNone} {kind = IsEnd connection}
-    (λ (calls : List Call) (is : calls ≡ []). (0, inr (subst (AreTurns connection 0) (sym is) tt))) none
+    (λ (calls : List ServerCall) (is : calls ≡ []). (0, inr (subst (AreTurns connection 0) (sym is) tt))) none
 
 -- and in any case
 pub hangs_by : {D : Type 0} {g : Ghosts D} {keeps : Type 0} (old new : Server D g) (connection now : ℕ) (result : Result Unit ServerFault)
@@ -260,10 +260,10 @@ pub hangs_by : {D : Type 0} {g : Ghosts D} {keeps : Type 0} (old new : Server D 
     → IfErr result (RefusesHangUp (view old) (view new) connection) → Goes keeps old new (IsEnd connection)
 hangs_by old new connection now (Ok done) down turning stops refused =
     goes_as {first = IsHangUp connection now} {kind = IsEnd connection}
-    (λ (calls : List Call) (is : IsHangUp connection now calls). (now, inl is)) (hangs_up old new connection now (Ok done) down turning)
+    (λ (calls : List ServerCall) (is : IsHangUp connection now calls). (now, inl is)) (hangs_up old new connection now (Ok done) down turning)
 hangs_by old new connection now (Err faults.Memory) down turning stops refused =
     goes_as {first = AreTurns connection now} {kind = IsEnd connection}
-    (λ (calls : List Call) (are : AreTurns connection now calls). (now, inr are))
+    (λ (calls : List ServerCall) (are : AreTurns connection now calls). (now, inr are))
     (turned_only {old = old} {new = new} connection now (up_by _ (λ was. let told = (down was).0 in let never : ⊥ = cc in never))
     (λ keeps. stops keeps refl))
 hangs_by old new connection now (Err faults.NoConnection) down turning stops refused = hangs_nothing connection (untouched refused.1)

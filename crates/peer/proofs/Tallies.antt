@@ -4,7 +4,7 @@ use Rattle.std.specs.Global.{Vec}
 use Rattle.std.specs.Io.KnownBytes.{Appends, Consumes, Keeps}
 use Rattle.disk.specs.declared.device.Device.{Ghosts}
 use Rattle.model.specs.Server.Runs.{Arrives, Turns, Takes}
-use Rattle.server.specs.Seen.{Call, Did, Said, Took}
+use Rattle.server.specs.Seen.{ServerCall, Did, Said, Took}
 use Rattle.server.specs.Views.{gave}
 use Rattle.server.specs.declared.server.Server.{Server}
 use Rattle.peer.specs.Calls.{Goes, IsNone, IsOne}
@@ -13,16 +13,16 @@ use Rattle.peer.proofs.Made.{goes_as, goes_on}
 
 -- Calls
 
-on-append : (connection : ℕ) (more calls : List Call) → AreOn connection more → AreOn connection calls → AreOn connection (more ++ calls)
+on-append : (connection : ℕ) (more calls : List ServerCall) → AreOn connection more → AreOn connection calls → AreOn connection (more ++ calls)
 on-append connection [] calls more rest = rest
 on-append connection (call ∷ more) calls more_on rest = (more_on.0, on-append connection more calls more_on.1 rest)
 
-all-append : {A : Type 0} (by : Call → List A) (more calls : List Call) → all_by by (more ++ calls) ≡ all_by by calls ++ all_by by more
+all-append : {A : Type 0} (by : ServerCall → List A) (more calls : List ServerCall) → all_by by (more ++ calls) ≡ all_by by calls ++ all_by by more
 all-append by [] calls = sym (append-nil (all_by by calls))
 all-append by (call ∷ more) calls =
     ap (λ front. front ++ by call) (all-append by more calls) ∙ append_assoc (all_by by calls) (all_by by more) (by call)
 
-count-append : (by : Call → ℕ) (more calls : List Call) → count_by by (more ++ calls) ≡ count_by by calls + count_by by more
+count-append : (by : ServerCall → ℕ) (more calls : List ServerCall) → count_by by (more ++ calls) ≡ count_by by calls + count_by by more
 count-append by [] calls = omega arith
 count-append by (call ∷ more) calls = let rest = count-append by more calls in omega (arith, rest)
 
@@ -41,7 +41,7 @@ joined a b = record {
 abbrev pub nothing : Tally
 nothing = record { came = []; shown = []; taken = []; closings = 0; turns = 0; given = []; written = [] }
 
-tallied_both : (connection : ℕ) (a b : Tally) (calls more : List Call) → IsTallied connection a calls → IsTallied connection b more
+tallied_both : (connection : ℕ) (a b : Tally) (calls more : List ServerCall) → IsTallied connection a calls → IsTallied connection b more
     → IsTallied connection (joined a b) (more ++ calls)
 tallied_both connection a b calls more one two = record {
   on = on-append connection more calls two.on one.on;
@@ -64,7 +64,7 @@ pub tally_none : {D : Type 0} {g : Ghosts D} {keeps : Type 0} {old new : Server 
     → Goes keeps old new IsNone → Goes keeps old new (IsTallied connection (record nothing { came = came; written = written }))
 tally_none connection came written none =
     goes_as {first = IsNone} {kind = IsTallied connection (record nothing { came = came; written = written })}
-    (λ (calls : List Call) (is : calls ≡ []). subst (IsTallied connection (record nothing { came = came; written = written })) (sym is)
+    (λ (calls : List ServerCall) (is : calls ≡ []). subst (IsTallied connection (record nothing { came = came; written = written })) (sym is)
     (record { on = tt; shown = refl; taken = refl; closings = refl; turns = refl; given = refl })) none
 
 pub tally_taken : {D : Type 0} {g : Ghosts D} {keeps : Type 0} {old new : Server D g} (connection : ℕ) (piece : List ℕ) (count : ℕ)
@@ -73,7 +73,7 @@ pub tally_taken : {D : Type 0} {g : Ghosts D} {keeps : Type 0} {old new : Server
 tally_taken connection piece count one =
     goes_as {first = IsOne (Did (Arrives connection piece) (Took (Some count)))}
     {kind = IsTallied connection (record nothing { shown = piece ∷ []; taken = take count piece })}
-    (λ (calls : List Call) (is : calls ≡ Did (Arrives connection piece) (Took (Some count)) ∷ []).
+    (λ (calls : List ServerCall) (is : calls ≡ Did (Arrives connection piece) (Took (Some count)) ∷ []).
     subst (IsTallied connection (record nothing { shown = piece ∷ []; taken = take count piece })) (sym is)
     (record { on = (refl, tt); shown = refl; taken = refl; closings = refl; turns = refl; given = refl })) one
 
@@ -83,7 +83,7 @@ pub tally_closes : {D : Type 0} {g : Ghosts D} {keeps : Type 0} {old new : Serve
 tally_closes connection piece one =
     goes_as {first = IsOne (Did (Arrives connection piece) (Took None))}
     {kind = IsTallied connection (record nothing { shown = piece ∷ []; closings = 1 })}
-    (λ (calls : List Call) (is : calls ≡ Did (Arrives connection piece) (Took None) ∷ []).
+    (λ (calls : List ServerCall) (is : calls ≡ Did (Arrives connection piece) (Took None) ∷ []).
     subst (IsTallied connection (record nothing { shown = piece ∷ []; closings = 1 })) (sym is)
     (record { on = (refl, tt); shown = refl; taken = refl; closings = refl; turns = refl; given = refl })) one
 
@@ -91,7 +91,7 @@ pub tally_turn : {D : Type 0} {g : Ghosts D} {keeps : Type 0} {old new : Server 
     → Goes keeps old new (IsOne (Did (Turns connection now) said)) → Goes keeps old new (IsTallied connection (record nothing { turns = 1 }))
 tally_turn connection now said one =
     goes_as {first = IsOne (Did (Turns connection now) said)} {kind = IsTallied connection (record nothing { turns = 1 })}
-    (λ (calls : List Call) (is : calls ≡ Did (Turns connection now) said ∷ []).
+    (λ (calls : List ServerCall) (is : calls ≡ Did (Turns connection now) said ∷ []).
     subst (IsTallied connection (record nothing { turns = 1 })) (sym is)
     (record { on = (refl, tt); shown = refl; taken = refl; closings = refl; turns = refl; given = refl })) one
 
@@ -105,7 +105,7 @@ pub tally_given : {D : Type 0} {g : Ghosts D} {keeps : Type 0} {old new : Server
 tally_given connection output written one =
     goes_as {first = IsOne (Did (Takes connection) (gave output))}
     {kind = IsTallied connection (record nothing { given = bytes_of output; written = written })}
-    (λ (calls : List Call) (is : calls ≡ Did (Takes connection) (gave output) ∷ []).
+    (λ (calls : List ServerCall) (is : calls ≡ Did (Takes connection) (gave output) ∷ []).
     subst (IsTallied connection (record nothing { given = bytes_of output; written = written })) (sym is)
     (record { on = (refl, tt); shown = refl; taken = refl; closings = refl; turns = refl; given = gives-output connection output })) one
 

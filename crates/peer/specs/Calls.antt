@@ -5,7 +5,7 @@ use Rattle.model.specs.Server.Runs.{Arrives, Turns, HangsUp}
 use Rattle.model.specs.Trees.Tree.{Tree}
 use Rattle.model.specs.Server.World.{Connection}
 use Rattle.server.specs.Refused.{IsUntouched, connection_at, view}
-use Rattle.server.specs.Seen.{Call, Did, Failed, Took, Done, IsServed}
+use Rattle.server.specs.Seen.{ServerCall, Did, Failed, Took, Done, IsServed}
 use Rattle.server.specs.Views.{seen_with, volume_of}
 use Rattle.server.specs.declared.fault.ServerFault.{ServerFault}
 use Rattle.server.specs.declared.fault.ServerFault.TheVariants as faults
@@ -14,10 +14,10 @@ use Rattle.volume.specs.VolumeState.{IsRecent}
 
 -- Calls of a kind, the newest first, each as the server has it: from the trees that a crash might
 -- leave before them to those that it may leave after them.
-pub record Makes {D : Type 0} {g : Ghosts D} (old new : Server D g) (recent : List Tree)
-    (kind : List Call → Type 0) : Type 0 where
+pub record MakesCalls {D : Type 0} {g : Ghosts D} (old new : Server D g) (recent : List Tree)
+    (kind : List ServerCall → Type 0) : Type 0 where
   pub after : List Tree
-  pub calls : List Call
+  pub calls : List ServerCall
   pub ready : IsRecent (volume_of new) after
   pub are : kind calls
   pub served : IsServed (seen_with old recent) calls (seen_with new after)
@@ -25,37 +25,37 @@ pub record Makes {D : Type 0} {g : Ghosts D} (old new : Server D g) (recent : Li
 -- The server made calls of this kind and no others: on a device that keeps its word, as long as it
 -- has not failed, and whichever trees a crash might leave before.
 pub record Goes {D : Type 0} {g : Ghosts D} (keeps : Type 0) (old new : Server D g)
-    (kind : List Call → Type 0) : Type 0 where
+    (kind : List ServerCall → Type 0) : Type 0 where
   pub up : (volume_of new).is_down ≡ false → (volume_of old).is_down ≡ false
   pub made : keeps → (volume_of new).is_down ≡ false
-      → (recent : List Tree) → IsRecent (volume_of old) recent → Makes old new recent kind
+      → (recent : List Tree) → IsRecent (volume_of old) recent → MakesCalls old new recent kind
 
 -- Kinds
 
-abbrev pub IsNone : List Call → Type 0
+abbrev pub IsNone : List ServerCall → Type 0
 IsNone calls = calls ≡ []
 
-abbrev pub IsOne : Call → List Call → Type 0
+abbrev pub IsOne : ServerCall → List ServerCall → Type 0
 IsOne call calls = calls ≡ call ∷ []
 
 -- turns of a connection, at one moment
-abbrev pub IsTurn : (connection now : ℕ) → Call → Type 0
+abbrev pub IsTurn : (connection now : ℕ) → ServerCall → Type 0
 IsTurn connection now (Did (Turns number moment) said) = (number ≡ connection) × (moment ≡ now)
 IsTurn connection now (Did event said) = ⊥
 IsTurn connection now (Failed event) = ⊥
 
-abbrev pub AreTurns : (connection now : ℕ) → List Call → Type 0
+abbrev pub AreTurns : (connection now : ℕ) → List ServerCall → Type 0
 AreTurns connection now [] = Unit {0}
 AreTurns connection now (call ∷ calls) = IsTurn connection now call × AreTurns connection now calls
 
 -- a hang-up, before which a request that has begun is run to its end
-abbrev pub IsHangUp : (connection now : ℕ) → List Call → Type 0
+abbrev pub IsHangUp : (connection now : ℕ) → List ServerCall → Type 0
 IsHangUp connection now [] = ⊥
 IsHangUp connection now (call ∷ calls) =
     (call ≡ Did (HangsUp connection) Done) × AreTurns connection now calls
 
 -- The end of a connection: a hang-up, or for want of memory turns alone, or nothing
-abbrev pub IsEnd : (connection : ℕ) → List Call → Type 0
+abbrev pub IsEnd : (connection : ℕ) → List ServerCall → Type 0
 IsEnd connection calls =
     (now : ℕ) × (IsHangUp connection now calls ⊎ AreTurns connection now calls)
 

@@ -8,7 +8,7 @@ use Rattle.peer.specs.declared.peer.TheConstants.{PATIENCE_SECONDS, HALF_PATIENC
 use Rattle.peer.specs.declared.stream.Stream as stream
 
 -- one of which nothing has come yet
-pub record Begins {S : Type 0} {h : stream.Ghosts S} (peer : Peer S h) : Type 0 where
+pub record PeerBegins {S : Type 0} {h : stream.Ghosts S} (peer : Peer S h) : Type 0 where
   pub gathers : peer.stage ≡ stages.Gathers
   pub can_read : peer.can_read ≡ true
   pub can_write : peer.can_write ≡ true

@@ -9,7 +9,7 @@ use Rattle.disk.specs.declared.device.Device.{Ghosts}
 use Rattle.model.specs.Server.Runs.{Arrives, Turns, Takes}
 use Rattle.model.specs.Server.World.{Closed}
 use Rattle.server.specs.Refused.{connection_at, view}
-use Rattle.server.specs.Seen.{Call, Did, Failed, Took, Gave}
+use Rattle.server.specs.Seen.{ServerCall, Did, Failed, Took, Gave}
 use Rattle.server.specs.Views.{volume_of}
 use Rattle.server.specs.declared.server.Server.{Server}
 use Rattle.callers.specs.declared.refused.Refused.{Refused}
@@ -28,47 +28,47 @@ use Rattle.peer.specs.declared.stream.Stream as stream
 -- The calls of a step
 
 -- each is of this connection, and no hang-up
-abbrev pub IsOn : (connection : ℕ) → Call → Type 0
+abbrev pub IsOn : (connection : ℕ) → ServerCall → Type 0
 IsOn connection (Did (Arrives number piece) said) = number ≡ connection
 IsOn connection (Did (Turns number now) said) = number ≡ connection
 IsOn connection (Did (Takes number) said) = number ≡ connection
 IsOn connection (Did event said) = ⊥
 IsOn connection (Failed event) = ⊥
 
-abbrev pub AreOn : (connection : ℕ) → List Call → Type 0
+abbrev pub AreOn : (connection : ℕ) → List ServerCall → Type 0
 AreOn connection [] = Unit {0}
 AreOn connection (call ∷ calls) = IsOn connection call × AreOn connection calls
 
 -- the pieces that the server was shown
-abbrev pub shown_by : Call → List (List ℕ)
+abbrev pub shown_by : ServerCall → List (List ℕ)
 shown_by (Did (Arrives number piece) said) = piece ∷ []
 shown_by _ = []
 
 -- the bytes that it took of them
-abbrev pub taken_by : Call → List ℕ
+abbrev pub taken_by : ServerCall → List ℕ
 taken_by (Did (Arrives number piece) (Took (Some count))) = take count piece
 taken_by _ = []
 
 -- the pieces with which it closed the connection
-abbrev pub closings_by : Call → ℕ
+abbrev pub closings_by : ServerCall → ℕ
 closings_by (Did (Arrives number piece) (Took None)) = 1
 closings_by _ = 0
 
-abbrev pub turns_by : Call → ℕ
+abbrev pub turns_by : ServerCall → ℕ
 turns_by (Did (Turns number now) said) = 1
 turns_by _ = 0
 
 -- the bytes of the reply that it gave
-abbrev pub given_by : Call → List ℕ
+abbrev pub given_by : ServerCall → List ℕ
 given_by (Did (Takes number) (Gave (Some reply))) = reply
 given_by _ = []
 
 -- and so of calls, of which the newest is the first
-abbrev pub all_by : {A : Type 0} → (Call → List A) → List Call → List A
+abbrev pub all_by : {A : Type 0} → (ServerCall → List A) → List ServerCall → List A
 all_by by [] = []
 all_by by (call ∷ calls) = all_by by calls ++ by call
 
-abbrev pub count_by : (Call → ℕ) → List Call → ℕ
+abbrev pub count_by : (ServerCall → ℕ) → List ServerCall → ℕ
 count_by by [] = 0
 count_by by (call ∷ calls) = count_by by calls + by call
 
@@ -83,7 +83,7 @@ pub record Tally : Type 0 where
   pub written : List ℕ
 
 -- the calls are those that it counts
-pub record IsTallied (connection : ℕ) (tally : Tally) (calls : List Call) : Type 0 where
+pub record IsTallied (connection : ℕ) (tally : Tally) (calls : List ServerCall) : Type 0 where
   pub on : AreOn connection calls
   pub shown : all_by shown_by calls ≡ tally.shown
   pub taken : all_by taken_by calls ≡ tally.taken
@@ -192,7 +192,7 @@ pub record Runs {D S : Type 0} {g : Ghosts D} {h : stream.Ghosts S} (keeps : Typ
   pub unshown : advances.tally.shown ≡ []
 
 -- and of what gives no turn
-pub record Gives {D S : Type 0} {g : Ghosts D} {h : stream.Ghosts S} (keeps : Type 0)
+pub record GivesNoTurn {D S : Type 0} {g : Ghosts D} {h : stream.Ghosts S} (keeps : Type 0)
     (old new : Server D g) (before after : Peer S h) (result : Result Pace Parting) : Type 0 where
   pub tally : Tally
   pub carries : Carries keeps old new before after tally

@@ -100,14 +100,14 @@ impl<S: Stream + Drop> Peer<S> {
     ghost use Rattle.std.specs.Duration.{as_nanos};
     ghost use Rattle.server.specs.Refused.{connection_at, view};
     ghost use Rattle.peer.specs.Calls.{Goes, IsEnd};
-    ghost use Rattle.peer.specs.Peers.{Begins, IsSame, IsSpare, quiet_nanos};
-    ghost use Rattle.peer.specs.Steps.{Advances, Runs, Gives, Sends, IsReplying, IsStuck, ServesOn, EndsPeer, FailsBy};
+    ghost use Rattle.peer.specs.Peers.{PeerBegins, IsSame, IsSpare, quiet_nanos};
+    ghost use Rattle.peer.specs.Steps.{Advances, Runs, GivesNoTurn, Sends, IsReplying, IsStuck, ServesOn, EndsPeer, FailsBy};
 
     /// A peer over this connection of the server.
     pub fn new(conn: usize, stream: S, inbox: Inbox, now: Instant) -> Peer<S>
         ensures given { (result.conn ≡ conn) × (result.stream ≡ stream) × (result.inbox ≡ inbox)
             × (result.heard ≡ now) }
-        ensures begins { Begins result }
+        ensures begins { PeerBegins result }
     {
         Peer {
             conn,
@@ -337,7 +337,7 @@ impl<S: Stream + Drop> Peer<S> {
     ) -> Result<Pace, Parting>
         requires { self.old.stage ≡ Stage.Runs }
         ensures asleep { IfOk result (λ pace. pace ≡ Pace.Sleeps → IsStuck self.new) }
-        ensures does { Gives D.keeps_word server.old server.new self.old self.new result }
+        ensures does { GivesNoTurn D.keeps_word server.old server.new self.old self.new result }
     {
         self.has_half = false;
         self.stage = Stage::Gathers;

@@ -7,14 +7,14 @@ use Rattle.rpc.specs.declared.fault.RecordFault.{RecordFault}
 use Rattle.rpc.specs.declared.fault.RecordFault.TheVariants as faults
 use Rattle.rpc.specs.declared.receive.Progress.TheVariants as progress
 use Rattle.rpc.specs.declared.state.State.TheVariants as states
-use Rattle.rpc.specs.Assembly.{record_limits, max_received, Stands, Assembly, Gathers, Holds, Refuses, connection_of, fault_in, fault_at, is_partial, RefusesPiece, Receives}
+use Rattle.rpc.specs.Assembly.{record_limits, max_received, IsSoundBuffer, Assembly, Gathers, Holds, Refuses, connection_of, fault_in, fault_at, is_partial, RefusesPiece, Receives}
 
 pub nothing_yet : is_partial (front record_limits []) ≡ true
 unfolding front_from
 nothing_yet = refl
 
 -- an empty buffer that has room
-pub stands_empty : (bytes : List ℕ) (spare : ℕ) → bytes ≡ [] → max_received ≤ spare → Stands states.Gathers bytes spare
+pub stands_empty : (bytes : List ℕ) (spare : ℕ) → bytes ≡ [] → max_received ≤ spare → IsSoundBuffer states.Gathers bytes spare
 stands_empty bytes spare is room = record {
   sound = ap (λ (all : List ℕ). is_partial (front record_limits all)) is ∙ nothing_yet;
   within = _;

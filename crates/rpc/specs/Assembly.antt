@@ -95,7 +95,7 @@ IsWithin (states.Holds start) bytes = start ≤ length bytes
 IsWithin (states.Refuses fault) bytes = Unit {0}
 
 -- the buffer has room for what may come
-pub record Stands (state : State) (bytes : List ℕ) (spare : ℕ) : Type 0 where
+pub record IsSoundBuffer (state : State) (bytes : List ℕ) (spare : ℕ) : Type 0 where
   pub sound : is_sound (assembly_of state bytes) ≡ true
   pub within : IsWithin state bytes
   pub room : max_received ≤ length bytes + spare

@@ -25,13 +25,13 @@ pub struct Assembler {
 }
 
 impl Model for Assembler {
-    ghost use Rattle.rpc.specs.Assembly.{Assembly, assembly_of, Stands};
+    ghost use Rattle.rpc.specs.Assembly.{Assembly, assembly_of, IsSoundBuffer};
 
     ghost Value = { Assembly };
 
     ghost view = { λ a. assembly_of a.state a.buffer.items };
 
-    ghost invariant = { λ a. Stands a.state a.buffer.items a.buffer.spare };
+    ghost invariant = { λ a. IsSoundBuffer a.state a.buffer.items a.buffer.spare };
 }
 
 impl Assembler {

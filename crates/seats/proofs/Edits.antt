@@ -5,13 +5,13 @@ use Rattle.std.specs.Prelude.{codes}
 use Rattle.std.specs.Int.{w32, to_be_bytes}
 use Rattle.std.proofs.lemmas.List.{get_or-set_same, get_or-set_other, length-append, length-drop, length-replicate, length-set, length-take}
 use Rattle.model.specs.Sessions.Seats.{HeldReply, Seat, with_held}
-use Rattle.model.specs.Sessions.SeatEdits.{Holds, HasSlot, edited}
-use Rattle.seats.specs.Spelling.{IsPlace, IsSeat, head_sector, part_of, seat_sector, slot_at, slot_text}
+use Rattle.model.specs.Sessions.SeatEdits.{Holds, HasSlot, edited_seat}
+use Rattle.seats.specs.Spelling.{IsSeatPlace, IsSeat, head_sector, part_of, seat_sector, slot_at, slot_text}
 use Rattle.seats.proofs.Parts.{free_sector, first_sector, slot_sector_at}
 use Rattle.seats.proofs.Sectors.{head_apart, numbers_of, owner_on, length-slot_text, slot_is}
 
 pub held_sector : (slot : ℕ) (held : HeldReply) (place : Option Seat) (k : ℕ) → HasSlot slot place → 1 ≤ k → (k - 1) / 4 ≡ slot
-    → seat_sector k (edited (Holds slot held) place) ≡ part_of ((k - 1) % 4) (slot_text (Some held))
+    → seat_sector k (edited_seat (Holds slot held) place) ≡ part_of ((k - 1) % 4) (slot_text (Some held))
 held_sector slot held None k has some at = absurd has
 held_sector slot held (Some seat) k has some at =
     slot_sector_at k (with_held slot held seat) some
@@ -25,7 +25,7 @@ head-held slot held seat =
     ++ seat.owner ++ replicate (1024 - length seat.owner) 0 ++ replicate 3040 0) (length-set seat.slots slot (Some held))
 
 pub kept_sector : (slot : ℕ) (held : HeldReply) (place : Option Seat) (k : ℕ) → HasSlot slot place → (1 ≤ k → (k - 1) / 4 ≡ slot → ⊥)
-    → seat_sector k (edited (Holds slot held) place) ≡ seat_sector k place
+    → seat_sector k (edited_seat (Holds slot held) place) ≡ seat_sector k place
 kept_sector slot held None k has other = absurd has
 kept_sector slot held (Some seat) zero has other =
     first_sector (with_held slot held seat) ∙ head-held slot held seat ∙ sym (first_sector seat)
@@ -54,7 +54,7 @@ length-head seat is =
       length-replicate {A = ℕ} 3040 0,
     )
 
-pub length-seat_sector : (k : ℕ) (place : Option Seat) → IsPlace place → k < 9 → length (seat_sector k place) ≡ 4096
+pub length-seat_sector : (k : ℕ) (place : Option Seat) → IsSeatPlace place → k < 9 → length (seat_sector k place) ≡ 4096
 length-seat_sector k None is few = ap length (free_sector k) ∙ length-replicate {A = ℕ} 4096 0
 length-seat_sector zero (Some seat) is few = ap length (first_sector seat) ∙ length-head seat is
 length-seat_sector (suc k) (Some seat) is few =

@@ -7,7 +7,7 @@ use Rattle.model.specs.Sessions.SeatViews.{held_view, seat_view, place_view, sea
 use Rattle.model.specs.declared.seats.HeldReply.{HeldReply}
 use Rattle.model.specs.declared.seats.Seat.{Seat}
 use Rattle.model.specs.declared.seats.Seats.{Seats}
-use Rattle.seats.specs.Spelling.{ArePlaces, IsHeld, IsPlace, IsSeat, IsSlot}
+use Rattle.seats.specs.Spelling.{ArePlaces, IsHeld, IsSeatPlace, IsSeat, IsSlot}
 
 pub every_held : (held : HeldReply) → IsHeld (held_view held)
 every_held held = record { number = held.number_fits; uid = held.uid_fits; result = held.short }
@@ -29,11 +29,11 @@ every_seat seat =
       slots = every_slot seat.slots.items;
     }
 
-pub every_place : (place : Option Seat) → IsPlace (place_view place)
+pub every_place : (place : Option Seat) → IsSeatPlace (place_view place)
 every_place None = tt
 every_place (Some seat) = every_seat seat
 
-each_place : (places : List (Option Seat)) → AllByRecursion IsPlace (map place_view places)
+each_place : (places : List (Option Seat)) → AllByRecursion IsSeatPlace (map place_view places)
 each_place [] = tt
 each_place (place ∷ places) = (every_place place, each_place places)
 

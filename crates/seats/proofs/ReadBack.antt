@@ -8,7 +8,7 @@ use Rattle.std.proofs.lemmas.List.{take_at}
 use Rattle.std.proofs.lemmas.Nat.{from_be_bytes-to_be_bytes_4}
 use Rattle.model.specs.Sessions.Seats.{HeldReply, Seat, Seats}
 use Rattle.seats.specs.declared.fault.SeatFault.{SeatFault}
-use Rattle.seats.specs.Spelling.{AreSectorsOf, ArePlaces, IsHeld, IsPlace, IsSeat, IsSlot, held_front, seat_sector, seats_sector, slot_text}
+use Rattle.seats.specs.Spelling.{AreSectorsOf, ArePlaces, IsHeld, IsSeatPlace, IsSeat, IsSlot, held_front, seat_sector, seats_sector, slot_text}
 use Rattle.seats.specs.Reading.{SeatsReadBack, held_in, seat_from, seat_in, seats_in, slot_in, slots_in, taken_from, text_from}
 use Rattle.seats.proofs.Parts.{body_of, text_apart, free_sector}
 use Rattle.seats.proofs.Sectors.{number_zero, mark_there, session_there, principal_there, count_there, owner_there, head_there, first_there, second_there}
@@ -101,7 +101,7 @@ no_mark sectors spelled e =
     let none : slice_index (sectors 0) 0 ≡ 0 = ap (λ (s : List ℕ). slice_index s 0) zeros in
     absurd (omega arith)
 
-pub place-back : (place : Option Seat) (sectors : ℕ → List ℕ) → IsPlace place → AreSectorsOf sectors place → seat_in sectors ≡ place
+pub place-back : (place : Option Seat) (sectors : ℕ → List ℕ) → IsSeatPlace place → AreSectorsOf sectors place → seat_in sectors ≡ place
 place-back None sectors is spelled = place_none sectors (no_mark sectors spelled)
 place-back (Some seat) sectors is spelled =
     let mark : slice_index (sectors 0) 0 ≡ 83 = ap (λ (h : List ℕ). slice_index h 0) (head_there seat is sectors spelled) ∙ mark_there seat is in
@@ -109,7 +109,7 @@ place-back (Some seat) sectors is spelled =
 
 -- where no seat has these sectors, no place has them
 pub no_place : (sectors : ℕ → List ℕ) → slice_index (sectors 0) 0 ≡ 83 → ((seat : Seat) → IsSeat seat → AreSectorsOf sectors (Some seat) → ⊥)
-    → (place : Option Seat) → IsPlace place → AreSectorsOf sectors place → ⊥
+    → (place : Option Seat) → IsSeatPlace place → AreSectorsOf sectors place → ⊥
 no_place sectors mark none None is spelled = no_mark sectors spelled mark
 no_place sectors mark none (Some seat) is spelled = none seat is spelled
 
@@ -125,7 +125,7 @@ five-back a b c d e (p ∷ q ∷ r ∷ s ∷ []) len at_a at_b at_c at_d at_e = 
 five-back a b c d e (p ∷ q ∷ r ∷ s ∷ t ∷ u ∷ seats) len at_a at_b at_c at_d at_e = absurd (omega arith)
 five-back a b c d e (p ∷ q ∷ r ∷ s ∷ t ∷ []) len at_a at_b at_c at_d at_e = rw (at_a, at_b, at_c, at_d, at_e) refl
 
-place_is : (seats : Seats) (k : ℕ) → AllByRecursion IsPlace seats → IsPlace (get_or seats k None)
+place_is : (seats : Seats) (k : ℕ) → AllByRecursion IsSeatPlace seats → IsSeatPlace (get_or seats k None)
 place_is [] k all = tt
 place_is (place ∷ seats) zero all = all.0
 place_is (place ∷ seats) (suc k) all = place_is seats k all.1

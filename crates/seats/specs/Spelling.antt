@@ -24,14 +24,14 @@ pub record IsSeat (seat : Seat) : Type 0 where
   pub few : length seat.slots ≤ 2
   pub slots : AllByRecursion IsSlot seat.slots
 
-abbrev pub IsPlace : Option Seat → Type 0
-IsPlace None = Unit {0}
-IsPlace (Some seat) = IsSeat seat
+abbrev pub IsSeatPlace : Option Seat → Type 0
+IsSeatPlace None = Unit {0}
+IsSeatPlace (Some seat) = IsSeat seat
 
 -- the places of a volume
 pub record ArePlaces (seats : Seats) : Type 0 where
   pub five : length seats ≡ 5
-  pub each : AllByRecursion IsPlace seats
+  pub each : AllByRecursion IsSeatPlace seats
 
 -- How
 

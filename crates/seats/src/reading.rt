@@ -4,7 +4,7 @@ ghost use Rattle.std.specs.Prelude.{◌≡◌, ◌<◌, ◌+◌, ◌≤◌, ℕ,
 ghost use Rattle.std.specs.Option.{option_map};
 ghost use Rattle.model.specs.Sessions.Seats as kept;
 ghost use Rattle.model.specs.Sessions.SeatViews.{held_view, seat_view, place_view};
-ghost use Rattle.seats.specs.Spelling.{AreSectorsOf, IsPlace, IsSeat, IsSlot, sector_of, slot_text};
+ghost use Rattle.seats.specs.Spelling.{AreSectorsOf, IsSeatPlace, IsSeat, IsSlot, sector_of, slot_text};
 ghost use Rattle.seats.specs.Reading.{taken_from, text_from, seat_in};
 ghost use Rattle.seats.specs.Reading as total;
 
@@ -104,7 +104,7 @@ fn taken_in(alloc: Global, sectors: &[[u8; SIZE]]) -> Result<Seat, SeatFault>
 fn place_in(alloc: Global, sectors: &[[u8; SIZE]]) -> Result<Option<Seat>, SeatFault>
     requires { length sectors.now ≡ 9 }
     ensures value { IfOk result (λ place. place_view place ≡ seat_in (sector_of sectors.now)) }
-    ensures err { IsErrOf result SeatFault.NotSeat → (place : Option kept.Seat) → IsPlace place
+    ensures err { IsErrOf result SeatFault.NotSeat → (place : Option kept.Seat) → IsSeatPlace place
         → ¬ AreSectorsOf (sector_of sectors.now) place }
 {
     if sectors[0][0] != b'S' {
@@ -134,10 +134,11 @@ fn are_sectors_of(sectors: &[[u8; SIZE]], place: &Option<Seat>) -> bool
 /// each byte back.
 pub fn read_seat(alloc: Global, sectors: &[[u8; SIZE]]) -> Result<Option<Seat>, SeatFault>
     requires { length sectors.now ≡ 9 }
-    ensures fits { IfOk result (λ place. IsPlace (place_view place)) }
+    ensures fits { IfOk result (λ place. IsSeatPlace (place_view place)) }
     ensures found { IfOk result (λ place.
         AreSectorsOf (sector_of sectors.now) (place_view place)) }
-    ensures not_seat { IsErrOf result SeatFault.NotSeat → (place : Option kept.Seat) → IsPlace place
+    ensures not_seat { IsErrOf result SeatFault.NotSeat → (place : Option kept.Seat)
+        → IsSeatPlace place
         → ¬ AreSectorsOf (sector_of sectors.now) place }
 {
     let place = place_in(alloc, sectors)?;

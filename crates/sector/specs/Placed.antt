@@ -16,7 +16,7 @@ pub record Places (old new : List ℕ) (at : ℕ) (bytes : List ℕ) : Type 0 wh
 
 -- the number that stands from place `at` on in so many bytes, the highest first: it is the only one
 -- of its bytes
-abbrev pub Reads : ℕ → List ℕ → ℕ → ℕ → Type 0
-Reads width sector at number =
+abbrev pub IsNumberAt : ℕ → List ℕ → ℕ → ℕ → Type 0
+IsNumberAt width sector at number =
     (other : ℕ) (rest : List ℕ) → other < 256 ^ width
     → drop at sector ≡ bytes_high_first width other ++ rest → number ≡ other

@@ -3,7 +3,7 @@
 
 ghost use Rattle.std.specs.Prelude.{◌≡◌, ◌≤◌, ◌+◌, length, replicate, drop};
 ghost use Rattle.std.specs.Int.{w16, w32, w64, to_be_bytes, from_be_bytes};
-ghost use Rattle.sector.specs.Placed.{Places, Reads};
+ghost use Rattle.sector.specs.Placed.{Places, IsNumberAt};
 
 use byteorder::{BigEndian, ByteOrder};
 
@@ -60,7 +60,7 @@ pub fn put_zeros(sector: &mut [u8; SIZE], at: usize, count: usize)
 pub fn u16_at(sector: &[u8; SIZE], at: usize) -> u16
     requires { at + 2 ≤ SIZE }
     ensures value { result ≡ from_be_bytes w16 (drop at sector.now) }
-    ensures only { Reads 2 sector.now at result }
+    ensures only { IsNumberAt 2 sector.now at result }
 {
     BigEndian::read_u16(&sector[at..])
 }
@@ -69,7 +69,7 @@ pub fn u16_at(sector: &[u8; SIZE], at: usize) -> u16
 pub fn u32_at(sector: &[u8; SIZE], at: usize) -> u32
     requires { at + 4 ≤ SIZE }
     ensures value { result ≡ from_be_bytes w32 (drop at sector.now) }
-    ensures only { Reads 4 sector.now at result }
+    ensures only { IsNumberAt 4 sector.now at result }
 {
     BigEndian::read_u32(&sector[at..])
 }
@@ -78,7 +78,7 @@ pub fn u32_at(sector: &[u8; SIZE], at: usize) -> u32
 pub fn u64_at(sector: &[u8; SIZE], at: usize) -> u64
     requires { at + 8 ≤ SIZE }
     ensures value { result ≡ from_be_bytes w64 (drop at sector.now) }
-    ensures only { Reads 8 sector.now at result }
+    ensures only { IsNumberAt 8 sector.now at result }
 {
     BigEndian::read_u64(&sector[at..])
 }

@@ -4,7 +4,7 @@ use Rattle.std.specs.List.{IsAmong}
 use Rattle.disk.specs.Moments.{History, AddsOnly}
 use Rattle.disk.proofs.MomentLemmas.{AddsOnly-weaken}
 use Rattle.compound.specs.States.{Agrees, shared}
-use Rattle.fs.specs.Changes.{Changes, fs_ending}
+use Rattle.fs.specs.Changes.{FsChanges, fs_ending}
 use Rattle.fs.specs.FileSystem.{FileSystem}
 use Rattle.fs.specs.declared.fault.FsFault.{FsFault}
 use Rattle.fs.specs.declared.fault.FsFault.TheVariants as faults
@@ -19,7 +19,7 @@ use Rattle.model.specs.Sessions.Seats.{Seats}
 use Rattle.model.specs.Sessions.Session.{Table}
 use Rattle.model.specs.Trees.Tree.{Tree}
 use Rattle.model.specs.Server.World.{World, Connection}
-use Rattle.server.specs.Seen.{MayKeep, Checkpoints, Breaks}
+use Rattle.server.specs.Seen.{MayKeepDuring, Checkpoints, Breaks}
 use Rattle.server.specs.Views.{world_by, serving_by}
 use Rattle.server.proofs.Moves.{broken_leaves, leaves_now}
 use Rattle.server.proofs.ServedTurns.{broken}
@@ -27,9 +27,9 @@ use Rattle.server.proofs.Turning.{agrees_on}
 
 -- whichever event it is taken for
 keeping_moments : (old : Serving) (held : VolumeState) (new : History) → IsRecent held old.recent → IsAmong old.held held.seats → AddsTrees held (kept_of held) new → (event : Event)
-    → AddsOnly (StandsForOne held (MayKeep old event)) held.history new
+    → AddsOnly (StandsForOne held (MayKeepDuring old event)) held.history new
 keeping_moments old held new is seated adds event = AddsOnly-weaken
-    (StandsForOne held (MayAdd held old.recent (kept_of held))) (StandsForOne held (MayKeep old event)) held.history new
+    (StandsForOne held (MayAdd held old.recent (kept_of held))) (StandsForOne held (MayKeepDuring old event)) held.history new
     (λ image found. (
       found.0,
       ⊎_elim
@@ -46,7 +46,7 @@ keeping_moments old held new is seated adds event = AddsOnly-weaken
 -- The table agrees with the volume, as before, unless that is down
 
 pub agrees_still : {T : Type 0} (keeps_word : Type 0) (old new : FileSystem) (before after : ℕ) (table : Table) (result : Result T FsFault)
-    → Changes keeps_word (Stays old.volume) old new before after (fs_ending result) → keeps_word → Agrees old table → new.volume.is_down ≡ false → Agrees new table
+    → FsChanges keeps_word (Stays old.volume) old new before after (fs_ending result) → keeps_word → Agrees old table → new.volume.is_down ≡ false → Agrees new table
 agrees_still keeps_word old new before after table (Ok done) changes keeps agrees up =
     agrees_on old new table changes.volume_changes.same.run (changes.volume_changes.ends.seats keeps (kept_of old.volume) false (refl, refl)) agrees
 agrees_still keeps_word old new before after table (Err faults.Device) changes keeps agrees up =

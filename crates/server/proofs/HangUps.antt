@@ -11,7 +11,7 @@ use Rattle.server.specs.declared.connection.Connection.{Connection}
 use Rattle.server.specs.declared.stage.Stage.{Stage}
 use Rattle.server.specs.declared.stage.Stage.TheVariants as stage
 use Rattle.server.specs.Connections.{connection_view, connections_of, HasGoneOn}
-use Rattle.server.specs.Stages.{stage_view, held_by, is_ready}
+use Rattle.server.specs.Stages.{stage_view, held_record, is_ready}
 use Rattle.server.proofs.Resumptions.{some_more}
 use Rattle.server.specs.Seen.{Seen, Said, Does, IsTurned, Stays, Goes_on}
 use Rattle.server.proofs.SlabLaws.{stands_some}
@@ -36,7 +36,7 @@ more_in : (assembly : Assembly) (kind : Stage) (request : InProgress) → is_rea
 more_in (Gathers bytes) stage.Receiving request ready is = let never : ⊥ = cc in absurd never
 more_in (Holds bytes) stage.Receiving request ready is = let never : ⊥ = cc in absurd never
 more_in (Refuses fault) stage.Receiving request ready is = let never : ⊥ = cc in absurd never
-more_in assembly (stage.Running begun) request ready is = some_more (held_by assembly) begun request ready is
+more_in assembly (stage.Running begun) request ready is = some_more (held_record assembly) begun request ready is
 more_in assembly (stage.Replied reply) request ready is = let never : ⊥ = cc in absurd never
 
 -- a request that has not ended has fewer results than operations

@@ -5,9 +5,9 @@ use Rattle.std.proofs.Math.Logic.{∥∥₁_elim, ∥∥₁_map, ∥∥₁_prop}
 use Rattle.std.proofs.Props.{props}
 use Rattle.disk.specs.Moments.{seen}
 use Rattle.layout.specs.Stands.{Kept}
-use Rattle.model.specs.Server.Runs.{Serving, Stored, MayHold, IsSeatedAfter, IsRun, effect_of, mounted}
+use Rattle.model.specs.Server.Runs.{Serving, Stored, MayHoldSeats, IsSeatedAfter, IsRun, effect_of, mounted}
 use Rattle.model.specs.Sessions.SeatRuns.{Stop, AreSeats, HoldsFrom, IsFreed}
-use Rattle.model.specs.Sessions.Seats.{Seats, AreApart, has_seat, held_at, held_in, run_of}
+use Rattle.model.specs.Sessions.Seats.{Seats, SeatsApart, has_seat, held_at, held_in, run_of}
 use Rattle.model.specs.Server.ServedOnce.{numbers_in}
 use Rattle.model.specs.Sessions.SessionRuns.{CountsFrom}
 use Rattle.model.specs.Server.World.{ServerLimits}
@@ -20,7 +20,7 @@ use Rattle.model.proofs.Sessions.SeatsSit.{every_session_sits}
 use Rattle.model.proofs.Sessions.SlotLaw.{others_between}
 use Rattle.volume.proofs.RemountLaws.{seen_left}
 use Rattle.server.specs.Headline.{Stopped, Follows, executed_in}
-use Rattle.server.specs.LifeLaws.{history_in, stored_in, freed_in, Leaves, OnMap, OnMount, WasUp, EveryHeld, EveryStays, EveryFollows, EveryDead, EverySits, EveryStored, EveryAsked, AreRuns, last_of, numbers_over, EveryOnce, WasFreed, table_in, IsGivenAgain, EveryRetried}
+use Rattle.server.specs.LifeLaws.{history_in, stored_in, freed_in, LeavesSeats, OnMap, OnMount, WasUp, EveryHeld, EveryStays, EveryFollows, EveryDead, EverySits, EveryStored, EveryAsked, AreRuns, last_of, numbers_over, EveryOnce, WasFreed, table_in, IsGivenAgain, EveryRetried}
 use Rattle.server.specs.Views.{server_limits}
 use Rattle.server.proofs.Stops.{IsJoined, joined, mounted_leaves, every_stop, every_run_again, follows_run}
 
@@ -38,7 +38,7 @@ its_run stopped =
     subst (λ (s : Serving). IsRun s stopped.old.serving (history_in stopped)) stopped.mounted.serves (calls_joined stopped).run
 
 abbrev MayBeLeft : Stopped → Seats → Type 0
-MayBeLeft stopped left = MayHold stopped.old.serving stopped.event left
+MayBeLeft stopped left = MayHoldSeats stopped.old.serving stopped.event left
 
 abbrev stop_of : (stopped : Stopped) (left : Seats) → MayBeLeft stopped left → Stop (limits_of stopped)
 stop_of stopped left leaves = record {
@@ -57,7 +57,7 @@ stop_of stopped left leaves = record {
 
 -- The seats that its crash left are such
 
-pub may_be_left : (stopped : Stopped) (left : Seats) → Leaves stopped left → ∥ MayBeLeft stopped left ∥₁
+pub may_be_left : (stopped : Stopped) (left : Seats) → LeavesSeats stopped left → ∥ MayBeLeft stopped left ∥₁
 may_be_left stopped _ (OnMap {image = image} {nodes = nodes} {run = run} {kept = kept} left stands) =
     let is = every_stop stopped image left in
     ∣ subst (λ (k : Kept). MayBeLeft stopped k.seats) (sym (is.no_other nodes run kept stands).0) is.good.seats ∣₁
@@ -88,7 +88,7 @@ pub every_stays : EveryStays
 every_stays stopped left leaves id seat there =
     ∥∥₁_map (may_be_left stopped left leaves) (λ may. every_seat_stays (limits_of stopped) (stop_of stopped left may) id seat there)
 
-AreApart-prop : (seats : Seats) → IsProp (AreApart seats)
+AreApart-prop : (seats : Seats) → IsProp (SeatsApart seats)
 AreApart-prop [] = Prim.hlevel props
 AreApart-prop (None ∷ seats) = AreApart-prop seats
 AreApart-prop (Some seat ∷ seats) = Prim.hlevel (props, AreApart-prop seats)
@@ -163,7 +163,7 @@ module _ (stored : List Stored) (i : ℕ) (one : Stored) where
       ]
 
   carried_on : (first : Stopped) → ((left : Seats) → MayBeLeft first left → IsHeldOr left (IsFreed left (freed_in first) one.session)) → (rest : List Stopped) → AreRuns first rest
-      → (left : Seats) → Leaves (last_of first rest) left → ∥ IsHeldOr left (WasFreed one.session first rest left) ∥₁
+      → (left : Seats) → LeavesSeats (last_of first rest) left → ∥ IsHeldOr left (WasFreed one.session first rest left) ∥₁
   carried_on first step [] are left leaves = ∥∥₁_map (may_be_left first left leaves) (λ may. step left may)
   carried_on first step (next ∷ rest) are left leaves = ∥∥₁_elim (may_follow first next are.0) ∥∥₁_prop (λ may. elim (step next.start.seats may) [
     | inl holds ↦ ∥∥₁_map (carried_on next (carried next holds) rest are.1 left leaves) (λ found. elim found [

@@ -28,7 +28,7 @@ use Rattle.model.specs.Sessions.Session.{Table, loaded_table}
 use Rattle.model.specs.Server.World.{World, Connection, mounted_world}
 use Rattle.server.specs.Headline.{IsMounted}
 use Rattle.server.specs.Views.{world_by, server_limits, serving_by}
-use Rattle.server.specs.Seen.{Seen, LeavesNow, MayKeep, Moves, Said, told, Does}
+use Rattle.server.specs.Seen.{Seen, LeavesNow, MayKeepDuring, Moves, Said, event_told, Does}
 use Rattle.server.proofs.Worlds.{happened_quietly, among_rest}
 use Rattle.disk.proofs.MomentLemmas.{AddsOnly-same}
 
@@ -51,7 +51,7 @@ left_now h image left = ⊎_elim
 pub moves_none : (old new : Serving) (event : Event) (held : VolumeState) → LeavesNow (record { serving = new; volume = held })
     → Moves (record { serving = old; volume = held }) event (record { serving = new; volume = held })
 moves_none old new event held leaves = record {
-  moments = AddsOnly-same (StandsForOne held (MayKeep old event)) held.history;
+  moments = AddsOnly-same (StandsForOne held (MayKeepDuring old event)) held.history;
   leaves = leaves;
   same = same_volume held held refl;
 }
@@ -93,7 +93,7 @@ broken_leaves held after_held after recent is adds same image left = ⊎_elim
 
 -- a call that does an event without the device
 pub does_quietly : (held : VolumeState) (old new : World) (down : Bool) (event : Event) (said : Said) → executed_of old event ≡ None → down ≡ false → new ≡ effect_of old event
-    → new.table.seats ≡ held.seats → said ≡ told old event → (recent : List Tree) → IsRecent held recent → (after : List Tree)
+    → new.table.seats ≡ held.seats → said ≡ event_told old event → (recent : List Tree) → IsRecent held recent → (after : List Tree)
     × Does (record { serving = serving_by old recent (held.seats ∷ []) down; volume = held }) event said (record { serving = serving_by new after (held.seats ∷ []) down; volume = held })
 does_quietly held old new down event said none up is seated says recent ready = (
   recent,

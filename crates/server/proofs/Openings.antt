@@ -1,7 +1,7 @@
 -- What the turn of a whole record is, by what its call asks for.
 use Rattle.std.proofs.Common.{◌≡◌, ◌<◌, ◌≤◌, ℕ, true, List, length, refl, ap, sym, subst, ◌∙◌}
 use Rattle.compound.specs.Steps.{stepped_on}
-use Rattle.compound.specs.Views.{Asked, IsBegin, asks, resumed, fits}
+use Rattle.compound.specs.Views.{Asked, IsBegin, asks, resumed, fits_operations}
 use Rattle.model.specs.declared.acl.Cred.{Cred}
 use Rattle.model.specs.Wire.Record.{framed}
 use Rattle.model.specs.Wire.Rpc.{Call, Calls, OtherVersion, VersionRefused, Reply, Compound, Answers, Runs, read_call, request_of, reply_text}
@@ -32,8 +32,8 @@ module _ (run : ℕ) (request : List ℕ) (call : Call) (cred : Cred) (compound 
   -- its COMPOUND can go on
   pub can_begin : is_within request begun.call.place ≡ true → 0 < compound.count → length compound.tag ≤ 255 → CanGoOn run request begun
   can_begin within some short =
-      let fit : fits (asked_at request begun.call) begun.progress ≡ true =
-      subst (λ (asked : Asked). fits asked begun.progress ≡ true) (sym stands) (begins.fit (asks call.xid cred compound) some short) in
+      let fit : fits_operations (asked_at request begun.call) begun.progress ≡ true =
+      subst (λ (asked : Asked). fits_operations asked begun.progress ≡ true) (sym stands) (begins.fit (asks call.xid cred compound) some short) in
       record { can = rw (within, fit) refl; began_in = begins.run_is }
 
   -- and a turn of it is the call's

@@ -3,7 +3,7 @@ use Rattle.std.proofs.Common.{◌≡◌, ℕ, true, List, Option, Some, None, �
 use Rattle.std.proofs.lemmas.Bool.{and_parts}
 use Rattle.compound.specs.Steps as compound
 use Rattle.compound.specs.Steps.{GoesFurther}
-use Rattle.compound.specs.Views.{fits}
+use Rattle.compound.specs.Views.{fits_operations}
 use Rattle.compound.specs.declared.step.Stepped.{Stepped}
 use Rattle.compound.specs.declared.step.Stepped.TheVariants as stepped
 use Rattle.compound.proofs.Resuming.{fits_more}
@@ -11,11 +11,11 @@ use Rattle.model.specs.Server.World.{InProgress, Busy}
 use Rattle.rpc.specs.Assembly.{Assembly, Gathers, Holds, Refuses}
 use Rattle.rpc.specs.Places.{is_within}
 use Rattle.server.specs.declared.begun.Begun.{Begun}
-use Rattle.server.specs.Connections.{IsOfRun, HasGoneOn, GoesOn}
-use Rattle.server.specs.Stages.{CanGoOn, asked_at, in_progress_at, fits_in, held_by, busy_with, can_go_on, left_of, left_by}
+use Rattle.server.specs.Connections.{IsOfRun, HasGoneOn, RecordGoesOn}
+use Rattle.server.specs.Stages.{CanGoOn, asked_at, in_progress_at, fits_in, held_record, busy_with, can_go_on, left_of, left_by_turn}
 
 -- one that has begun has its record, and is of its run
-pub goes_on_held : (run : ℕ) (assembly : Assembly) (begun : Begun) → can_go_on (held_by assembly) begun ≡ true → IsOfRun run (busy_with (held_by assembly) begun)
+pub goes_on_held : (run : ℕ) (assembly : Assembly) (begun : Begun) → can_go_on (held_record assembly) begun ≡ true → IsOfRun run (busy_with (held_record assembly) begun)
     → (request : List ℕ) × (assembly ≡ Holds request) × CanGoOn run request begun
 goes_on_held run (Gathers bytes) begun can here = let never : ⊥ = cc in absurd never
 goes_on_held run (Holds request) begun can here = (request, refl, record { can = can; began_in = here (in_progress_at request begun) refl })
@@ -35,21 +35,21 @@ pub some_more : (held : Option (List ℕ)) (begun : Begun) (request : InProgress
 some_more None begun request can is = let never : ⊥ = cc in absurd never
 some_more (Some bytes) begun request can is =
     let same : in_progress_at bytes begun ≡ request = cc in
-    let fit = (and_parts (is_within bytes begun.call.place) (fits (asked_at bytes begun.call) begun.progress) can).1 in
+    let fit = (and_parts (is_within bytes begun.call.place) (fits_operations (asked_at bytes begun.call) begun.progress) can).1 in
     subst (λ (r : InProgress). r.ended ≡ None → r.answered < r.count) same (fits_more (asked_at bytes begun.call) begun.progress fit)
 
 pub stands_within : (bytes : List ℕ) (begun : Begun) → fits_in bytes begun.call begun.progress ≡ true → is_within bytes begun.call.place ≡ true
-stands_within bytes begun can = (and_parts (is_within bytes begun.call.place) (fits (asked_at bytes begun.call) begun.progress) can).0
+stands_within bytes begun can = (and_parts (is_within bytes begun.call.place) (fits_operations (asked_at bytes begun.call) begun.progress) can).0
 
 -- after a step of it
 gone_on : (bytes : List ℕ) (begun : Begun) (done : Stepped) → GoesFurther (in_progress_at bytes begun) done
-    → HasGoneOn (Some (Busy (in_progress_at bytes begun))) (Some (left_by (Some bytes) (left_of begun.call done)))
+    → HasGoneOn (Some (Busy (in_progress_at bytes begun))) (Some (left_by_turn (Some bytes) (left_of begun.call done)))
 gone_on bytes begun (stepped.Ran progress) further = (further.0, further.1, refl)
 gone_on bytes begun (stepped.Answered reply) further = tt
 
 pub steps_on : (run : ℕ) (bytes : List ℕ) (begun : Begun) (done : Stepped) → is_within bytes begun.call.place ≡ true
-    → compound.GoesOn run (asked_at bytes begun.call) (in_progress_at bytes begun) done → GoesOn run bytes begun (left_of begun.call done)
+    → compound.RequestGoesOn run (asked_at bytes begun.call) (in_progress_at bytes begun) done → RecordGoesOn run bytes begun (left_of begun.call done)
 steps_on run bytes begun (stepped.Ran progress) within goes =
-    let fit : fits (asked_at bytes begun.call) progress ≡ true = goes.fits in
+    let fit : fits_operations (asked_at bytes begun.call) progress ≡ true = goes.fits in
     record { stays = goes.stays; further = gone_on bytes begun (stepped.Ran progress) goes.further; follows = rw (within, fit) refl }
 steps_on run bytes begun (stepped.Answered reply) within goes = record { stays = tt; further = tt; follows = refl }

@@ -12,19 +12,19 @@ use Rattle.model.specs.Trees.Tree.{Tree}
 use Rattle.model.specs.Server.World as world
 use Rattle.model.specs.Server.World.{World, Idle, InProgress, Next, Refuses, Reads, HasRun, Gives, Replays, Entry, Connection, Quiet, Waiting, Busy, Replied, Closed, one, turned, called, further, operates, behind, closes, has_run, is_last, is_to_hold, next_operation, in_room, run}
 use Rattle.disk.specs.Moments.{seen}
-use Rattle.server.specs.RunLaws.{IsReady, HangUpIsCalls, NeverEmpty, IsIdle, OnlyIdle}
-use Rattle.server.specs.Seen.{Seen, Call, Did, IsServed, IsTurned, Stays}
+use Rattle.server.specs.RunLaws.{IsSeenReady, HangUpIsCalls, NeverEmpty, IsIdle, OnlyIdle}
+use Rattle.server.specs.Seen.{Seen, ServerCall, Did, IsServed, IsTurned, Stays}
 use Rattle.server.specs.Seen as served
 use Rattle.server.proofs.Stops.{joined, mounted_leaves}
 
-further_calls : (connection now : ℕ) (first old new : Seen) (calls : List Call) → IsServed first calls old → IsTurned connection now old new
-    → (more : List Call) × IsServed first more new
+further_calls : (connection now : ℕ) (first old new : Seen) (calls : List ServerCall) → IsServed first calls old → IsTurned connection now old new
+    → (more : List ServerCall) × IsServed first more new
 further_calls connection now first old new calls before Stays = (calls, before)
 further_calls connection now first old new calls before (served.Goes_on {between = between} {said = said} busy does more) =
     further_calls connection now first between new (Did (runs.Turns connection now) said ∷ calls)
     (served.IsServed.Goes_on (runs.Turns connection now) said before does) more
 
-still_ready : (connection now : ℕ) (old new : Seen) → IsTurned connection now old new → IsReady old → IsReady new
+still_ready : (connection now : ℕ) (old new : Seen) → IsTurned connection now old new → IsSeenReady old → IsSeenReady new
 still_ready connection now old new Stays ready = ready
 still_ready connection now old new (served.Goes_on {between = between} busy does more) ready = still_ready connection now between new more does.ready
 

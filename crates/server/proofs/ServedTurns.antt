@@ -3,10 +3,10 @@ use Rattle.std.proofs.Common.{◌≡◌, ℕ, Bool, List, [], ◌∷◌, subst, 
 use Rattle.disk.specs.Moments.{History, AddsOnly}
 use Rattle.disk.proofs.MomentLemmas.{AddsOnly-weaken}
 use Rattle.compound.specs.States.{Agrees, SharedState, HasState, with_state}
-use Rattle.compound.specs.Volumes.{TurnGives, ending, kept_in, lasts}
+use Rattle.compound.specs.Volumes.{TurnGives, ending, kept_of_world, lasts}
 use Rattle.compound.specs.declared.fault.Fault.{Fault}
 use Rattle.compound.specs.declared.fault.Fault.TheVariants as faults
-use Rattle.fs.specs.Changes.{Changes}
+use Rattle.fs.specs.Changes.{FsChanges}
 use Rattle.fs.specs.FileSystem.{FileSystem}
 use Rattle.layout.specs.Stands.{Kept}
 use Rattle.volume.specs.Changes.{Given}
@@ -22,8 +22,8 @@ use Rattle.model.specs.Sessions.Session.{Table}
 use Rattle.model.specs.Server.World as world
 use Rattle.model.specs.Server.World.{World, one, with_connection}
 use Rattle.server.specs.declared.turn.Turn.{Turn}
-use Rattle.server.specs.Connections.{Turns, IsRising, HasGoneOn, turn_view}
-use Rattle.server.specs.Seen.{MayKeep}
+use Rattle.server.specs.Connections.{ConnectionTurns, IsRising, HasGoneOn, turn_view}
+use Rattle.server.specs.Seen.{MayKeepDuring}
 use Rattle.server.specs.Views.{world_by, server_limits, serving_by}
 use Rattle.server.proofs.Persisting.{one_persists}
 use Rattle.server.proofs.Turning.{one_is, agrees_on}
@@ -44,7 +44,7 @@ has_state state connections = record {
 module _ (state left : SharedState) (old new : Keyed world.Connection) (number now : ℕ) (before after : world.Connection)
     (written : new ≡ with old number after) where
   -- the turn, and the world after it
-  pub turned : (done : Turn) → Turns now state left before after done → IsRising old → at number old ≡ Some before
+  pub turned : (done : Turn) → ConnectionTurns now state left before after done → IsRising old → at number old ≡ Some before
       → IsSameVolume state.files.volume left.files.volume
       → (turn_view done ≡ (one (world_by state old) number now).turn) × (world_by left new ≡ (one (world_by state old) number now).world)
   turned done turns rises is same =
@@ -86,14 +86,14 @@ abbrev pub turn_of : SharedState → Keyed world.Connection → (number now : �
 turn_of state connections number now = one (world_by state connections) number now
 
 pub gives_one : (state : SharedState) (connections : Keyed world.Connection) (number now : ℕ) (before : world.Connection) → at number connections ≡ Some before
-    → TurnGives state (λ w n. world.turned w n now (Some before)) (kept_in (turn_of state connections number now).world) (lasts (turn_of state connections number now).executed)
+    → TurnGives state (λ w n. world.turned w n now (Some before)) (kept_of_world (turn_of state connections number now).world) (lasts (turn_of state connections number now).executed)
 gives_one state connections number now before is =
     let same = one_is (world_by state connections) number now before is in
     record {
       world = world_by state connections;
       number = number;
       has = has_state state connections;
-      kept = ap (λ (t : world.Turned). kept_in t.world) same;
+      kept = ap (λ (t : world.Turned). kept_of_world t.world) same;
       lasting_is = ap (λ (t : world.Turned). lasts t.executed) same;
     }
 
@@ -103,23 +103,23 @@ abbrev pub serving_of : SharedState → Keyed world.Connection → List Tree →
 serving_of state connections recent = serving_by (world_by state connections) recent (state.files.volume.seats ∷ []) state.files.volume.is_down
 
 pub turning_moments : (state : SharedState) (old : Keyed world.Connection) (number now : ℕ) (recent : List Tree) (new : History) → IsRecent state.files.volume recent → state.files.volume.is_down ≡ false
-    → AddsTrees state.files.volume (kept_in (turn_of state old number now).world) new
-    → AddsOnly (StandsForOne state.files.volume (MayKeep (serving_of state old recent) (runs.Turns number now))) state.files.volume.history new
+    → AddsTrees state.files.volume (kept_of_world (turn_of state old number now).world) new
+    → AddsOnly (StandsForOne state.files.volume (MayKeepDuring (serving_of state old recent) (runs.Turns number now))) state.files.volume.history new
 turning_moments state old number now recent new is up moments =
-    AddsOnly-weaken _ (StandsForOne state.files.volume (MayKeep (serving_of state old recent) (runs.Turns number now))) state.files.volume.history new
+    AddsOnly-weaken _ (StandsForOne state.files.volume (MayKeepDuring (serving_of state old recent) (runs.Turns number now))) state.files.volume.history new
     (λ image found. (found.0, either found.0 found.1, found.2)) (moments recent is)
   where
-    either : (kept : Kept) → MayAdd state.files.volume recent (kept_in (turn_of state old number now).world) kept
-        → MayKeep (serving_of state old recent) (runs.Turns number now) kept
+    either : (kept : Kept) → MayAdd state.files.volume recent (kept_of_world (turn_of state old number now).world) kept
+        → MayKeepDuring (serving_of state old recent) (runs.Turns number now) kept
     either kept (inl stays) = (inl stays.0, inl (0, (omega arith, stays.1)))
-    either kept (inr goes) = subst (MayKeep (serving_of state old recent) (runs.Turns number now)) (sym goes) (
+    either kept (inr goes) = subst (MayKeepDuring (serving_of state old recent) (runs.Turns number now)) (sym goes) (
       may_leave_from (world_by state old) recent (state.files.volume.seats ∷ []) state.files.volume.is_down (runs.Turns number now) is.newest up,
       may_hold_from (world_by state old) recent (state.files.volume.seats ∷ []) state.files.volume.is_down (runs.Turns number now) up,
     )
 
 -- The table agrees with the volume after a turn too, unless that is down
 pub agrees_after : {T : Type 0} (keeps_word : Type 0) (given : Given) (old new : FileSystem) (before after : ℕ) (was is : Table) (result : Result T Fault)
-    → Changes keeps_word given old new before after (ending result) → OnOk result (Agrees new is) → OnErr result (is ≡ was) → Agrees old was → new.volume.is_down ≡ false → Agrees new is
+    → FsChanges keeps_word given old new before after (ending result) → OnOk result (Agrees new is) → OnErr result (is ≡ was) → Agrees old was → new.volume.is_down ≡ false → Agrees new is
 agrees_after keeps_word given old new before after was is (Ok done) changes agreed same agrees up = agreed
 agrees_after keeps_word given old new before after was is (Err faults.Device) changes agreed same agrees up =
     absurd (true≢false (sym changes.volume_changes.ends.down ∙ up))

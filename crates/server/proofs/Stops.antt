@@ -22,25 +22,25 @@ use Rattle.model.specs.Server.World.{World}
 use Rattle.volume.proofs.RemountLaws.{seen_left, rests_left, lasting, served_good}
 use Rattle.volume.specs.Formats.{IsFresh}
 use Rattle.volume.specs.Remounts.{StandsForGood, LeavesGood}
-use Rattle.server.specs.Headline.{IsMounted, IsGood, EveryStop, EveryRun, EveryFirst, IsNewVolume, Formatted, Powers, NeverLost, IsNotLost, EveryTrace, Stopped, executed_in, Follows, IsLater, Next, Then, EveryLife, EveryStamping}
+use Rattle.server.specs.Headline.{IsMounted, IsGoodKept, EveryStop, EveryRun, EveryFirst, IsNewVolume, Formatted, Powers, NeverLost, IsNotLost, EveryTrace, Stopped, executed_in, Follows, IsLater, Next, Then, EveryLife, EveryStamping}
 use Rattle.volume.specs.VolumeState.{StandsForOne}
-use Rattle.server.specs.Seen.{Seen, LeavesNow, MayKeep, Moves, Call, IsServed, Begins, Goes_on, Fails_at, Stays_down, Keeps_on, world_after, history_of, AreTold, told}
+use Rattle.server.specs.Seen.{Seen, LeavesNow, MayKeepDuring, Moves, ServerCall, IsServed, Begins, Goes_on, Fails_at, Stays_down, Keeps_on, world_after, history_of, AreTold, event_told}
 use Rattle.server.specs.Views.{server_limits}
 use Rattle.server.proofs.Moves.{left_now}
 
 -- a crash within a call
 stopped_in : (old new : Seen) (event : Event) → LeavesNow old → Moves old event new → (image : Image) → LeftSince new.volume.history (moment old.volume.history) image
-    → StandsForOne old.volume (MayKeep old.serving event) image
+    → StandsForOne old.volume (MayKeepDuring old.serving event) image
 stopped_in old new event leaves moves image left = ⊎_elim
     (λ (before : LeftSince old.volume.history (moment old.volume.history) image).
     let one = leaves image (left_now old.volume.history image before) in
     (one.0, (inl one.1.0, inl one.1.1), one.2))
-    (λ (added : StandsForOne old.volume (MayKeep old.serving event) image). added)
+    (λ (added : StandsForOne old.volume (MayKeepDuring old.serving event) image). added)
     (moves.moments.added (moment old.volume.history) image (omega arith) left)
 
 -- The calls so far
 
-pub record IsJoined (first : Seen) (calls : List Call) (last : Seen) : Type 0 where
+pub record IsJoined (first : Seen) (calls : List ServerCall) (last : Seen) : Type 0 where
   pub world : last.serving.world ≡ world_after first.serving.world calls
   pub run : IsRun first.serving last.serving (history_of first.serving.world calls)
   pub leaves : LeavesNow last
@@ -53,7 +53,7 @@ same_on a b c ab bc = record {
   run = bc.run ∙ ab.run;
 }
 
-pub joined : (first last : Seen) (calls : List Call) → LeavesNow first → IsServed first calls last → IsJoined first calls last
+pub joined : (first last : Seen) (calls : List ServerCall) → LeavesNow first → IsServed first calls last → IsJoined first calls last
 joined first last calls leaves Begins = record {
   world = refl;
   run = runs.Begins;
@@ -139,18 +139,18 @@ stands_more : (sectors nodes run : ℕ) (good : Kept → Type 0) (kept : Kept) (
 stands_more sectors nodes run good kept image is stands =
     ∣ (kept, is, 0, subst (λ (r : ℕ). StandsFor sectors nodes r kept image) (omega arith) stands) ∣₁
 
-leaves_good : (stopped : Stopped) → LeavesGood stopped.first.volume.sectors stopped.first.volume.limits.nodes stopped.run (IsGood stopped)
+leaves_good : (stopped : Stopped) → LeavesGood stopped.first.volume.sectors stopped.first.volume.limits.nodes stopped.run (IsGoodKept stopped)
     stopped.new.volume.history (moment stopped.old.volume.history)
 leaves_good stopped = record {
   within = stopped.moves.moments.later;
   leaves = λ image left.
       let is = every_stop stopped image left in
-      stands_more stopped.first.volume.sectors stopped.first.volume.limits.nodes stopped.run (IsGood stopped) is.kept image is.good is.stands;
+      stands_more stopped.first.volume.sectors stopped.first.volume.limits.nodes stopped.run (IsGoodKept stopped) is.kept image is.good is.stands;
 }
 
 pub every_run_again : EveryRun
 every_run_again stopped device from again remounts found =
-    let same = served_good stopped.first.volume.sectors stopped.first.volume.limits.nodes stopped.run (IsGood stopped)
+    let same = served_good stopped.first.volume.sectors stopped.first.volume.limits.nodes stopped.run (IsGoodKept stopped)
     stopped.new.volume.history (moment stopped.old.volume.history) device from again (leaves_good stopped) remounts found in
     record { good = same.kept_is; nodes = same.nodes_are; counted = same.greater }
 
@@ -203,14 +203,14 @@ never_lost = record {
   later = λ stopped device from remounts.
       let sectors = stopped.first.volume.sectors in
       let nodes = stopped.first.volume.limits.nodes in
-      not_lost sectors nodes stopped.run (IsGood stopped) device from
-      (lasting sectors nodes stopped.run (IsGood stopped) stopped.new.volume.history (moment stopped.old.volume.history) device from (leaves_good stopped) remounts);
+      not_lost sectors nodes stopped.run (IsGoodKept stopped) device from
+      (lasting sectors nodes stopped.run (IsGoodKept stopped) stopped.new.volume.history (moment stopped.old.volume.history) device from (leaves_good stopped) remounts);
 }
 
-pub follows_run : (old new : Stopped) → Follows old new → ∥ IsGood old new.start ∥₁ × (old.run < new.run)
+pub follows_run : (old new : Stopped) → Follows old new → ∥ IsGoodKept old new.start ∥₁ × (old.run < new.run)
 follows_run old new follows =
     let again = every_run_again old follows.device follows.from new.first.volume follows.remounts follows.found in
-    (subst (λ (kept : Kept). ∥ IsGood old kept ∥₁) new.mounted.begins again.good, subst (λ (r : ℕ). old.run < r) new.mounted.counted again.counted)
+    (subst (λ (kept : Kept). ∥ IsGoodKept old kept ∥₁) new.mounted.begins again.good, subst (λ (r : ℕ). old.run < r) new.mounted.counted again.counted)
 
 later_run : (old new : Stopped) → IsLater old new → old.run < new.run
 later_run old new (Next follows) = (follows_run old new follows).1
@@ -255,18 +255,18 @@ every_stamping = record {
 }
 
 -- What is told of worlds and answers needs nothing of the device
-traced : (first last : Seen) (calls : List Call) → IsServed first calls last
+traced : (first last : Seen) (calls : List ServerCall) → IsServed first calls last
     → (last.serving.world ≡ world_after first.serving.world calls) × AreTold first.serving.world calls
 traced first last calls Begins = (refl, tt)
 traced first last calls (Goes_on {calls = earlier} {old = old} {new = new} event said before does) =
     let was = traced first old earlier before in
-    (does.happens.world ∙ ap (λ (w : World). effect_of w event) was.0, (does.says ∙ ap (λ (w : World). told w event) was.0, was.1))
+    (does.happens.world ∙ ap (λ (w : World). effect_of w event) was.0, (does.says ∙ ap (λ (w : World). event_told w event) was.0, was.1))
 traced first last calls (Fails_at {calls = earlier} {old = old} {new = new} event before breaks) =
     let was = traced first old earlier before in
     (breaks.fails.world ∙ was.0, was.1)
 traced first last calls (Stays_down {calls = earlier} {old = old} {new = new} connection said before gives) =
     let was = traced first old earlier before in
-    (gives.stays.world ∙ ap (λ (w : World). effect_of w (Takes connection)) was.0, (gives.says ∙ ap (λ (w : World). told w (Takes connection)) was.0, was.1))
+    (gives.stays.world ∙ ap (λ (w : World). effect_of w (Takes connection)) was.0, (gives.says ∙ ap (λ (w : World). event_told w (Takes connection)) was.0, was.1))
 traced first last calls (Keeps_on {old = old} {new = new} before keeps) =
     let was = traced first old calls before in
     (ap (λ (s : Serving). s.world) keeps.serving ∙ was.0, was.1)

@@ -10,7 +10,7 @@ use Rattle.compound.specs.declared.step.Stepped.TheVariants as stepped
 use Rattle.compound.specs.declared.fault.Fault.{Fault}
 use Rattle.compound.specs.Volumes.{TurnGives}
 use Rattle.compound.proofs.VolumeLaws.{same_turns, idle_turns}
-use Rattle.fs.specs.Changes.{Changes}
+use Rattle.fs.specs.Changes.{FsChanges}
 use Rattle.layout.specs.Stands.{Kept}
 use Rattle.volume.specs.Changes.{Ending, Done}
 use Rattle.fs.specs.FileSystem.{FileSystem}
@@ -25,8 +25,8 @@ use Rattle.model.specs.Server.World as world
 use Rattle.model.specs.Server.World.{World, Connection, Turned, Waiting, Busy, Replied, one, called, turned, idle, is_busy, with_connection}
 use Rattle.rpc.specs.Assembly.{Assembly, Gathers, Holds, Refuses, connection_of}
 use Rattle.server.specs.declared.begun.Begun.{Begun}
-use Rattle.server.specs.Connections.{IsRising, Leads, Steps, Turns, HasGoneOn, turn_view}
-use Rattle.server.specs.Stages.{asked_at, in_progress_at, held_by, busy_with, left_of}
+use Rattle.server.specs.Connections.{IsRising, Leads, RecordSteps, ConnectionTurns, HasGoneOn, turn_view}
+use Rattle.server.specs.Stages.{asked_at, in_progress_at, held_record, busy_with, left_of}
 use Rattle.server.specs.declared.turn.Turn.{Turn}
 use Rattle.server.specs.declared.turn.Turn.TheVariants as turn
 
@@ -77,7 +77,7 @@ module _ (now : ℕ) (before : Connection) (by : World → ℕ → Turned)
 
   pub turns_by : (old new : SharedState) (after left : Connection) (done : Turn) (turn : world.Turn)
       → turn_view done ≡ turn → after ≡ left → Leads by old new left turn
-      → Turns now old new before after done
+      → ConnectionTurns now old new before after done
   turns_by old new after left done turn same_turn same_after leads = λ world number served rising is. (
     ap (λ (t : Turned). t.turn) (one_comes world number is) ∙ ((leads world number served).0 ∙ sym same_turn),
     ap (λ (t : Turned). t.world) (one_comes world number is)
@@ -86,7 +86,7 @@ module _ (now : ℕ) (before : Connection) (by : World → ℕ → Turned)
 
   pub turns_if : (old new : SharedState) (after : Connection) (result : Result Turn Fault)
       → IfOk result (λ done. Leads by old new after (turn_view done))
-      → IfOk result (Turns now old new before after)
+      → IfOk result (ConnectionTurns now old new before after)
   turns_if old new after (Ok done) leads =
       turns_by old new after after done (turn_view done) refl refl leads
   turns_if old new after (Err fault) leads = tt
@@ -94,7 +94,7 @@ module _ (now : ℕ) (before : Connection) (by : World → ℕ → Turned)
 -- nothing is done
 idle_turn : (now : ℕ) (before : Connection) (state : SharedState)
     → ((world : World) (number : ℕ) → turned world number now (Some before) ≡ idle world)
-    → Turns now state state before before turn.Idle
+    → ConnectionTurns now state state before before turn.Idle
 idle_turn now before state comes = λ world number served rising is. (
   ap (λ (t : Turned). t.turn) (one_comes now before (λ w n. idle w) comes world number is),
   ap (λ (t : Turned). t.world) (one_comes now before (λ w n. idle w) comes world number is) ∙ sym (still world state number before served rising is),
@@ -102,9 +102,9 @@ idle_turn now before state comes = λ world number served rising is. (
 
 pub idle_turn_to : (now : ℕ) (before after : Connection) (state : SharedState) → before ≡ after
     → ((world : World) (number : ℕ) → turned world number now (Some before) ≡ idle world)
-    → Turns now state state before after turn.Idle
+    → ConnectionTurns now state state before after turn.Idle
 idle_turn_to now before after state same comes =
-    subst (λ (left : Connection). Turns now state state before left turn.Idle) same (idle_turn now before state comes)
+    subst (λ (left : Connection). ConnectionTurns now state state before left turn.Idle) same (idle_turn now before state comes)
 
 -- What it comes to
 
@@ -124,8 +124,8 @@ waiting_comes now before request is world number = rw is refl
 
 -- a request that has begun goes on with its next operation
 pub held_comes : (now : ℕ) (assembly : Assembly) (request : List ℕ) (begun : Begun) → assembly ≡ Holds request → (world : World) (number : ℕ)
-    → turned world number now (Some (busy_with (held_by assembly) begun)) ≡ stepped_on world number now (in_progress_at request begun)
-held_comes now assembly request begun is world number = ap (λ (a : Assembly). turned world number now (Some (busy_with (held_by a) begun))) is
+    → turned world number now (Some (busy_with (held_record assembly) begun)) ≡ stepped_on world number now (in_progress_at request begun)
+held_comes now assembly request begun is world number = ap (λ (a : Assembly). turned world number now (Some (busy_with (held_record a) begun))) is
 
 -- a turn that is the same as another, and what it leaves
 pub leads_as : (by other : World → ℕ → Turned) (old new : SharedState) → ((world : World) (number : ℕ) → HasState world old → other world number ≡ by world number)
@@ -138,7 +138,7 @@ leads_as by other old new same after left done turn leaves did leads = λ world 
 
 -- a step of a COMPOUND, by what it leaves
 pub step_leads : (now : ℕ) (bytes : List ℕ) (begun : Begun) (done : Stepped) (old new : SharedState)
-    → compound.Steps now old new (asked_at bytes begun.call) (in_progress_at bytes begun) done → Steps now old new bytes begun (left_of begun.call done)
+    → compound.RequestSteps now old new (asked_at bytes begun.call) (in_progress_at bytes begun) done → RecordSteps now old new bytes begun (left_of begun.call done)
 step_leads now bytes begun (stepped.Ran progress) old new steps = steps
 step_leads now bytes begun (stepped.Answered reply) old new steps = steps
 
@@ -156,14 +156,14 @@ not_begun world.Closed after none = tt
 module _ (keeps_word : Type 0) (state : SharedState) (fs new : FileSystem) (before after : ℕ) where
   -- a turn that is the same as another in each such world
   pub same_changes : (turn other : World → ℕ → Turned) → ((world : World) (number : ℕ) → HasState world state → other world number ≡ turn world number) → (ending : Ending)
-      → Changes keeps_word (TurnGives state turn) fs new before after ending → Changes keeps_word (TurnGives state other) fs new before after ending
+      → FsChanges keeps_word (TurnGives state turn) fs new before after ending → FsChanges keeps_word (TurnGives state other) fs new before after ending
   same_changes turn other same ending changes =
       changes_by keeps_word (TurnGives state turn) (TurnGives state other) (same_turns state turn other same) fs new before after ending changes
 
 -- one that does nothing, beside a table that has the seats of the volume
 pub idle_changes : (keeps_word : Type 0) (state : SharedState) (failed : ℕ) (turn : World → ℕ → Turned) → state.files.volume.is_down ≡ false → (keeps_word → Agrees state.files state.table)
     → ((world : World) (number : ℕ) → HasState world state → (turn world number).executed ≡ None) → ((world : World) (number : ℕ) → HasState world state → (turn world number).world.table ≡ world.table)
-    → Changes keeps_word (TurnGives state turn) state.files state.files failed failed Done
+    → FsChanges keeps_word (TurnGives state turn) state.files state.files failed failed Done
 idle_changes keeps_word state failed turn up agrees idle tables =
     answers_quietly keeps_word (TurnGives state turn) state.files state.files failed failed refl (omega arith) up
     (λ keeps kept lasts gives.

@@ -6,7 +6,7 @@ use Rattle.layout.specs.Stands.{Kept}
 use Rattle.model.specs.Trees.Keyed.{Keyed, at, with, without}
 use Rattle.model.specs.Wire.Record.{RecordLimits, Front, Partial, Refused, Whole, front}
 use Rattle.model.specs.Wire.Rpc.{is_call_read, read_call}
-use Rattle.model.specs.Server.Runs.{Event, Happens, Fails, StaysDown, MayLeave, MayHold, IsSeatedAfter, effect_of, executed_of, executed_by}
+use Rattle.model.specs.Server.Runs.{Event, Happens, DeviceFails, StaysDown, MayLeave, MayHoldSeats, IsSeatedAfter, effect_of, executed_of, executed_by}
 use Rattle.model.specs.Sessions.Seats.{Seats}
 use Rattle.model.specs.Trees.Tree.{Tree}
 use Rattle.model.specs.Server.World as world
@@ -14,7 +14,7 @@ use Rattle.model.specs.Server.World.{World, Quiet, Closed, arrives, arrives_at, 
 use Rattle.model.proofs.Trees.KeyedLaws.{at-with_same, at-with_other, at-without_same, at-without_other}
 use Rattle.compound.specs.States.{SharedState}
 use Rattle.compound.specs.Volumes.{lasts}
-use Rattle.volume.specs.Changes.{Leaves}
+use Rattle.volume.specs.Changes.{LeavesOnCrash}
 use Rattle.volume.specs.VolumeState.{VolumeState}
 use Rattle.volume.proofs.FrontLaws.{among_more}
 use Rattle.model.proofs.Server.RuledOutLaws.{each_event_happens, dropped}
@@ -59,7 +59,7 @@ may_leave_from old recent kept down event newest up =
 
 -- an event that leaves a crash some of the trees before and the one after it, and after what has to last that one alone
 pub happened_leaving : (held : VolumeState) (after : Kept) (old new : World) (recent left : List Tree) (kept : List Seats) (old_down new_down : Bool) (event : Event) → IsAmong recent old.tree → old_down ≡ false → new_down ≡ false
-    → new ≡ effect_of old event → new.table.seats ≡ held.seats → after.tree ≡ (effect_of old event).tree → Leaves held after (lasts (executed_of old event)) recent left
+    → new ≡ effect_of old event → new.table.seats ≡ held.seats → after.tree ≡ (effect_of old event).tree → LeavesOnCrash held after (lasts (executed_of old event)) recent left
     → Happens (serving_by old recent kept old_down) event (serving_by new left (held.seats ∷ []) new_down)
 happened_leaving held after old new recent left kept old_down new_down event newest up still is seated tree leaves = record {
   up = up;
@@ -81,11 +81,11 @@ among_rest more recent one among = (suc among.0, (omega (arith, among.1.0), amon
 
 -- and the seats that it leaves
 pub may_hold_from : (old : World) (recent : List Tree) (kept : List Seats) (down : Bool) (event : Event) → down ≡ false
-    → MayHold (serving_by old recent kept down) event (effect_of old event).table.seats
+    → MayHoldSeats (serving_by old recent kept down) event (effect_of old event).table.seats
 may_hold_from old recent kept down event up = inr (subst (λ (b : Bool). IsSeatedAfter old event b (effect_of old event).table.seats) (sym up) refl)
 
 pub failed_from : (old new : World) (recent : List Tree) (kept : List Seats) (old_down new_down : Bool) (event : Event) → IsAmong recent old.tree → old_down ≡ false → new_down ≡ true → new ≡ old
-    → Fails (serving_by old recent kept old_down) event (serving_by new ((effect_of old event).tree ∷ recent) ((effect_of old event).table.seats ∷ kept) new_down)
+    → DeviceFails (serving_by old recent kept old_down) event (serving_by new ((effect_of old event).tree ∷ recent) ((effect_of old event).table.seats ∷ kept) new_down)
 failed_from old new recent kept old_down new_down event newest up down is = record {
   up = up;
   world = is;
@@ -95,7 +95,7 @@ failed_from old new recent kept old_down new_down event newest up down is = reco
     | inr rest ↦ inl rest
   ];
   seats = λ seats left. elim (among_more (effect_of old event).table.seats kept seats left) [
-    | inl first ↦ subst (MayHold (serving_by old recent kept old_down) event) (sym first) (may_hold_from old recent kept old_down event up)
+    | inl first ↦ subst (MayHoldSeats (serving_by old recent kept old_down) event) (sym first) (may_hold_from old recent kept old_down event up)
     | inr rest ↦ inl rest
   ];
 }

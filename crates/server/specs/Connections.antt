@@ -8,7 +8,7 @@ use Rattle.model.specs.Wire.Rpc.{read_call}
 use Rattle.model.specs.Server.World as world
 use Rattle.model.specs.Server.World.{World, InProgress, Turned, Answered, Busy, Replied, one, called, with_connection}
 use Rattle.server.specs.declared.connection.Connection.{Connection}
-use Rattle.server.specs.Stages.{CanGoOn, IsLeftInRun, in_progress_at, stage_view, turn_by, left_by, can_follow}
+use Rattle.server.specs.Stages.{CanGoOn, IsLeftInRun, in_progress_at, stage_view, turn_of_end, left_by_turn, can_follow}
 use Rattle.server.specs.declared.begun.Begun.{Begun}
 use Rattle.server.specs.declared.begun.TurnEnd.{TurnEnd}
 use Rattle.server.specs.declared.request.Opened.{Opened}
@@ -46,9 +46,10 @@ Leads by old new after done =
     × ((by world number).world ≡ with_connection (with_state world new) number after)
 
 -- in each such world that has this connection, its turn is this one, and leaves this world
-abbrev pub Turns : (now : ℕ) → (old new : SharedState) → (before after : world.Connection) → Turn
+abbrev pub ConnectionTurns : (now : ℕ) → (old new : SharedState) → (before after : world.Connection)
+    → Turn
     → Type 0
-Turns now old new before after done =
+ConnectionTurns now old new before after done =
     (world : World) (number : ℕ) → HasState world old → IsRising world.connections
     → at number world.connections ≡ Some before
     → ((one world number now).turn ≡ turn_view done)
@@ -69,16 +70,17 @@ HasGoneOn (Some (Busy request)) _ = ⊥
 HasGoneOn _ _ = Unit {0}
 
 -- a turn of a COMPOUND whose call stands in this record, by the definition
-abbrev pub Steps : (now : ℕ) → (old new : SharedState) → (request : List ℕ) → Begun → TurnEnd → Type 0
-Steps now old new request begun done =
+abbrev pub RecordSteps : (now : ℕ) → (old new : SharedState) → (request : List ℕ) → Begun → TurnEnd
+    → Type 0
+RecordSteps now old new request begun done =
     Leads (λ world number. stepped_on world number now (in_progress_at request begun)) old new
-    (left_by (Some request) done) (turn_by done)
+    (left_by_turn (Some request) done) (turn_of_end done)
 
 -- what it leaves, on any device
-pub record GoesOn (run : ℕ) (request : List ℕ) (begun : Begun) (done : TurnEnd) : Type 0 where
+pub record RecordGoesOn (run : ℕ) (request : List ℕ) (begun : Begun) (done : TurnEnd) : Type 0 where
   pub stays : IsLeftInRun run done
   pub further : HasGoneOn (Some (Busy (in_progress_at request begun)))
-      (Some (left_by (Some request) done))
+      (Some (left_by_turn (Some request) done))
   pub follows : can_follow (Some request) done ≡ true
 
 -- a turn that gives this reply without an operation
@@ -92,11 +94,11 @@ replied old number reply = record {
 }
 
 -- what the turn of a whole record is, in each world of this run
-abbrev pub OpensTo : (run : ℕ) → (request : List ℕ) → Opened → Type 0
-OpensTo run request (opened.Answers reply) =
+abbrev pub OpensRecord : (run : ℕ) → (request : List ℕ) → Opened → Type 0
+OpensRecord run request (opened.Answers reply) =
     (world : World) (number now : ℕ)
     → called world number now (read_call request) ≡ replied world number reply.items
-OpensTo run request (opened.Begins begun) =
+OpensRecord run request (opened.Begins begun) =
     CanGoOn run request begun
     × ((world : World) (number now : ℕ) → world.run ≡ run
     → called world number now (read_call request)

@@ -4,7 +4,7 @@ use Rattle.std.specs.Prelude.{ℕ, Bool, List, [], ◌∷◌, slice_get, Some, �
 use Rattle.disk.specs.Moments.{Image, History, LeftSince, at_rest, moment, seen}
 use Rattle.layout.specs.Stands.{Kept, bare}
 use Rattle.model.specs.Trees.Fresh.{fresh_tree}
-use Rattle.model.specs.Server.Runs.{Event, MayHold, IsGoodPrefix, AreStamped, mounted, executed, done_with, before, stamp_in}
+use Rattle.model.specs.Server.Runs.{Event, MayHoldSeats, IsGoodPrefix, AreStamped, mounted, executed, done_with, before, stamp_in}
 use Rattle.model.specs.Sessions.SeatRuns.{AreSeats}
 use Rattle.model.specs.Server.SoundRuns.{IsStart}
 use Rattle.model.specs.Server.StampRuns.{AreGiven}
@@ -17,7 +17,7 @@ use Rattle.volume.specs.Remounts.{Remounts, IsFound, LeavesGood}
 use Rattle.volume.specs.Stands.{StandsFor}
 use Rattle.volume.specs.Superblock.{last_run}
 use Rattle.volume.specs.declared.fault.MountFault.TheVariants as mounts
-use Rattle.server.specs.Seen.{Seen, Call, Moves, IsServed, world_after, history_of, AreTold}
+use Rattle.server.specs.Seen.{Seen, ServerCall, Moves, IsServed, world_after, history_of, AreTold}
 use Rattle.server.specs.Views.{server_limits, volume_of, seen_with}
 use Rattle.server.specs.declared.server.Server.{Server}
 use Rattle.disk.specs.declared.device.Device.{Ghosts}
@@ -37,8 +37,8 @@ pub record IsMounted (persistent : Bool) (run : ℕ) (start : Kept) (first : See
   pub ready : IsRecent first.volume first.serving.recent
 
 -- so begins a server that a mount gives
-abbrev pub Begins : {D : Type 0} {g : Ghosts D} → (persistent : Bool) → Server D g → Type 0
-Begins persistent server =
+abbrev pub BeginsServing : {D : Type 0} {g : Ghosts D} → (persistent : Bool) → Server D g → Type 0
+BeginsServing persistent server =
     IsMounted persistent (volume_of server).run (kept_of (volume_of server))
     (seen_with server ((volume_of server).tree ∷ []))
 
@@ -49,7 +49,7 @@ pub record Stopped : Type 0 where
   pub run : ℕ
   pub start : Kept
   pub first : Seen
-  pub calls : List Call
+  pub calls : List ServerCall
   pub old : Seen
   pub event : Event
   pub new : Seen
@@ -86,14 +86,14 @@ IsGoodTree stopped tree =
     IsGoodPrefix stopped.start.tree (executed_in stopped) (handed_out_in stopped) tree
 
 -- Such a tree, with the seats that the machine may leave beside it
-pub record IsGood (stopped : Stopped) (kept : Kept) : Type 0 where
+pub record IsGoodKept (stopped : Stopped) (kept : Kept) : Type 0 where
   pub tree : IsGoodTree stopped kept.tree
-  pub seats : MayHold stopped.old.serving stopped.event kept.seats
+  pub seats : MayHoldSeats stopped.old.serving stopped.event kept.seats
 
 -- What a crash leaves holds exactly such a pair.
-pub record IsKept (stopped : Stopped) (image : Image) : Type 0 where
+pub record IsCrashSafe (stopped : Stopped) (image : Image) : Type 0 where
   pub kept : Kept
-  pub good : IsGood stopped kept
+  pub good : IsGoodKept stopped kept
   pub stands : StandsFor stopped.first.volume.sectors stopped.first.volume.limits.nodes stopped.run
       kept image
   pub no_other : (nodes run : ℕ) (other : Kept)
@@ -101,11 +101,11 @@ pub record IsKept (stopped : Stopped) (image : Image) : Type 0 where
       → (other ≡ kept) × ((nodes ≡ stopped.first.volume.limits.nodes) × (run ≡ stopped.run))
 
 abbrev pub EveryStop : Type 0
-EveryStop = (stopped : Stopped) (image : Image) → LeftBy stopped image → IsKept stopped image
+EveryStop = (stopped : Stopped) (image : Image) → LeftBy stopped image → IsCrashSafe stopped image
 
 -- a later mount has such a pair, on a volume of as many nodes, under a greater restart count
 pub record HasGoodTree (stopped : Stopped) (again : VolumeState) : Type 0 where
-  pub good : ∥ IsGood stopped (kept_of again) ∥₁
+  pub good : ∥ IsGoodKept stopped (kept_of again) ∥₁
   pub nodes : again.limits.nodes ≡ stopped.first.volume.limits.nodes
   pub counted : stopped.run < again.run
 
@@ -158,7 +158,7 @@ pub record NeverLost : Type 0 where
   pub later : (stopped : Stopped) (device : History) (from : ℕ)
       → IsMountedAfter stopped device from
       → IsNotLost stopped.first.volume.sectors stopped.first.volume.limits.nodes stopped.run
-      (IsGood stopped) device from
+      (IsGoodKept stopped) device from
 
 -- The runs of a volume: one follows after the crash of another, and however many mounts that did
 -- not serve.
@@ -175,7 +175,7 @@ pub data IsLater (old : Stopped) : Stopped → Type 0 where
 -- Each begins with a good tree and good seats of the one before, and its restart count is above
 -- those of all before.
 pub record EveryLife : Type 0 where
-  pub begins : (old new : Stopped) → Follows old new → ∥ IsGood old new.start ∥₁
+  pub begins : (old new : Stopped) → Follows old new → ∥ IsGoodKept old new.start ∥₁
   pub rises : (old new : Stopped) → IsLater old new → old.run < new.run
 
 -- Each change gives the next stamp of its run to all that it makes or alters, one that a crash
@@ -190,6 +190,6 @@ pub record EveryStamping : Type 0 where
 
 -- What a server that isn't stopped is and answers.
 abbrev pub EveryTrace : Type 0
-EveryTrace = (first last : Seen) (calls : List Call) → IsServed first calls last
+EveryTrace = (first last : Seen) (calls : List ServerCall) → IsServed first calls last
     → (last.serving.world ≡ world_after first.serving.world calls)
     × AreTold first.serving.world calls

@@ -9,7 +9,7 @@ use Rattle.model.specs.Trees.Keyed.{at}
 use Rattle.model.specs.Operations.Operation.{SequenceArguments}
 use Rattle.model.specs.Server.Runs.{Event, Stored, effect_of, executed_of}
 use Rattle.model.specs.Server.Runs as runs
-use Rattle.model.specs.Sessions.SeatRuns.{AreSeats, AnswersBySeats, GivesHeld, HoldsFrom, IsFreed, IsFreedBy, Makes, storing, freeing, request_in}
+use Rattle.model.specs.Sessions.SeatRuns.{AreSeats, AnswersBySeats, GivesHeld, HoldsFrom, IsFreed, IsFreedBy, MakesSession, storing, freeing, request_in}
 use Rattle.model.specs.Sessions.Seats.{Seat, Seats, seat_of, has_seat}
 use Rattle.model.specs.Server.ServedOnce.{numbers_in}
 use Rattle.model.specs.Sessions.Session.{Table, Replays, begin}
@@ -23,7 +23,7 @@ use Rattle.server.specs.Seen.{history_of}
 
 -- A run that was stopped
 
-abbrev pub history_in : Stopped → runs.History
+abbrev pub history_in : Stopped → runs.RunHistory
 history_in stopped = history_of stopped.first.serving.world stopped.calls
 
 -- The replies that its seats held, and the one that was being stored; and the sessions whose seats
@@ -39,11 +39,11 @@ freed_in stopped = (history_in stopped).freed
     ++ freeing stopped.old.serving stopped.event stopped.old.serving.is_down
 
 -- Seats that its crash left: those for which a map of it stands, or that a mount since then serves
-pub data Leaves (stopped : Stopped) : Seats → Type 0 where
+pub data LeavesSeats (stopped : Stopped) : Seats → Type 0 where
   OnMap : {image : Image} {nodes run : ℕ} {kept : Kept} → LeftBy stopped image
-      → StandsFor stopped.first.volume.sectors nodes run kept image → Leaves stopped kept.seats
+      → StandsFor stopped.first.volume.sectors nodes run kept image → LeavesSeats stopped kept.seats
   OnMount : {device : History} {from : ℕ} {again : VolumeState} → IsMountedAfter stopped device from
-      → IsFound stopped.first.volume.sectors device again → Leaves stopped again.seats
+      → IsFound stopped.first.volume.sectors device again → LeavesSeats stopped again.seats
 
 -- the table of its server when the call began within which it was stopped
 abbrev pub table_in : Stopped → Table
@@ -55,14 +55,15 @@ WasUp stopped = stopped.old.serving.is_down ≡ false
 
 -- A seat that the run began with is left as it was, or it was freed.
 abbrev pub EveryStays : Type 0
-EveryStays = (stopped : Stopped) (left : Seats) → Leaves stopped left → (id : List ℕ) (seat : Seat)
+EveryStays =
+    (stopped : Stopped) (left : Seats) → LeavesSeats stopped left → (id : List ℕ) (seat : Seat)
     → seat_of id stopped.start.seats ≡ Some seat
     → ∥ ((seat_of id left ≡ Some seat) ⊎ IsFreed left (freed_in stopped) id) ∥₁
 
 -- What the crash leaves are seats of this run's sessions and of those before: a later run may begin
 -- with them.
 abbrev pub EveryFollows : Type 0
-EveryFollows = (stopped : Stopped) (left : Seats) → Leaves stopped left → (next : ℕ)
+EveryFollows = (stopped : Stopped) (left : Seats) → LeavesSeats stopped left → (next : ℕ)
     → stopped.run < next → AreSeats next left
 
 -- A session of an earlier run is answered by what its seat holds and is refused all else, and it
@@ -73,7 +74,7 @@ EveryDead = (stopped : Stopped) → WasUp stopped → AnswersBySeats stopped.old
 -- A session has a seat exactly where its CREATE_SESSION was answered with flag 1.
 abbrev pub EverySits : Type 0
 EverySits = (stopped : Stopped) → WasUp stopped → (event : Event) (answer : CreateSessionAnswer)
-    → Makes (table_in stopped) (effect_of stopped.old.serving.world event).table
+    → MakesSession (table_in stopped) (effect_of stopped.old.serving.world event).table
     (executed_of stopped.old.serving.world event) answer
     → (answer.flags ≡ 1)
     ↔ (has_seat answer.session (effect_of stopped.old.serving.world event).table.seats ≡ true)
@@ -129,7 +130,7 @@ WasFreed id first (next ∷ rest) left =
 -- next one of its slot is, or the seat was freed on the way.
 abbrev pub EveryHeld : Type 0
 EveryHeld = (first : Stopped) (rest : List Stopped) → AreRuns first rest
-    → (left : Seats) → Leaves (last_of first rest) left → (i : ℕ) (one : Stored)
+    → (left : Seats) → LeavesSeats (last_of first rest) left → (i : ℕ) (one : Stored)
     → slice_get (history_in first).stored i ≡ Some one
     → ∥ (HoldsFrom left (stored_in first) i one ⊎ WasFreed one.session first rest left) ∥₁
 

@@ -9,7 +9,7 @@ use Rattle.server.specs.Connections.{HasGoneOn}
 use Rattle.server.specs.declared.fault.ServerFault.{ServerFault}
 use Rattle.server.specs.declared.fault.ServerFault.TheVariants as faults
 use Rattle.server.specs.declared.server.Server.{Server}
-use Rattle.server.specs.Views.{world_of, volume_of, failures_of}
+use Rattle.server.specs.Views.{world_of, volume_of, server_failures}
 
 -- what a caller can tell of a server between two calls
 pub record View : Type 0 where
@@ -21,7 +21,7 @@ abbrev pub view : {D : Type 0} {g : Ghosts D} → Server D g → View
 view server = record {
   world = world_of server;
   volume = volume_of server;
-  failures = failures_of server;
+  failures = server_failures server;
 }
 
 -- all is as it was, and the device has not failed

@@ -6,24 +6,24 @@ use Rattle.model.specs.Wire.Rpc.{NoCall, read_call}
 use Rattle.model.specs.Server.World.{World, Connection, Waiting, Busy, Idle, one}
 use Rattle.volume.specs.VolumeState.{IsRecent}
 use Rattle.server.specs.Headline.{IsMounted}
-use Rattle.server.specs.Seen.{Seen, Call, IsServed, IsTurned}
+use Rattle.server.specs.Seen.{Seen, ServerCall, IsServed, IsTurned}
 
 -- the next call can be made
-abbrev pub IsReady : Seen → Type 0
-IsReady seen = IsRecent seen.volume seen.serving.recent
+abbrev pub IsSeenReady : Seen → Type 0
+IsSeenReady seen = IsRecent seen.volume seen.serving.recent
 
 -- The turns of a hang-up are calls, as those of a run, and further calls can be made after them,
 -- also where it was refused for memory
 abbrev pub HangUpIsCalls : Type 0
 HangUpIsCalls =
-    (connection now : ℕ) (first old new : Seen) (calls : List Call) → IsServed first calls old
+    (connection now : ℕ) (first old new : Seen) (calls : List ServerCall) → IsServed first calls old
     → IsTurned connection now old new
-    → ((more : List Call) × IsServed first more new) × (IsReady old → IsReady new)
+    → ((more : List ServerCall) × IsServed first more new) × (IsSeenReady old → IsSeenReady new)
 
 -- one that claims that a crash leaves nothing
 abbrev pub NeverEmpty : Type 0
 NeverEmpty =
-    (persistent : Bool) (run : ℕ) (start : Kept) (first last : Seen) (calls : List Call)
+    (persistent : Bool) (run : ℕ) (start : Kept) (first last : Seen) (calls : List ServerCall)
     → IsMounted persistent run start first → IsServed first calls last
     → last.serving.recent ≡ [] → ⊥
 

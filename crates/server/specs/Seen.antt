@@ -6,7 +6,7 @@ use Rattle.disk.specs.Moments.{Image, AddsOnly, Left}
 use Rattle.layout.specs.Stands.{Kept}
 use Rattle.volume.specs.VolumeState.{VolumeState, IsSameVolume, StandsForOne, IsRecent}
 use Rattle.model.specs.Trees.Keyed.{at}
-use Rattle.model.specs.Server.Runs.{Serving, Event, Arrives, Turns, HangsUp, Connects, Takes, Happens, Fails, StaysDown, MayLeave, MayHold, History, no_history, history_after, history_failing, effect_of}
+use Rattle.model.specs.Server.Runs.{Serving, Event, Arrives, Turns, HangsUp, Connects, Takes, Happens, DeviceFails, StaysDown, MayLeave, MayHoldSeats, RunHistory, no_history, history_after, history_failing, effect_of}
 use Rattle.model.specs.Server.World as world
 use Rattle.model.specs.Server.World.{World, Turn, one, taken_at, reply_at, is_busy}
 
@@ -24,13 +24,15 @@ LeavesNow seen = (image : Image) → Left seen.volume.history.now image
     → StandsForOne seen.volume (IsLeftBy seen.serving) image
 
 -- and while an event happens
-abbrev pub MayKeep : Serving → Event → Kept → Type 0
-MayKeep serving event kept = MayLeave serving event kept.tree × MayHold serving event kept.seats
+abbrev pub MayKeepDuring : Serving → Event → Kept → Type 0
+MayKeepDuring serving event kept =
+    MayLeave serving event kept.tree × MayHoldSeats serving event kept.seats
 
 -- what a call adds to what a crash may leave, at each moment of it: what the machine may leave
 -- while the event happens
 pub record Moves (old : Seen) (event : Event) (new : Seen) : Type 0 where
-  pub moments : AddsOnly (StandsForOne old.volume (MayKeep old.serving event)) old.volume.history
+  pub moments : AddsOnly (StandsForOne old.volume (MayKeepDuring old.serving event))
+      old.volume.history
       new.volume.history
   pub leaves : LeavesNow new
   pub same : IsSameVolume old.volume new.volume
@@ -50,13 +52,13 @@ taken_on world piece None = None
 taken_on world piece (Some connection) = taken_at world.limits.records piece connection
 
 -- by the definition
-abbrev pub told : World → Event → Said
-told world (Arrives connection piece) =
+abbrev pub event_told : World → Event → Said
+event_told world (Arrives connection piece) =
     Took (taken_on world piece (at connection world.connections))
-told world (Turns connection now) = Turned (one world connection now).turn
-told world (HangsUp connection) = Done
-told world (Connects connection) = Done
-told world (Takes connection) = Gave (reply_at world connection)
+event_told world (Turns connection now) = Turned (one world connection now).turn
+event_told world (HangsUp connection) = Done
+event_told world (Connects connection) = Done
+event_told world (Takes connection) = Gave (reply_at world connection)
 
 -- Calls
 
@@ -64,18 +66,18 @@ told world (Takes connection) = Gave (reply_at world connection)
 -- down
 pub record Does (old : Seen) (event : Event) (said : Said) (new : Seen) : Type 0 where
   pub happens : Happens old.serving event new.serving
-  pub says : said ≡ told old.serving.world event
+  pub says : said ≡ event_told old.serving.world event
   pub moves : Moves old event new
   -- so the next call can be made
   pub ready : IsRecent new.volume new.serving.recent
 
 pub record Breaks (old : Seen) (event : Event) (new : Seen) : Type 0 where
-  pub fails : Fails old.serving event new.serving
+  pub fails : DeviceFails old.serving event new.serving
   pub moves : Moves old event new
 
 pub record GivesDown (old : Seen) (connection : ℕ) (said : Said) (new : Seen) : Type 0 where
   pub stays : StaysDown old.serving connection new.serving
-  pub says : said ≡ told old.serving.world (Takes connection)
+  pub says : said ≡ event_told old.serving.world (Takes connection)
   pub moves : Moves old (Takes connection) new
 
 -- A checkpoint is no event: content was moved on the device. A crash within it leaves what it may
@@ -87,42 +89,42 @@ pub record Checkpoints (old new : Seen) : Type 0 where
   pub ready : IsRecent new.volume new.serving.recent
 
 -- what was done, the newest first
-pub data Call : Type 0 where
-  Did : Event → Said → Call
-  Failed : Event → Call
+pub data ServerCall : Type 0 where
+  Did : Event → Said → ServerCall
+  Failed : Event → ServerCall
 
-pub data IsServed (first : Seen) : List Call → Seen → Type 0 where
+pub data IsServed (first : Seen) : List ServerCall → Seen → Type 0 where
   Begins : IsServed first [] first
-  Goes_on : {calls : List Call} {old new : Seen} (event : Event) (said : Said)
+  Goes_on : {calls : List ServerCall} {old new : Seen} (event : Event) (said : Said)
       → IsServed first calls old → Does old event said new
       → IsServed first (Did event said ∷ calls) new
-  Fails_at : {calls : List Call} {old new : Seen} (event : Event) → IsServed first calls old
+  Fails_at : {calls : List ServerCall} {old new : Seen} (event : Event) → IsServed first calls old
       → Breaks old event new
       → IsServed first (Failed event ∷ calls) new
-  Stays_down : {calls : List Call} {old new : Seen} (connection : ℕ) (said : Said)
+  Stays_down : {calls : List ServerCall} {old new : Seen} (connection : ℕ) (said : Said)
       → IsServed first calls old → GivesDown old connection said new
       → IsServed first (Did (Takes connection) said ∷ calls) new
-  Keeps_on : {calls : List Call} {old new : Seen} → IsServed first calls old
+  Keeps_on : {calls : List ServerCall} {old new : Seen} → IsServed first calls old
       → Checkpoints old new → IsServed first calls new
 
 -- By the definition
 
-abbrev pub world_after : World → List Call → World
+abbrev pub world_after : World → List ServerCall → World
 world_after start [] = start
 world_after start (Did event said ∷ calls) = effect_of (world_after start calls) event
 world_after start (Failed event ∷ calls) = world_after start calls
 
-abbrev pub history_of : World → List Call → History
+abbrev pub history_of : World → List ServerCall → RunHistory
 history_of start [] = no_history
 history_of start (Did event said ∷ calls) =
     history_after (history_of start calls) (world_after start calls) event
 history_of start (Failed event ∷ calls) =
     history_failing (history_of start calls) (world_after start calls) event
 
-abbrev pub AreTold : World → List Call → Type 0
+abbrev pub AreTold : World → List ServerCall → Type 0
 AreTold start [] = Unit {0}
 AreTold start (Did event said ∷ calls) =
-    (said ≡ told (world_after start calls) event) × AreTold start calls
+    (said ≡ event_told (world_after start calls) event) × AreTold start calls
 AreTold start (Failed event ∷ calls) = AreTold start calls
 
 -- A hang-up: the further turns of a request that has begun, and then the connection goes

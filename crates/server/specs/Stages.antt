@@ -1,7 +1,7 @@
 -- What a connection does, and what has come over it.
 use Rattle.std.specs.Prelude.{◌≡◌, ℕ, Bool, true, false, ◌&&◌, List, [], ◌∷◌, Option, Some, None, Result, Ok, Err}
-use Rattle.compound.specs.Views.{Asked, asks, resumed, fits}
-use Rattle.compound.specs.Volumes.{ending_of}
+use Rattle.compound.specs.Views.{Asked, asks, resumed, fits_operations}
+use Rattle.compound.specs.Volumes.{fault_ending}
 use Rattle.compound.specs.declared.progress.Progress.{Progress}
 use Rattle.compound.specs.declared.step.Stepped.{Stepped}
 use Rattle.compound.specs.declared.step.Stepped.TheVariants as stepped
@@ -28,7 +28,7 @@ in_progress_at request begun = resumed (asked_at request begun.call) begun.progr
 -- it stands there, and can go on so
 abbrev pub fits_in : (request : List ℕ) → KeptCall → Progress → Bool
 fits_in request call progress =
-    is_within request call.place && fits (asked_at request call) progress
+    is_within request call.place && fits_operations (asked_at request call) progress
 
 -- and in this run, in which it began
 pub record CanGoOn (run : ℕ) (request : List ℕ) (begun : Begun) : Type 0 where
@@ -36,10 +36,10 @@ pub record CanGoOn (run : ℕ) (request : List ℕ) (begun : Begun) : Type 0 whe
   pub began_in : begun.progress.run ≡ run
 
 -- the record that an assembler holds
-abbrev pub held_by : Assembly → Option (List ℕ)
-held_by (Gathers bytes) = None
-held_by (Holds request) = Some request
-held_by (Refuses fault) = None
+abbrev pub held_record : Assembly → Option (List ℕ)
+held_record (Gathers bytes) = None
+held_record (Holds request) = Some request
+held_record (Refuses fault) = None
 
 abbrev pub busy_with : Option (List ℕ) → Begun → Connection
 busy_with (Some request) begun = Busy (in_progress_at request begun)
@@ -47,7 +47,7 @@ busy_with None begun = Closed
 
 abbrev pub stage_view : Assembly → Stage → Connection
 stage_view assembly stage.Receiving = connection_of assembly
-stage_view assembly (stage.Running begun) = busy_with (held_by assembly) begun
+stage_view assembly (stage.Running begun) = busy_with (held_record assembly) begun
 stage_view assembly (stage.Replied reply) = Replied reply.items
 
 abbrev pub can_go_on : Option (List ℕ) → Begun → Bool
@@ -63,7 +63,7 @@ is_fresh (Refuses fault) = false
 -- a request that has begun goes on, and nothing comes while a reply waits
 abbrev pub is_ready : Stage → Assembly → Bool
 is_ready stage.Receiving assembly = true
-is_ready (stage.Running begun) assembly = can_go_on (held_by assembly) begun
+is_ready (stage.Running begun) assembly = can_go_on (held_record assembly) begun
 is_ready (stage.Replied reply) assembly = is_fresh assembly
 
 -- A turn of a call
@@ -72,14 +72,14 @@ abbrev pub left_of : KeptCall → Stepped → TurnEnd
 left_of call (stepped.Ran progress) = left.Begun (record { call = call; progress = progress })
 left_of call (stepped.Answered reply) = left.Answered reply
 
-abbrev pub turn_by : TurnEnd → world.Turn
-turn_by (left.Begun begun) = world.Ran
-turn_by (left.Answered reply) = world.Answered
+abbrev pub turn_of_end : TurnEnd → world.Turn
+turn_of_end (left.Begun begun) = world.Ran
+turn_of_end (left.Answered reply) = world.Answered
 
 -- the connection after it
-abbrev pub left_by : Option (List ℕ) → TurnEnd → Connection
-left_by request (left.Begun begun) = busy_with request begun
-left_by request (left.Answered reply) = Replied reply.items
+abbrev pub left_by_turn : Option (List ℕ) → TurnEnd → Connection
+left_by_turn request (left.Begun begun) = busy_with request begun
+left_by_turn request (left.Answered reply) = Replied reply.items
 
 abbrev pub can_follow : Option (List ℕ) → TurnEnd → Bool
 can_follow request (left.Begun begun) = can_go_on request begun
@@ -90,6 +90,6 @@ abbrev pub IsLeftInRun : (run : ℕ) → TurnEnd → Type 0
 IsLeftInRun run (left.Begun begun) = begun.progress.run ≡ run
 IsLeftInRun run (left.Answered reply) = Unit {0}
 
-abbrev pub undone_ending : {T : Type 0} → Result T Undone → Ending
-undone_ending (Ok done) = Done
-undone_ending (Err undone) = ending_of undone.fault
+abbrev pub undone_turn_ending : {T : Type 0} → Result T Undone → Ending
+undone_turn_ending (Ok done) = Done
+undone_turn_ending (Err undone) = fault_ending undone.fault

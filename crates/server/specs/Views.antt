@@ -67,8 +67,8 @@ BeginsEmpty persistent server = world_of server
     (volume_of server).tree (world_of server).table.seats
 
 -- how often the device has failed
-unfoldable pub failures_of : {D : Type 0} {g : Ghosts D} → Server D g → ℕ
-failures_of server = fs_failures server.fs
+unfoldable pub server_failures : {D : Type 0} {g : Ghosts D} → Server D g → ℕ
+server_failures server = fs_failures server.fs
 
 -- the machine of the headline: a crash may leave these trees now, each with any of these seats
 abbrev pub serving_by : World → List Tree → (held : List Seats) → (is_down : Bool) → Serving
@@ -114,15 +114,16 @@ Keeps old new = (recent : List Tree) → IsRecent (volume_of old) recent
     → Checkpoints (seen_with old recent) (seen_with new recent)
 
 -- the device fails in it
-abbrev pub Fails : {D : Type 0} {g : Ghosts D} → (old new : Server D g) → Event → Type 0
-Fails old new event = (recent : List Tree) → IsRecent (volume_of old) recent
+abbrev pub ServerFails : {D : Type 0} {g : Ghosts D} → (old new : Server D g) → Event → Type 0
+ServerFails old new event = (recent : List Tree) → IsRecent (volume_of old) recent
     → (after : List Tree) × (held : List Seats)
     × Breaks (seen_with old recent) event (seen_down new (volume_of old).tree after held)
 
 -- a server that is down gives a reply, whichever tree it had
-abbrev pub Gives : {D : Type 0} {g : Ghosts D} → (old new : Server D g) → (connection : ℕ) → Said
+abbrev pub GivesReply : {D : Type 0} {g : Ghosts D} → (old new : Server D g) → (connection : ℕ)
+    → Said
     → Type 0
-Gives old new connection said = (tree : Tree) (recent : List Tree) (held : List Seats)
+GivesReply old new connection said = (tree : Tree) (recent : List Tree) (held : List Seats)
     → LeavesNow (seen_down old tree recent held)
     → GivesDown (seen_down old tree recent held) connection said (seen_down new tree recent held)
 

@@ -43,14 +43,14 @@ pub struct Undone {
 
 impl Begun {
     ghost use Rattle.std.specs.Prelude.{◌≡◌, false, IfOk, IfErr, OnOk, OnErr};
-    ghost use Rattle.fs.specs.Views.{fs_of, Alters};
+    ghost use Rattle.fs.specs.Views.{fs_of, AltersFs};
     ghost use Rattle.opens.specs.Views.{opens_of};
     ghost use Rattle.session.specs.Views.{table_of};
     ghost use Rattle.compound.specs.States.{Agrees, shared_of};
     ghost use Rattle.compound.specs.Steps.{stepped_on};
     ghost use Rattle.compound.specs.Volumes.{TurnGives};
-    ghost use Rattle.server.specs.Connections.{GoesOn, Steps};
-    ghost use Rattle.server.specs.Stages.{CanGoOn, in_progress_at, undone_ending};
+    ghost use Rattle.server.specs.Connections.{RecordGoesOn, RecordSteps};
+    ghost use Rattle.server.specs.Stages.{CanGoOn, in_progress_at, undone_turn_ending};
 
     /// A turn of the COMPOUND, whose call stands in this record.
     ///
@@ -64,29 +64,30 @@ impl Begun {
         table: &mut Table,
         opens: &mut Opens,
         now: u64,
-        spare: &mut Writer,
+        results_buffer: &mut Writer,
     ) -> Result<TurnEnd, Undone>
         requires goes_on { CanGoOn (fs_of fs.old).volume.run request.now self }
         requires up { (fs_of fs.old).volume.is_down ≡ false }
         requires agrees { D.keeps_word → Agrees (fs_of fs.old) (table_of table.old) }
         // Done
-        ensures step { D.keeps_word → IfOk result (Steps now (shared_of fs.old table.old opens.old)
+        ensures step { D.keeps_word
+            → IfOk result (RecordSteps now (shared_of fs.old table.old opens.old)
             (shared_of fs.new table.new opens.new) request.now self) }
         ensures agrees { D.keeps_word → OnOk result (Agrees (fs_of fs.new) (table_of table.new)) }
-        ensures goes_on { IfOk result (GoesOn (fs_of fs.old).volume.run request.now self) }
+        ensures goes_on { IfOk result (RecordGoesOn (fs_of fs.old).volume.run request.now self) }
         // Not done
         ensures back { IfErr result (λ undone. undone.begun ≡ self) }
         ensures others { OnErr result ((table_of table.new ≡ table_of table.old)
             × (opens_of opens.new ≡ opens_of opens.old)) }
         // In any case
-        ensures volume { Alters fs.old fs.new (TurnGives (shared_of fs.old table.old opens.old)
+        ensures volume { AltersFs fs.old fs.new (TurnGives (shared_of fs.old table.old opens.old)
             (λ world number. stepped_on world number now (in_progress_at request.now self)))
-            (undone_ending result) }
+            (undone_turn_ending result) }
     {
         let Begun { call, progress } = self;
         match call
             .resume(alloc, request, progress)
-            .step(fs, table, opens, now, spare)
+            .step(fs, table, opens, now, results_buffer)
         {
             Ok(done) => Ok(call.left(done)),
             Err(undone) => Err(Undone {

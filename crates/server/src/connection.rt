@@ -17,7 +17,7 @@ pub struct Connection {
     /// nothing while a reply waits.
     pub(crate) assembler: Assembler,
     /// Memory that a COMPOUND left, for the results of the next one.
-    pub(crate) spare: Writer,
+    pub(crate) results_buffer: Writer,
     pub(crate) stage: Stage,
     ghost ready: { is_ready stage assembler ≡ true },
 }

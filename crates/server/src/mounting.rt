@@ -9,13 +9,13 @@ use slab::Slab;
 use std::alloc::Global;
 use std::num::NonZeroUsize;
 
-#[tactic(auto, unfolding(crate::specs::Views::world_of, crate::specs::Views::volume_of, crate::specs::Views::failures_of, crate::specs::Connections::connections_of))]
+#[tactic(auto, unfolding(crate::specs::Views::world_of, crate::specs::Views::volume_of, crate::specs::Views::server_failures, crate::specs::Connections::connections_of))]
 impl<D: Device> Server<D> {
     ghost use Rattle.std.specs.Prelude.{IfOk, IfErr};
     ghost use Rattle.fs.specs.Formatting.{Formats};
     ghost use Rattle.volume.specs.MountAnswers.{MountServes, MountGivesBack};
-    ghost use Rattle.server.specs.Headline.{Begins};
-    ghost use Rattle.server.specs.Views.{BeginsEmpty, volume_of, failures_of};
+    ghost use Rattle.server.specs.Headline.{BeginsServing};
+    ghost use Rattle.server.specs.Views.{BeginsEmpty, volume_of, server_failures};
 
     /// Makes the device a new volume of this many nodes, with an empty root: `Fs::format`.
     pub fn format(alloc: Global, device: &mut D, nodes: u32) -> Result<(), FormatFault>
@@ -37,8 +37,8 @@ impl<D: Device> Server<D> {
     pub fn mount(alloc: Global, device: D, persistent: bool) -> Result<Server<D>, Unmounted<D>>
         ensures world { IfOk result (BeginsEmpty persistent) }
         ensures serves { IfOk result (λ server. MountServes D.keeps_word D.size D.failed D.history
-            device (volume_of server) (failures_of server)) }
-        ensures begins { D.keeps_word → IfOk result (Begins persistent) }
+            device (volume_of server) (server_failures server)) }
+        ensures begins { D.keeps_word → IfOk result (BeginsServing persistent) }
         ensures gives_back { IfErr result (MountGivesBack D.keeps_word D.size D.failed D.history
             device) }
     {
@@ -58,8 +58,8 @@ impl<D: Device> Server<D> {
     ) -> Result<Server<D>, Unmounted<D>>
         ensures world { IfOk result (BeginsEmpty persistent) }
         ensures serves { IfOk result (λ server. MountServes D.keeps_word D.size D.failed D.history
-            device (volume_of server) (failures_of server)) }
-        ensures begins { D.keeps_word → IfOk result (Begins persistent) }
+            device (volume_of server) (server_failures server)) }
+        ensures begins { D.keeps_word → IfOk result (BeginsServing persistent) }
         ensures gives_back { IfErr result (MountGivesBack D.keeps_word D.size D.failed D.history
             device) }
     {
@@ -75,8 +75,8 @@ impl<D: Device> Server<D> {
     ) -> Result<Server<D>, Unmounted<D>>
         ensures world { IfOk result (BeginsEmpty persistent) }
         ensures serves { IfOk result (λ server. MountServes D.keeps_word D.size D.failed D.history
-            device (volume_of server) (failures_of server)) }
-        ensures begins { D.keeps_word → IfOk result (Begins persistent) }
+            device (volume_of server) (server_failures server)) }
+        ensures begins { D.keeps_word → IfOk result (BeginsServing persistent) }
         ensures gives_back { IfErr result (MountGivesBack D.keeps_word D.size D.failed D.history
             device) }
     {

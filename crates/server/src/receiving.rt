@@ -49,7 +49,7 @@ impl Connection {
         Ok(Connection {
             alloc,
             assembler,
-            spare: Writer::new(alloc),
+            results_buffer: Writer::new(alloc),
             stage: Stage::Receiving,
         })
     }

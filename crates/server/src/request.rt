@@ -1,7 +1,7 @@
 //! A whole record: its call is answered at once, or its COMPOUND begins.
 
 ghost use Rattle.std.specs.Prelude.{◌≡◌, Some, [], true, false, IfOk, IfErr, OnOk, OnErr};
-ghost use Rattle.fs.specs.Views.{fs_of, Alters};
+ghost use Rattle.fs.specs.Views.{fs_of, AltersFs};
 ghost use Rattle.model.specs.Wire.Record.{framed};
 ghost use Rattle.model.specs.Wire.Rpc as rpc;
 ghost use Rattle.model.specs.Wire.Rpc.{is_call_read, reply_text};
@@ -12,8 +12,8 @@ ghost use Rattle.session.specs.Views.{table_of};
 ghost use Rattle.compound.specs.States.{Agrees, shared_of};
 ghost use Rattle.compound.specs.Volumes.{TurnGives, ending};
 ghost use Rattle.compound.specs.declared.fault.Fault.TheVariants.{Memory};
-ghost use Rattle.server.specs.Connections.{OpensTo, Leads};
-ghost use Rattle.server.specs.Stages.{IsLeftInRun, turn_by, left_by, can_follow};
+ghost use Rattle.server.specs.Connections.{OpensRecord, Leads};
+ghost use Rattle.server.specs.Stages.{IsLeftInRun, turn_of_end, left_by_turn, can_follow};
 
 use crate::begun::{Begun, KeptCall, TurnEnd};
 use compound::{Fault, Progress};
@@ -46,7 +46,7 @@ pub fn first_turn<D: Device>(
     table: &mut Table,
     opens: &mut Opens,
     now: u64,
-    spare: &mut Writer,
+    results_buffer: &mut Writer,
 ) -> Result<TurnEnd, Fault>
     requires up { (fs_of fs.old).volume.is_down ≡ false }
     requires call { is_call_read (rpc.read_call request.now) ≡ true }
@@ -54,7 +54,7 @@ pub fn first_turn<D: Device>(
     ensures turn { D.keeps_word → IfOk result (λ done. Leads (λ world number.
         called world number now (rpc.read_call request.now))
         (shared_of fs.old table.old opens.old) (shared_of fs.new table.new opens.new)
-        (left_by (Some request.now) done) (turn_by done)) }
+        (left_by_turn (Some request.now) done) (turn_of_end done)) }
     ensures stays { IfOk result (IsLeftInRun (fs_of fs.old).volume.run) }
     ensures follows { IfOk result (λ done. can_follow (Some request.now) done ≡ true) }
     ensures agrees { D.keeps_word → OnOk result (Agrees (fs_of fs.new) (table_of table.new)) }
@@ -62,15 +62,23 @@ pub fn first_turn<D: Device>(
     ensures back { OnErr result ((table_of table.new ≡ table_of table.old)
         × (opens_of opens.new ≡ opens_of opens.old)) }
     // In every answer
-    ensures volume { Alters fs.old fs.new (TurnGives (shared_of fs.old table.old opens.old)
+    ensures volume { AltersFs fs.old fs.new (TurnGives (shared_of fs.old table.old opens.old)
         (λ world number. called world number now (rpc.read_call request.now))) (ending result) }
 {
-    match open(alloc, fs.restart_count(), request, spare)? {
+    match open(alloc, fs.restart_count(), request, results_buffer)? {
         Opened::Answers(reply) => Ok(TurnEnd::Answered(reply)),
-        Opened::Begins(begun) => match begun.step(alloc, request, fs, table, opens, now, spare) {
+        Opened::Begins(begun) => match begun.step(
+            alloc,
+            request,
+            fs,
+            table,
+            opens,
+            now,
+            results_buffer,
+        ) {
             Ok(done) => Ok(done),
             Err(undone) => {
-                *spare = undone.begun.progress.into_memory();
+                *results_buffer = undone.begun.progress.into_memory();
                 Err(undone.fault)
             }
         },
@@ -78,10 +86,15 @@ pub fn first_turn<D: Device>(
 }
 
 /// Reads the call of a whole record, and tests it. All memory for its reply is taken here, or from
-/// `spare`.
-pub fn open(alloc: Global, run: u32, request: &[u8], spare: &mut Writer) -> Result<Opened, Fault>
+/// `results_buffer`.
+pub fn open(
+    alloc: Global,
+    run: u32,
+    request: &[u8],
+    results_buffer: &mut Writer,
+) -> Result<Opened, Fault>
     requires { is_call_read (rpc.read_call request.now) ≡ true }
-    ensures ok { IfOk result (OpensTo run request.now) }
+    ensures ok { IfOk result (OpensRecord run request.now) }
     ensures err { IfErr result (λ fault. fault ≡ Memory) }
 {
     let call = match read_call(request) {
@@ -95,7 +108,7 @@ pub fn open(alloc: Global, run: u32, request: &[u8], spare: &mut Writer) -> Resu
     match call.request() {
         Request::Answers(reply) => Ok(Opened::Answers(record_of(alloc, call.xid, &reply)?)),
         Request::Runs(cred, compound) => {
-            let progress = Progress::begin(alloc, run, spare)?;
+            let progress = Progress::begin(alloc, run, results_buffer)?;
             let place = CompoundPlace::of(request, call.body, &compound);
             let call = KeptCall {
                 xid: call.xid,

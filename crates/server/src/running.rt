@@ -17,15 +17,15 @@ use std::mem;
 #[tactic(auto, unfolding(crate::specs::Connections::connection_view))]
 impl Connection {
     ghost use Rattle.std.specs.Prelude.{◌≡◌, ℕ, List, Some, true, false, OnOk, IfOk, OnErr};
-    ghost use Rattle.fs.specs.Views.{fs_of, Alters};
+    ghost use Rattle.fs.specs.Views.{fs_of, AltersFs};
     ghost use Rattle.model.specs.Server.World.{turned};
     ghost use Rattle.opens.specs.Views.{opens_of};
     ghost use Rattle.session.specs.Views.{table_of};
     ghost use Rattle.rpc.specs.Assembly.{Holds};
     ghost use Rattle.compound.specs.States.{Agrees, shared_of};
     ghost use Rattle.compound.specs.Volumes.{TurnGives, ending};
-    ghost use Rattle.server.specs.Connections.{connection_view, turn_view, Turns, Leads, IsOfRun, HasGoneOn};
-    ghost use Rattle.server.specs.Stages.{CanGoOn, held_by, busy_with, turn_by, left_by, can_follow};
+    ghost use Rattle.server.specs.Connections.{connection_view, turn_view, ConnectionTurns, Leads, IsOfRun, HasGoneOn};
+    ghost use Rattle.server.specs.Stages.{CanGoOn, held_record, busy_with, turn_of_end, left_by_turn, can_follow};
 
     /// Runs one operation of the request that waits or has begun, or has a seat hold the reply of
     /// one that has ended, at this moment in nanoseconds since 1970.
@@ -39,7 +39,8 @@ impl Connection {
         requires up { (fs_of fs.old).volume.is_down ≡ false }
         requires run { IsOfRun (fs_of fs.old).volume.run (connection_view self.old) }
         requires agrees { D.keeps_word → Agrees (fs_of fs.old) (table_of table.old) }
-        ensures turn { D.keeps_word → IfOk result (Turns now (shared_of fs.old table.old opens.old)
+        ensures turn { D.keeps_word
+            → IfOk result (ConnectionTurns now (shared_of fs.old table.old opens.old)
             (shared_of fs.new table.new opens.new) (connection_view self.old)
             (connection_view self.new)) }
         ensures further { OnOk result
@@ -51,7 +52,7 @@ impl Connection {
             × (table_of table.new ≡ table_of table.old)
             × (opens_of opens.new ≡ opens_of opens.old)) }
         // In every answer
-        ensures volume { Alters fs.old fs.new (TurnGives (shared_of fs.old table.old opens.old)
+        ensures volume { AltersFs fs.old fs.new (TurnGives (shared_of fs.old table.old opens.old)
             (λ world number. turned world number now (Some (connection_view self.old))))
             (ending result) }
     {
@@ -64,7 +65,7 @@ impl Connection {
                     table,
                     opens,
                     now,
-                    &mut self.spare,
+                    &mut self.results_buffer,
                 ) {
                     Ok(done) => Ok(self.settle(done)),
                     Err(fault) => Err(fault),
@@ -94,28 +95,36 @@ impl Connection {
         requires agrees { D.keeps_word → Agrees (fs_of fs.old) (table_of table.old) }
         // What it answers
         ensures turn { D.keeps_word → IfOk result (λ done. Leads (λ world number.
-            turned world number now (Some (busy_with (held_by self.old.assembler) begun)))
+            turned world number now (Some (busy_with (held_record self.old.assembler) begun)))
             (shared_of fs.old table.old opens.old) (shared_of fs.new table.new opens.new)
             (connection_view self.new) (turn_view done)) }
         ensures further { OnOk result (HasGoneOn
-            (Some (busy_with (held_by self.old.assembler) begun))
+            (Some (busy_with (held_record self.old.assembler) begun))
             (Some (connection_view self.new))) }
         ensures run { IsOfRun (fs_of fs.old).volume.run (connection_view self.new) }
         ensures agrees { D.keeps_word → OnOk result (Agrees (fs_of fs.new) (table_of table.new)) }
         // Refused
         ensures back { OnErr result
-            ((connection_view self.new ≡ busy_with (held_by self.old.assembler) begun)
+            ((connection_view self.new ≡ busy_with (held_record self.old.assembler) begun)
             × (table_of table.new ≡ table_of table.old)
             × (opens_of opens.new ≡ opens_of opens.old)) }
         // In any case
-        ensures volume { Alters fs.old fs.new (TurnGives (shared_of fs.old table.old opens.old)
+        ensures volume { AltersFs fs.old fs.new (TurnGives (shared_of fs.old table.old opens.old)
             (λ world number. turned world number now
-            (Some (busy_with (held_by self.old.assembler) begun)))) (ending result) }
+            (Some (busy_with (held_record self.old.assembler) begun)))) (ending result) }
     {
         let Some(record) = self.assembler.record() else {
             unreachable!();
         };
-        match begun.step(self.alloc, record, fs, table, opens, now, &mut self.spare) {
+        match begun.step(
+            self.alloc,
+            record,
+            fs,
+            table,
+            opens,
+            now,
+            &mut self.results_buffer,
+        ) {
             Ok(done) => Ok(self.settle(done)),
             Err(undone) => {
                 self.stage = Stage::Running(undone.begun);
@@ -127,9 +136,10 @@ impl Connection {
     /// Goes on after a step, and says what the turn was. With the reply the record goes.
     fn settle(&mut self, done: TurnEnd) -> Turn
         requires holds { (request : List ℕ) × (self.old.assembler ≡ Holds request) }
-        requires follows { can_follow (held_by self.old.assembler) done ≡ true }
-        ensures turn { turn_view result ≡ turn_by done }
-        ensures state { connection_view self.new ≡ left_by (held_by self.old.assembler) done }
+        requires follows { can_follow (held_record self.old.assembler) done ≡ true }
+        ensures turn { turn_view result ≡ turn_of_end done }
+        ensures state { connection_view self.new
+            ≡ left_by_turn (held_record self.old.assembler) done }
     {
         match done {
             TurnEnd::Begun(begun) => {

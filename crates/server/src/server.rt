@@ -40,7 +40,7 @@ pub struct Server<D: Device> {
         → Agrees (fs_of fs) (table_of table) },
 }
 
-#[tactic(auto, unfolding(crate::specs::Views::world_of, crate::specs::Views::files_of, crate::specs::Views::volume_of, crate::specs::Views::failures_of))]
+#[tactic(auto, unfolding(crate::specs::Views::world_of, crate::specs::Views::files_of, crate::specs::Views::volume_of, crate::specs::Views::server_failures))]
 impl<D: Device> Server<D> {
     ghost use Rattle.std.specs.Prelude.{◌≢◌, ◌≡◌, ◌≤◌, ◌↔◌, List, true, false, Some, None, length, OnOk, OnErr, IfOk, IfErr, IsErrOf};
     ghost use Rattle.model.specs.Server.Runs as runs;
@@ -50,7 +50,7 @@ impl<D: Device> Server<D> {
     ghost use Rattle.server.specs.Connections.{turn_view};
     ghost use Rattle.server.specs.Refused.{view, IsUntouched, connection_at, HasKept, HasTurned, RefusesCheckpoint, RefusesTurn, RefusesHangUp};
     ghost use Rattle.server.specs.Seen.{Does, Breaks, Took, Turned, Done};
-    ghost use Rattle.server.specs.Views.{world_of, files_of, volume_of, failures_of, most_connections, seen_with, seen_down, gave, Serves, Fails, Gives, Keeps, Turning};
+    ghost use Rattle.server.specs.Views.{world_of, files_of, volume_of, server_failures, most_connections, seen_with, seen_down, gave, Serves, ServerFails, GivesReply, Keeps, Turning};
 
     /// The run of this mount: the restart count that it wrote.
     pub fn restart_count(&self) -> u32
@@ -64,7 +64,7 @@ impl<D: Device> Server<D> {
     pub fn into_device(self) -> D
         ensures history { D.history result ≡ (volume_of self).history }
         ensures size { D.size result ≡ (volume_of self).sectors }
-        ensures failures { D.failed result ≡ failures_of self }
+        ensures failures { D.failed result ≡ server_failures self }
     {
         self.fs.into_device()
     }
@@ -89,7 +89,7 @@ impl<D: Device> Server<D> {
             (fault ≢ ServerFault.NoConnection) × (fault ≢ ServerFault.Closed)) }
         ensures err { OnErr result (world_of self.new ≡ world_of self.old) }
         ensures volume { files_of self.new ≡ files_of self.old }
-        ensures failures { failures_of self.new ≡ failures_of self.old }
+        ensures failures { server_failures self.new ≡ server_failures self.old }
     {
         if self.fs.is_down() {
             return Err(ServerFault::Device);
@@ -123,7 +123,7 @@ impl<D: Device> Server<D> {
         ensures err { IfErr result (λ fault.
             (fault ≢ ServerFault.Closed) → world_of self.new ≡ world_of self.old) }
         ensures volume { files_of self.new ≡ files_of self.old }
-        ensures failures { failures_of self.new ≡ failures_of self.old }
+        ensures failures { server_failures self.new ≡ server_failures self.old }
     {
         if self.fs.is_down() {
             return Err(ServerFault::Device);
@@ -153,7 +153,8 @@ impl<D: Device> Server<D> {
             (HasTurned D.keeps_word (view self.old) (view self.new) conn now) }
         // The device fails in it
         ensures fails { D.keeps_word → (volume_of self.old).is_down ≡ false
-            → IsErrOf result ServerFault.Device → Fails self.old self.new (runs.Turns conn now) }
+            → IsErrOf result ServerFault.Device
+            → ServerFails self.old self.new (runs.Turns conn now) }
         // Refused
         ensures refused { IfErr result (RefusesTurn (view self.old) (view self.new) conn) }
         ensures is_down { (volume_of self.old).is_down ≡ true
@@ -162,7 +163,7 @@ impl<D: Device> Server<D> {
             → connection_at (view self.old) conn ≡ None → IsErrOf result ServerFault.NoConnection }
         ensures is_closed { (volume_of self.old).is_down ≡ false
             → connection_at (view self.old) conn ≡ Some Closed → IsErrOf result ServerFault.Closed }
-        ensures later { failures_of self.old ≤ failures_of self.new }
+        ensures later { server_failures self.old ≤ server_failures self.new }
     {
         if self.fs.is_down() {
             return Err(ServerFault::Device);
@@ -202,7 +203,7 @@ impl<D: Device> Server<D> {
             → IsErrOf result ServerFault.Device × IsUntouched (view self.old) (view self.new) }
         ensures is_none { (volume_of self.old).is_down ≡ false
             → connection_at (view self.old) conn ≡ None → IsErrOf result ServerFault.NoConnection }
-        ensures later { failures_of self.old ≤ failures_of self.new }
+        ensures later { server_failures self.old ≤ server_failures self.new }
     {
         if self.fs.is_down() {
             return Err(ServerFault::Device);
@@ -239,7 +240,7 @@ impl<D: Device> Server<D> {
         ensures kept { OnOk result (HasKept (view self.old) (view self.new)) }
         // The device fails in it
         ensures fails { D.keeps_word → (volume_of self.old).is_down ≡ false
-            → OnErr result ((event : runs.Event) → Fails self.old self.new event) }
+            → OnErr result ((event : runs.Event) → ServerFails self.old self.new event) }
         // Refused
         ensures refused { IfErr result (RefusesCheckpoint (view self.old) (view self.new)) }
         ensures is_down { (volume_of self.old).is_down ≡ true
@@ -263,14 +264,14 @@ impl<D: Device> Server<D> {
         ensures ok { D.keeps_word → (volume_of self.old).is_down ≡ false
             → IfOk result (λ output. Serves self.old self.new (runs.Takes conn) (gave output)) }
         ensures down { D.keeps_word → (volume_of self.old).is_down ≡ true
-            → IfOk result (λ output. Gives self.old self.new conn (gave output)) }
+            → IfOk result (λ output. GivesReply self.old self.new conn (gave output)) }
         // Refused
         ensures no_connection { IsErrOf result ServerFault.NoConnection
             ↔ (connection_at (view self.old) conn ≡ None) }
         ensures only { IfErr result (λ fault. fault ≡ ServerFault.NoConnection) }
         ensures err { OnErr result (world_of self.new ≡ world_of self.old) }
         ensures volume { files_of self.new ≡ files_of self.old }
-        ensures failures { failures_of self.new ≡ failures_of self.old }
+        ensures failures { server_failures self.new ≡ server_failures self.old }
     {
         match self.connections.get_mut(conn) {
             Some(connection) => Ok(connection.take_output()),

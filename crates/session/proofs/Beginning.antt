@@ -9,7 +9,7 @@ use Rattle.model.specs.Sessions.Session.{Begun, Refuses, Replays, Runs, SlotStat
 use Rattle.session.specs.declared.slot.Next.TheVariants as next
 use Rattle.session.specs.Slots.{next_of, refusal_of, kept_reply}
 use Rattle.session.specs.Seating.{reply_held}
-use Rattle.session.specs.Views.{reply_at}
+use Rattle.session.specs.Views.{session_reply}
 
 pub refuses : (b : Begun) (reason : Status) → next_of b ≡ Err reason → b ≡ Refuses reason
 refuses (Refuses why) reason e = cc
@@ -54,7 +54,7 @@ inside_replays true b reply e = e
 inside_replays false b reply e = cc
 
 -- a retry is answered by the kept reply
-pub replays_kept : (uid count : ℕ) (arguments : SequenceArguments) (seats : Seats) (session : Session) (reply : List ℕ) → begin_by uid count arguments seats (Some session) ≡ Replays reply → reply_at arguments.slot session ≡ Some reply
+pub replays_kept : (uid count : ℕ) (arguments : SequenceArguments) (seats : Seats) (session : Session) (reply : List ℕ) → begin_by uid count arguments seats (Some session) ≡ Replays reply → session_reply arguments.slot session ≡ Some reply
 replays_kept uid count arguments seats session reply e =
     let slot : Slot = slot_at session arguments.slot in
     slot_replays uid count arguments session slot slot.state reply

@@ -3,14 +3,14 @@ use Rattle.std.proofs.Common.{◌≡◌, ℕ, zero, suc, ◌<◌, Bool, true, fa
 use Rattle.std.proofs.lemmas.Bool.{true≢false, false_from_ne_true, and_parts}
 use Rattle.std.proofs.lemmas.List.Quantifiers.{position-Some}
 use Rattle.std.proofs.lemmas.Slice.Eq.{bytes_eq-Decides}
-use Rattle.model.specs.Sessions.Seats.{HeldReply, Seat, Seats, AreApart, is_seat_of, seat_of, has_seat, freed, with_held, holding}
-use Rattle.model.specs.Sessions.SeatEdits.{SeatEdit, Stays, Frees, Takes, Holds, edited, edited_all, stays, all_stay, CanEdit, CanEditAll}
+use Rattle.model.specs.Sessions.Seats.{HeldReply, Seat, Seats, SeatsApart, is_seat_of, seat_of, has_seat, freed, with_held, holding}
+use Rattle.model.specs.Sessions.SeatEdits.{SeatEdit, Stays, Frees, Takes, Holds, edited_seat, edited_all, stays, all_stay, CanEdit, CanEditAll}
 use Rattle.session.specs.Seating.{EditsOne, is_place_of, edited_if}
 use Rattle.session.proofs.Lists.{position-None}
 
 -- None
 
-same_place : (edit : SeatEdit) (place : Option Seat) → stays edit ≡ true → edited edit place ≡ place
+same_place : (edit : SeatEdit) (place : Option Seat) → stays edit ≡ true → edited_seat edit place ≡ place
 same_place Stays place e = refl
 same_place Frees place e = absurd (true≢false (sym e))
 same_place (Takes seat) place e = absurd (true≢false (sym e))
@@ -25,7 +25,7 @@ idle [] seats e = refl
 idle (edit ∷ edits) [] e = refl
 idle (edit ∷ edits) (place ∷ seats) e =
     let parts = and_parts (stays edit) (all_stay edits) e in
-    cons_same (edited edit place) place (edited_all edits seats) seats (same_place edit place parts.0) (idle edits seats parts.1)
+    cons_same (edited_seat edit place) place (edited_all edits seats) seats (same_place edit place parts.0) (idle edits seats parts.1)
 
 pub stay_all : (count : ℕ) (seats : Seats) → edited_all (replicate count Stays) seats ≡ seats
 stay_all zero seats = refl
@@ -58,7 +58,7 @@ module _ (id : List ℕ) where
   other_first : (seat : Seat) (seats : Seats) → has_seat seat.session seats ≡ false → has_seat id seats ≡ true → bytes_eq seat.session id ≡ false
   other_first seat seats none later = false_from_ne_true (bytes_eq seat.session id) (λ is. true≢false (sym later ∙ none_later seat seats none is))
 
-  pub seat_there : (seats : Seats) (i : ℕ) → AreApart seats → i < length seats → is_place_of id (get_or seats i None) ≡ true → seat_of id seats ≡ get_or seats i None
+  pub seat_there : (seats : Seats) (i : ℕ) → SeatsApart seats → i < length seats → is_place_of id (get_or seats i None) ≡ true → seat_of id seats ≡ get_or seats i None
   seat_there [] i apart within here = absurd (omega arith)
   seat_there (None ∷ seats) zero apart within here = absurd (true≢false (sym here))
   seat_there (None ∷ seats) (suc i) apart within here = seat_there seats i apart (omega arith) here
@@ -74,11 +74,11 @@ module _ (id : List ℕ) where
     untouched (Some seat ∷ seats) none = by_test (bytes_eq seat.session id) none (untouched seats)
       where
         by_test : (b : Bool) → is_some (cond b (Some seat) (seat_of id seats)) ≡ false → (has_seat id seats ≡ false → map (edited_if id edit) seats ≡ seats)
-            → (cond b (edited edit (Some seat)) (Some seat) ∷ map (edited_if id edit) seats) ≡ (Some seat ∷ seats)
+            → (cond b (edited_seat edit (Some seat)) (Some seat) ∷ map (edited_if id edit) seats) ≡ (Some seat ∷ seats)
         by_test true none rest = absurd (true≢false none)
         by_test false none rest = ap (λ (others : Seats). Some seat ∷ others) (rest none)
 
-    edits_there : (count : ℕ) (seats : Seats) (i : ℕ) → count ≡ length seats → AreApart seats → i < length seats → is_place_of id (get_or seats i None) ≡ true
+    edits_there : (count : ℕ) (seats : Seats) (i : ℕ) → count ≡ length seats → SeatsApart seats → i < length seats → is_place_of id (get_or seats i None) ≡ true
         → edited_all (set (replicate count Stays) i edit) seats ≡ map (edited_if id edit) seats
     edits_there count [] i e apart within here = absurd (omega arith)
     edits_there zero (place ∷ seats) i e apart within here = absurd (omega (arith, e))
@@ -86,11 +86,11 @@ module _ (id : List ℕ) where
     edits_there (suc count) (None ∷ seats) (suc i) e apart within here =
         ap (λ (rest : Seats). None ∷ rest) (edits_there count seats i (omega (arith, e)) apart (omega arith) here)
     edits_there (suc count) (Some seat ∷ seats) zero e apart within here =
-        ap (λ (rest : Seats). edited edit (Some seat) ∷ rest) (stay_all count seats ∙ sym (untouched seats (none_later seat seats apart.0 here)))
-        ∙ ap (λ (b : Bool). cond b (edited edit (Some seat)) (Some seat) ∷ map (edited_if id edit) seats) (sym here)
+        ap (λ (rest : Seats). edited_seat edit (Some seat) ∷ rest) (stay_all count seats ∙ sym (untouched seats (none_later seat seats apart.0 here)))
+        ∙ ap (λ (b : Bool). cond b (edited_seat edit (Some seat)) (Some seat) ∷ map (edited_if id edit) seats) (sym here)
     edits_there (suc count) (Some seat ∷ seats) (suc i) e apart within here =
         ap (λ (rest : Seats). Some seat ∷ rest) (edits_there count seats i (omega (arith, e)) apart.1 (omega arith) here)
-        ∙ ap (λ (b : Bool). cond b (edited edit (Some seat)) (Some seat) ∷ map (edited_if id edit) seats) (sym (other_first seat seats apart.0 (is_there seats i (omega arith) here)))
+        ∙ ap (λ (b : Bool). cond b (edited_seat edit (Some seat)) (Some seat) ∷ map (edited_if id edit) seats) (sym (other_first seat seats apart.0 (is_there seats i (omega arith) here)))
 
     can_there : (count : ℕ) (seats : Seats) (i : ℕ) → count ≡ length seats → i < length seats → CanEdit edit (get_or seats i None) → CanEditAll (set (replicate count Stays) i edit) seats
     can_there count [] i e within can = absurd (omega arith)
@@ -99,7 +99,7 @@ module _ (id : List ℕ) where
     can_there (suc count) (place ∷ seats) (suc i) e within can = (tt, can_there count seats i (omega (arith, e)) (omega arith) can)
 
     -- the place is found, or there is none
-    pub edits_found : (count : ℕ) (seats : Seats) (i : ℕ) → count ≡ length seats → AreApart seats → position (is_place_of id) seats ≡ Some i
+    pub edits_found : (count : ℕ) (seats : Seats) (i : ℕ) → count ≡ length seats → SeatsApart seats → position (is_place_of id) seats ≡ Some i
         → ((seat : Seat) → seat_of id seats ≡ Some seat → CanEdit edit (Some seat)) → EditsOne id edit seats (set (replicate count Stays) i edit)
     edits_found count seats i e apart found can =
         let at = position-Some (is_place_of id) seats i None found in

@@ -4,7 +4,7 @@ use Rattle.std.specs.List.{list_all, enumerate_from}
 use Rattle.std.proofs.lemmas.List.FromFn.{get_or-enumerate_from}
 use Rattle.model.specs.declared.seats.SeatEdit.{SeatEdit as Edit}
 use Rattle.model.specs.Sessions.Seats.{Seat, Seats}
-use Rattle.model.specs.Sessions.SeatEdits.{SeatEdit, edited, edited_all, edit_view, stays, all_stay}
+use Rattle.model.specs.Sessions.SeatEdits.{SeatEdit, edited_seat, edited_all, edit_view, stays, all_stay}
 
 pub all_stay_is : (edits : List Edit) → all_stay (map edit_view edits) ≡ list_all (λ edit. stays (edit_view edit)) edits
 all_stay_is [] = refl
@@ -13,11 +13,11 @@ all_stay_is (edit ∷ edits) = ap (λ b. stays (edit_view edit) && b) (all_stay_
 -- one more
 
 pub edited_more : (edits : List SeatEdit) (edit : SeatEdit) (seats : Seats) (d : Option Seat) → length edits < length seats
-    → edited_all (edits ++ edit ∷ []) seats ≡ set (edited_all edits seats) (length edits) (edited edit (get_or (edited_all edits seats) (length edits) d))
+    → edited_all (edits ++ edit ∷ []) seats ≡ set (edited_all edits seats) (length edits) (edited_seat edit (get_or (edited_all edits seats) (length edits) d))
 edited_more [] edit [] d within = absurd (omega arith)
 edited_more [] edit (place ∷ seats) d within = refl
 edited_more (first ∷ edits) edit [] d within = absurd (omega arith)
-edited_more (first ∷ edits) edit (place ∷ seats) d within = ap (λ (rest : Seats). edited first place ∷ rest) (edited_more edits edit seats d (omega arith))
+edited_more (first ∷ edits) edit (place ∷ seats) d within = ap (λ (rest : Seats). edited_seat first place ∷ rest) (edited_more edits edit seats d (omega arith))
 
 -- with their places
 

@@ -3,7 +3,7 @@ use Rattle.std.proofs.Common.{◌≡◌, ℕ, zero, suc, ◌≤◌, Bool, true, 
 use Rattle.std.proofs.lemmas.Slice.Eq.{bytes_eq-Decides}
 use Rattle.model.specs.declared.status.Status.{Status}
 use Rattle.model.specs.declared.status.Status.TheVariants as status
-use Rattle.model.specs.Sessions.Seats.{HeldReply, Seat, Seats, AreApart, seat_of, has_seat, with_held, holding}
+use Rattle.model.specs.Sessions.Seats.{HeldReply, Seat, Seats, SeatsApart, seat_of, has_seat, with_held, holding}
 use Rattle.model.specs.Sessions.Session.{Session, Table, is_session, is_running, without_where, without_seat, with_sessions, destroy_by, destroy_session, held_by, held_reply, slot_at}
 use Rattle.model.proofs.Sessions.SeatLaws.{holding_none}
 use Rattle.session.specs.Seating.{has_held_slot}
@@ -23,7 +23,7 @@ module _ (id : List ℕ) (place : ℕ) (held : HeldReply) where
   same_seat : (seat : Seat) → nat_lt place (length seat.slots) ≡ false → with_held place held seat ≡ seat
   same_seat seat outside = ap (λ (slots : List (Option HeldReply)). record seat { slots = slots }) (set_outside seat.slots place (Some held) (ltb-false place (length seat.slots) outside))
 
-  pub holding_outside : (seats : Seats) → AreApart seats → has_held_slot place (seat_of id seats) ≡ false → holding id place held seats ≡ seats
+  pub holding_outside : (seats : Seats) → SeatsApart seats → has_held_slot place (seat_of id seats) ≡ false → holding id place held seats ≡ seats
   holding_outside [] apart outside = refl
   holding_outside (None ∷ seats) apart outside = ap (λ (rest : Seats). None ∷ rest) (holding_outside seats apart outside)
   holding_outside (Some seat ∷ seats) apart outside = by_test (bytes_eq seat.session id) refl outside (holding_outside seats apart.1)

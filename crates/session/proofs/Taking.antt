@@ -4,7 +4,7 @@ use Rattle.std.proofs.lemmas.Bool.{true≢false}
 use Rattle.std.proofs.lemmas.List.Quantifiers.{position-Some}
 use Rattle.model.specs.Operations.Operation.{CreateSessionArguments}
 use Rattle.model.specs.Sessions.Seats.{Seat, Seats, run_of, freed, has_free, seated}
-use Rattle.model.specs.Sessions.SeatEdits.{Stays, Frees, Takes, edited, edited_all, CanEditAll}
+use Rattle.model.specs.Sessions.SeatEdits.{Stays, Frees, Takes, edited_seat, edited_all, CanEditAll}
 use Rattle.model.specs.Sessions.Session.{Client, Table, gives_way, seats_staying, persists}
 use Rattle.session.specs.Seating.{freeing, is_left_free, place_for, edits_with}
 use Rattle.session.specs.Given.{AreGiven, serial_in}
@@ -12,7 +12,7 @@ use Rattle.session.proofs.Giving.{given_freed, given_later, given_seated}
 use Rattle.session.proofs.Lists.{position-None}
 
 module _ (gone : Seat → Bool) where
-  freeing_one : (seat : Seat) (b : Bool) → edited (cond b Frees Stays) (Some seat) ≡ cond b None (Some seat)
+  freeing_one : (seat : Seat) (b : Bool) → edited_seat (cond b Frees Stays) (Some seat) ≡ cond b None (Some seat)
   freeing_one seat true = refl
   freeing_one seat false = refl
 
@@ -23,7 +23,7 @@ module _ (gone : Seat → Bool) where
   freeing_all [] = refl
   freeing_all (None ∷ seats) = ap (λ (rest : Seats). None ∷ rest) (freeing_all seats)
   freeing_all (Some seat ∷ seats) =
-      cons_same (edited (cond (gone seat) Frees Stays) (Some seat)) (cond (gone seat) None (Some seat)) _ _ (freeing_one seat (gone seat)) (freeing_all seats)
+      cons_same (edited_seat (cond (gone seat) Frees Stays) (Some seat)) (cond (gone seat) None (Some seat)) _ _ (freeing_one seat (gone seat)) (freeing_all seats)
 
   can_free_one : (seat : Seat) (b : Bool) (seats : Seats) → CanEditAll (map (freeing gone) seats) seats → CanEditAll (cond b Frees Stays ∷ map (freeing gone) seats) (Some seat ∷ seats)
   can_free_one seat true seats can = (tt, can)
@@ -46,7 +46,7 @@ module _ (gone : Seat → Bool) where
         ∙ sym (ap (λ (b : Bool). seated new (cond b None (Some seat) ∷ freed gone seats)) here)
     taking_there (Some seat ∷ seats) (suc i) within here before =
         let stays = before 0 (omega arith) in
-        ap (λ (b : Bool). edited (cond b Frees Stays) (Some seat) ∷ edited_all (set (map (freeing gone) seats) i (Takes new)) seats) stays
+        ap (λ (b : Bool). edited_seat (cond b Frees Stays) (Some seat) ∷ edited_all (set (map (freeing gone) seats) i (Takes new)) seats) stays
         ∙ ap (λ (rest : Seats). Some seat ∷ rest) (taking_there seats i (omega arith) here (λ k h. before (suc k) (omega arith)))
         ∙ sym (ap (λ (b : Bool). seated new (cond b None (Some seat) ∷ freed gone seats)) stays)
 

@@ -35,14 +35,15 @@ IsBegun arguments session client answered =
     (client ≡ session.client) × (answered ≡ sequence_answer arguments session)
 
 -- SEQUENCE runs, replays the reply that is kept or refuses, and only a slot that runs changes.
-abbrev pub Begins : ℕ → ℕ → SequenceArguments → model.Table → model.Table → Result Begun Status
+abbrev pub BeginsSequence : ℕ → ℕ → SequenceArguments → model.Table → model.Table
+    → Result Begun Status
     → Type 0
-Begins uid count arguments old new (Ok begun.Replays) =
+BeginsSequence uid count arguments old new (Ok begun.Replays) =
     (reply : List ℕ) × (begin uid count arguments old ≡ model.Replays reply)
     × (reply_kept arguments.session arguments.slot old ≡ Some reply) × (new ≡ old)
-Begins uid count arguments old new (Ok (begun.Runs client answered)) =
+BeginsSequence uid count arguments old new (Ok (begun.Runs client answered)) =
     (session : model.Session) × (find (is_session arguments.session) old.sessions ≡ Some session)
     × IsBegun arguments session client (sequence_view answered)
     × (begin uid count arguments old ≡ model.Runs) × (new ≡ started uid arguments old)
-Begins uid count arguments old new (Err reason) =
+BeginsSequence uid count arguments old new (Err reason) =
     (begin uid count arguments old ≡ model.Refuses reason) × (new ≡ old)

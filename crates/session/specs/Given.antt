@@ -2,7 +2,7 @@
 use Rattle.std.specs.Prelude.{◌≡◌, ◌≤◌, ℕ, true, List, [], ◌∷◌, drop, None, Some}
 use Rattle.std.specs.Int.{w64, from_be_bytes}
 use Rattle.std.proofs.Props.{props}
-use Rattle.model.specs.Sessions.Seats.{Seats, AreApart, has_seat, run_of}
+use Rattle.model.specs.Sessions.Seats.{Seats, SeatsApart, has_seat, run_of}
 
 -- the serial in the id of a session
 abbrev pub serial_in : List ℕ → ℕ
@@ -15,15 +15,15 @@ pub record WasMade (run serial : ℕ) (id : List ℕ) : Type 0 where
   pub given : run_of id ≡ run → serial_in id ≤ serial
 
 pub record AreGiven (run serial : ℕ) (seats : Seats) : Type 0 where
-  pub apart : AreApart seats
+  pub apart : SeatsApart seats
   pub made : (id : List ℕ) → has_seat id seats ≡ true → WasMade run serial id
 
 -- That has one proof at most
 
-AreApart-prop : (seats : Seats) → IsProp (AreApart seats)
-AreApart-prop [] = Prim.hlevel props
-AreApart-prop (None ∷ seats) = AreApart-prop seats
-AreApart-prop (Some seat ∷ seats) = Prim.hlevel (props, AreApart-prop seats)
+SeatsApart-prop : (seats : Seats) → IsProp (SeatsApart seats)
+SeatsApart-prop [] = Prim.hlevel props
+SeatsApart-prop (None ∷ seats) = SeatsApart-prop seats
+SeatsApart-prop (Some seat ∷ seats) = Prim.hlevel (props, SeatsApart-prop seats)
 
 pub AreGiven-prop : (run serial : ℕ) (seats : Seats) → IsProp (AreGiven run serial seats)
-AreGiven-prop run serial seats = Prim.hlevel (props, AreApart-prop)
+AreGiven-prop run serial seats = Prim.hlevel (props, SeatsApart-prop)

@@ -3,7 +3,7 @@ use Rattle.std.specs.Prelude.{◌≡◌, ℕ, ◌%◌, Bool, true, false, ◌&&�
 use Rattle.std.specs.Option.{option_map}
 use Rattle.model.specs.Operations.Operation.{CreateSessionArguments}
 use Rattle.model.specs.Sessions.Seats.{Seat, Seats, is_seat_of, held_in}
-use Rattle.model.specs.Sessions.SeatEdits.{SeatEdit, Stays, Frees, Takes, edited, edited_all, CanEditAll}
+use Rattle.model.specs.Sessions.SeatEdits.{SeatEdit, Stays, Frees, Takes, edited_seat, edited_all, CanEditAll}
 use Rattle.model.specs.Sessions.Session.{Client, Table, gives_way}
 
 -- The seat of one session
@@ -13,7 +13,7 @@ is_place_of id None = false
 is_place_of id (Some seat) = is_seat_of id seat
 
 abbrev pub edited_if : List ℕ → SeatEdit → Option Seat → Option Seat
-edited_if id edit place = if is_place_of id place then edited edit place else place
+edited_if id edit place = if is_place_of id place then edited_seat edit place else place
 
 -- what it holds of a slot
 abbrev pub reply_held : ℕ → Option Seat → Option (List ℕ)

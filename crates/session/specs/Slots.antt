@@ -8,13 +8,13 @@ use Rattle.session.specs.declared.slot.Slot.{Slot}
 use Rattle.session.specs.declared.slot.Next.{Next}
 use Rattle.session.specs.declared.slot.Next.TheVariants as next
 
-abbrev pub state_of : SlotState → model.SlotState
-state_of slot_state.Free = model.Free
-state_of (slot_state.Running memory) = model.Running
-state_of (slot_state.Kept reply) = model.Kept reply.bytes.items
+abbrev pub slot_state_of : SlotState → model.SlotState
+slot_state_of slot_state.Free = model.Free
+slot_state_of (slot_state.Running memory) = model.Running
+slot_state_of (slot_state.Kept reply) = model.Kept reply.bytes.items
 
 abbrev pub slot_of : Slot → model.Slot
-slot_of slot = record { last = slot.last; uid = slot.uid; state = state_of slot.state }
+slot_of slot = record { last = slot.last; uid = slot.uid; state = slot_state_of slot.state }
 
 -- the slot once it runs this number
 abbrev pub running_slot : ℕ → ℕ → model.Slot

@@ -80,16 +80,16 @@ abbrev pub among : List ℕ → ℕ → Bool
 among numbers number = list_any (λ known. known == number) numbers
 
 -- the reply that the slot keeps
-abbrev pub reply_at : ℕ → model.Session → Option (List ℕ)
-reply_at place session = kept_reply (slot_at session place).state
+abbrev pub session_reply : ℕ → model.Session → Option (List ℕ)
+session_reply place session = kept_reply (slot_at session place).state
 
 -- of no session it is what a seat holds
-abbrev pub reply_in : List ℕ → ℕ → Seats → Option model.Session → Option (List ℕ)
-reply_in id place seats None = reply_held place (seat_of id seats)
-reply_in id place seats (Some session) = reply_at place session
+abbrev pub kept_reply_in : List ℕ → ℕ → Seats → Option model.Session → Option (List ℕ)
+kept_reply_in id place seats None = reply_held place (seat_of id seats)
+kept_reply_in id place seats (Some session) = session_reply place session
 
 unfoldable pub reply_kept : List ℕ → ℕ → model.Table → Option (List ℕ)
-reply_kept id place table = reply_in id place table.seats (find (is_session id) table.sessions)
+reply_kept id place table = kept_reply_in id place table.seats (find (is_session id) table.sessions)
 
 -- the table that a new record is made beside, where the record `dropped` goes
 abbrev pub cleared_of : Option ℕ → model.Table → model.Table

@@ -1,7 +1,7 @@
 //! Edits of seats: those that change nothing, and how they are made.
 
 ghost use Rattle.std.specs.Prelude.{◌≡◌, replicate, IfOk};
-ghost use Rattle.model.specs.Sessions.SeatEdits.{Stays, edited, edited_all, edit_view, edits_view, all_stay};
+ghost use Rattle.model.specs.Sessions.SeatEdits.{Stays, edited_seat, edited_all, edit_view, edits_view, all_stay};
 ghost use Rattle.model.specs.Sessions.Seats.{with_held};
 ghost use Rattle.model.specs.Sessions.SeatViews.{held_view, seat_view, place_view, seats_view};
 
@@ -28,7 +28,7 @@ pub fn edit_seats(seats: &mut Seats, edits: SeatEdits)
 }
 
 fn edit_place(place: &mut Option<Seat>, edit: SeatEdit)
-    ensures { place_view place.new ≡ edited (edit_view edit) (place_view place.old) }
+    ensures { place_view place.new ≡ edited_seat (edit_view edit) (place_view place.old) }
 {
     match edit {
         SeatEdit::Stays => {}

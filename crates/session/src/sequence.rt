@@ -6,7 +6,7 @@ ghost use Rattle.model.specs.Sessions.Seats.{seat_of};
 ghost use Rattle.model.specs.Sessions.Session.{begin_dead};
 ghost use Rattle.wire.specs.ArgumentViews.{sequence_view};
 ghost use Rattle.wire.specs.Short.{IsRefusal};
-ghost use Rattle.session.specs.Calls.{Begins};
+ghost use Rattle.session.specs.Calls.{BeginsSequence};
 ghost use Rattle.session.specs.Slots.{refusal_of};
 ghost use Rattle.session.specs.Views.{table_of};
 
@@ -41,7 +41,8 @@ impl Table {
         count: u32,
         arguments: &SequenceArguments,
     ) -> Result<Begun, Status>
-        ensures answered { Begins uid count (sequence_view arguments.now) (table_of self.old)
+        ensures answered { BeginsSequence uid count (sequence_view arguments.now)
+            (table_of self.old)
             (table_of self.new) result }
         ensures refused { IfErr result IsRefusal }
     {

@@ -40,7 +40,7 @@ impl Session {
     ghost use Rattle.wire.specs.ArgumentViews.{sequence_view};
     ghost use Rattle.wire.specs.Short.{IsRefusal};
     ghost use Rattle.session.specs.Slots.{slot_of, running_slot, next_of};
-    ghost use Rattle.session.specs.Views.{session_of, reply_at};
+    ghost use Rattle.session.specs.Views.{session_of, session_reply};
 
     /// A session of which no slot ran yet.
     pub fn new(
@@ -162,7 +162,7 @@ impl Session {
     pub fn kept(&self, slot: u32) -> Option<&[u8]>
         ensures short { IfSome result (λ bytes. length bytes.now ≤ MAX_RECORD_BYTES) }
         ensures kept { option_map (λ bytes. bytes.now) result
-            ≡ reply_at slot (session_of self.now) }
+            ≡ session_reply slot (session_of self.now) }
     {
         self.slots.get(slot as usize)?.kept()
     }

@@ -14,7 +14,7 @@ use Rattle.model.proofs.Operations.AttributeLaws.{first_passed, given_lists_fit}
 use Rattle.model.proofs.Operations.FileStepLaws.{size_within}
 use Rattle.model.proofs.Operations.RefusalLaws.{none_in_front}
 use Rattle.set_attributes.specs.declared.said.Settings.{Settings}
-use Rattle.set_attributes.specs.Given.{AreSettings, AreWithin}
+use Rattle.set_attributes.specs.Given.{AreSettings, WithinLimits}
 
 -- a mode that passes its test has nine bits
 nine_bits : (limits : Limits) (kind : NodeKind) (values : List Value) (mode : ℕ)
@@ -38,7 +38,7 @@ mode_within limits kind settable given mode none said =
 
 -- what is set by attributes that pass their tests is within the limits
 pub within : (limits : Limits) (kind : NodeKind) (settable : List ℕ) (given : operation.Attributes) (settings : Settings)
-    → first_refusal (attribute_refusals limits kind settable given) ≡ None → AreSettings settings given → AreWithin limits kind settings
+    → first_refusal (attribute_refusals limits kind settable given) ≡ None → AreSettings settings given → WithinLimits limits kind settings
 within limits kind settable given settings passed are = record {
   size = λ size is. size_within limits kind settable given size passed (rw (← are.size) is);
   acl = λ room acl is. given_lists_fit limits kind settable given acl room passed (rw (← are.acl) is);

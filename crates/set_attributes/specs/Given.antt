@@ -39,7 +39,7 @@ pub record AreSettings (settings : Settings) (given : operation.Attributes) : Ty
 
 -- what passed its tests is within the limits: a file's size, a list that a node of this kind may
 -- have, and nine bits of mode
-pub record AreWithin (limits : Limits) (kind : NodeKind) (settings : Settings) : Type 0 where
+pub record WithinLimits (limits : Limits) (kind : NodeKind) (settings : Settings) : Type 0 where
   pub size : ForSome settings.size (λ size. size ≤ limits.file_bytes)
   pub acl : limits.aces_set ≤ limits.aces
       → ForSome settings.acl (λ acl. IsTrue (is_list_for limits.aces_set limits.aces kind acl))

@@ -7,7 +7,7 @@ ghost use Rattle.model.specs.Attributes.AclText.{identifier_group};
 ghost use Rattle.model.specs.Attributes.Attribute.{attribute_refusals, entry_refusals, value_refusals};
 ghost use Rattle.model.specs.Attributes.AttributeValue.{Acl};
 ghost use Rattle.wire_attributes.specs.Views.{entry_view, value_view};
-ghost use Rattle.set_attributes.specs.Given.{given_of, AreSettings, AreWithin, IsChecked, IsCheckedInMemory};
+ghost use Rattle.set_attributes.specs.Given.{given_of, AreSettings, WithinLimits, IsChecked, IsCheckedInMemory};
 
 use crate::attributes::GivenAttributes;
 use crate::numbers::{SUPPORTED, has_one_outside};
@@ -115,7 +115,7 @@ pub fn check_attributes(
     ensures tests { IsCheckedInMemory
         (attribute_refusals limits.now kind settable.now (given_of given.entry)) result }
     ensures settings { IfOk result (λ settings. AreSettings settings (given_of given.entry)) }
-    ensures within { IfOk result (λ settings. AreWithin limits.now kind settings) }
+    ensures within { IfOk result (λ settings. WithinLimits limits.now kind settings) }
 {
     let attributes = numbers_of(alloc, given.bitmap)?;
     if has_one_outside(&SUPPORTED, &attributes) {

@@ -13,11 +13,11 @@ use Rattle.model.specs.Trees.Keyed.{at, here_or}
 use Rattle.model.specs.Trees.Tree.{Tree, DirEntry, root, kind_of, is_directory, is_directory_node, is_directory_at}
 use Rattle.model.specs.Trees.WellFormed.{one_if, times_named, AreNames, IsContent, IsNode}
 use Rattle.directory.specs.Listing.{by_stamp}
-use Rattle.directory.specs.Records.{Record, name_of, AreApart, AreStamped}
+use Rattle.directory.specs.Records.{Record, name_of, NamesApart, NamesStamped}
 use Rattle.directory.proofs.ByStamp.{at-by_stamp}
 use Rattle.layout.specs.CachedNodes.{CachedNode, tree_of, node_of, content_of, bytes_in, byte_at}
 use Rattle.layout.specs.Known.{HasContent, AreCards}
-use Rattle.layout.specs.Marks.{times, times_set, named_by}
+use Rattle.layout.specs.Marks.{times, times_set, namings_of}
 use Rattle.layout.proofs.Answering.{tree_answers}
 use Rattle.layout.proofs.Changing.{named-at}
 use Rattle.layout.proofs.ChargeLaws.{above_by_stamp}
@@ -43,7 +43,7 @@ none-named name (x ∷ names) none = elim (cases_Bool (bytes_eq name x.1.name)) 
       omega (arith, nothing, none-named name names (λ i d h. none (suc i) d (omega arith)))
 ]
 
-once-named : (name : List ℕ) (names : List Record) → AreApart names → times_named name names ≤ 1
+once-named : (name : List ℕ) (names : List Record) → NamesApart names → times_named name names ≤ 1
 once-named name [] apart = omega arith
 once-named name (x ∷ names) apart = elim (cases_Bool (bytes_eq name x.1.name)) [
   | inl is ↦
@@ -77,14 +77,14 @@ all-each : (P : Record → Type 0) (names : List Record) → ((i : ℕ) (d : Rec
 all-each P [] each = tt
 all-each P (x ∷ names) each = (each 0 x (omega arith), all-each P names (λ i d h. each (suc i) d (omega arith)))
 
-names-allowed : (limits : Limits) (names : List Record) → AreStamped names → AreApart names → AreNamesAllowed limits names → AreNames limits (by_stamp names)
+names-allowed : (limits : Limits) (names : List Record) → NamesStamped names → NamesApart names → AreNamesAllowed limits names → AreNames limits (by_stamp names)
 names-allowed limits names stamped apart allowed = record {
   rising = above_by_stamp names stamped;
   named = λ stamp entry e. at-each (λ (entry : DirEntry). IsNameAllowed limits entry.name) names stamp entry allowed (sym (at-by_stamp stamp names) ∙ e);
   once = λ name. omega (arith, names_total (λ entry. one_if (bytes_eq name entry.name)) names stamped, once-named name names apart);
 }
 
-allowed-names : (limits : Limits) (names : List Record) → AreStamped names → AreNames limits (by_stamp names) → AreNamesAllowed limits names
+allowed-names : (limits : Limits) (names : List Record) → NamesStamped names → AreNames limits (by_stamp names) → AreNamesAllowed limits names
 allowed-names limits names stamped are = all-each (λ (r : Record). IsNameAllowed limits (name_of r)) names
     (λ i d h. are.named (get_or names i d).0 (get_or names i d).1 (at-by_stamp (get_or names i d).0 names ∙ at-stamp names stamped i d h))
 
@@ -107,10 +107,10 @@ module _ (nodes : ℕ) (image : Image) (mark : ℕ → ℕ) (cards : List (Optio
   marked n = marked_by (mark n) (image n)
 
   named_there : (n place : ℕ) (card : CachedNode) → get_or cards place None ≡ Some card → 0 < times_set n card.blocks → 0 < mark n
-  unfolding named_by
+  unfolding namings_of
   named_there n place card there some =
       let least = named-at n cards place in
-      let is : named_by n (get_or cards place None) ≡ times n card.fields.run_sectors + times_set n card.blocks = ap (named_by n) there in
+      let is : namings_of n (get_or cards place None) ≡ times n card.fields.run_sectors + times_set n card.blocks = ap (namings_of n) there in
       omega (arith, known.marks n)
 
   file-bytes : (place : ℕ) (card : CachedNode) → get_or cards place None ≡ Some card → All (λ byte. byte < 256) (bytes_in image card.blocks card.fields.size)
@@ -185,15 +185,15 @@ module _ (nodes : ℕ) (image : Image) (mark : ℕ → ℕ) (cards : List (Optio
       | Nowhere none ↦ absurd (none-node nodes image mark cards known 0 number node e ((tree_answers image cards known.apart number).none none))
     ];
     rooted = (let rooted = allowed.rooted in
-        let at_root : at root tree ≡ Some (node_of image rooted.card) = (tree_answers image cards known.apart root).found rooted.place rooted.card rooted.there rooted.is.number in
-        ap is_directory_node at_root ∙ directory-is image limits rooted.card rooted.is.directory);
+        let at_root : at root tree ≡ Some (node_of image rooted.cached) = (tree_answers image cards known.apart root).found rooted.place rooted.cached rooted.there rooted.is.number in
+        ap is_directory_node at_root ∙ directory-is image limits rooted.cached rooted.is.directory);
   }
 
-  root-card : IsTrue (is_directory_at tree root) → HasRootDirectory cards
-  root-card rooted = elim (find cards root) [
+  root-cached : IsTrue (is_directory_at tree root) → HasRootDirectory cards
+  root-cached rooted = elim (find cards root) [
     | There place card there is ↦ record {
       place = place;
-      card = card;
+      cached = card;
       there = there;
       is = record {
         number = is;
@@ -207,7 +207,7 @@ module _ (nodes : ℕ) (image : Image) (mark : ℕ → ℕ) (cards : List (Optio
   tree-allowed has = record {
     each = λ place card there. allowed-node image limits card (is_card nodes image mark cards known place card there).content
         (has.nodes card.fields.number (node_of image card) ((tree_answers image cards known.apart card.fields.number).found place card there refl));
-    rooted = root-card has.rooted;
+    rooted = root-cached has.rooted;
   }
 
   pub known_node : AreNodesAllowed limits cards ↔ HasAllowedNodes limits tree

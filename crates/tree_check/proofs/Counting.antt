@@ -2,7 +2,7 @@
 use Rattle.std.proofs.Common.{◌≡◌, ◌≢◌, ◌≤◌, ◌<◌, ◌+◌, if◌then◌else◌, true≢false, ℕ, suc, Bool, true, false, List, [], ◌∷◌, Option, Some, None, length, take, get_or, refl, sym, ap, subst, ◌∙◌, arith, inl, inr, eqb, eq-eqb}
 use Rattle.std.proofs.lemmas.Bool.{cases_eq, eqb-true}
 use Rattle.std.proofs.lemmas.List.{get_or-map, length-map, get_or_past}
-use Rattle.node_table.specs.Tables.{number_of, number_at, HaveOwnPlaces, count_of_all}
+use Rattle.node_table.specs.Tables.{node_number, node_number_at, HaveOwnPlaces, count_of_all}
 use Rattle.node_table.proofs.TableLaws.{within-numbered}
 use Rattle.layout.specs.CachedNodes.{CachedNode}
 use Rattle.layout.specs.Marks.{once_if, times}
@@ -65,7 +65,7 @@ others-step n number rest true e off =
     omega (arith, once-off n number (λ h. off (h ∙ same)))
 others-step n number rest false e off = refl
 
-others-sum : (n : ℕ) (cards : List (Option CachedNode)) → n ≢ root → times n (other_numbers cards) ≡ sum_below (λ p. is_it n (number_at cards p)) (length cards)
+others-sum : (n : ℕ) (cards : List (Option CachedNode)) → n ≢ root → times n (other_numbers cards) ≡ sum_below (λ p. is_it n (node_number_at cards p)) (length cards)
 others-sum n [] off = refl
 others-sum n (None ∷ cards) off = omega (arith, others-sum n cards off)
 others-sum n (Some card ∷ cards) off =
@@ -81,7 +81,7 @@ root-others [] = refl
 root-others (None ∷ cards) = root-others cards
 root-others (Some card ∷ cards) = root-step card.fields.number (other_numbers cards) (eqb card.fields.number root) refl ∙ root-others cards
 
-count-sum : (cards : List (Option CachedNode)) → count_of_all cards ≡ sum_below (λ p. is_node (number_at cards p)) (length cards)
+count-sum : (cards : List (Option CachedNode)) → count_of_all cards ≡ sum_below (λ p. is_node (node_number_at cards p)) (length cards)
 count-sum [] = refl
 count-sum (None ∷ cards) = omega (arith, count-sum cards)
 count-sum (Some card ∷ cards) = omega (arith, count-sum cards)
@@ -90,20 +90,20 @@ own-rest : (card : Option CachedNode) (cards : List (Option CachedNode)) → Hav
 own-rest card cards own p q n here there = let same : suc p ≡ suc q = own (suc p) (suc q) n here there in omega arith
 
 -- one node at most has a number
-own-sum : (n : ℕ) (cards : List (Option CachedNode)) → HaveOwnPlaces cards → sum_below (λ p. is_it n (number_at cards p)) (length cards) ≤ 1
+own-sum : (n : ℕ) (cards : List (Option CachedNode)) → HaveOwnPlaces cards → sum_below (λ p. is_it n (node_number_at cards p)) (length cards) ≤ 1
 own-sum n [] own = omega arith
-own-sum n (card ∷ cards) own = elim (cases_eq (is_it n (number_of card)) 0) [
+own-sum n (card ∷ cards) own = elim (cases_eq (is_it n (node_number card)) 0) [
   | inl none ↦ omega (arith, none, own-sum n cards (own-rest card cards own))
   | inr some ↦
-      let here : number_of card ≡ Some n = is_it-some n (number_of card) (omega arith) in
+      let here : node_number card ≡ Some n = is_it-some n (node_number card) (omega arith) in
       omega (
         arith,
-        is_it-le n (number_of card),
-        sum-zero (λ p. is_it n (number_at cards p)) (length cards) (λ p h. is_it-none n (number_at cards p) (λ there. let same : 0 ≡ suc p = own 0 (suc p) n here there in omega arith)),
+        is_it-le n (node_number card),
+        sum-zero (λ p. is_it n (node_number_at cards p)) (length cards) (λ p h. is_it-none n (node_number_at cards p) (λ there. let same : 0 ≡ suc p = own 0 (suc p) n here there in omega arith)),
       )
 ]
 
-node-there : (card : Option CachedNode) (n : ℕ) → 0 < times n (led_by card) → number_of card ≡ Some (number_or (number_of card))
+node-there : (card : Option CachedNode) (n : ℕ) → 0 < times n (led_by card) → node_number card ≡ Some (number_or (node_number card))
 node-there None n some = absurd (omega arith)
 node-there (Some card) n some = refl
 
@@ -113,11 +113,11 @@ led-sum : (n : ℕ) (cards : List (Option CachedNode)) (ps : List ℕ) → times
 led-sum n cards [] = refl
 led-sum n cards (p ∷ ps) = omega (arith, times-append n (led_at cards p) (led_from cards ps), led-sum n cards ps)
 
-numbers-sum : (n : ℕ) (cards : List (Option CachedNode)) (ps : List ℕ) → ((i : ℕ) → i < length ps → number_at cards (get_or ps i 0) ≡ Some (number_in cards (get_or ps i 0)))
-    → times n (numbers_at cards ps) ≡ sum_of (λ p. is_it n (number_at cards p)) ps
+numbers-sum : (n : ℕ) (cards : List (Option CachedNode)) (ps : List ℕ) → ((i : ℕ) → i < length ps → node_number_at cards (get_or ps i 0) ≡ Some (number_in cards (get_or ps i 0)))
+    → times n (numbers_at cards ps) ≡ sum_of (λ p. is_it n (node_number_at cards p)) ps
 numbers-sum n cards [] there = refl
 numbers-sum n cards (p ∷ ps) there =
-    let here : is_it n (number_at cards p) ≡ once_if (eqb n (number_in cards p)) = ap (is_it n) (there 0 (omega arith)) in
+    let here : is_it n (node_number_at cards p) ≡ once_if (eqb n (number_in cards p)) = ap (is_it n) (there 0 (omega arith)) in
     omega (arith, here, numbers-sum n cards ps (λ i h. there (suc i) (omega arith)))
 
 module _ (cards : List (Option CachedNode)) (seen : List Bool) (order : List ℕ) (walk : IsWalk cards seen order) where
@@ -131,13 +131,13 @@ module _ (cards : List (Option CachedNode)) (seen : List Bool) (order : List ℕ
   order-fits = omega (arith, length-sum order, sum_of-le (λ p. 1) (length cards) order far few, sum-ones (length cards))
 
   -- a place that was met has a node
-  met-node : (p : ℕ) → 0 < times p order → number_at cards p ≡ Some (number_in cards p)
+  met-node : (p : ℕ) → 0 < times p order → node_number_at cards p ≡ Some (number_in cards p)
   met-node p h =
       let found = place-of p order h in
-      subst (λ q. number_at cards q ≡ Some (number_in cards q)) found.1.1 (walk.there found.0 found.1.0)
+      subst (λ q. node_number_at cards q ≡ Some (number_in cards q)) found.1.1 (walk.there found.0 found.1.0)
 
   -- the place of a number that was met
-  met-place : (n : ℕ) → 0 < times n (numbers_at cards order) → (p : ℕ) × ((0 < times p order) × (number_at cards p ≡ Some n))
+  met-place : (n : ℕ) → 0 < times n (numbers_at cards order) → (p : ℕ) × ((0 < times p order) × (node_number_at cards p ≡ Some n))
   met-place n h =
       let found = place-of n (numbers_at cards order) h in
       let inside : found.0 < length order = rw (← length-map order (number_in cards)) found.1.0 in
@@ -145,7 +145,7 @@ module _ (cards : List (Option CachedNode)) (seen : List Bool) (order : List ℕ
       let is : number_in cards p ≡ n = sym (get_or-map (number_in cards) order found.0 0 0 inside) ∙ found.1.1 in
       (p, (times-at order found.0 0 inside, walk.there found.0 inside ∙ ap Some is))
 
-  node-count : (p : ℕ) → p < length cards → many (times p order) 1 ≤ is_node (number_at cards p)
+  node-count : (p : ℕ) → p < length cards → many (times p order) 1 ≤ is_node (node_number_at cards p)
   node-count p h = elim (cases_eq (times p order) 0) [
     | inl none ↦ rw none (omega arith)
     | inr some ↦
@@ -160,13 +160,13 @@ module _ (cards : List (Option CachedNode)) (seen : List Bool) (order : List ℕ
 
     -- all nodes were met
     module _ (all : length order ≡ count_of_all cards) where
-      all-met : (p n : ℕ) → number_at cards p ≡ Some n → 0 < times p order
+      all-met : (p n : ℕ) → node_number_at cards p ≡ Some n → 0 < times p order
       all-met p n there =
           let inside = within-numbered cards p n there in
-          let total : sum_below (λ q. is_node (number_at cards q)) (length cards) ≤ sum_below (λ q. many (times q order) 1) (length cards) =
+          let total : sum_below (λ q. is_node (node_number_at cards q)) (length cards) ≤ sum_below (λ q. many (times q order) 1) (length cards) =
           omega (arith, count-sum cards, all, length-sum order, sum_of-below (λ q. 1) (length cards) order far) in
-          let le = sum-each (λ q. many (times q order) 1) (λ q. is_node (number_at cards q)) (length cards) node-count total p inside in
-          let is : is_node (number_at cards p) ≡ 1 = ap is_node there in
+          let le = sum-each (λ q. many (times q order) 1) (λ q. is_node (node_number_at cards q)) (length cards) node-count total p inside in
+          let is : is_node (node_number_at cards p) ≡ 1 = ap is_node there in
           elim (cases_eq (times p order) 0) [
             | inl none ↦ absurd (let zero_of : many (times p order) 1 ≡ 0 = ap (λ t. many t 1) none in omega (arith, le, is, zero_of))
             | inr some ↦ omega arith
@@ -179,10 +179,10 @@ module _ (cards : List (Option CachedNode)) (seen : List Bool) (order : List ℕ
           (λ p h some. all-met p (number_in cards p) (node-there (get_or cards p None) n some))
           ∙ sym (entries-sum n cards))
 
-      numbers-all : (n : ℕ) → times n (numbers_at cards order) ≡ sum_below (λ p. is_it n (number_at cards p)) (length cards)
+      numbers-all : (n : ℕ) → times n (numbers_at cards order) ≡ sum_below (λ p. is_it n (node_number_at cards p)) (length cards)
       numbers-all n =
           numbers-sum n cards order walk.there
-          ∙ sum_of-all (λ p. is_it n (number_at cards p)) (length cards) order far few (λ p h some. all-met p n (is_it-some n (number_at cards p) some))
+          ∙ sum_of-all (λ p. is_it n (node_number_at cards p)) (length cards) order far few (λ p h some. all-met p n (is_it-some n (node_number_at cards p) some))
 
       linked : (n : ℕ) → times n (entry_numbers cards) ≡ times n (other_numbers cards)
       linked n = elim (cases_eq n root) [
@@ -194,7 +194,7 @@ module _ (cards : List (Option CachedNode)) (seen : List Bool) (order : List ℕ
         | inr off ↦ omega (arith, met-times n, led-all n, numbers-all n, others-sum n cards off, once-off n root off)
       ]
 
-      reached : (p n : ℕ) → number_at cards p ≡ Some n → IsReached cards n
+      reached : (p n : ℕ) → node_number_at cards p ≡ Some n → IsReached cards n
       reached p n there =
           let found = place-of p order (all-met p n there) in
           let is : number_in cards (get_or order found.0 0) ≡ n = ap (number_in cards) found.1.1 ∙ ap number_or there in
@@ -222,16 +222,16 @@ module _ (cards : List (Option CachedNode)) (seen : List Bool) (order : List ℕ
     all-counted tree =
         length-sum order
         ∙ (sum_of-below (λ p. 1) (length cards) order far
-        ∙ (sum-same (λ p. many (times p order) 1) (λ p. is_node (number_at cards p)) (length cards) (λ p h. elim (cases_eq (is_node (number_at cards p)) 0) [
+        ∙ (sum-same (λ p. many (times p order) 1) (λ p. is_node (node_number_at cards p)) (length cards) (λ p h. elim (cases_eq (is_node (node_number_at cards p)) 0) [
           | inl none ↦ omega (arith, none, node-count p h)
           | inr some ↦
-              let there = is_node-some (number_at cards p) (omega arith) in
+              let there = is_node-some (node_number_at cards p) (omega arith) in
               let found = met-place (number_in cards p) (closed (number_in cards p) (tree.reached p (number_in cards p) there)) in
               let same : found.0 ≡ p = own found.0 p (number_in cards p) found.1.1 there in
               let has : 0 < times p order = subst (λ q. 0 < times q order) same found.1.0 in
               let one : times p order ≡ 1 = omega (arith, few p) in
               let node : many (times p order) 1 ≡ 1 = ap (λ t. many t 1) one in
-              omega (arith, node, is_node-le (number_at cards p))
+              omega (arith, node, is_node-le (node_number_at cards p))
         ])
         ∙ sym (count-sum cards)))
 
@@ -258,7 +258,7 @@ module _ (cards : List (Option CachedNode)) (seen : List Bool) (order : List ℕ
                 arith,
                 tree.linked n,
                 others-sum n cards off,
-                sum-zero (λ p. is_it n (number_at cards p)) (length cards) (λ p h. is_it-none n (number_at cards p) (has_not p)),
+                sum-zero (λ p. is_it n (node_number_at cards p)) (length cards) (λ p h. is_it-none n (node_number_at cards p) (has_not p)),
               )
           | inr some ↦
               omega (

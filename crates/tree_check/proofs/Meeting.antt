@@ -2,7 +2,7 @@
 use Rattle.std.proofs.Common.{◌≡◌, ◌<◌, ◌-◌, ◌++◌, ℕ, Bool, true, false, List, [], ◌∷◌, Option, Some, length, set, replicate, zero, suc, get_or, refl, sym, ap, subst, ◌∙◌, arith, inl, inr, eqb, eq-eqb, ne_eqb}
 use Rattle.std.proofs.lemmas.Bool.{cases_eq, cases_lt}
 use Rattle.std.proofs.lemmas.List.{length-append, length-set, get_or-set_same, get_or-set_other, get_or_append_left, get_or-append_right, map_push, get_or-map, length-map, length-replicate, get_or_default}
-use Rattle.node_table.specs.Tables.{number_at}
+use Rattle.node_table.specs.Tables.{node_number_at}
 use Rattle.node_table.proofs.TableLaws.{within-numbered}
 use Rattle.layout.specs.CachedNodes.{CachedNode}
 use Rattle.layout.specs.Marks.{once_if, times}
@@ -12,7 +12,7 @@ use Rattle.tree_check.specs.Trees.{IsReached, Root}
 use Rattle.tree_check.specs.Walks.{number_or, number_in, numbers_at, IsWalk, Meets}
 
 module _ (cards : List (Option CachedNode)) (seen : List Bool) (order : List ℕ) (walk : IsWalk cards seen order) (number place : ℕ)
-    (there : number_at cards place ≡ Some number) where
+    (there : node_number_at cards place ≡ Some number) where
   is_number : number_in cards place ≡ number
   is_number = ap number_or there
 
@@ -45,7 +45,7 @@ module _ (cards : List (Option CachedNode)) (seen : List Bool) (order : List ℕ
     walk = record {
       marks = length-set seen place true ∙ walk.marks;
       once = once-new unseen;
-      there = each (λ p. number_at cards p ≡ Some (number_in cards p)) walk.there (there ∙ ap Some (sym is_number));
+      there = each (λ p. node_number_at cards p ≡ Some (number_in cards p)) walk.there (there ∙ ap Some (sym is_number));
       reached = each (λ p. IsReached cards (number_in cards p)) walk.reached (subst (IsReached cards) (sym is_number) reached);
     };
     more = place ∷ [];
@@ -80,7 +80,7 @@ replicate-none (suc n) zero = refl
 replicate-none (suc n) (suc i) = replicate-none n i
 
 pub starts : (cards : List (Option CachedNode)) (seen marks : List Bool) (none order : List ℕ) (place : ℕ) → seen ≡ replicate (length cards) false → marks ≡ set seen place true
-    → none ≡ [] → order ≡ none ++ place ∷ [] → number_at cards place ≡ Some root → Meets cards marks [] order (root ∷ [])
+    → none ≡ [] → order ≡ none ++ place ∷ [] → node_number_at cards place ≡ Some root → Meets cards marks [] order (root ∷ [])
 starts cards seen marks none order place unseen marked empty first there =
     let walk : IsWalk cards seen [] = record {
       marks = ap length unseen ∙ length-replicate (length cards) false;

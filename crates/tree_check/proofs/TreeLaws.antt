@@ -10,11 +10,11 @@ use Rattle.model.specs.declared.node.NodeKind.TheVariants as kind
 use Rattle.model.specs.Trees.Keyed.{at, here_or, is_key}
 use Rattle.model.specs.Trees.Tree.{Tree, Node, DirEntry, root, names_of, names_of_node, names_at}
 use Rattle.model.specs.Trees.WellFormed.{one_if, is_stamped, stamped_in, IsFrom, Start, Named}
-use Rattle.directory.specs.Records.{Record, AreStamped}
+use Rattle.directory.specs.Records.{Record, NamesStamped}
 use Rattle.directory.proofs.ByStamp.{at-by_stamp}
-use Rattle.node_table.specs.Tables.{number_of, number_at}
+use Rattle.node_table.specs.Tables.{node_number, node_number_at}
 use Rattle.layout.specs.CachedNodes.{CachedNode, tree_of, node_of, content_of}
-use Rattle.layout.specs.CachedNodeLaws.{Answers}
+use Rattle.layout.specs.CachedNodeLaws.{FindsCached}
 use Rattle.layout.specs.Known.{HasContent, IsCard, AreCards}
 use Rattle.layout.specs.Marks.{once_if, times}
 use Rattle.layout.specs.SumLaws.{sum_over}
@@ -51,14 +51,14 @@ at-index (x ∷ names) key entry e = elim (cases_eq key x.0) [
     some-one a b e = cc
 
 -- each entry stands at its stamp
-pub at-stamp : (names : List Record) → AreStamped names → (i : ℕ) (d : Record) → i < length names → at (get_or names i d).0 names ≡ Some (get_or names i d).1
+pub at-stamp : (names : List Record) → NamesStamped names → (i : ℕ) (d : Record) → i < length names → at (get_or names i d).0 names ≡ Some (get_or names i d).1
 at-stamp [] stamped i d h = absurd (omega arith)
 at-stamp (x ∷ names) stamped zero d h = ap (λ b. here_or b x.1 (at x.0 names)) (eq-eqb x.0 x.0 refl)
 at-stamp (x ∷ names) stamped (suc i) d h =
     ap (λ b. here_or b x.1 (at (get_or names i d).0 names)) (ne_eqb (get_or names i d).0 x.0 (λ same. stamped.apart 0 (suc i) d (omega arith) h (sym same)))
     ∙ at-stamp names (stamped-rest x names stamped) i d (omega arith)
 
-key-times : (key : ℕ) (names : List Record) → AreStamped names → one_if (is_some (at key names)) ≡ times key (stamps_of names)
+key-times : (key : ℕ) (names : List Record) → NamesStamped names → one_if (is_some (at key names)) ≡ times key (stamps_of names)
 key-times key [] stamped = refl
 key-times key (x ∷ names) stamped = elim (cases_eq key x.0) [
   | inl same ↦
@@ -111,13 +111,13 @@ find (Some one ∷ cards) number = elim (cases_eq one.fields.number number) [
   ]
 ]
 
-pub numbered : (cards : List (Option CachedNode)) (place number : ℕ) → number_at cards place ≡ Some number → (card : CachedNode) × ((get_or cards place None ≡ Some card) × (card.fields.number ≡ number))
+pub numbered : (cards : List (Option CachedNode)) (place number : ℕ) → node_number_at cards place ≡ Some number → (card : CachedNode) × ((get_or cards place None ≡ Some card) × (card.fields.number ≡ number))
 numbered cards place number is = from (get_or cards place None) refl is
   where
     number_is : (a b : ℕ) → (let one : Option ℕ = Some a in one ≡ Some b) → a ≡ b
     number_is a b e = cc
 
-    from : (found : Option CachedNode) → get_or cards place None ≡ found → number_of found ≡ Some number → (card : CachedNode) × ((get_or cards place None ≡ Some card) × (card.fields.number ≡ number))
+    from : (found : Option CachedNode) → get_or cards place None ≡ found → node_number found ≡ Some number → (card : CachedNode) × ((get_or cards place None ≡ Some card) × (card.fields.number ≡ number))
     from None e is = absurd (none_number number is)
       where
         none_number : (n : ℕ) → (let none : Option ℕ = None in none ≡ Some n) → ⊥
@@ -128,7 +128,7 @@ module _ (nodes : ℕ) (image : Image) (mark : ℕ → ℕ) (cards : List (Optio
   abbrev tree : Tree
   tree = tree_of image cards
 
-  answers : (number : ℕ) → Answers image cards number
+  answers : (number : ℕ) → FindsCached image cards number
   answers = tree_answers image cards known.apart
 
   pub is_card : AreEach cards
@@ -145,8 +145,8 @@ module _ (nodes : ℕ) (image : Image) (mark : ℕ → ℕ) (cards : List (Optio
       ap (λ (node : Option Node). at key (names_of_node node)) ((answers card.fields.number).found place card there refl)
       ∙ node-names card.fields.kind card is.content key
 
-  pub stamped-content : (kind : NodeKind) (card : CachedNode) → HasContent kind card → AreStamped card.names
-  stamped-content kind.File card has = subst AreStamped (sym has) (record { above = tt; apart = λ i j d low h. absurd (omega arith) })
+  pub stamped-content : (kind : NodeKind) (card : CachedNode) → HasContent kind card → NamesStamped card.names
+  stamped-content kind.File card has = subst NamesStamped (sym has) (record { above = tt; apart = λ i j d low h. absurd (omega arith) })
   stamped-content kind.Directory card has = has.stamped
 
   led-index : (place : ℕ) (card : CachedNode) → get_or cards place None ≡ Some card → (i : ℕ) (d : Record) → i < length card.names → get_or (led_at cards place) i 0 ≡ (get_or card.names i d).1.number
@@ -188,16 +188,16 @@ module _ (nodes : ℕ) (image : Image) (mark : ℕ → ℕ) (cards : List (Optio
         let found = at-index card.names stamp entry here in
         let led : get_or (led_at cards place) found.0 0 ≡ entry.number = led-index place card there found.0 nameless found.1.0 ∙ ap (λ (e : DirEntry). e.number) (found.1.1 nameless) in
         subst (IsReached cards) led
-        (shape.Named place directory found.0 (ap number_of there ∙ ap Some is) (to-walk directory reached) (rw (led-length place card there) found.1.0))
+        (shape.Named place directory found.0 (ap node_number there ∙ ap Some is) (to-walk directory reached) (rw (led-length place card there) found.1.0))
     | Nowhere none ↦ absurd (none-there directory stamp entry ((answers directory).none none) has)
   ]
 
   is-key : (place : ℕ) (card : CachedNode) → get_or cards place None ≡ Some card → IsTrue (is_key card.fields.number tree)
   is-key place card there = subst IsTrue (sym (ap is_some ((answers card.fields.number).found place card there refl))) refl
 
-  key-place : (number : ℕ) → IsTrue (is_key number tree) → (place : ℕ) × (number_at cards place ≡ Some number)
+  key-place : (number : ℕ) → IsTrue (is_key number tree) → (place : ℕ) × (node_number_at cards place ≡ Some number)
   key-place number key = elim (find cards number) [
-    | There place card there is ↦ (place, ap number_of there ∙ ap Some is)
+    | There place card there is ↦ (place, ap node_number there ∙ ap Some is)
     | Nowhere none ↦ absurd (true≢false (sym (subst IsTrue (ap is_some ((answers number).none none)) key)))
   ]
 
@@ -217,13 +217,13 @@ module _ (nodes : ℕ) (image : Image) (mark : ℕ → ℕ) (cards : List (Optio
 
   -- Stamps
 
-  stamped-card : (stamp : ℕ) (kind : NodeKind) (card : CachedNode) → HasContent kind card → one_if (is_key stamp (names_of (content_of image kind card))) ≡ times stamp (stamps_of card.names)
-  stamped-card stamp kind card has =
+  stamped-cached : (stamp : ℕ) (kind : NodeKind) (card : CachedNode) → HasContent kind card → one_if (is_key stamp (names_of (content_of image kind card))) ≡ times stamp (stamps_of card.names)
+  stamped-cached stamp kind card has =
       ap (λ (found : Option DirEntry). one_if (is_some found)) (node-names kind card has stamp) ∙ key-times stamp card.names (stamped-content kind card has)
 
   stamped-node : (stamp : ℕ) (card : CachedNode) → IsCard card → is_stamped stamp (node_of image card) ≡ times stamp (stamps_of card.names)
   unfolding node_of
-  stamped-node stamp card is = stamped-card stamp card.fields.kind card is.content
+  stamped-node stamp card is = stamped-cached stamp card.fields.kind card is.content
 
   stamps-sum : (stamp : ℕ) → stamped_in tree stamp ≡ times stamp (entry_stamps cards)
   stamps-sum stamp = (known_sum nodes mark cards known image).any (is_stamped stamp) ∙ from cards is_card

@@ -1,7 +1,7 @@
 -- The names of one directory, one after the other.
 use Rattle.std.proofs.Common.{◌≡◌, ◌≤◌, ◌<◌, ◌++◌, ◌+◌, ℕ, zero, suc, Bool, List, [], ◌∷◌, Option, Some, None, length, map, take, get_or, refl, sym, ap, subst, ◌∙◌, arith}
 use Rattle.std.proofs.lemmas.List.{get_or-map, length-map, append_assoc, append-nil, length-append}
-use Rattle.node_table.specs.Tables.{number_at}
+use Rattle.node_table.specs.Tables.{node_number_at}
 use Rattle.directory.specs.Records.{Record}
 use Rattle.layout.specs.CachedNodes.{CachedNode}
 use Rattle.layout.specs.SumLaws.{numbers_of}
@@ -26,7 +26,7 @@ module _ (cards : List (Option CachedNode)) (place : ℕ) (card : CachedNode) (n
     within-led : i < length (led_at cards place)
     within-led = rw led-length inside
 
-    pub led-reached : (number : ℕ) → number_at cards place ≡ Some number → IsReached cards number → IsReached cards one.1.number
+    pub led-reached : (number : ℕ) → node_number_at cards place ≡ Some number → IsReached cards number → IsReached cards one.1.number
     led-reached number at reached = subst (IsReached cards) number-is (Named place number i at reached within-led)
 
     module _ (seen : List Bool) (start now : List ℕ) (before : Meets cards seen start now (take i (led_at cards place))) where

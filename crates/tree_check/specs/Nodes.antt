@@ -35,9 +35,9 @@ pub record IsRootDirectory (card : CachedNode) : Type 0 where
 
 pub record HasRootDirectory (cards : List (Option CachedNode)) : Type 0 where
   pub place : ℕ
-  pub card : CachedNode
-  pub there : slice_index_or cards place None ≡ Some card
-  pub is : IsRootDirectory card
+  pub cached : CachedNode
+  pub there : slice_index_or cards place None ≡ Some cached
+  pub is : IsRootDirectory cached
 
 pub record AreNodesAllowed (limits : Limits) (cards : List (Option CachedNode)) : Type 0 where
   pub each : (place : ℕ) (card : CachedNode) → slice_index_or cards place None ≡ Some card

@@ -2,7 +2,7 @@
 -- well-formed tree's links.
 use Rattle.std.specs.Prelude.{◌≡◌, ◌<◌, ℕ, List, [], Option, Some, None, length, slice_index_or}
 use Rattle.model.specs.Trees.Tree.{root}
-use Rattle.node_table.specs.Tables.{number_at}
+use Rattle.node_table.specs.Tables.{node_number_at}
 use Rattle.layout.specs.CachedNodes.{CachedNode}
 use Rattle.layout.specs.Marks.{times}
 use Rattle.layout.specs.SumLaws.{entry_numbers, other_numbers, numbers_of}
@@ -19,15 +19,16 @@ led_at cards place = led_by (slice_index_or cards place None)
 -- reached: the root, and what a name in a reached directory leads to
 pub data IsReached (cards : List (Option CachedNode)) : ℕ → Type 0 where
   Root : IsReached cards root
-  Named : (place number i : ℕ) → number_at cards place ≡ Some number → IsReached cards number
+  Named : (place number i : ℕ) → node_number_at cards place ≡ Some number → IsReached cards number
       → i < length (led_at cards place)
       → IsReached cards (slice_index_or (led_at cards place) i 0)
 
 pub record IsOneTree (cards : List (Option CachedNode)) : Type 0 where
   -- there is a root
-  pub rooted : (place : ℕ) × (number_at cards place ≡ Some root)
+  pub rooted : (place : ℕ) × (node_number_at cards place ≡ Some root)
   -- each other node has one name, and neither the root nor a number without a node has one
   pub linked : (number : ℕ)
       → times number (entry_numbers cards) ≡ times number (other_numbers cards)
   -- each is reached
-  pub reached : (place number : ℕ) → number_at cards place ≡ Some number → IsReached cards number
+  pub reached : (place number : ℕ) → node_number_at cards place ≡ Some number
+      → IsReached cards number

@@ -1,6 +1,6 @@
 -- A walk over directories: the places that were met, in their order, and a mark for each.
 use Rattle.std.specs.Prelude.{◌≡◌, ◌<◌, ◌++◌, ◌⊎◌, ℕ, Bool, false, List, [], ◌∷◌, Option, Some, None, length, map, take, slice_index_or}
-use Rattle.node_table.specs.Tables.{number_at, HasNot}
+use Rattle.node_table.specs.Tables.{node_number_at, HasNoNode}
 use Rattle.layout.specs.CachedNodes.{CachedNode}
 use Rattle.layout.specs.Marks.{once_if, times}
 use Rattle.tree_check.specs.Trees.{led_at, IsReached}
@@ -12,7 +12,7 @@ number_or None = 0
 number_or (Some number) = number
 
 abbrev pub number_in : List (Option CachedNode) → (place : ℕ) → ℕ
-number_in cards place = number_or (number_at cards place)
+number_in cards place = number_or (node_number_at cards place)
 
 -- the numbers of these places' nodes, and those that their names lead to
 abbrev pub numbers_at : List (Option CachedNode) → List ℕ → List ℕ
@@ -28,14 +28,14 @@ pub record IsWalk (cards : List (Option CachedNode)) (seen : List Bool) (order :
   pub marks : length seen ≡ length cards
   pub once : (place : ℕ) → times place order ≡ once_if (slice_index_or seen place false)
   pub there : (i : ℕ) → i < length order
-      → number_at cards (slice_index_or order i 0)
+      → node_number_at cards (slice_index_or order i 0)
       ≡ Some (number_in cards (slice_index_or order i 0))
   pub reached : (i : ℕ) → i < length order
       → IsReached cards (number_in cards (slice_index_or order i 0))
 
 -- no node has the number, or one of these is it
 abbrev pub IsMissing : List (Option CachedNode) → List ℕ → (number : ℕ) → Type 0
-IsMissing cards met number = HasNot cards number ⊎ (0 < times number met)
+IsMissing cards met number = HasNoNode cards number ⊎ (0 < times number met)
 
 -- the walk goes on, and has met the nodes of these numbers too
 pub record Meets (cards : List (Option CachedNode)) (seen : List Bool) (old new numbers : List ℕ)

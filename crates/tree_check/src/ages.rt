@@ -17,10 +17,12 @@ fn are_names_before(names: &Names, last: u64) -> bool
     true
 }
 
-fn is_card_before(card: &CachedNode, last: u64) -> bool
-    ensures { IsTrue result ↔ IsCardBefore (last + 1) card.now }
+fn is_card_before(cached: &CachedNode, last: u64) -> bool
+    ensures { IsTrue result ↔ IsCardBefore (last + 1) cached.now }
 {
-    card.inode.number <= last && card.inode.change <= last && are_names_before(&card.names, last)
+    cached.inode.number <= last
+        && cached.inode.change <= last
+        && are_names_before(&cached.names, last)
 }
 
 /// Whether nothing that a volume's nodes have of stamps is past this last one: numbers, change
@@ -29,8 +31,8 @@ pub(crate) fn are_before(table: &Table, last: u64) -> bool
     ensures { IsTrue result ↔ AreBefore (last + 1) table.now }
 {
     for place in 0..table.places() {
-        if let Some(card) = table.card(place) {
-            if !is_card_before(card, last) {
+        if let Some(cached) = table.cached(place) {
+            if !is_card_before(cached, last) {
                 return false;
             }
         }

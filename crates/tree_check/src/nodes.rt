@@ -27,34 +27,34 @@ fn are_names_allowed(names: &Names, limits: &Limits) -> bool
     true
 }
 
-fn is_content_allowed(card: &CachedNode, limits: &Limits) -> bool
-    ensures { IsTrue result ↔ IsContentAllowed limits.now card.now.fields.kind card.now }
+fn is_content_allowed(cached: &CachedNode, limits: &Limits) -> bool
+    ensures { IsTrue result ↔ IsContentAllowed limits.now cached.now.fields.kind cached.now }
 {
-    match card.inode.kind {
-        NodeKind::File => card.inode.size <= limits.file_bytes as u64,
-        NodeKind::Directory => are_names_allowed(&card.names, limits),
+    match cached.inode.kind {
+        NodeKind::File => cached.inode.size <= limits.file_bytes as u64,
+        NodeKind::Directory => are_names_allowed(&cached.names, limits),
     }
 }
 
-fn is_node_allowed(card: &CachedNode, limits: &Limits) -> bool
-    ensures { IsTrue result ↔ IsNodeAllowed limits.now card.now }
+fn is_node_allowed(cached: &CachedNode, limits: &Limits) -> bool
+    ensures { IsTrue result ↔ IsNodeAllowed limits.now cached.now }
 {
-    is_list_for(card.inode.kind, card.inode.acl.as_slice(), limits)
-        && is_content_allowed(card, limits)
+    is_list_for(cached.inode.kind, cached.inode.acl.as_slice(), limits)
+        && is_content_allowed(cached, limits)
 }
 
-fn is_root_directory(card: &CachedNode) -> bool
-    ensures { IsTrue result ↔ IsRootDirectory card.now }
+fn is_root_directory(cached: &CachedNode) -> bool
+    ensures { IsTrue result ↔ IsRootDirectory cached.now }
 {
-    card.inode.number == ROOT && matches!(card.inode.kind, NodeKind::Directory)
+    cached.inode.number == ROOT && matches!(cached.inode.kind, NodeKind::Directory)
 }
 
 fn has_root_directory(table: &Table) -> bool
     ensures { IsTrue result ↔ HasRootDirectory table.now }
 {
     for place in 0..table.places() {
-        if let Some(card) = table.card(place) {
-            if is_root_directory(card) {
+        if let Some(cached) = table.cached(place) {
+            if is_root_directory(cached) {
                 return true;
             }
         }
@@ -69,8 +69,8 @@ pub(crate) fn are_nodes_allowed(table: &Table, limits: &Limits) -> bool
     ensures { IsTrue result ↔ AreNodesAllowed limits.now table.now }
 {
     for place in 0..table.places() {
-        if let Some(card) = table.card(place) {
-            if !is_node_allowed(card, limits) {
+        if let Some(cached) = table.cached(place) {
+            if !is_node_allowed(cached, limits) {
                 return false;
             }
         }

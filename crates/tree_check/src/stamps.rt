@@ -22,8 +22,8 @@ fn stamps_of(alloc: Global, table: &Table) -> Result<Vec<u64>, AllocError>
 {
     let mut stamps = Vec::new(alloc);
     for place in 0..table.places() {
-        if let Some(card) = table.card(place) {
-            push_stamps(&mut stamps, &card.names)?;
+        if let Some(cached) = table.cached(place) {
+            push_stamps(&mut stamps, &cached.names)?;
         }
     }
     Ok(stamps)

@@ -16,7 +16,7 @@ struct Walk {
 
 impl Walk {
     ghost use Rattle.std.specs.Prelude.{◌≡◌, ◌<◌, ◌∷◌, ◌++◌, [], true, false, Some, IfOk, length, replicate, set};
-    ghost use Rattle.node_table.specs.Tables.{number_at};
+    ghost use Rattle.node_table.specs.Tables.{node_number_at};
     ghost use Rattle.tree_check.specs.Trees.{led_at, IsReached};
     ghost use Rattle.tree_check.specs.Walks.{number_in, numbers_at, IsMissing, IsStuck, IsWalk};
     ghost use Rattle.tree_check.specs.Walks.{Meets};
@@ -67,18 +67,18 @@ impl Walk {
     /// whether there is none such.
     fn visit(&mut self, table: &Table, place: u32) -> Result<bool, AllocError>
         requires walk { IsWalk table.now self.old.seen.items self.old.order.items }
-        requires there { number_at table.now place ≡ Some (number_in table.now place) }
+        requires there { node_number_at table.now place ≡ Some (number_in table.now place) }
         requires reached { IsReached table.now (number_in table.now place) }
         ensures visited { IfOk result (λ is. is ≡ true → Meets table.now self.new.seen.items
             self.old.order.items self.new.order.items (led_at table.now place)) }
         ensures stuck { IfOk result (λ is. is ≡ false
             → IsStuck table.now self.old.order.items place) }
     {
-        let Some(card) = table.card(place) else {
+        let Some(cached) = table.cached(place) else {
             return Ok(true);
         };
-        for i in 0..card.names.count() {
-            if !self.follow(table, card.names.entry(i).number)? {
+        for i in 0..cached.names.count() {
+            if !self.follow(table, cached.names.entry(i).number)? {
                 return Ok(false);
             }
         }

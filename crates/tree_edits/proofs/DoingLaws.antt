@@ -2,7 +2,7 @@
 use Rattle.std.proofs.Common.{◌≡◌, ◌<◌, ◌+◌, ◌^◌, max, ℕ, List, [], Option, Some, None, length, get_or, set, refl, sym, ap, ap₂, ◌∙◌, arith, inl, subst}
 use Rattle.std.specs.Prelude.{Result, Ok, Err, OnOk}
 use Rattle.std.proofs.lemmas.List.{get_or-set_same}
-use Rattle.node_table.specs.Tables.{number_of, number_at, HasNot}
+use Rattle.node_table.specs.Tables.{node_number, node_number_at, HasNoNode}
 use Rattle.disk.specs.Moments.{Image}
 use Rattle.tree_transaction.specs.declared.transaction.Transaction.{Transaction}
 use Rattle.tree_transaction.specs.Transactions.{cards_of, IsKnown, MakesOver, EditsOver, HasNow}
@@ -72,50 +72,50 @@ module _ (old new : Transaction) (known : IsKnown old) (place number : ℕ) (it 
   abbrev cards : List (Option CachedNode)
   cards = cards_of old
 
-  module _ (change : CachedNode → CachedNode) (turns : HasNow old new place (change it.card))
-      (same : (change it.card).fields.number ≡ it.card.fields.number) where
+  module _ (change : CachedNode → CachedNode) (turns : HasNow old new place (change it.cached))
+      (same : (change it.cached).fields.number ≡ it.cached.fields.number) where
     is_number : turns.is.fields.number ≡ number
     is_number = ap (λ (f : Fields). f.number) turns.fields ∙ same ∙ it.number_is
 
     -- the node stands where it stood
     pub turned_there : IsThere (cards_of new) place number
     turned_there = record {
-      card = turns.is;
-      there = ap (λ (l : List (Option CachedNode)). get_or l place None) turns.cards ∙ get_or-set_same cards place (Some turns.is) None (place-within cards place it.card it.there);
+      cached = turns.is;
+      there = ap (λ (l : List (Option CachedNode)). get_or l place None) turns.cards ∙ get_or-set_same cards place (Some turns.is) None (place-within cards place it.cached it.there);
       number_is = is_number;
     }
 
-    pub turned : (alter : Node → Node) → node_of (λ n. []) (change it.card) ≡ blank_node (alter (node_of (λ n. []) it.card))
+    pub turned : (alter : Node → Node) → node_of (λ n. []) (change it.cached) ≡ blank_node (alter (node_of (λ n. []) it.cached))
         → tree_without_data (cards_of new)
         ≡ without_data (altered alter (tree_without_data cards) number)
     turned alter node =
         ap tree_without_data turns.cards
-        ∙ outline_put old.nodes (mark_by (148 + old.nodes) old.places) cards known.cards place it.card turns.is it.there (is_number ∙ sym it.number_is)
+        ∙ outline_put old.nodes (mark_by (148 + old.nodes) old.places) cards known.cards place it.cached turns.is it.there (is_number ∙ sym it.number_is)
         ∙ ap₂ (λ (n : ℕ) (one : Node). with (tree_without_data cards) n one) is_number
-        (node_now turns.is (change it.card) turns.is.fields.runs turns.is.fields.run_sectors turns.fields turns.names ∙ node)
-        ∙ ap (λ (t : Tree). with t number (blank_node (alter (node_of (λ n. []) it.card)))) (sym (outline_fixed cards))
+        (node_now turns.is (change it.cached) turns.is.fields.runs turns.is.fields.run_sectors turns.fields turns.names ∙ node)
+        ∙ ap (λ (t : Tree). with t number (blank_node (alter (node_of (λ n. []) it.cached)))) (sym (outline_fixed cards))
         ∙ sym (without_data-with (tree_without_data cards) number
-        (alter (node_of (λ n. []) it.card)))
+        (alter (node_of (λ n. []) it.cached)))
         ∙ ap (λ (there : Option Node). without_data (altered_at alter (tree_without_data cards) number there)) (sym (there_is cards known.cards.apart place number it))
 
     pub turned_made : (numbers : List ℕ) → AreMade cards (cards_of new) numbers
     turned_made numbers = subst (λ (now : List (Option CachedNode)). AreMade cards now numbers) (sym turns.cards)
-        (made_put cards place turns.is numbers (place-within cards place it.card it.there)
+        (made_put cards place turns.is numbers (place-within cards place it.cached it.there)
         (inl (number_at_there ∙ ap (λ (n : ℕ). Some n) (sym is_number))))
       where
-        number_at_there : number_at cards place ≡ Some number
-        number_at_there = ap number_of it.there ∙ ap (λ (n : ℕ). Some n) it.number_is
+        number_at_there : node_number_at cards place ≡ Some number
+        number_at_there = ap node_number it.there ∙ ap (λ (n : ℕ). Some n) it.number_is
 
-    pub turned_forms : (change it.card).form ≡ it.card.form → HaveCurrentForms cards → HaveCurrentForms (cards_of new)
+    pub turned_forms : (change it.cached).form ≡ it.cached.form → HaveCurrentForms cards → HaveCurrentForms (cards_of new)
     turned_forms form forms = subst HaveCurrentForms (sym turns.cards)
-        (put_forms cards place turns.is (place-within cards place it.card it.there) (turns.form ∙ form ∙ forms place it.card it.there) forms)
+        (put_forms cards place turns.is (place-within cards place it.cached it.there) (turns.form ∙ form ∙ forms place it.cached it.there) forms)
 
   pub over_number : (base : Image) (size : ℕ) (edit : ℕ → model.Edit) → EditsOver base size old new place edit → MakesOver base size old new (edit number)
-  over_number base size edit edits = subst (λ (n : ℕ). MakesOver base size old new (edit n)) it.number_is (edits it.card it.there)
+  over_number base size edit edits = subst (λ (n : ℕ). MakesOver base size old new (edit n)) it.number_is (edits it.cached it.there)
 
   pub dropped : cards_of new ≡ set cards place None → tree_without_data (cards_of new) ≡ without_data (without (tree_without_data cards) number)
   dropped now = ap tree_without_data now
-      ∙ outline_dropped old.nodes (mark_by (148 + old.nodes) old.places) cards known.cards place it.card it.there
+      ∙ outline_dropped old.nodes (mark_by (148 + old.nodes) old.places) cards known.cards place it.cached it.there
       ∙ ap (without (tree_without_data cards)) it.number_is
       ∙ ap (λ (t : Tree). without t number) (sym (outline_fixed cards))
       ∙ sym (without_data-without (tree_without_data cards) number)
@@ -229,13 +229,13 @@ pub node_is : (of : NodeKind) (number : ℕ) (shown : Shown) (card : CachedNode)
 node_is of number shown card fields = ap (λ (f : Fields). node_with f (no_content f.kind)) fields
 
 pub made_outline : (old new : Transaction) (known : IsKnown old) (place : ℕ) (of : NodeKind) (number : ℕ) (shown : Shown) (card : CachedNode)
-    → place < length (cards_of old) → get_or (cards_of old) place None ≡ None → HasNot (cards_of old) number
+    → place < length (cards_of old) → get_or (cards_of old) place None ≡ None → HasNoNode (cards_of old) number
     → card ≡ new_card Two card.fields → card.fields ≡ fresh_fields of number shown → cards_of new ≡ set (cards_of old) place (Some card)
     → tree_without_data (cards_of new) ≡ without_data (with (tree_without_data (cards_of old)) number (fresh_node of shown))
 made_outline old new known place of number shown card within free fresh is fields now =
     ap tree_without_data now
     ∙ outline_made old.nodes (mark_by (148 + old.nodes) old.places) (cards_of old) known.cards place card within free
-    (subst (λ (f : Fields). HasNot (cards_of old) f.number) (sym fields) fresh)
+    (subst (λ (f : Fields). HasNoNode (cards_of old) f.number) (sym fields) fresh)
     ∙ ap₂ (λ (n : ℕ) (node : Node). with (tree_without_data (cards_of old)) n node) (ap (λ (f : Fields). f.number) fields)
     (ap (node_of (λ n. [])) (is ∙ ap (new_card Two) fields) ∙ node_fresh of number shown)
     ∙ ap (λ (t : Tree). with t number (blank_node (fresh_node of shown))) (sym (outline_fixed (cards_of old)))

@@ -16,26 +16,26 @@ use Rattle.model.specs.Trees.Keyed.{at}
 use Rattle.model.specs.Trees.Tree.{File, bytes_of}
 
 module _ (cards : List (Option CachedNode)) (nodes : ℕ) (mark : ℕ → ℕ) (known : AreCards nodes mark cards) (place number end : ℕ) (it : IsThere cards place number) (file : IsFileTo (tree_without_data cards) number end) where
-  pub is_file : it.card.fields.kind ≡ kind.File
+  pub is_file : it.cached.fields.kind ≡ kind.File
   is_file = file_there cards known.apart place number it file.is_file
 
-  size_is : size_of (at number (tree_without_data cards)) ≡ it.card.fields.size
+  size_is : size_of (at number (tree_without_data cards)) ≡ it.cached.fields.size
   unfolding node_of
   size_is = ap size_of (there_is cards known.apart place number it)
-      ∙ ap (λ (k : NodeKind). length (bytes_of (content_of (λ n. []) k it.card))) is_file
-      ∙ length-bytes_in (λ n. []) it.card.blocks it.card.fields.size
+      ∙ ap (λ (k : NodeKind). length (bytes_of (content_of (λ n. []) k it.cached))) is_file
+      ∙ length-bytes_in (λ n. []) it.cached.blocks it.cached.fields.size
 
-  small_there : it.card.fields.size ≤ 16777216
+  small_there : it.cached.fields.size ≤ 16777216
   small_there = omega (arith, size_is, file.small)
 
   pub can_write : CanWrite cards place end
-  can_write = record { card = it.card; there = it.there; file = is_file; few = small_there; low = file.low }
+  can_write = record { cached = it.cached; there = it.there; file = is_file; few = small_there; low = file.low }
 
-  pub can_grow : it.card.fields.size ≤ end → CanGrow cards place end
-  can_grow longer = record { card = it.card; there = it.there; file = is_file; longer = longer; few = file.low }
+  pub can_grow : it.cached.fields.size ≤ end → CanGrow cards place end
+  can_grow longer = record { cached = it.cached; there = it.there; file = is_file; longer = longer; few = file.low }
 
-  pub can_cut : end ≤ it.card.fields.size → CanCut cards place end
-  can_cut shorter = record { card = it.card; there = it.there; file = is_file; shorter = shorter; few = small_there }
+  pub can_cut : end ≤ it.cached.fields.size → CanCut cards place end
+  can_cut shorter = record { cached = it.cached; there = it.there; file = is_file; shorter = shorter; few = small_there }
 
 -- a file that was written over is charged for the blocks that it reaches
 pub written_charge : (card : CachedNode) (offset : ℕ) (part : List ℕ) → card.fields.kind ≡ kind.File

@@ -2,13 +2,13 @@
 use Rattle.std.proofs.Common.{◌≡◌, ◌≢◌, ◌≤◌, ◌<◌, ◌+◌, ◌⊎◌, ℕ, zero, suc, List, [], ◌∷◌, Option, Some, None, length, take, get_or, refl, sym, ap, ◌∙◌, arith, inl, inr, subst}
 use Rattle.std.proofs.lemmas.Bool.{cases_eq}
 use Rattle.std.proofs.Math.Seq.{take-length}
-use Rattle.node_table.specs.Tables.{HasNot}
+use Rattle.node_table.specs.Tables.{HasNoNode}
 use Rattle.tree_transaction.proofs.KnownLaws.{card_at}
 use Rattle.tree_edits.specs.declared.edit.Edit.{Edit}
 use Rattle.tree_edits.specs.declared.room.Size.{Size}
 use Rattle.tree_edits.specs.Edits.{edit_of, edits_of, CanDo, AreDoable}
 use Rattle.tree_edits.specs.Outlines.{tree_without_data}
-use Rattle.tree_edits.specs.Sizes.{size_of_content, size_there, size_at, charge_of_size, nodes_in, IsBelow, number_of, resized_by}
+use Rattle.tree_edits.specs.Sizes.{size_of_content, size_there, size_at, charge_of_size, nodes_in, IsBelow, edited_number, resized_by}
 use Rattle.tree_edits.proofs.PlaceLaws.{IsThere, there_is, no_number}
 use Rattle.tree_edits.proofs.SizeLaws.{IsRising, behind, still_rising, charge_behind, nodes_behind}
 use Rattle.layout.specs.CachedNodes.{CachedNode, node_of, content_of}
@@ -82,19 +82,19 @@ module _ (tree : Tree) (edits : List Edit) (can : AreDoable tree edits) (rising 
   next_tree : behind_front tree edits (count + 1) ≡ done (edit_of edit) (behind_front tree edits count)
   next_tree = ap (behind_front tree edits) (let e : count + 1 ≡ suc count = omega arith in e) ∙ next.next
 
-  pub size_same : (number : ℕ) → number_of edit ≡ number → size_at (behind_front tree edits (count + 1)) number ≡ resized_by edit (size_at (behind_front tree edits count) number)
+  pub size_same : (number : ℕ) → edited_number edit ≡ number → size_at (behind_front tree edits (count + 1)) number ≡ resized_by edit (size_at (behind_front tree edits count) number)
   size_same number same =
       let it = behind (behind_front tree edits count) edit next.can rising_front in
       ap (λ (t : Tree). size_at t number) next_tree
       ∙ subst (λ (n : ℕ). size_at (done (edit_of edit) (behind_front tree edits count)) n ≡ resized_by edit (size_at (behind_front tree edits count) n)) same it.size
 
-  pub size_other : (number : ℕ) → number_of edit ≢ number → size_at (behind_front tree edits (count + 1)) number ≡ size_at (behind_front tree edits count) number
+  pub size_other : (number : ℕ) → edited_number edit ≢ number → size_at (behind_front tree edits (count + 1)) number ≡ size_at (behind_front tree edits count) number
   size_other number off =
       let it = behind (behind_front tree edits count) edit next.can rising_front in
       ap (λ (t : Tree). size_at t number) next_tree ∙ ap size_there (it.one.other number (λ e. off (sym e)))
 
-  module _ (number : ℕ) (before after : Option Size) (same : number ≡ number_of edit) (was : before ≡ size_at (behind_front tree edits count) number) (now : after ≡ resized_by edit before) where
-    before_is : before ≡ size_at (behind_front tree edits count) (number_of edit)
+  module _ (number : ℕ) (before after : Option Size) (same : number ≡ edited_number edit) (was : before ≡ size_at (behind_front tree edits count) number) (now : after ≡ resized_by edit before) where
+    before_is : before ≡ size_at (behind_front tree edits count) (edited_number edit)
     before_is = was ∙ ap (size_at (behind_front tree edits count)) same
 
     pub charge_next : total charge (behind_front tree edits (count + 1)) + charge_of_size before ≡ total charge (behind_front tree edits count) + charge_of_size after
@@ -120,23 +120,23 @@ pub record IsTouched (edits : List Edit) (number : ℕ) : Type 0 where
   pub place : ℕ
   pub within : place < length edits
   pub edit : Edit
-  pub same : number_of (get_or edits place edit) ≡ number
+  pub same : edited_number (get_or edits place edit) ≡ number
 
 -- what no edit changes stays
 pub touched : (tree : Tree) (edits : List Edit) (number : ℕ) → AreDoable tree edits → IsRising tree → IsTouched edits number ⊎ (at number (edited (edits_of edits) tree) ≡ at number tree)
 touched tree [] number can rising = inr refl
 touched tree (edit ∷ edits) number can rising =
-    by_first (touched (done (edit_of edit) tree) edits number can.1 (still_rising tree edit can.0 rising)) (cases_eq number (number_of edit))
+    by_first (touched (done (edit_of edit) tree) edits number can.1 (still_rising tree edit can.0 rising)) (cases_eq number (edited_number edit))
   where
     by_first : IsTouched edits number ⊎ (at number (edited (edits_of edits) (done (edit_of edit) tree)) ≡ at number (done (edit_of edit) tree))
-        → (number ≡ number_of edit) ⊎ (number ≢ number_of edit) → IsTouched (edit ∷ edits) number ⊎ (at number (edited (edits_of edits) (done (edit_of edit) tree)) ≡ at number tree)
+        → (number ≡ edited_number edit) ⊎ (number ≢ edited_number edit) → IsTouched (edit ∷ edits) number ⊎ (at number (edited (edits_of edits) (done (edit_of edit) tree)) ≡ at number tree)
     by_first (inl it) same = inl (record { place = suc it.place; within = omega (arith, it.within); edit = it.edit; same = it.same })
     by_first (inr stays) (inl same) = inl (record { place = 0; within = omega arith; edit = edit; same = sym same })
     by_first (inr stays) (inr off) = (let it = behind tree edit can.0 rising in inr (stays ∙ it.one.other number off))
 
 -- so each directory has few names where those have that an edit changes
 pub few_numbers : (tree : Tree) (edits : List Edit) (most : ℕ) → AreDoable tree edits → IsRising tree → ((number : ℕ) → length (names_at tree number) ≤ most)
-    → ((place : ℕ) (edit : Edit) → place < length edits → length (names_at (edited (edits_of edits) tree) (number_of (get_or edits place edit))) ≤ most)
+    → ((place : ℕ) (edit : Edit) → place < length edits → length (names_at (edited (edits_of edits) tree) (edited_number (get_or edits place edit))) ≤ most)
     → (number : ℕ) → length (names_at (edited (edits_of edits) tree) number) ≤ most
 few_numbers tree edits most can rising low each number = by_edit (touched tree edits number can rising)
   where
@@ -153,14 +153,14 @@ module _ (nodes : ℕ) (mark : ℕ → ℕ) (cards : List (Option CachedNode)) (
       ap (λ (n : ℕ). let size : Size = record { kind = kind.Directory; count = n } in size) (length-by_stamp card.names has.stamped ∙ has.count)
 
   -- a node there has what its cached node says
-  pub size_there_is : (place number : ℕ) (it : IsThere cards place number) → size_at (tree_without_data cards) number ≡ Some (record { kind = it.card.fields.kind; count = it.card.fields.size })
+  pub size_there_is : (place number : ℕ) (it : IsThere cards place number) → size_at (tree_without_data cards) number ≡ Some (record { kind = it.cached.fields.kind; count = it.cached.fields.size })
   unfolding node_of
   size_there_is place number it =
-      let is = card_at nodes mark cards place it.card known it.there in
+      let is = card_at nodes mark cards place it.cached known it.there in
       ap size_there (there_is cards known.apart place number it)
-      ∙ ap (λ (size : Size). Some size) (content_size it.card.fields.kind it.card is.content)
+      ∙ ap (λ (size : Size). Some size) (content_size it.cached.fields.kind it.cached is.content)
 
-  pub size_nowhere : (number : ℕ) → HasNot cards number
+  pub size_nowhere : (number : ℕ) → HasNoNode cards number
       → size_at (tree_without_data cards) number ≡ None
   size_nowhere number has_not = ap size_there (no_number cards number has_not)
 

@@ -3,12 +3,12 @@ use Rattle.std.proofs.Common.{◌≡◌, ◌≤◌, ◌<◌, ◌+◌, ℕ, zero,
 use Rattle.std.specs.List.{IsAmong}
 use Rattle.std.proofs.lemmas.List.{drop_more}
 use Rattle.disk.specs.Moments.{Image}
-use Rattle.node_table.specs.Tables.{number_at}
+use Rattle.node_table.specs.Tables.{node_number_at}
 use Rattle.tree_transaction.specs.declared.transaction.Transaction.{Transaction}
-use Rattle.tree_transaction.specs.Transactions.{cards_of, tree_of, IsKnown, IsTransaction, StaysKnown}
+use Rattle.tree_transaction.specs.Transactions.{cards_of, changed_tree, IsKnown, IsTransaction, StaysKnown}
 use Rattle.tree_edits.specs.declared.edit.Edit.{Edit}
 use Rattle.tree_edits.specs.declared.edit.Edit.TheVariants as declared
-use Rattle.tree_edits.specs.Doing.{AreMade, Does, DoesAnywhere, made_by, updates_of_all, FitsOn, Overfills}
+use Rattle.tree_edits.specs.Doing.{AreMade, DoesEdits, DoesAnywhere, made_by, updates_of_all, FitsOn, Overfills}
 use Rattle.tree_edits.specs.Edits.{edit_of, edits_of, AreDoable, StayFew}
 use Rattle.tree_edits.specs.Outlines.{without_data, tree_without_data}
 use Rattle.tree_edits.proofs.BlankLaws.{edits_blanked, charge-without_data, length-without_data}
@@ -71,7 +71,7 @@ next_edit edits i edit within is = drop_more edits i edit within ∙ ap (λ (one
 
 -- Edits that were done, and none
 
-pub does_nothing : (word : Type 0) (base : Image) (size : ℕ) (transaction : Transaction) → IsKnown transaction → Does word base size transaction transaction []
+pub does_nothing : (word : Type 0) (base : Image) (size : ℕ) (transaction : Transaction) → IsKnown transaction → DoesEdits word base size transaction transaction []
 does_nothing word base size transaction known = record {
   known = record { known = known; nodes = refl; places = refl };
   outline = sym (outline_fixed (cards_of transaction));
@@ -88,15 +88,15 @@ pub record Leads (word : Type 0) (base : Image) (size : ℕ) (old new : Transact
   pub outline : tree_without_data (cards_of new) ≡ without_data (edited (edits_of edits) (tree_without_data (cards_of old)))
   pub forms : HaveCurrentForms (cards_of old) → HaveCurrentForms (cards_of new)
   pub made : AreMade (cards_of old) (cards_of new) (made_by edits)
-  pub tree : word → IsTransaction base size old → IsTransaction base size new × (tree_of base new ≡ edited (edits_of edits) (tree_of base old))
+  pub tree : word → IsTransaction base size old → IsTransaction base size new × (changed_tree base new ≡ edited (edits_of edits) (changed_tree base old))
 
-leads : (word : Type 0) (base : Image) (size : ℕ) (old new : Transaction) (edits : List Edit) → Does word base size old new edits → Leads word base size old new edits
+leads : (word : Type 0) (base : Image) (size : ℕ) (old new : Transaction) (edits : List Edit) → DoesEdits word base size old new edits → Leads word base size old new edits
 leads word base size old new edits does = record { known = does.known; outline = does.outline; forms = does.forms; made = does.made; tree = does.tree }
 
-pub does_so : (word : Type 0) (base : Image) (size : ℕ) (old new : Transaction) (edits : List Edit) → Leads word base size old new edits → length new.updates ≤ length old.updates + updates_of_all edits → Does word base size old new edits
+pub does_so : (word : Type 0) (base : Image) (size : ℕ) (old new : Transaction) (edits : List Edit) → Leads word base size old new edits → length new.updates ≤ length old.updates + updates_of_all edits → DoesEdits word base size old new edits
 does_so word base size old new edits leads count = record { known = leads.known; outline = leads.outline; forms = leads.forms; made = leads.made; tree = leads.tree; count = count }
 
-pub anywhere : (word : Type 0) (base : Image) (size : ℕ) (old new : Transaction) (edit : Edit) → DoesAnywhere old new edit → Does word base size old new (edit ∷ [])
+pub anywhere : (word : Type 0) (base : Image) (size : ℕ) (old new : Transaction) (edit : Edit) → DoesAnywhere old new edit → DoesEdits word base size old new (edit ∷ [])
 anywhere word base size old new edit does =
     let it = does base size in
     record { known = it.known; outline = it.outline; forms = it.forms; made = it.made; tree = λ k. it.tree tt; count = it.count }
@@ -119,8 +119,8 @@ module _ (word : Type 0) (base : Image) (size : ℕ) (old mid : Transaction) (ed
         ∙ edits_blanked (edits_of edits) (done (edit_of edit) (tree_without_data (cards_of old)));
     forms = λ forms. rest.forms (first.forms forms);
     made = λ place number is. ⊎_elim
-        (λ (stood : number_at (cards_of mid) place ≡ Some number). ⊎_elim
-        (λ (before : number_at (cards_of old) place ≡ Some number). inl before)
+        (λ (stood : node_number_at (cards_of mid) place ≡ Some number). ⊎_elim
+        (λ (before : node_number_at (cards_of old) place ≡ Some number). inl before)
         (λ (among : IsAmong (made_by (edit ∷ [])) number). inr (made_first edit edits number among)) (first.made place number stood))
         (λ (among : IsAmong (made_by edits) number). inr (made_later edit edits number among)) (rest.made place number is);
     tree = λ k laid.
@@ -129,14 +129,14 @@ module _ (word : Type 0) (base : Image) (size : ℕ) (old mid : Transaction) (ed
         (all.0, all.1 ∙ ap (edited (edits_of edits)) one.1);
   }
 
-module _ (word : Type 0) (base : Image) (size : ℕ) (old mid : Transaction) (edit : Edit) (first : Does word base size old mid (edit ∷ [])) where
+module _ (word : Type 0) (base : Image) (size : ℕ) (old mid : Transaction) (edit : Edit) (first : DoesEdits word base size old mid (edit ∷ [])) where
   led : Leads word base size old mid (edit ∷ [])
   led = leads word base size old mid (edit ∷ []) first
 
   alike_led : without_data (tree_without_data (cards_of mid)) ≡ without_data (done (edit_of edit) (tree_without_data (cards_of old)))
   alike_led = alike word base size old mid edit led
 
-  pub goes_on : (new : Transaction) (edits : List Edit) → Does word base size mid new edits → Does word base size old new (edit ∷ edits)
+  pub goes_on : (new : Transaction) (edits : List Edit) → DoesEdits word base size mid new edits → DoesEdits word base size old new (edit ∷ edits)
   goes_on new edits rest = does_so word base size old new (edit ∷ edits) (leads_on word base size old mid edit led new edits (leads word base size mid new edits rest)) (omega (arith, first.count, rest.count))
 
   pub still_doable : (edits : List Edit) → AreDoable (tree_without_data (cards_of old)) (edit ∷ edits) → AreDoable (tree_without_data (cards_of mid)) edits

@@ -8,7 +8,7 @@ use Rattle.directory.specs.Records.{Record, record_from, place_of, with_record, 
 use Rattle.directory.proofs.ByStamp.{at-by_stamp}
 use Rattle.directory.proofs.NamedByStamp.{entry_of-by_stamp}
 use Rattle.directory.proofs.RecordMaps.{puts_by_stamp, removes_by_stamp}
-use Rattle.tree_transaction.specs.Naming.{CanName, HasName, blocks_named}
+use Rattle.tree_transaction.specs.Naming.{CanName, HasNameAt, blocks_named}
 use Rattle.tree_transaction.proofs.KnownLaws.{card_at}
 use Rattle.tree_edits.specs.Edits.{IsNewName, IsName}
 use Rattle.tree_edits.specs.Outlines.{tree_without_data}
@@ -62,88 +62,88 @@ few-at most (entry ∷ rest) number node few there = by_key (few-at most rest nu
 
 -- The names of a directory's cached node
 
-module _ (nodes : ℕ) (mark : ℕ → ℕ) (cards : List (Option CachedNode)) (known : AreCards nodes mark cards) (place number : ℕ) (it : IsThere cards place number) (is : it.card.fields.kind ≡ kind.Directory) where
-  pub has_names : HasNames it.card
-  has_names = let card = card_at nodes mark cards place it.card known it.there in subst (λ (k : NodeKind). HasContent k it.card) is card.content
+module _ (nodes : ℕ) (mark : ℕ → ℕ) (cards : List (Option CachedNode)) (known : AreCards nodes mark cards) (place number : ℕ) (it : IsThere cards place number) (is : it.cached.fields.kind ≡ kind.Directory) where
+  pub has_names : HasNames it.cached
+  has_names = let card = card_at nodes mark cards place it.cached known it.there in subst (λ (k : NodeKind). HasContent k it.cached) is card.content
 
-  names_are : names_at (tree_without_data cards) number ≡ by_stamp it.card.names
+  names_are : names_at (tree_without_data cards) number ≡ by_stamp it.cached.names
   names_are = names_there cards known.apart place number it is
 
-  pub count_is : length (names_at (tree_without_data cards) number) ≡ length it.card.names
-  count_is = ap (λ (l : Keyed DirEntry). length l) names_are ∙ length-by_stamp it.card.names has_names.stamped
+  pub count_is : length (names_at (tree_without_data cards) number) ≡ length it.cached.names
+  count_is = ap (λ (l : Keyed DirEntry). length l) names_are ∙ length-by_stamp it.cached.names has_names.stamped
 
-  pub entry_is : (name : List ℕ) → entry_of name (names_at (tree_without_data cards) number) ≡ entry_of name it.card.names
-  entry_is name = ap (entry_of name) names_are ∙ entry_of-by_stamp name it.card.names has_names.names.apart has_names.stamped.apart
+  pub entry_is : (name : List ℕ) → entry_of name (names_at (tree_without_data cards) number) ≡ entry_of name it.cached.names
+  entry_is name = ap (entry_of name) names_are ∙ entry_of-by_stamp name it.cached.names has_names.names.apart has_names.stamped.apart
 
-  pub stamp_is : (stamp : ℕ) → at stamp (names_at (tree_without_data cards) number) ≡ at stamp it.card.names
-  stamp_is stamp = ap (at stamp) names_are ∙ at-by_stamp stamp it.card.names
+  pub stamp_is : (stamp : ℕ) → at stamp (names_at (tree_without_data cards) number) ≡ at stamp it.cached.names
+  stamp_is stamp = ap (at stamp) names_are ∙ at-by_stamp stamp it.cached.names
 
   -- what a new name asks
   module _ (stamp : ℕ) (name : List ℕ) (to : ℕ) (new : IsNewName (tree_without_data cards) number stamp (record { name = name; number = to })) where
-    unnamed : entry_of name it.card.names ≡ None
+    unnamed : entry_of name it.cached.names ≡ None
     unnamed = sym (entry_is name) ∙ new.new_name
 
-    unstamped : at stamp it.card.names ≡ None
+    unstamped : at stamp it.cached.names ≡ None
     unstamped = sym (stamp_is stamp) ∙ new.new_stamp
 
     -- there is room for it where few names stand after it
-    pub room_there : IsTrue (few_names MAX_NAMES (altered (name_put stamp (record { name = name; number = to })) (tree_without_data cards) number)) → length it.card.names < MAX_NAMES
+    pub room_there : IsTrue (few_names MAX_NAMES (altered (name_put stamp (record { name = name; number = to })) (tree_without_data cards) number)) → length it.cached.names < MAX_NAMES
     unfolding node_of
     room_there few =
         let entry : DirEntry = record { name = name; number = to } in
-        let node = node_of (λ n. []) it.card in
+        let node = node_of (λ n. []) it.cached in
         let behind : at number (altered (name_put stamp entry) (tree_without_data cards) number) ≡ Some (name_put stamp entry node) =
         ap (λ (found : Option Node). at number (altered_at (name_put stamp entry) (tree_without_data cards) number found)) (there_is cards known.apart place number it)
         ∙ at-with_same (tree_without_data cards) number (name_put stamp entry node) in
         let most = few-at MAX_NAMES (altered (name_put stamp entry) (tree_without_data cards) number) number (name_put stamp entry node) few behind in
-        let names = ap (λ (k : NodeKind). length (with (names_of (content_of (λ n. []) k it.card)) stamp entry)) is in
-        let more = length-with (by_stamp it.card.names) stamp 0 entry (above_by_stamp it.card.names has_names.stamped) (at-by_stamp stamp it.card.names ∙ unstamped) in
-        omega (arith, most, names, more, length-by_stamp it.card.names has_names.stamped)
+        let names = ap (λ (k : NodeKind). length (with (names_of (content_of (λ n. []) k it.cached)) stamp entry)) is in
+        let more = length-with (by_stamp it.cached.names) stamp 0 entry (above_by_stamp it.cached.names has_names.stamped) (at-by_stamp stamp it.cached.names ∙ unstamped) in
+        omega (arith, most, names, more, length-by_stamp it.cached.names has_names.stamped)
 
-    pub can_name : length it.card.names < MAX_NAMES → CanName cards place name stamp
+    pub can_name : length it.cached.names < MAX_NAMES → CanName cards place name stamp
     can_name room = record {
-      card = it.card;
+      cached = it.cached;
       there = it.there;
       directory = is;
       few = room;
       some = new.some;
       short = new.short;
-      new_name = (place_behind name it.card.names unnamed, unnamed);
+      new_name = (place_behind name it.cached.names unnamed, unnamed);
       above = new.above;
       new_stamp = unstamped;
     }
 
-    pub names_with : by_stamp (with_record it.card.names (record_from stamp name to)) ≡ with (by_stamp it.card.names) stamp (record { name = name; number = to })
+    pub names_with : by_stamp (with_record it.cached.names (record_from stamp name to)) ≡ with (by_stamp it.cached.names) stamp (record { name = name; number = to })
     names_with =
-        let puts = puts_by_stamp it.card.names (record_from stamp name to) has_names.names.apart has_names.stamped new.above unstamped in
-        puts.entries ∙ ap (λ (found : Option Record). with (without_entry (by_stamp it.card.names) found) stamp (record { name = name; number = to })) unnamed
+        let puts = puts_by_stamp it.cached.names (record_from stamp name to) has_names.names.apart has_names.stamped new.above unstamped in
+        puts.entries ∙ ap (λ (found : Option Record). with (without_entry (by_stamp it.cached.names) found) stamp (record { name = name; number = to })) unnamed
 
     -- with which the directory is charged for as many blocks as one name more wants
-    pub named_charge : charge (name_put stamp (record { name = name; number = to }) (node_of (λ n. []) it.card)) ≡ charge_of_blocks (blocks_named it.card)
+    pub named_charge : charge (name_put stamp (record { name = name; number = to }) (node_of (λ n. []) it.cached)) ≡ charge_of_blocks (blocks_named it.cached)
     unfolding node_of
-    named_charge = ap (λ (k : NodeKind). charge_of_blocks (blocks_of kind.Directory (length (with (names_of (content_of (λ n. []) k it.card)) stamp (record { name = name; number = to }))))) is
+    named_charge = ap (λ (k : NodeKind). charge_of_blocks (blocks_of kind.Directory (length (with (names_of (content_of (λ n. []) k it.cached)) stamp (record { name = name; number = to }))))) is
         ∙ ap (λ (n : ℕ). charge_of_blocks (blocks_of kind.Directory n))
-        (length-with (by_stamp it.card.names) stamp 0 (record { name = name; number = to }) (above_by_stamp it.card.names has_names.stamped) (at-by_stamp stamp it.card.names ∙ unstamped)
-        ∙ omega (arith, length-by_stamp it.card.names has_names.stamped))
+        (length-with (by_stamp it.cached.names) stamp 0 (record { name = name; number = to }) (above_by_stamp it.cached.names has_names.stamped) (at-by_stamp stamp it.cached.names ∙ unstamped)
+        ∙ omega (arith, length-by_stamp it.cached.names has_names.stamped))
 
   -- what a name that goes asks
   module _ (stamp : ℕ) (name : List ℕ)
       (named : IsName (tree_without_data cards) number stamp name) where
-    pub entry_there : entry_of name it.card.names ≡ Some (record_from stamp name named.number)
+    pub entry_there : entry_of name it.cached.names ≡ Some (record_from stamp name named.number)
     entry_there = sym (entry_is name) ∙ named.named
 
-    within : place_of name it.card.names < length it.card.names
-    within = place_before name it.card.names (record_from stamp name named.number) entry_there
+    within : place_of name it.cached.names < length it.cached.names
+    within = place_before name it.cached.names (record_from stamp name named.number) entry_there
 
-    pub has_name : HasName cards place name
+    pub has_name : HasNameAt cards place name
     has_name = record {
-      card = it.card;
+      cached = it.cached;
       there = it.there;
       directory = is;
       within = within;
     }
 
-    pub names_without : by_stamp (without_place it.card.names (place_of name it.card.names)) ≡ without (by_stamp it.card.names) stamp
+    pub names_without : by_stamp (without_place it.cached.names (place_of name it.cached.names)) ≡ without (by_stamp it.cached.names) stamp
     names_without =
-        let removes = removes_by_stamp name it.card.names within has_names.stamped in
-        removes.entries ∙ ap (without_entry (by_stamp it.card.names)) entry_there
+        let removes = removes_by_stamp name it.cached.names within has_names.stamped in
+        removes.entries ∙ ap (without_entry (by_stamp it.cached.names)) entry_there

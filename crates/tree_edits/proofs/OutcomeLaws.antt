@@ -5,13 +5,13 @@ use Rattle.disk.specs.declared.update.Update.{Update}
 use Rattle.tree_transaction.specs.declared.transaction.Transaction.{Transaction}
 use Rattle.tree_transaction.specs.declared.transaction.PreparedTransaction.{PreparedTransaction}
 use Rattle.tree_transaction.specs.Transactions.{cards_of, end_of, image_of, IsTransaction}
-use Rattle.tree_transaction.specs.Updates.{AreTargets}
+use Rattle.tree_transaction.specs.Updates.{AreTreeUpdates}
 use Rattle.tree_transaction.specs.Whole.{IsMarked, IsWhole, Finishes}
 use Rattle.tree_transaction.proofs.WholeLaws.{marked_by}
 use Rattle.tree_edits.specs.declared.edit.Edit.{Edit}
-use Rattle.tree_edits.specs.Doing.{AreMade, Does, made_by}
+use Rattle.tree_edits.specs.Doing.{AreMade, DoesEdits, made_by}
 use Rattle.tree_edits.specs.Edits.{edits_of}
-use Rattle.tree_edits.specs.Outcomes.{ComesTo, IsWholeVolume, LaysEdited, cards_after}
+use Rattle.tree_edits.specs.Outcomes.{ComesTo, IsWholeVolume, LaysEditedTree, cards_after}
 use Rattle.tree_edits.specs.Outlines.{without_data, tree_without_data}
 use Rattle.tree_edits.specs.Parts.{PartsAreBytes}
 use Rattle.layout.specs.CachedNodes.{CachedNode}
@@ -19,7 +19,7 @@ use Rattle.layout.specs.CachedNodes as layout
 use Rattle.layout.specs.Known.{AreCards}
 use Rattle.layout.specs.Laid.{AreLaid}
 use Rattle.layout.specs.Marks.{mark_by}
-use Rattle.layout.specs.Stands.{current, HaveCurrentForms, IsLaid}
+use Rattle.layout.specs.Stands.{current_version, HaveCurrentForms, IsLaid}
 use Rattle.model.specs.Sessions.Seats.{Seats}
 use Rattle.model.specs.Trees.Edit.{edited}
 
@@ -56,7 +56,7 @@ module _ (size : ℕ) (table : List (Option CachedNode)) (places : List Bool) (w
 
   module _ (word : Type 0) (base : Image) (edits : List Edit) (mid last : Transaction)
       (outcome : PreparedTransaction)
-      (does : Does word base size transaction mid edits) (finishes : Finishes places mid last) (same : cards_of last ≡ cards_of mid)
+      (does : DoesEdits word base size transaction mid edits) (finishes : Finishes places mid last) (same : cards_of last ≡ cards_of mid)
       (cards_are : cards_after table outcome ≡ cards_of last) (updates_are : outcome.updates.items ≡ last.updates) (places_are : outcome.places ≡ mid.places) where
     after : cards_after table outcome ≡ cards_of mid
     after = cards_are ∙ same
@@ -81,7 +81,7 @@ module _ (size : ℕ) (table : List (Option CachedNode)) (places : List Bool) (w
     begun_image : image_of base transaction ≡ base
     begun_image = ap (λ (l : List Update). applied l base) begun.no_updates
 
-    begun_transaction : (seats : Seats) → IsLaid (current seats) size (length table) base table → IsTransaction base size transaction
+    begun_transaction : (seats : Seats) → IsLaid (current_version seats) size (length table) base table → IsTransaction base size transaction
     begun_transaction seats laid = record {
       laid = of_transaction (λ nodes marked cards. AreLaid nodes (image_of base transaction) (mark_by (148 + nodes) marked) cards)
           (subst (λ (image : Image). AreLaid (length table) image (mark_by (148 + length table) places) table) (sym begun_image)
@@ -90,7 +90,7 @@ module _ (size : ℕ) (table : List (Option CachedNode)) (places : List Bool) (w
       small = omega (arith, whole.few);
     }
 
-    is_whole : (seats : Seats) → IsLaid (current seats) size (length table) base table → IsWhole (current seats) base size mid
+    is_whole : (seats : Seats) → IsLaid (current_version seats) size (length table) base table → IsWhole (current_version seats) base size mid
     is_whole seats laid = record {
       size_is = omega (arith, whole.size_is, nodes_are, as_many);
       few = whole.few;
@@ -99,7 +99,7 @@ module _ (size : ℕ) (table : List (Option CachedNode)) (places : List Bool) (w
     }
 
     -- the sectors mark what the table's cached nodes name, and so do the places
-    is_marked : (seats : Seats) → IsLaid (current seats) size (length table) base table → IsMarked base places
+    is_marked : (seats : Seats) → IsLaid (current_version seats) size (length table) base table → IsMarked base places
     is_marked seats laid =
         let read = laid.laid in
         let known = whole.cards in
@@ -108,21 +108,21 @@ module _ (size : ℕ) (table : List (Option CachedNode)) (places : List Bool) (w
     image_is : applied outcome.updates.items base ≡ image_of base last
     image_is = ap (λ (l : List Update). applied l base) updates_are
 
-    lays : word → (seats : Seats) → IsLaid (current seats) size (length table) base table → LaysEdited seats base size table edits outcome
+    lays : word → (seats : Seats) → IsLaid (current_version seats) size (length table) base table → LaysEditedTree seats base size table edits outcome
     lays keeps seats laid =
         let edited_tree = does.tree keeps (begun_transaction seats laid) in
-        let left = finishes (current seats) base size edited_tree.0 (is_whole seats laid) (is_marked seats laid) in
+        let left = finishes (current_version seats) base size edited_tree.0 (is_whole seats laid) (is_marked seats laid) in
         record {
           laid =
-              subst (λ (image : Image). IsLaid (current seats) size (length table) image (cards_after table outcome)) (sym image_is)
-              (subst (λ (l : List (Option CachedNode)). IsLaid (current seats) size (length table) (image_of base last) l) (sym after)
-              (subst (λ (n : ℕ). IsLaid (current seats) size n (image_of base last) (cards_of mid)) nodes_are left.laid));
+              subst (λ (image : Image). IsLaid (current_version seats) size (length table) image (cards_after table outcome)) (sym image_is)
+              (subst (λ (l : List (Option CachedNode)). IsLaid (current_version seats) size (length table) (image_of base last) l) (sym after)
+              (subst (λ (n : ℕ). IsLaid (current_version seats) size n (image_of base last) (cards_of mid)) nodes_are left.laid));
           tree_is =
               ap₂ layout.tree_of image_is cards_are ∙ left.tree_is ∙ edited_tree.1
               ∙ ap (edited (edits_of edits)) (ap₂ layout.tree_of begun_image begun.cards_are);
         }
 
-    pub comes_to : AreTargets (end_of mid) last.updates → length last.updates ≤ length mid.updates + 2 → PartsAreBytes edits → ComesTo word base size table places edits outcome
+    pub comes_to : AreTreeUpdates (end_of mid) last.updates → length last.updates ≤ length mid.updates + 2 → PartsAreBytes edits → ComesTo word base size table places edits outcome
     comes_to targets count parts = record {
       cards = cards;
       as_many = ap (λ (l : List Bool). length l) places_are ∙ as_many;
@@ -130,8 +130,8 @@ module _ (size : ℕ) (table : List (Option CachedNode)) (places : List Bool) (w
       forms = subst HaveCurrentForms (sym after) forms;
       made = subst (λ (l : List (Option CachedNode)). AreMade table l (made_by edits)) (sym after)
           (subst (λ (l : List (Option CachedNode)). AreMade l (cards_of mid) (made_by edits)) begun.cards_are does.made);
-      targets = subst (λ (l : List Update). AreTargets size l) (sym updates_are)
-          (subst (λ (n : ℕ). AreTargets n last.updates) (omega (arith, whole.size_is, nodes_are, as_many)) targets);
+      targets = subst (λ (l : List Update). AreTreeUpdates size l) (sym updates_are)
+          (subst (λ (n : ℕ). AreTreeUpdates n last.updates) (omega (arith, whole.size_is, nodes_are, as_many)) targets);
       count = omega (arith, count, does.count, ap (λ (l : List Update). length l) begun.no_updates, ap (λ (l : List Update). length l) updates_are);
       bytes = parts;
       lays = lays;

@@ -5,13 +5,13 @@ use Rattle.std.proofs.lemmas.List.{get_or-set_same, get_or-set_other}
 use Rattle.std.specs.Prelude.{is_some, IsTrue, IsFalse}
 use Rattle.std.specs.List.{IsAmong}
 use Rattle.disk.specs.Moments.{Image}
-use Rattle.node_table.specs.Tables.{number_of, number_at, HasNot}
+use Rattle.node_table.specs.Tables.{node_number, node_number_at, HasNoNode}
 use Rattle.directory.specs.Listing.{by_stamp}
 use Rattle.layout.specs.CachedNodes.{CachedNode, node_of, content_of}
 use Rattle.layout.specs.ChangeLaws.{IsOwnNumber, IsSameNumber}
 use Rattle.layout.specs.Known.{AreCards}
 use Rattle.layout.specs.Laid.{AreNumbered}
-use Rattle.layout.specs.Stands.{current, HaveCurrentForms}
+use Rattle.layout.specs.Stands.{current_version, HaveCurrentForms}
 use Rattle.model.specs.Sessions.Seats.{no_seats}
 use Rattle.layout.proofs.Answering.{tree-has}
 use Rattle.layout.proofs.Changing.{AreAbove, tree-lacks, tree-put, tree-drop}
@@ -25,16 +25,16 @@ use Rattle.tree_edits.specs.Outlines.{tree_without_data}
 
 -- the cached node of a number that stands at a place
 pub record IsThere (cards : List (Option CachedNode)) (place number : ℕ) : Type 0 where
-  pub card : CachedNode
-  pub there : get_or cards place None ≡ Some card
-  pub number_is : card.fields.number ≡ number
+  pub cached : CachedNode
+  pub there : get_or cards place None ≡ Some cached
+  pub number_is : cached.fields.number ≡ number
 
-pub there_at : (cards : List (Option CachedNode)) (place number : ℕ) → number_at cards place ≡ Some number → IsThere cards place number
+pub there_at : (cards : List (Option CachedNode)) (place number : ℕ) → node_number_at cards place ≡ Some number → IsThere cards place number
 there_at cards place number is = by_card (get_or cards place None) refl is
   where
-    by_card : (card : Option CachedNode) → get_or cards place None ≡ card → number_of card ≡ Some number → IsThere cards place number
+    by_card : (card : Option CachedNode) → get_or cards place None ≡ card → node_number card ≡ Some number → IsThere cards place number
     by_card None e n = absurd cc
-    by_card (Some card) e n = record { card = card; there = e; number_is = cc }
+    by_card (Some card) e n = record { cached = card; there = e; number_is = cc }
 
 pub none_key : {A : Type 0} (found : Option A) → found ≡ None → IsTrue (is_some found) → ⊥
 none_key None e is = cc
@@ -49,16 +49,16 @@ directory_key tree number is = by_node (at number tree) is
     by_node (Some node) is = refl
 
 -- a number that no cached node has is no node's
-pub no_number : (cards : List (Option CachedNode)) (number : ℕ) → HasNot cards number → at number (tree_without_data cards) ≡ None
-no_number cards number has_not = tree-lacks (λ n. []) cards number (λ i card there same. has_not i (ap number_of there ∙ ap (λ (n : ℕ). Some n) same))
+pub no_number : (cards : List (Option CachedNode)) (number : ℕ) → HasNoNode cards number → at number (tree_without_data cards) ≡ None
+no_number cards number has_not = tree-lacks (λ n. []) cards number (λ i card there same. has_not i (ap node_number there ∙ ap (λ (n : ℕ). Some n) same))
 
 module _ (cards : List (Option CachedNode)) (apart : AreNumbered cards) where
-  pub there_is : (place number : ℕ) → (it : IsThere cards place number) → at number (tree_without_data cards) ≡ Some (node_of (λ n. []) it.card)
+  pub there_is : (place number : ℕ) → (it : IsThere cards place number) → at number (tree_without_data cards) ≡ Some (node_of (λ n. []) it.cached)
   there_is place number it =
-      ap (λ (n : ℕ). at n (tree_without_data cards)) (sym it.number_is) ∙ tree-has (λ n. []) cards place it.card apart it.there
+      ap (λ (n : ℕ). at n (tree_without_data cards)) (sym it.number_is) ∙ tree-has (λ n. []) cards place it.cached apart it.there
 
   -- the other way round
-  pub not_there : (number : ℕ) → at number (tree_without_data cards) ≡ None → HasNot cards number
+  pub not_there : (number : ℕ) → at number (tree_without_data cards) ≡ None → HasNoNode cards number
   not_there number fresh place is = let it = there_at cards place number is in none_some (there_is place number it) fresh
     where
       none_some : {A : Type 0} {found : Option A} {x : A} → found ≡ Some x → found ≡ None → ⊥
@@ -75,20 +75,20 @@ kind_hides image kind.File card is = refl
 kind_hides image kind.Directory card is = absurd cc
 
 module _ (cards : List (Option CachedNode)) (apart : AreNumbered cards) (place number : ℕ) (it : IsThere cards place number) where
-  there_node : at number (tree_without_data cards) ≡ Some (node_of (λ n. []) it.card)
+  there_node : at number (tree_without_data cards) ≡ Some (node_of (λ n. []) it.cached)
   there_node = there_is cards apart place number it
 
-  pub directory_there : IsTrue (is_directory_at (tree_without_data cards) number) → it.card.fields.kind ≡ kind.Directory
+  pub directory_there : IsTrue (is_directory_at (tree_without_data cards) number) → it.cached.fields.kind ≡ kind.Directory
   unfolding node_of
-  directory_there is = kind_shows (λ n. []) it.card.fields.kind it.card (subst (λ (node : Option Node). IsTrue (is_directory_node node)) there_node is)
+  directory_there is = kind_shows (λ n. []) it.cached.fields.kind it.cached (subst (λ (node : Option Node). IsTrue (is_directory_node node)) there_node is)
 
-  pub file_there : IsFalse (is_directory_at (tree_without_data cards) number) → it.card.fields.kind ≡ kind.File
+  pub file_there : IsFalse (is_directory_at (tree_without_data cards) number) → it.cached.fields.kind ≡ kind.File
   unfolding node_of
-  file_there is = kind_hides (λ n. []) it.card.fields.kind it.card (subst (λ (node : Option Node). IsFalse (is_directory_node node)) there_node is)
+  file_there is = kind_hides (λ n. []) it.cached.fields.kind it.cached (subst (λ (node : Option Node). IsFalse (is_directory_node node)) there_node is)
 
-  pub names_there : it.card.fields.kind ≡ kind.Directory → names_at (tree_without_data cards) number ≡ by_stamp it.card.names
+  pub names_there : it.cached.fields.kind ≡ kind.Directory → names_at (tree_without_data cards) number ≡ by_stamp it.cached.names
   unfolding node_of
-  names_there is = ap names_of_node there_node ∙ ap (λ (k : NodeKind). names_of (content_of (λ n. []) k it.card)) is
+  names_there is = ap names_of_node there_node ∙ ap (λ (k : NodeKind). names_of (content_of (λ n. []) k it.cached)) is
 
 -- The outline after a change of a cached node
 
@@ -107,11 +107,11 @@ module _ (nodes : ℕ) (mark : ℕ → ℕ) (cards : List (Option CachedNode)) (
       subst_same : {card : Option CachedNode} → card ≡ Some was → is.fields.number ≡ was.fields.number → IsSameNumber card (Some is)
       subst_same e same = subst (λ (c : Option CachedNode). IsSameNumber c (Some is)) (sym e) same
 
-  pub outline_made : (place : ℕ) (is : CachedNode) → place < length cards → get_or cards place None ≡ None → HasNot cards is.fields.number
+  pub outline_made : (place : ℕ) (is : CachedNode) → place < length cards → get_or cards place None ≡ None → HasNoNode cards is.fields.number
       → tree_without_data (set cards place (Some is)) ≡ with (tree_without_data cards) is.fields.number (node_of (λ n. []) is)
   outline_made place is within free fresh = tree-put (λ n. []) (λ n. []) cards place is within (λ i card off e. refl)
       (subst (λ (c : Option CachedNode). IsSameNumber c (Some is)) (sym free) tt)
-      (λ i other off found e. fresh i (ap number_of found ∙ ap (λ (n : ℕ). Some n) e))
+      (λ i other off found e. fresh i (ap node_number found ∙ ap (λ (n : ℕ). Some n) e))
 
   pub outline_dropped : (place : ℕ) (was : CachedNode) → get_or cards place None ≡ Some was
       → tree_without_data (set cards place None)
@@ -129,22 +129,22 @@ none_at (card ∷ cards) (suc place) = none_at cards place
 pub made_none : (cards : List (Option CachedNode)) (place : ℕ) (numbers : List ℕ) → AreMade cards (set cards place None) numbers
 made_none cards place numbers other number is = elim (cases_eq other place) [
   | inl e ↦ absurd (gone (get_or (set cards place None) other None) (ap (λ (p : ℕ). get_or (set cards place None) p None) e ∙ none_at cards place) is)
-  | inr off ↦ inl (ap number_of (sym (get_or-set_other cards place other None None off)) ∙ is)
+  | inr off ↦ inl (ap node_number (sym (get_or-set_other cards place other None None off)) ∙ is)
 ]
   where
-    gone : (card : Option CachedNode) → card ≡ None → number_of card ≡ Some number → ⊥
+    gone : (card : Option CachedNode) → card ≡ None → node_number card ≡ Some number → ⊥
     gone None e n = absurd cc
     gone (Some card) e n = absurd cc
 
 pub made_put : (cards : List (Option CachedNode)) (place : ℕ) (card : CachedNode) (numbers : List ℕ) → place < length cards
-    → (number_at cards place ≡ Some card.fields.number) ⊎ IsAmong numbers card.fields.number
+    → (node_number_at cards place ≡ Some card.fields.number) ⊎ IsAmong numbers card.fields.number
     → AreMade cards (set cards place (Some card)) numbers
 made_put cards place card numbers within from other number is = elim (cases_eq other place) [
   | inl e ↦
-      let same : number ≡ card.fields.number = some_same (sym is ∙ ap (λ (p : ℕ). number_at (set cards place (Some card)) p) e ∙ ap number_of (get_or-set_same cards place (Some card) None within)) in
-      ⊎_elim (λ (stood : number_at cards place ≡ Some card.fields.number). inl (ap (number_at cards) e ∙ stood ∙ ap (λ (n : ℕ). Some n) (sym same)))
+      let same : number ≡ card.fields.number = some_same (sym is ∙ ap (λ (p : ℕ). node_number_at (set cards place (Some card)) p) e ∙ ap node_number (get_or-set_same cards place (Some card) None within)) in
+      ⊎_elim (λ (stood : node_number_at cards place ≡ Some card.fields.number). inl (ap (node_number_at cards) e ∙ stood ∙ ap (λ (n : ℕ). Some n) (sym same)))
       (λ (made : IsAmong numbers card.fields.number). inr (subst (IsAmong numbers) (sym same) made)) from
-  | inr off ↦ inl (ap number_of (sym (get_or-set_other cards place other (Some card) None off)) ∙ is)
+  | inr off ↦ inl (ap node_number (sym (get_or-set_other cards place other (Some card) None off)) ∙ is)
 ]
   where
     some_same : {x y : ℕ} → Some x ≡ Some y → x ≡ y
@@ -161,9 +161,9 @@ none_forms cards place forms other card there = elim (cases_eq other place) [
     gone : (found : Option CachedNode) → found ≡ None → found ≡ Some card → ⊥
     gone found none some = cc
 
-pub put_forms : (cards : List (Option CachedNode)) (place : ℕ) (card : CachedNode) → place < length cards → card.form ≡ (current no_seats).form place → HaveCurrentForms cards → HaveCurrentForms (set cards place (Some card))
+pub put_forms : (cards : List (Option CachedNode)) (place : ℕ) (card : CachedNode) → place < length cards → card.form ≡ (current_version no_seats).form place → HaveCurrentForms cards → HaveCurrentForms (set cards place (Some card))
 put_forms cards place card within one forms other it there = elim (cases_eq other place) [
-  | inl e ↦ ap (λ (c : CachedNode). c.form) (sym (some_is (sym (get_or-set_same cards place (Some card) None within) ∙ ap (λ (p : ℕ). get_or (set cards place (Some card)) p None) (sym e) ∙ there))) ∙ one ∙ ap (λ (p : ℕ). (current no_seats).form p) (sym e)
+  | inl e ↦ ap (λ (c : CachedNode). c.form) (sym (some_is (sym (get_or-set_same cards place (Some card) None within) ∙ ap (λ (p : ℕ). get_or (set cards place (Some card)) p None) (sym e) ∙ there))) ∙ one ∙ ap (λ (p : ℕ). (current_version no_seats).form p) (sym e)
   | inr off ↦ forms other it (sym (get_or-set_other cards place other (Some card) None off) ∙ there)
 ]
   where

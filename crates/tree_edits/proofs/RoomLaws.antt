@@ -47,27 +47,27 @@ module _ (nodes : ℕ) (mark : ℕ → ℕ) (cards : List (Option CachedNode)) (
 
   -- a node is another one
   pub charge_altered : (place number : ℕ) (it : IsThere cards place number) (alter : Node → Node)
-      → total charge (altered alter (tree_without_data cards) number) + charge_of it.card ≡ charge_of_all cards + charge (alter (node_of (λ n. []) it.card))
+      → total charge (altered alter (tree_without_data cards) number) + charge_of it.cached ≡ charge_of_all cards + charge (alter (node_of (λ n. []) it.cached))
   charge_altered place number it alter =
       let there = there_is cards known.apart place number it in
-      let node = node_of (λ n. []) it.card in
+      let node = node_of (λ n. []) it.cached in
       let sum = total-with charge (tree_without_data cards) number 0 (alter node) (tree-above (λ n. []) cards above) in
       omega (
         arith,
         sum,
         ap (λ (found : Option Node). total charge (altered_at alter (tree_without_data cards) number found)) there,
         ap (worth_at charge) there,
-        charge_card it.card (each place it.card it.there),
+        charge_card it.cached (each place it.cached it.there),
         charge_all,
       )
 
 -- a node that would be charged for so many blocks leaves no room
 pub no_room : (transaction : Transaction) (known : IsKnown transaction) (place number : ℕ) (it : IsThere (cards_of transaction) place number) (alter : Node → Node) (blocks : CachedNode → ℕ)
-    → IsOvercharged transaction place blocks → charge (alter (node_of (λ n. []) it.card)) ≡ charge_of_blocks (blocks it.card)
+    → IsOvercharged transaction place blocks → charge (alter (node_of (λ n. []) it.cached)) ≡ charge_of_blocks (blocks it.cached)
     → FitsOn (length transaction.places) transaction.nodes (altered alter (tree_without_data (cards_of transaction)) number) → ⊥
 no_room transaction known place number it alter blocks over charged room =
     let sum = charge_altered transaction.nodes (mark_by (148 + transaction.nodes) transaction.places) (cards_of transaction) known.cards place number it alter in
-    let more = over it.card it.there in
+    let more = over it.cached it.there in
     let fits = room.charge in
     omega (arith, sum, more, fits, charged)
 

@@ -7,7 +7,7 @@ use Rattle.tree_edits.specs.declared.edit.Edit.{Edit}
 use Rattle.tree_edits.specs.declared.edit.Edit.TheVariants as declared
 use Rattle.tree_edits.specs.declared.room.Size.{Size}
 use Rattle.tree_edits.specs.Edits.{edit_of, fresh_node, CanDo}
-use Rattle.tree_edits.specs.Sizes.{size_of_content, size_there, size_at, charge_of_size, nodes_in, names_in, number_of, resized_by}
+use Rattle.tree_edits.specs.Sizes.{size_of_content, size_there, size_at, charge_of_size, nodes_in, names_in, edited_number, resized_by}
 use Rattle.tree_edits.proofs.BlankLaws.{overwritten-length}
 use Rattle.tree_edits.proofs.ChangeLaws.{ChangesOne, change_with, change_without, change_altered, at_altered, stamp_there}
 use Rattle.layout.proofs.ChargeLaws.{length-with}
@@ -50,9 +50,9 @@ pub record IsRising (tree : Tree) : Type 0 where
 
 -- An edit changes one node, as it is told by what that node had
 pub record Behind (tree : Tree) (edit : Edit) : Type 0 where
-  pub one : ChangesOne (number_of edit) tree (done (edit_of edit) tree)
-  pub size : size_at (done (edit_of edit) tree) (number_of edit) ≡ resized_by edit (size_at tree (number_of edit))
-  pub names : IsAbove 0 (names_at (done (edit_of edit) tree) (number_of edit))
+  pub one : ChangesOne (edited_number edit) tree (done (edit_of edit) tree)
+  pub size : size_at (done (edit_of edit) tree) (edited_number edit) ≡ resized_by edit (size_at tree (edited_number edit))
+  pub names : IsAbove 0 (names_at (done (edit_of edit) tree) (edited_number edit))
 
 fresh_size : (of : NodeKind) → size_of_content (no_content of) ≡ record { kind = of; count = 0 }
 fresh_size kind.File = refl
@@ -74,7 +74,7 @@ name_less names stamp rising once =
     let one : DirEntry → ℕ = λ entry. 1 in
     omega (arith, total-without one names stamp 0 rising, once, total-ones names, total-ones (without names stamp))
 
-changed_one : (tree : Tree) (edit : Edit) → CanDo tree edit → IsAbove 0 tree → ChangesOne (number_of edit) tree (done (edit_of edit) tree)
+changed_one : (tree : Tree) (edit : Edit) → CanDo tree edit → IsAbove 0 tree → ChangesOne (edited_number edit) tree (done (edit_of edit) tree)
 changed_one tree (declared.PutNode number of shown) can above = change_with tree number (fresh_node of (shown_of shown)) above can.some
 changed_one tree (declared.DropNode number) can above = change_without tree number above
 changed_one tree (declared.Show number shown) can above = change_altered (showing (shown_of shown)) tree number above
@@ -85,7 +85,7 @@ changed_one tree (declared.PutBytes file offset bytes) can above =
 changed_one tree (declared.SetSize file size) can above =
     change_altered (λ node. with_content node (File (resized (bytes_of node.content) size))) tree file above
 
-new_size : (tree : Tree) (edit : Edit) → CanDo tree edit → IsRising tree → size_at (done (edit_of edit) tree) (number_of edit) ≡ resized_by edit (size_at tree (number_of edit))
+new_size : (tree : Tree) (edit : Edit) → CanDo tree edit → IsRising tree → size_at (done (edit_of edit) tree) (edited_number edit) ≡ resized_by edit (size_at tree (edited_number edit))
 new_size tree (declared.PutNode number of shown) can rising =
     ap size_there (at-with_same tree number (fresh_node of (shown_of shown))) ∙ ap (λ (size : Size). Some size) (fresh_size of)
 new_size tree (declared.DropNode number) can rising = ap size_there (at-without_same tree number)
@@ -139,7 +139,7 @@ new_size tree (declared.SetSize file size) can rising =
     by_node None = refl
     by_node (Some node) = ap file_of (length-resized (bytes_of node.content) size)
 
-new_names : (tree : Tree) (edit : Edit) → CanDo tree edit → IsRising tree → IsAbove 0 (names_at (done (edit_of edit) tree) (number_of edit))
+new_names : (tree : Tree) (edit : Edit) → CanDo tree edit → IsRising tree → IsAbove 0 (names_at (done (edit_of edit) tree) (edited_number edit))
 new_names tree (declared.PutNode number of shown) can rising =
     subst (λ (found : Option Node). IsAbove 0 (names_of_node found)) (sym (at-with_same tree number (fresh_node of (shown_of shown)))) (fresh_names of)
 new_names tree (declared.DropNode number) can rising = subst (λ (found : Option Node). IsAbove 0 (names_of_node found)) (sym (at-without_same tree number)) tt
@@ -182,28 +182,28 @@ behind tree edit can rising = record { one = changed_one tree edit can rising.ab
 pub still_rising : (tree : Tree) (edit : Edit) → CanDo tree edit → IsRising tree → IsRising (done (edit_of edit) tree)
 still_rising tree edit can rising =
     let it = behind tree edit can rising in
-    record { above = it.one.above; names = λ number. by_number number (cases_eq number (number_of edit)) }
+    record { above = it.one.above; names = λ number. by_number number (cases_eq number (edited_number edit)) }
   where
-    by_number : (number : ℕ) → (number ≡ number_of edit) ⊎ (number ≢ number_of edit) → IsAbove 0 (names_at (done (edit_of edit) tree) number)
+    by_number : (number : ℕ) → (number ≡ edited_number edit) ⊎ (number ≢ edited_number edit) → IsAbove 0 (names_at (done (edit_of edit) tree) number)
     by_number number (inl same) = (let it = behind tree edit can rising in subst (λ (n : ℕ). IsAbove 0 (names_at (done (edit_of edit) tree) n)) (sym same) it.names)
     by_number number (inr off) = (let it = behind tree edit can rising in subst (λ (found : Option Node). IsAbove 0 (names_of_node found)) (sym (it.one.other number off)) (rising.names number))
 
 -- and what it takes changes as that node's does
 pub charge_behind : (tree : Tree) (edit : Edit) → CanDo tree edit → IsRising tree
-    → total charge (done (edit_of edit) tree) + charge_of_size (size_at tree (number_of edit)) ≡ total charge tree + charge_of_size (resized_by edit (size_at tree (number_of edit)))
+    → total charge (done (edit_of edit) tree) + charge_of_size (size_at tree (edited_number edit)) ≡ total charge tree + charge_of_size (resized_by edit (size_at tree (edited_number edit)))
 charge_behind tree edit can rising =
     let it = behind tree edit can rising in
-    omega (arith, it.one.sum charge, charge_there (at (number_of edit) tree), charge_there (at (number_of edit) (done (edit_of edit) tree)), ap charge_of_size it.size)
+    omega (arith, it.one.sum charge, charge_there (at (edited_number edit) tree), charge_there (at (edited_number edit) (done (edit_of edit) tree)), ap charge_of_size it.size)
 
 pub nodes_behind : (tree : Tree) (edit : Edit) → CanDo tree edit → IsRising tree
-    → length (done (edit_of edit) tree) + nodes_in (size_at tree (number_of edit)) ≡ length tree + nodes_in (resized_by edit (size_at tree (number_of edit)))
+    → length (done (edit_of edit) tree) + nodes_in (size_at tree (edited_number edit)) ≡ length tree + nodes_in (resized_by edit (size_at tree (edited_number edit)))
 nodes_behind tree edit can rising =
     let it = behind tree edit can rising in
     omega (
       arith,
       it.one.sum (λ node. 1),
-      node_there (at (number_of edit) tree),
-      node_there (at (number_of edit) (done (edit_of edit) tree)),
+      node_there (at (edited_number edit) tree),
+      node_there (at (edited_number edit) (done (edit_of edit) tree)),
       ap nodes_in it.size,
       total-ones tree,
       total-ones (done (edit_of edit) tree),

@@ -3,9 +3,9 @@ use Rattle.std.specs.Prelude.{◌≡◌, ◌≤◌, ◌+◌, ◌/◌, ◌%◌, �
 use Rattle.std.specs.Prelude.{length, take}
 use Rattle.std.specs.List.{IsAmong}
 use Rattle.disk.specs.Moments.{Image}
-use Rattle.node_table.specs.Tables.{number_at}
+use Rattle.node_table.specs.Tables.{node_number_at}
 use Rattle.tree_transaction.specs.declared.transaction.Transaction.{Transaction}
-use Rattle.tree_transaction.specs.Transactions.{cards_of, end_of, tree_of, IsKnown, IsTransaction, StaysKnown}
+use Rattle.tree_transaction.specs.Transactions.{cards_of, end_of, changed_tree, IsKnown, IsTransaction, StaysKnown}
 use Rattle.tree_edits.specs.declared.edit.Edit.{Edit}
 use Rattle.tree_edits.specs.declared.edit.Edit.TheVariants as declared
 use Rattle.tree_edits.specs.Edits.{edits_of, AreDoable, StayFew}
@@ -31,8 +31,8 @@ made_by (declared.SetSize file size ∷ edits) = made_by edits
 
 -- each node stands where one of its number stood, or has one of these numbers
 abbrev pub AreMade : (old new : List (Option CachedNode)) → (numbers : List ℕ) → Type 0
-AreMade old new numbers = (place number : ℕ) → number_at new place ≡ Some number
-    → (number_at old place ≡ Some number) ⊎ IsAmong numbers number
+AreMade old new numbers = (place number : ℕ) → node_number_at new place ≡ Some number
+    → (node_number_at old place ≡ Some number) ⊎ IsAmong numbers number
 
 -- how many updates edits come to at most
 abbrev pub updates_of : Edit → ℕ
@@ -52,7 +52,7 @@ updates_of_all (edit ∷ edits) = updates_of edit + updates_of_all edits
 -- Edits are done: what is known of the transaction stays known, on any device, and its outline is
 -- the one of the tree with the edits; where the sectors keep their word the transaction's tree is
 -- that tree.
-pub record Does (word : Type 0) (base : Image) (size : ℕ) (old new : Transaction)
+pub record DoesEdits (word : Type 0) (base : Image) (size : ℕ) (old new : Transaction)
     (edits : List Edit)
     : Type 0 where
   pub known : StaysKnown old new
@@ -61,7 +61,7 @@ pub record Does (word : Type 0) (base : Image) (size : ℕ) (old new : Transacti
   pub forms : HaveCurrentForms (cards_of old) → HaveCurrentForms (cards_of new)
   pub made : AreMade (cards_of old) (cards_of new) (made_by edits)
   pub tree : word → IsTransaction base size old → IsTransaction base size new
-      × (tree_of base new ≡ edited (edits_of edits) (tree_of base old))
+      × (changed_tree base new ≡ edited (edits_of edits) (changed_tree base old))
   pub count : length new.updates ≤ length old.updates + updates_of_all edits
 
 -- Edits can be done one after the other, over so many sectors.
@@ -76,12 +76,12 @@ pub record CanDoAll (size : ℕ) (transaction : Transaction) (edits : List Edit)
 pub record DoesAll (word : Type 0) (base : Image) (size : ℕ) (old new : Transaction)
     (edits : List Edit)
     : Type 0 where
-  pub does : Does word base size old new edits
+  pub does : DoesEdits word base size old new edits
   pub parts : PartsAreBytes edits
 
 -- what reads nothing does its edit over any base
 abbrev pub DoesAnywhere : (old new : Transaction) → Edit → Type 0
-DoesAnywhere old new edit = (base : Image) (size : ℕ) → Does ⊤ base size old new (edit ∷ [])
+DoesAnywhere old new edit = (base : Image) (size : ℕ) → DoesEdits ⊤ base size old new (edit ∷ [])
 
 -- the charges come to so many sectors at most, and the nodes to so many places
 pub record FitsOn (sectors places : ℕ) (tree : Tree) : Type 0 where

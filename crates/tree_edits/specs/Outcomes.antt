@@ -1,9 +1,9 @@
 -- What edits of a volume come to, as one transaction.
 use Rattle.std.specs.Prelude.{◌≡◌, ◌≤◌, ◌+◌, ℕ, Bool, List, Option, length, take}
 use Rattle.disk.specs.Moments.{Image, applied}
-use Rattle.node_table.specs.Overlays.{changed}
+use Rattle.node_table.specs.Overlays.{overlaid}
 use Rattle.tree_transaction.specs.declared.transaction.PreparedTransaction.{PreparedTransaction}
-use Rattle.tree_transaction.specs.Updates.{AreTargets}
+use Rattle.tree_transaction.specs.Updates.{AreTreeUpdates}
 use Rattle.tree_edits.specs.declared.edit.Edit.{Edit}
 use Rattle.tree_edits.specs.Doing.{AreMade, FitsOn, made_by, updates_of_all}
 use Rattle.tree_edits.specs.Edits.{edits_of}
@@ -12,7 +12,7 @@ use Rattle.tree_edits.specs.Parts.{PartsAreBytes}
 use Rattle.layout.specs.CachedNodes.{CachedNode, tree_of}
 use Rattle.layout.specs.Known.{AreCards}
 use Rattle.layout.specs.Marks.{mark_by}
-use Rattle.layout.specs.Stands.{current, HaveCurrentForms, IsLaid}
+use Rattle.layout.specs.Stands.{current_version, HaveCurrentForms, IsLaid}
 use Rattle.model.specs.Trees.Edit.{edited}
 use Rattle.model.specs.Sessions.Seats.{Seats}
 use Rattle.model.specs.Trees.Tree.{Tree}
@@ -33,13 +33,14 @@ FrontsHaveRoom sectors places tree edits = (count : ℕ) → count ≤ length ed
 
 -- the cached nodes that an outcome makes of a table's
 abbrev pub cards_after : List (Option CachedNode) → PreparedTransaction → List (Option CachedNode)
-cards_after table outcome = changed table outcome.changes
+cards_after table outcome = overlaid table outcome.changes
 
 -- the sectors hold the outcome's cached nodes and marks, and show the tree with the edits; the
 -- seats stay
-pub record LaysEdited (seats : Seats) (base : Image) (size : ℕ) (table : List (Option CachedNode))
+pub record LaysEditedTree (seats : Seats) (base : Image) (size : ℕ)
+    (table : List (Option CachedNode))
     (edits : List Edit) (outcome : PreparedTransaction) : Type 0 where
-  pub laid : IsLaid (current seats) size (length table) (applied outcome.updates.items base)
+  pub laid : IsLaid (current_version seats) size (length table) (applied outcome.updates.items base)
       (cards_after table outcome)
   pub tree_is : tree_of (applied outcome.updates.items base) (cards_after table outcome)
       ≡ edited (edits_of edits) (tree_of base table)
@@ -58,10 +59,10 @@ pub record ComesTo (word : Type 0) (base : Image) (size : ℕ) (table : List (Op
   pub forms : HaveCurrentForms (cards_after table outcome)
   pub made : AreMade table (cards_after table outcome) (made_by edits)
   -- the updates are those of a transaction, and few
-  pub targets : AreTargets size outcome.updates.items
+  pub targets : AreTreeUpdates size outcome.updates.items
   pub count : length outcome.updates.items ≤ updates_of_all edits + 2
   -- what the edits put are bytes
   pub bytes : PartsAreBytes edits
   -- where the sectors keep their word and held the volume, the updates leave one
-  pub lays : word → (seats : Seats) → IsLaid (current seats) size (length table) base table
-      → LaysEdited seats base size table edits outcome
+  pub lays : word → (seats : Seats) → IsLaid (current_version seats) size (length table) base table
+      → LaysEditedTree seats base size table edits outcome

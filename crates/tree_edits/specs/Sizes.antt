@@ -56,14 +56,14 @@ IsBelow most (Some size) = size.count < most
 -- What an edit makes of it
 
 -- the number of the node that an edit changes
-abbrev pub number_of : Edit → ℕ
-number_of (declared.PutNode number kind shown) = number
-number_of (declared.DropNode number) = number
-number_of (declared.Show number shown) = number
-number_of (declared.PutName directory stamp name number) = directory
-number_of (declared.DropName directory stamp name) = directory
-number_of (declared.PutBytes file offset bytes) = file
-number_of (declared.SetSize file size) = file
+abbrev pub edited_number : Edit → ℕ
+edited_number (declared.PutNode number kind shown) = number
+edited_number (declared.DropNode number) = number
+edited_number (declared.Show number shown) = number
+edited_number (declared.PutName directory stamp name number) = directory
+edited_number (declared.DropName directory stamp name) = directory
+edited_number (declared.PutBytes file offset bytes) = file
+edited_number (declared.SetSize file size) = file
 
 -- what that node has after the edit
 abbrev pub resized_by : Edit → Option Size → Option Size

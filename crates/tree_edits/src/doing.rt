@@ -2,11 +2,11 @@
 
 ghost use Rattle.std.specs.Prelude.{◌≡◌, ◌≤◌, ◌<◌, ◌+◌, [], ◌∷◌, Some, None, All, length, slice_index_or};
 ghost use Rattle.std.specs.Prelude.{IsTrue, IfOk, IfSome, OnOk, IsErrOf};
-ghost use Rattle.node_table.specs.Tables.{number_at};
+ghost use Rattle.node_table.specs.Tables.{node_number_at};
 ghost use Rattle.tree_transaction.specs.Transactions.{cards_of, end_of, IsKnown};
 ghost use Rattle.tree_transaction.specs.Nodes.{shown_of, new_card, HasNode};
 ghost use Rattle.tree_edits.specs.declared.edit.Edit.TheVariants as edit;
-ghost use Rattle.tree_edits.specs.Doing.{Does, DoesAll, DoesAnywhere, CanDoAll, Overfills};
+ghost use Rattle.tree_edits.specs.Doing.{DoesEdits, DoesAll, DoesAnywhere, CanDoAll, Overfills};
 ghost use Rattle.tree_edits.specs.Edits.{IsNewNode, IsShown, IsNewName, IsName, IsFileTo};
 ghost use Rattle.tree_edits.specs.Edits.{CanDo, AreDoable, edit_of, fresh_node};
 ghost use Rattle.tree_edits.specs.Edits.{fresh_fields};
@@ -15,7 +15,7 @@ ghost use Rattle.tree_edits.specs.Parts.{PutsBytes};
 ghost use Rattle.inode.specs.declared.node.Form.TheVariants.{Two};
 ghost use Rattle.layout.specs.Stands.{HaveCurrentForms};
 ghost use Rattle.layout.specs.CachedNodes.{CachedNode as LaidCard};
-ghost use Rattle.layout.specs.Health.{Reads};
+ghost use Rattle.layout.specs.Health.{FailsOrStays};
 ghost use Rattle.model.specs.Trees.Charge.{few_names};
 ghost use Rattle.model.specs.Trees.Edit.{PutName, done};
 ghost use Rattle.model.specs.Trees.Keyed.{is_key};
@@ -33,7 +33,7 @@ use tree_transaction::{Shown, SpaceFault, Transaction, TransactionFault};
 /// The place of a node.
 fn place_of(transaction: &Transaction<'_>, number: u64) -> u32
     requires { IsTrue (is_key number (tree_without_data (cards_of transaction.now))) }
-    ensures { number_at (cards_of transaction.now) result ≡ Some number }
+    ensures { node_number_at (cards_of transaction.now) result ≡ Some number }
 {
     transaction.cards.find(number).unwrap()
 }
@@ -111,9 +111,9 @@ fn fresh_card(
     kind: NodeKind,
     shown: &Shown,
 ) -> Result<CachedNode, AllocError>
-    ensures card { IfOk result (λ card. card ≡ new_card Two card.fields) }
-    ensures fields { IfOk result (λ card.
-        card.fields ≡ fresh_fields kind number (shown_of shown.now)) }
+    ensures cached { IfOk result (λ cached. cached ≡ new_card Two cached.fields) }
+    ensures fields { IfOk result (λ cached.
+        cached.fields ≡ fresh_fields kind number (shown_of shown.now)) }
 {
     Ok(CachedNode {
         form: Form::Two,
@@ -153,18 +153,19 @@ fn put_node(
     let Some(place) = transaction.cards.free_place() else {
         return Err(SpaceFault::Full);
     };
-    let card = fresh_card(transaction.alloc, number, kind, shown)?;
-    transaction.make(place, card)?;
+    let cached = fresh_card(transaction.alloc, number, kind, shown)?;
+    transaction.make(place, cached)?;
     Ok(())
 }
 
 /// The size of the file at a place.
 fn size_at(transaction: &Transaction<'_>, place: u32) -> u64
     requires { HasNode (cards_of transaction.now) place }
-    ensures { (card : LaidCard) → slice_index_or (cards_of transaction.now) place None ≡ Some card
-        → result ≡ card.fields.size }
+    ensures { (cached : LaidCard) → slice_index_or (cards_of transaction.now) place None
+        ≡ Some cached
+        → result ≡ cached.fields.size }
 {
-    transaction.cards.card(place).unwrap().inode.size
+    transaction.cards.cached(place).unwrap().inode.size
 }
 
 fn put_bytes<S: Sectors>(
@@ -179,7 +180,7 @@ fn put_bytes<S: Sectors>(
     requires can { IsFileTo (tree_without_data (cards_of transaction.old)) file
         (offset + length bytes.now) }
     // Done, or full
-    ensures done { OnOk result (Does S.keeps_word (S.image (S.kept base.old))
+    ensures done { OnOk result (DoesEdits S.keeps_word (S.image (S.kept base.old))
         (S.size (S.kept base.old)) transaction.old transaction.new
         (edit.PutBytes file offset bytes.entry ∷ [])) }
     ensures full { IsErrOf result TransactionFault.Full
@@ -187,7 +188,7 @@ fn put_bytes<S: Sectors>(
     // In any case
     ensures kept { (S.kept base.new ≡ S.kept base.old)
         × (transaction.new.cards.table ≡ transaction.old.cards.table) }
-    ensures health { Reads (S.health base.old) (S.health base.new)
+    ensures health { FailsOrStays (S.health base.old) (S.health base.new)
         (IsErrOf result TransactionFault.Device) }
     ensures bytes { All (λ byte. byte < 256) bytes.entry.now }
 {
@@ -251,7 +252,7 @@ fn put_bytes_showing<S: Sectors>(
     requires can { AreDoable (tree_without_data (cards_of transaction.old))
         (edit.PutBytes file offset bytes ∷ edit.Show file shown.now ∷ []) }
     // Done, or full
-    ensures done { OnOk result (Does S.keeps_word (S.image (S.kept base.old))
+    ensures done { OnOk result (DoesEdits S.keeps_word (S.image (S.kept base.old))
         (S.size (S.kept base.old)) transaction.old transaction.new
         (edit.PutBytes file offset bytes.entry ∷ edit.Show file shown.now ∷ [])) }
     ensures full { IsErrOf result TransactionFault.Full
@@ -260,7 +261,7 @@ fn put_bytes_showing<S: Sectors>(
     // In any case
     ensures kept { (S.kept base.new ≡ S.kept base.old)
         × (transaction.new.cards.table ≡ transaction.old.cards.table) }
-    ensures health { Reads (S.health base.old) (S.health base.new)
+    ensures health { FailsOrStays (S.health base.old) (S.health base.new)
         (IsErrOf result TransactionFault.Device) }
     ensures bytes { All (λ byte. byte < 256) bytes.entry.now }
 {
@@ -278,13 +279,13 @@ fn set_size<S: Sectors>(
     requires known { IsKnown transaction.old × (end_of transaction.old ≤ S.size (S.kept base.old)) }
     requires can { IsFileTo (tree_without_data (cards_of transaction.old)) file size }
     // Done, or full
-    ensures done { OnOk result (Does S.keeps_word (S.image (S.kept base.old))
+    ensures done { OnOk result (DoesEdits S.keeps_word (S.image (S.kept base.old))
         (S.size (S.kept base.old)) transaction.old transaction.new (edit.SetSize file size ∷ [])) }
     ensures full { ¬ IsErrOf result TransactionFault.Full }
     // In any case
     ensures kept { (S.kept base.new ≡ S.kept base.old)
         × (transaction.new.cards.table ≡ transaction.old.cards.table) }
-    ensures health { Reads (S.health base.old) (S.health base.new)
+    ensures health { FailsOrStays (S.health base.old) (S.health base.new)
         (IsErrOf result TransactionFault.Device) }
 {
     let place = place_of(transaction, file);
@@ -308,14 +309,14 @@ fn edit_one<S: Sectors>(
     requires few { IsTrue (few_names Names.MAX_NAMES
         (done (edit_of edit.now) (tree_without_data (cards_of transaction.old)))) }
     // Done, or full
-    ensures done { OnOk result (Does S.keeps_word (S.image (S.kept base.old))
+    ensures done { OnOk result (DoesEdits S.keeps_word (S.image (S.kept base.old))
         (S.size (S.kept base.old)) transaction.old transaction.new (edit.now ∷ [])) }
     ensures full { IsErrOf result TransactionFault.Full
         → Overfills transaction.old (edit.now ∷ []) }
     // In any case
     ensures kept { (S.kept base.new ≡ S.kept base.old)
         × (transaction.new.cards.table ≡ transaction.old.cards.table) }
-    ensures health { Reads (S.health base.old) (S.health base.new)
+    ensures health { FailsOrStays (S.health base.old) (S.health base.new)
         (IsErrOf result TransactionFault.Device) }
     ensures parts { OnOk result (PutsBytes edit.now) }
 {
@@ -363,7 +364,7 @@ fn edit_each<S: Sectors>(
     // In any case
     ensures kept { (S.kept base.new ≡ S.kept base.old)
         × (transaction.new.cards.table ≡ transaction.old.cards.table) }
-    ensures health { Reads (S.health base.old) (S.health base.new)
+    ensures health { FailsOrStays (S.health base.old) (S.health base.new)
         (IsErrOf result TransactionFault.Device) }
 {
     for edit in edits {
@@ -395,7 +396,7 @@ pub(crate) fn edit_all<S: Sectors>(
     // In any case
     ensures kept { (S.kept base.new ≡ S.kept base.old)
         × (transaction.new.cards.table ≡ transaction.old.cards.table) }
-    ensures health { Reads (S.health base.old) (S.health base.new)
+    ensures health { FailsOrStays (S.health base.old) (S.health base.new)
         (IsErrOf result TransactionFault.Device) }
 {
     match as_write(edits) {

@@ -4,11 +4,11 @@ ghost use Rattle.std.specs.Prelude.{◌≡◌, length, IfOk, IsErrOf};
 ghost use Rattle.tree_edits.specs.Edits.{AreDoable, StayFew};
 ghost use Rattle.tree_edits.specs.Outcomes.{ComesTo, FrontsHaveRoom, IsWholeVolume};
 ghost use Rattle.tree_edits.specs.Outlines.{tree_without_data};
-ghost use Rattle.layout.specs.Health.{Reads};
+ghost use Rattle.layout.specs.Health.{FailsOrStays};
 
 use crate::doing::edit_all;
 use crate::edit::Edit;
-use freemap::Places;
+use freemap::SharedBitmap;
 use layout::sectors::Sectors;
 use node_table::Table;
 use std::alloc::Global;
@@ -26,7 +26,7 @@ pub fn outcome_of<S: Sectors>(
     alloc: Global,
     base: &mut S,
     table: &Table,
-    places: &Places,
+    places: &SharedBitmap,
     edits: &[Edit<'_>],
 ) -> Result<PreparedTransaction, TransactionFault>
     requires whole { IsWholeVolume (S.size (S.kept base.old)) table.now places.now }
@@ -38,7 +38,7 @@ pub fn outcome_of<S: Sectors>(
         (S.size (S.kept base.old)) table.now places.now edits.now outcome) }
     // Refused
     ensures full { ¬ IsErrOf result TransactionFault.Full }
-    ensures health { Reads (S.health base.old) (S.health base.new)
+    ensures health { FailsOrStays (S.health base.old) (S.health base.new)
         (IsErrOf result TransactionFault.Device) }
     // In every answer
     ensures kept { S.kept base.new ≡ S.kept base.old }

@@ -5,7 +5,7 @@ ghost use Rattle.tree_edits.specs.Edits.{AreDoable, edits_of};
 ghost use Rattle.tree_edits.specs.Making.{IsMaking, size_of_new};
 ghost use Rattle.tree_edits.specs.Outlines.{tree_without_data};
 ghost use Rattle.tree_edits.specs.Sizes.{size_at, charge_of_size, nodes_in, names_in, IsBelow};
-ghost use Rattle.tree_edits.specs.Sizes.{number_of, resized_by};
+ghost use Rattle.tree_edits.specs.Sizes.{edited_number, resized_by};
 ghost use Rattle.layout.specs.Known.{AreCards};
 ghost use Rattle.model.specs.Trees.Charge.{charge, few_names, fits};
 ghost use Rattle.model.specs.Trees.Edit.{edited};
@@ -45,7 +45,7 @@ fn size_in(table: &Table, number: u64) -> Option<Size>
     let Some(place) = table.find(number) else {
         return None;
     };
-    let inode = &table.card(place).unwrap().inode;
+    let inode = &table.cached(place).unwrap().inode;
     Some(Size {
         kind: inode.kind,
         count: u128::from(inode.size),
@@ -54,7 +54,7 @@ fn size_in(table: &Table, number: u64) -> Option<Size>
 
 /// The number of the node that an edit changes.
 fn number_of(edit: &Edit<'_>) -> u64
-    ensures { result ≡ number_of edit.now }
+    ensures { result ≡ edited_number edit.now }
 {
     match edit {
         Edit::PutNode { number, .. } => *number,

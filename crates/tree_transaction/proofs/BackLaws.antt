@@ -11,17 +11,17 @@ use Rattle.layout.specs.CachedNodes.{CachedNode, block_count}
 use Rattle.layout.specs.ChangeLaws.{ChangesOwn}
 use Rattle.layout.specs.Known.{IsCard, HasContent, AreCards}
 use Rattle.layout.specs.Laid.{AreLaid, HoldsNode, AreRunSectors}
-use Rattle.layout.specs.Marks.{times, times_set, named, named_by, mark_by}
+use Rattle.layout.specs.Marks.{times, times_set, named, namings_of, mark_by}
 use Rattle.layout.specs.NodeEdits.{AreFiles}
-use Rattle.layout.specs.Steps.{Steps, Gives, ShowsSame}
+use Rattle.layout.specs.Steps.{NodeSteps, LaysTree, ShowsSame}
 use Rattle.layout.proofs.Changing.{named-set}
 use Rattle.layout.proofs.Frame.{run_sectors-kept}
 use Rattle.layout.proofs.MarkProofs.{each_mark}
 use Rattle.layout.proofs.NodeEditLaws.{named_by-parts}
 use Rattle.node_table.specs.Tables.{charge_of, charge_of_all}
-use Rattle.tree_transaction.specs.Blocks.{IsPut, set_blocks}
+use Rattle.tree_transaction.specs.Blocks.{IsSectorPut, set_blocks}
 use Rattle.tree_transaction.specs.declared.transaction.Transaction.{Transaction}
-use Rattle.tree_transaction.specs.Transactions.{cards_of, end_of, image_of, tree_of, IsKnown, StaysKnown, IsTransaction, HasNow, IsBack, StandsAgain}
+use Rattle.tree_transaction.specs.Transactions.{cards_of, end_of, image_of, changed_tree, IsKnown, StaysKnown, IsTransaction, HasNow, IsBack, StandsAgain}
 use Rattle.tree_transaction.specs.Laying.{fields_with, IsRerun}
 use Rattle.tree_transaction.specs.Updates.{AreBetween}
 use Rattle.tree_transaction.proofs.BlockLaws.{here, elsewhere}
@@ -58,7 +58,7 @@ laid_again old new place card places updates back =
 
 -- or its runs stay, and its node alone is written
 pub put_again : (old new : Transaction) (place : ℕ) (card : CachedNode) (places : List Bool) (updates : List Update) → IsCard card → times (148 + place) card.fields.run_sectors ≡ 0 → cards_of new ≡ set (set (cards_of old) place None) place (Some card)
-    → new.nodes ≡ old.nodes → new.places ≡ places → ((image : Image) → IsPut (applied updates image) (applied new.updates image) (148 + place) (inode_sector card.form card.fields)) → StandsAgain old new place card places updates
+    → new.nodes ≡ old.nodes → new.places ≡ places → ((image : Image) → IsSectorPut (applied updates image) (applied new.updates image) (148 + place) (inode_sector card.form card.fields)) → StandsAgain old new place card places updates
 put_again old new place card places updates is_card apart cards nodes same put =
     let away : (image : Image) (n : ℕ) → n ≢ 148 + place → applied new.updates image n ≡ applied updates image n = λ image. elsewhere (applied updates image) (applied new.updates image) (148 + place) (inode_sector card.form card.fields) (put image) in
     record {
@@ -86,7 +86,7 @@ module _ (old : Transaction) (place : ℕ) (was : CachedNode) (known : IsKnown o
       let mid_card : CachedNode = record was { blocks = blocks } in
       let within = in_table old.nodes (mark_by (148 + old.nodes) old.places) (cards_of old) place was known.cards there in
       let named_now : (n : ℕ) → mark_by (148 + old.nodes) mid_places n ≤ named n (set (cards_of old) place (Some mid_card)) =
-      λ n. let e = ap (named_by n) there in
+      λ n. let e = ap (namings_of n) there in
       omega (arith, e, named-set n (cards_of old) place (Some mid_card) (omega (arith, cards.count)), named_by-parts n was, named_by-parts n mid_card, marks n, cards.marks n) in
       let all = region_named (148 + old.nodes) mid_places (set (cards_of old) place (Some mid_card)) named_now in
       let moved = sum_over-set named_count (cards_of old) place was mid_card there in
@@ -232,7 +232,7 @@ module _ (old new : Transaction) (place : ℕ) (was mid_card : CachedNode) (mid_
       }
 
   pub steps : (base : Image) → AreLaid old.nodes (image_of base old) (mark_by first old.places) (cards_of old)
-      → Steps old.nodes (image_of base old) (image_of base new) (mark_by first old.places) (mark_by first new.places) (cards_of old) place was is
+      → NodeSteps old.nodes (image_of base old) (image_of base new) (mark_by first old.places) (mark_by first new.places) (cards_of old) place was is
   steps base laid = record { within = within; there = there; number = number; laid = laid; node = node base laid; own = own base }
 
   -- what the blocks hold the laying keeps
@@ -252,7 +252,7 @@ module _ (old new : Transaction) (place : ℕ) (was mid_card : CachedNode) (mid_
   }
 
   pub makes : (base : Image) (size : ℕ) (edit : Edit) → IsTransaction base size old
-      → Gives old.nodes (image_of base new) (mark_by first new.places) (cards_of old) place is (done edit (tree_of base old)) → IsTransaction base size new × (tree_of base new ≡ done edit (tree_of base old))
+      → LaysTree old.nodes (image_of base new) (mark_by first new.places) (cards_of old) place is (done edit (changed_tree base old)) → IsTransaction base size new × (changed_tree base new ≡ done edit (changed_tree base old))
   makes base size edit transaction gives = made base size old new place (Some is) edit transaction back.same len cards_are gives.laid gives.tree_is
 
   pub are_files : was.fields.kind ≡ kind.File → mid_card.fields.kind ≡ kind.File → mid_card.names ≡ [] → ShowsSame was.fields mid_card.fields → AreFiles was is

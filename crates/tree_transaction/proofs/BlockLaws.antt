@@ -17,12 +17,12 @@ use Rattle.layout.proofs.Frame.{times_set-at, content-kept}
 use Rattle.layout.proofs.MarkProofs.{each_mark}
 use Rattle.layout.proofs.StepLaws.{each_own, others_hold, each_change}
 use Rattle.layout.proofs.NumberLaws.{once-here}
-use Rattle.tree_transaction.specs.Blocks.{IsPut, Takes, HaveMarks, HaveRegion, FollowBlocks, GetSectors, GetsSector, WritesOne, WritesBytes, ChangeBlocks, FillHoles, set_blocks}
+use Rattle.tree_transaction.specs.Blocks.{IsSectorPut, TakesSector, HaveMarks, HaveRegion, FollowBlocks, GetSectors, GetsSector, WritesOne, WritesBytes, ChangeBlocks, FillHoles, set_blocks}
 use Rattle.tree_transaction.specs.Updates.{ChangeOne}
 use Rattle.tree_transaction.proofs.CountLaws.{takes_free, set_more, set_holes}
 use Rattle.tree_transaction.proofs.UpdateLaws.{put-here, put-elsewhere}
 
-module _ (old new : Image) (sector : ℕ) (content : List ℕ) (is : IsPut old new sector content) where
+module _ (old new : Image) (sector : ℕ) (content : List ℕ) (is : IsSectorPut old new sector content) where
   pub here : new sector ≡ content
   here = ap (λ (i : Image). i sector) is ∙ put-here old (record { target = sector; content = content }) sector refl
 
@@ -71,7 +71,7 @@ changes_one old new blocks block sector is_set alone image n none =
 
 -- a block that has a sector
 pub writes_set : (first : ℕ) (places : List Bool) (old new : Image) (blocks : List (Option ℕ)) (block sector from : ℕ) (part : List ℕ) → HaveMarks first places blocks → get_or blocks block None ≡ Some sector → length (old sector) ≡ 4096
-    → from + length part ≤ 4096 → IsPut old new sector (placed (old sector) from part) → WritesBytes old new blocks blocks (4096 * block + from) part
+    → from + length part ≤ 4096 → IsSectorPut old new sector (placed (old sector) from part) → WritesBytes old new blocks blocks (4096 * block + from) part
 writes_set first places old new blocks block sector from part marked is_set whole within is =
     let own = each_own blocks sector in
     let each = each_mark first places 0 in
@@ -114,7 +114,7 @@ off_block block from k part full within (inr past) e = omega arith
 
 -- a block that has a sector, all of it: what it held does not matter
 pub writes_full : (first : ℕ) (places : List Bool) (old new : Image) (blocks : List (Option ℕ)) (block sector from : ℕ) (part : List ℕ) → HaveMarks first places blocks → get_or blocks block None ≡ Some sector → length part ≡ 4096
-    → from + length part ≤ 4096 → IsPut old new sector (placed zero_sector from part) → WritesBytes old new blocks blocks (4096 * block + from) part
+    → from + length part ≤ 4096 → IsSectorPut old new sector (placed zero_sector from part) → WritesBytes old new blocks blocks (4096 * block + from) part
 writes_full first places old new blocks block sector from part marked is_set full within is =
     let own = each_own blocks sector in
     let each = each_mark first places 0 in
@@ -122,7 +122,7 @@ writes_full first places old new blocks block sector from part marked is_set ful
     let alone = own.once once block is_set in
     let away = elsewhere old new sector (placed zero_sector from part) is in
     let mid : Image = put old (record { target = sector; content = zero_sector }) in
-    let mid_is : IsPut old mid sector zero_sector = refl in
+    let mid_is : IsSectorPut old mid sector zero_sector = refl in
     let zeros : mid sector ≡ zero_sector = here old mid sector zero_sector mid_is in
     let mid_away = elsewhere old mid sector zero_sector mid_is in
     let others = others_hold old mid blocks block sector (λ n off some. mid_away n off) alone in
@@ -137,7 +137,7 @@ writes_full first places old new blocks block sector from part marked is_set ful
     ∙ over_all (byte_at mid blocks) (byte_at old blocks) (4096 * block + from) part k (λ out. byte_at-alike mid old blocks k (others (k / 4096) (off_block block from k part full within out)))
 
 pub writes_hole : (first : ℕ) (places taken : List Bool) (old new : Image) (blocks : List (Option ℕ)) (block sector from : ℕ) (part : List ℕ) → HaveMarks first places blocks → block < length blocks → get_or blocks block None ≡ None
-    → Takes first places taken sector → from + length part ≤ 4096 → IsPut old new sector (placed zero_sector from part) → WritesBytes old new blocks (set blocks block (Some sector)) (4096 * block + from) part
+    → TakesSector first places taken sector → from + length part ≤ 4096 → IsSectorPut old new sector (placed zero_sector from part) → WritesBytes old new blocks (set blocks block (Some sector)) (4096 * block + from) part
 writes_hole first places taken old new blocks block sector from part marked in_blocks hole takes within is =
     let each = each_mark first places (sector - first) in
     let each_taken = each_mark first taken 0 in
@@ -149,7 +149,7 @@ writes_hole first places taken old new blocks block sector from part marked in_b
     let now : List (Option ℕ) = set blocks block (Some sector) in
     let more : (n : ℕ) → times_set n now ≡ times_set n blocks + once_if (eqb n sector) = λ n. let change = each_change n blocks in change.filled block sector in_blocks hole in
     let mid : Image = put old (record { target = sector; content = zero_sector }) in
-    let mid_is : IsPut old mid sector zero_sector = refl in
+    let mid_is : IsSectorPut old mid sector zero_sector = refl in
     let zeros : mid sector ≡ zero_sector = here old mid sector zero_sector mid_is in
     let is_set : get_or now block None ≡ Some sector = get_or-set_same blocks block (Some sector) None in_blocks in
     let own = each_own now sector in
@@ -173,7 +173,7 @@ writes_hole first places taken old new blocks block sector from part marked in_b
     }) k)
 
 -- a hole that has taken a sector
-pub takes_sector : (first : ℕ) (places taken : List Bool) (blocks : List (Option ℕ)) (block sector : ℕ) → block < length blocks → get_or blocks block None ≡ None → Takes first places taken sector
+pub takes_sector : (first : ℕ) (places taken : List Bool) (blocks : List (Option ℕ)) (block sector : ℕ) → block < length blocks → get_or blocks block None ≡ None → TakesSector first places taken sector
     → GetSectors first places taken blocks (set blocks block (Some sector))
 takes_sector first places taken blocks block sector in_blocks hole takes =
     let each = each_mark first places (sector - first) in
@@ -248,7 +248,7 @@ region_holes first places was count region few = record {
 pub gets_old : (first : ℕ) (places : List Bool) (blocks : List (Option ℕ)) (block sector : ℕ) → get_or blocks block None ≡ Some sector → GetsSector first places places blocks blocks block sector
 gets_old first places blocks block sector is = record { is_set = is; same = λ i off. refl; gets = gets_none first places blocks; count = refl }
 
-pub gets_new : (first : ℕ) (places taken : List Bool) (blocks : List (Option ℕ)) (block sector : ℕ) → block < length blocks → get_or blocks block None ≡ None → Takes first places taken sector
+pub gets_new : (first : ℕ) (places taken : List Bool) (blocks : List (Option ℕ)) (block sector : ℕ) → block < length blocks → get_or blocks block None ≡ None → TakesSector first places taken sector
     → GetsSector first places taken blocks (set blocks block (Some sector)) block sector
 gets_new first places taken blocks block sector in_blocks hole takes = record {
   is_set = get_or-set_same blocks block (Some sector) None in_blocks;
@@ -259,7 +259,7 @@ gets_new first places taken blocks block sector in_blocks hole takes = record {
 
 -- after holes at the end, where one more block at most is new
 pub writes_one : (first : ℕ) (places is_places : List Bool) (old new : Image) (was is : List (Option ℕ)) (block sector : ℕ) (content : List ℕ) → block ≤ length was → HaveMarks first places was
-    → GetsSector first places is_places (with_holes was (block + 1)) is block sector → IsPut old new sector content → WritesOne old new was is block content
+    → GetsSector first places is_places (with_holes was (block + 1)) is block sector → IsSectorPut old new sector content → WritesOne old new was is block content
 writes_one first places is_places old new was is block sector content in_blocks marked gets put =
     let long : length (with_holes was (block + 1)) ≡ max (length was) (block + 1) =
     omega (arith, length-append was (replicate (block + 1 - length was) None), length-replicate {A = Option ℕ} (block + 1 - length was) None) in

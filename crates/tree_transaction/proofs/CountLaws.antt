@@ -11,7 +11,7 @@ use Rattle.freemap.specs.Places.{bit_from}
 use Rattle.freemap.proofs.Bits.{free_from}
 use Rattle.layout.specs.CachedNodes.{CachedNode}
 use Rattle.layout.specs.Known.{IsCard}
-use Rattle.layout.specs.Marks.{once_if, times, times_set, named, named_by, mark_by}
+use Rattle.layout.specs.Marks.{once_if, times, times_set, named, namings_of, mark_by}
 use Rattle.layout.specs.SumLaws.{sum_over}
 use Rattle.layout.proofs.ChargeLaws.{sum_to, sum_to-zero, sum_to-plus, sum_once, sum_times, few_runs}
 use Rattle.layout.proofs.MarkProofs.{mark-back}
@@ -79,19 +79,19 @@ sum_sets a n (None ∷ blocks) = omega (arith, set-cons None blocks, sum_sets a 
 sum_sets a n (Some s ∷ blocks) = omega (arith, set-cons (Some s) blocks, sum_to-plus (λ i. once_if (eqb (a + i) s)) (λ i. times_set (a + i) blocks) n, (sum_once a s n).0, sum_sets a n blocks)
 
 sum_card : (a n : ℕ) (card : CachedNode)
-    → sum_to (λ i. named_by (a + i) (Some card)) n ≤ named_count card
-unfolding named_by
+    → sum_to (λ i. namings_of (a + i) (Some card)) n ≤ named_count card
+unfolding namings_of
 sum_card a n card =
     omega (arith, sum_to-plus (λ i. times (a + i) card.fields.run_sectors) (λ i. times_set (a + i) card.blocks) n, sum_times a n card.fields.run_sectors, sum_sets a n card.blocks)
 
-sum_none : (a n : ℕ) → sum_to (λ i. named_by (a + i) None) n ≡ 0
-unfolding named_by
+sum_none : (a n : ℕ) → sum_to (λ i. namings_of (a + i) None) n ≡ 0
+unfolding namings_of
 sum_none a n = sum_to-zero (λ i. 0) n (λ i. refl)
 
 sum_cards : (a n : ℕ) (cards : List (Option CachedNode)) → sum_to (λ i. named (a + i) cards) n ≤ sum_over named_count cards
 sum_cards a n [] = omega (arith, sum_to-zero (λ i. 0) n (λ i. refl))
-sum_cards a n (None ∷ cards) = omega (arith, sum_to-plus (λ i. named_by (a + i) None) (λ i. named (a + i) cards) n, sum_none a n, sum_cards a n cards)
-sum_cards a n (Some card ∷ cards) = omega (arith, sum_to-plus (λ i. named_by (a + i) (Some card)) (λ i. named (a + i) cards) n, sum_card a n card, sum_cards a n cards)
+sum_cards a n (None ∷ cards) = omega (arith, sum_to-plus (λ i. namings_of (a + i) None) (λ i. named (a + i) cards) n, sum_none a n, sum_cards a n cards)
+sum_cards a n (Some card ∷ cards) = omega (arith, sum_to-plus (λ i. namings_of (a + i) (Some card)) (λ i. named (a + i) cards) n, sum_card a n card, sum_cards a n cards)
 
 sum_to-le : (f g : ℕ → ℕ) (n : ℕ) → ((i : ℕ) → f i ≤ g i) → sum_to f n ≤ sum_to g n
 sum_to-le f g zero le = omega arith

@@ -19,9 +19,9 @@ use Rattle.layout.proofs.Frame.{content-kept}
 use Rattle.layout.proofs.MarkProofs.{each_mark}
 use Rattle.layout.proofs.NodeEditLaws.{cut_file}
 use Rattle.layout.proofs.StepLaws.{each_own, others_hold}
-use Rattle.tree_transaction.specs.Blocks.{IsPut, HaveMarks, AreWithin, ClearsTail, ChangeBlocks}
+use Rattle.tree_transaction.specs.Blocks.{IsSectorPut, HaveMarks, BlocksWithin, ClearsTail, ChangeBlocks}
 use Rattle.tree_transaction.specs.declared.transaction.Transaction.{Transaction}
-use Rattle.tree_transaction.specs.Transactions.{cards_of, end_of, image_of, tree_of, IsKnown, StaysKnown, MakesOver, HasNow, StandsAgain}
+use Rattle.tree_transaction.specs.Transactions.{cards_of, end_of, image_of, changed_tree, IsKnown, StaysKnown, MakesOver, HasNow, StandsAgain}
 use Rattle.tree_transaction.specs.Grown.{sized}
 use Rattle.tree_transaction.specs.Laying.{CanBeLaid, HasEnough, IsRerun}
 use Rattle.tree_transaction.proofs.BackLaws.{IsMoved, stays, has_now, kept, makes, steps, are_files, file_content, shows_sized}
@@ -43,7 +43,7 @@ clears_hole image blocks size hole = record {
 }
 
 pub clears_set : (old new : Image) (blocks : List (Option ℕ)) (size sector : ℕ) → ((n : ℕ) → times_set n blocks ≤ 1) → get_or blocks (size / 4096) None ≡ Some sector → length (old sector) ≡ 4096
-    → IsPut old new sector (placed (old sector) (size % 4096) (replicate (4096 - size % 4096) 0)) → 0 < size % 4096 → ClearsTail old new blocks size
+    → IsSectorPut old new sector (placed (old sector) (size % 4096) (replicate (4096 - size % 4096) 0)) → 0 < size % 4096 → ClearsTail old new blocks size
 clears_set old new blocks size sector once is_set whole is some =
     let from = size % 4096 in
     let zeros : List ℕ = replicate (4096 - from) 0 in
@@ -85,7 +85,7 @@ module _ (old : Transaction) (place size : ℕ) (was : CachedNode) (known : IsKn
   pub blocks_marked : HaveMarks first old.places was.blocks
   blocks_marked n = omega (arith, once n)
 
-  pub sectors_here : (volume : ℕ) → end_of old ≤ volume → AreWithin volume was.blocks × ((n : ℕ) → times_set n was.blocks ≤ 1)
+  pub sectors_here : (volume : ℕ) → end_of old ≤ volume → BlocksWithin volume was.blocks × ((n : ℕ) → times_set n was.blocks ≤ 1)
   sectors_here volume room = (
     (λ block sector at. sector-within first volume old.places was.blocks block sector room blocks_marked at),
     (λ n. let each = each_mark first old.places 0 in omega (arith, once n, each.once n)),
@@ -172,4 +172,4 @@ module _ (old : Transaction) (place size : ℕ) (was : CachedNode) (known : IsKn
               cuts = subst (CutsBlocks (image_of base old) (image_of base new) was.blocks count) (sym size_is) cuts;
             }) in
             makes old new place was (cut_card was size) mid_places mid_updates known there moved back base volume (SetSize was.fields.number size) transaction
-            (record { laid = gives.laid; tree_is = gives.tree_is ∙ ap (λ (s : ℕ). done (SetSize was.fields.number s) (tree_of base old)) size_is })
+            (record { laid = gives.laid; tree_is = gives.tree_is ∙ ap (λ (s : ℕ). done (SetSize was.fields.number s) (changed_tree base old)) size_is })

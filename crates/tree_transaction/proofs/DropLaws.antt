@@ -6,7 +6,7 @@ use Rattle.disk.specs.Moments.{Image, applied}
 use Rattle.disk.specs.declared.update.Update.{Update}
 use Rattle.directory.specs.declared.names.TheConstants.Names.{MAX_NAMES}
 use Rattle.directory.specs.Listing.{by_stamp}
-use Rattle.directory.specs.Records.{Record, record_from, IsDirectory, AreStamped, without_place, place_of}
+use Rattle.directory.specs.Records.{Record, record_from, IsDirectory, NamesStamped, without_place, place_of}
 use Rattle.directory.specs.Spelling.{directory_sector}
 use Rattle.model.specs.declared.node.NodeKind.{NodeKind}
 use Rattle.model.specs.declared.node.NodeKind.TheVariants as kind
@@ -26,10 +26,10 @@ use Rattle.layout.proofs.StepLaws.{each_own, each_change}
 use Rattle.tree_transaction.specs.Blocks.{set_blocks}
 use Rattle.tree_transaction.specs.declared.transaction.Transaction.{Transaction}
 use Rattle.tree_transaction.specs.Transactions.{cards_of, image_of, IsKnown, StaysKnown, MakesOver, StandsAgain}
-use Rattle.tree_transaction.specs.Transactions.{Makes}
+use Rattle.tree_transaction.specs.Transactions.{MakesEdit}
 use Rattle.tree_transaction.specs.Transactions.{HasNow}
 use Rattle.tree_transaction.specs.Laying.{CanBeLaid, HasEnough, IsRerun, sectors_for}
-use Rattle.tree_transaction.specs.Naming.{HasName, DropsNamed, Rewrites, renamed, without_name}
+use Rattle.tree_transaction.specs.Naming.{HasNameAt, DropsNamed, Rewrites, renamed, without_name}
 use Rattle.tree_transaction.specs.Written.{HasItsRuns}
 use Rattle.tree_transaction.proofs.BackLaws.{IsMoved, makes, steps}
 use Rattle.tree_transaction.proofs.KnownLaws.{same_card, held_at}
@@ -69,15 +69,15 @@ module _ (old mid new : Image) (blocks : List (Option ℕ)) (one other : ℕ) (c
 
 -- ---- the directory
 
-module _ (old : Transaction) (place : ℕ) (was : CachedNode) (name : List ℕ) (known : IsKnown old) (there : get_or (cards_of old) place None ≡ Some was) (has : HasName (cards_of old) place name) where
+module _ (old : Transaction) (place : ℕ) (was : CachedNode) (name : List ℕ) (known : IsKnown old) (there : get_or (cards_of old) place None ≡ Some was) (has : HasNameAt (cards_of old) place name) where
   abbrev first : ℕ
   first = 148 + old.nodes
 
   abbrev at : ℕ
   at = place_of name was.names
 
-  same : has.card ≡ was
-  same = same_card (cards_of old) place has.card was has.there there
+  same : has.cached ≡ was
+  same = same_card (cards_of old) place has.cached was has.there there
 
   pub directory : was.fields.kind ≡ kind.Directory
   directory = ap (λ (one : CachedNode). one.fields.kind) (sym same) ∙ has.directory
@@ -85,7 +85,7 @@ module _ (old : Transaction) (place : ℕ) (was : CachedNode) (name : List ℕ) 
   pub within : at < length was.names
   within = subst (λ (one : CachedNode). place_of name one.names < length one.names) same has.within
 
-  pub stamped_was : AreStamped was.names
+  pub stamped_was : NamesStamped was.names
   stamped_was = let here = names_here old place was known there directory in here.stamped
 
   pub few_names : length was.names ≤ MAX_NAMES
@@ -107,8 +107,8 @@ module _ (old : Transaction) (place : ℕ) (was : CachedNode) (name : List ℕ) 
     counted : length blocks ≡ count
     counted = omega (arith, length-take count was.blocks, blocks_here old place was known there directory, shorter)
 
-    stamped_now : AreStamped names
-    stamped_now = subst AreStamped (sym are) (stays_stamped was.names at within stamped_was)
+    stamped_now : NamesStamped names
+    stamped_now = subst NamesStamped (sym are) (stays_stamped was.names at within stamped_was)
 
     -- no block is given back
     pub drop_runs : length was.blocks ≤ count → IsDirectory names → HasItsRuns place (named_card was blocks names)
@@ -223,7 +223,7 @@ module _ (old : Transaction) (place : ℕ) (was : CachedNode) (name : List ℕ) 
 
 -- the clause of the cached node at the place
 pub dropped : (old new : Transaction) (place : ℕ) (was : CachedNode) (name : List ℕ) → get_or (cards_of old) place None ≡ Some was
-    → ((entry : Record) → entry_of name was.names ≡ Some entry → Makes old new (DropName was.fields.number entry.0)) → DropsNamed old new place name
+    → ((entry : Record) → entry_of name was.names ≡ Some entry → MakesEdit old new (DropName was.fields.number entry.0)) → DropsNamed old new place name
 dropped old new place was name there makes card entry asked found =
     let same : was ≡ card = same_card (cards_of old) place was card there asked in
-    subst (λ (one : CachedNode). Makes old new (DropName one.fields.number entry.0)) same (makes entry (ap (λ (one : CachedNode). entry_of name one.names) same ∙ found))
+    subst (λ (one : CachedNode). MakesEdit old new (DropName one.fields.number entry.0)) same (makes entry (ap (λ (one : CachedNode). entry_of name one.names) same ∙ found))

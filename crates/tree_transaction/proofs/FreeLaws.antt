@@ -5,13 +5,13 @@ use Rattle.disk.specs.Moments.{Image, applied}
 use Rattle.model.specs.Trees.Edit.{DropNode}
 use Rattle.layout.specs.CachedNodes.{CachedNode}
 use Rattle.layout.specs.Known.{AreCards}
-use Rattle.layout.specs.Marks.{once_if, times, times_set, named_by, mark_by}
+use Rattle.layout.specs.Marks.{once_if, times, times_set, namings_of, mark_by}
 use Rattle.layout.proofs.Knowing.{one_card_change}
 use Rattle.layout.proofs.MarkProofs.{each_mark}
 use Rattle.layout.proofs.NodeEditLaws.{named_by-parts, free_node}
 use Rattle.layout.proofs.NumberLaws.{once-here, times_set-front}
 use Rattle.layout.proofs.ChargeLaws.{named-none}
-use Rattle.tree_transaction.specs.Blocks.{IsPut, HaveMarks}
+use Rattle.tree_transaction.specs.Blocks.{IsSectorPut, HaveMarks}
 use Rattle.tree_transaction.specs.declared.transaction.Transaction.{Transaction}
 use Rattle.tree_transaction.specs.Transactions.{cards_of, image_of, IsKnown, StaysKnown, MakesOver}
 use Rattle.tree_transaction.proofs.BlockLaws.{here, elsewhere, zeros-are}
@@ -79,7 +79,7 @@ numbers_marked old place was left known there marks n = omega (arith, marks n, n
 
 module _ (old new : Transaction) (place : ℕ) (was : CachedNode) (known : IsKnown old) (there : get_or (cards_of old) place None ≡ Some was) (same : new.nodes ≡ old.nodes) (len : length new.places ≡ length old.places)
     (marks : (n : ℕ) → mark_by (148 + old.nodes) new.places n + (times n was.fields.run_sectors + times_set n was.blocks) ≡ mark_by (148 + old.nodes) old.places n) (cards : cards_of new ≡ set (cards_of old) place None)
-    (put : (image : Image) → IsPut (applied old.updates image) (applied new.updates image) (148 + place) (replicate 4096 0)) where
+    (put : (image : Image) → IsSectorPut (applied old.updates image) (applied new.updates image) (148 + place) (replicate 4096 0)) where
   abbrev first : ℕ
   first = 148 + old.nodes
 
@@ -90,7 +90,7 @@ module _ (old new : Transaction) (place : ℕ) (was : CachedNode) (known : IsKno
   free_stays =
       let each = each_mark first new.places 0 in
       let left = one_card_change old.nodes (mark_by first old.places) (mark_by first new.places) (cards_of old) place None within known.cards tt tt
-      (record { marks = λ n. omega (arith, marks n, ap (named_by n) there, named_by-parts n was, named-none n); once = λ n. each.once n; behind = λ n. each.behind n }) in
+      (record { marks = λ n. omega (arith, marks n, ap (namings_of n) there, named_by-parts n was, named-none n); once = λ n. each.once n; behind = λ n. each.behind n }) in
       stays_put old new (148 + place) known (subst (λ (l : List (Option CachedNode)). AreCards old.nodes (mark_by first new.places) l) (sym cards) left) same len (omega arith) (omega (arith, within))
       (λ image n off. elsewhere (applied old.updates image) (applied new.updates image) (148 + place) (replicate 4096 0) (put image) n off)
 

@@ -13,9 +13,9 @@ use Rattle.layout.specs.Marks.{times_set, mark_by}
 use Rattle.layout.proofs.FileLaws.{holes-at}
 use Rattle.layout.proofs.NodeEditLaws.{grow_file}
 use Rattle.layout.proofs.StepLaws.{each_change}
-use Rattle.tree_transaction.specs.Blocks.{IsPut}
+use Rattle.tree_transaction.specs.Blocks.{IsSectorPut}
 use Rattle.tree_transaction.specs.declared.transaction.Transaction.{Transaction}
-use Rattle.tree_transaction.specs.Transactions.{cards_of, image_of, tree_of, IsKnown, StaysKnown}
+use Rattle.tree_transaction.specs.Transactions.{cards_of, image_of, changed_tree, IsKnown, StaysKnown}
 use Rattle.tree_transaction.specs.Transactions.{MakesOver, HasNow}
 use Rattle.tree_transaction.specs.Grown.{grown, sized, blocks_to}
 use Rattle.tree_transaction.proofs.BackLaws.{shows_sized}
@@ -71,7 +71,7 @@ module _ (old : Transaction) (place size : ℕ) (was : CachedNode) (known : IsKn
   same_named n = let change = each_change n was.blocks in change.grown (blocks_to size was)
 
   module _ (new : Transaction) (same : new.nodes ≡ old.nodes) (places : new.places ≡ old.places) (cards : cards_of new ≡ set (cards_of old) place (Some is))
-      (put : (image : Image) → IsPut (applied old.updates image) (applied new.updates image) (148 + place) (inode_sector is.form is.fields)) where
+      (put : (image : Image) → IsSectorPut (applied old.updates image) (applied new.updates image) (148 + place) (inode_sector is.form is.fields)) where
     pub grow_stays : StaysKnown old new
     grow_stays = alone_stays old new place was is known there refl refl refl same_named is_known same places cards put
 
@@ -92,4 +92,4 @@ module _ (old : Transaction) (place size : ℕ) (was : CachedNode) (known : IsKn
           kept = alone_kept old new place was is known there refl refl refl same_named is_known same places cards put base;
         }) in
         made base volume old new place (Some is) (SetSize was.fields.number size) transaction same (ap length places) cards gives.laid
-        (gives.tree_is ∙ ap (λ (s : ℕ). done (SetSize was.fields.number s) (tree_of base old)) size_is)
+        (gives.tree_is ∙ ap (λ (s : ℕ). done (SetSize was.fields.number s) (changed_tree base old)) size_is)

@@ -9,16 +9,16 @@ use Rattle.model.specs.Trees.Edit.{Edit, done}
 use Rattle.model.specs.Trees.Charge.{blocks_of, charge_of_blocks}
 use Rattle.layout.specs.CachedNodes.{CachedNode}
 use Rattle.layout.specs.CachedNodes as layout
-use Rattle.layout.specs.Known.{IsCard, IsPlace, HasContent, HasNames, AreCards}
+use Rattle.layout.specs.Known.{IsCard, IsNodePlace, HasContent, HasNames, AreCards}
 use Rattle.layout.specs.Laid.{AreLaid, HoldsCard, HoldsPlace}
-use Rattle.layout.specs.Marks.{times, times_set, named, named_by, mark_by}
+use Rattle.layout.specs.Marks.{times, times_set, named, namings_of, mark_by}
 use Rattle.layout.proofs.Changing.{named-at}
 use Rattle.layout.proofs.Knowing.{one_card_change}
 use Rattle.layout.proofs.MarkProofs.{each_mark, mark-front}
 use Rattle.layout.proofs.NodeEditLaws.{named_by-parts}
 use Rattle.node_table.specs.Tables.{charge_of, charge_of_all}
 use Rattle.tree_transaction.specs.declared.transaction.Transaction.{Transaction}
-use Rattle.tree_transaction.specs.Transactions.{cards_of, end_of, image_of, tree_of, IsKnown, StaysKnown, IsTransaction, MakesOver, Makes, Edits, EditsOver, HasNow, Turns, IsOvercharged}
+use Rattle.tree_transaction.specs.Transactions.{cards_of, end_of, image_of, changed_tree, IsKnown, StaysKnown, IsTransaction, MakesOver, MakesEdit, Edits, EditsOver, HasNow, NodeBecomes, IsOvercharged}
 use Rattle.tree_transaction.specs.Laying.{fields_with}
 use Rattle.tree_transaction.specs.Updates.{AreBetween, ChangeOne}
 use Rattle.tree_transaction.proofs.UpdateLaws.{between-one}
@@ -55,12 +55,12 @@ module _ (nodes : ℕ) (mark : ℕ → ℕ) (cards : List (Option CachedNode)) (
   in_table = let h = place-within cards place card there in omega (arith, known.count)
 
   pub card_at : IsCard card
-  card_at = subst IsPlace there (known.each place in_table)
+  card_at = subst IsNodePlace there (known.each place in_table)
 
   pub named_once : (n : ℕ) → times n card.fields.run_sectors + times_set n card.blocks ≤ mark n
   named_once n =
       let parts = named_by-parts n card in
-      let some : named_by n (Some card) ≤ named n cards = subst (λ (c : Option CachedNode). named_by n c ≤ named n cards) there (named-at n cards place) in
+      let some : namings_of n (Some card) ≤ named n cards = subst (λ (c : Option CachedNode). namings_of n c ≤ named n cards) there (named-at n cards place) in
       omega (arith, known.marks n)
 
   -- a cached node of its number, whose marks follow, in its place
@@ -69,7 +69,7 @@ module _ (nodes : ℕ) (mark : ℕ → ℕ) (cards : List (Option CachedNode)) (
   changed_known marked is number is_card marks once behind = one_card_change nodes mark marked cards place (Some is) in_table known
       (λ i other off at e. known.apart i place other card off at there (e ∙ number)) is_card
       (record {
-        marks = λ n. let e = ap (named_by n) there in omega (arith, e, named_by-parts n card, named_by-parts n is, marks n);
+        marks = λ n. let e = ap (namings_of n) there in omega (arith, e, named_by-parts n card, named_by-parts n is, marks n);
         once = once;
         behind = behind;
       })
@@ -132,8 +132,8 @@ stays_put old new sector known cards same len low high alone =
 -- ---- over a base
 
 pub made : (base : Image) (size : ℕ) (old new : Transaction) (place : ℕ) (is : Option CachedNode) (edit : Edit) → IsTransaction base size old → new.nodes ≡ old.nodes → length new.places ≡ length old.places → cards_of new ≡ set (cards_of old) place is
-    → AreLaid old.nodes (image_of base new) (mark_by (148 + old.nodes) new.places) (set (cards_of old) place is) → layout.tree_of (image_of base new) (set (cards_of old) place is) ≡ done edit (tree_of base old)
-    → IsTransaction base size new × (tree_of base new ≡ done edit (tree_of base old))
+    → AreLaid old.nodes (image_of base new) (mark_by (148 + old.nodes) new.places) (set (cards_of old) place is) → layout.tree_of (image_of base new) (set (cards_of old) place is) ≡ done edit (changed_tree base old)
+    → IsTransaction base size new × (changed_tree base new ≡ done edit (changed_tree base old))
 made base size old new place is edit transaction same len cards laid tree = (
   record {
     laid = subst (λ (n : ℕ). AreLaid n (image_of base new) (mark_by (148 + n) new.places) (cards_of new)) (sym same)
@@ -148,12 +148,12 @@ made base size old new place is edit transaction same len cards laid tree = (
 
 module _ (old new : Transaction) (place : ℕ) (was : CachedNode) (there : get_or (cards_of old) place None ≡ Some was) where
   pub edits : (edit : ℕ → Edit) → ((base : Image) (size : ℕ) → MakesOver base size old new (edit was.fields.number)) → Edits old new place edit
-  edits edit makes card asked = subst (λ (one : CachedNode). Makes old new (edit one.fields.number)) (same_card (cards_of old) place was card there asked) makes
+  edits edit makes card asked = subst (λ (one : CachedNode). MakesEdit old new (edit one.fields.number)) (same_card (cards_of old) place was card there asked) makes
 
   pub edits_over : (base : Image) (size : ℕ) (edit : ℕ → Edit) → MakesOver base size old new (edit was.fields.number) → EditsOver base size old new place edit
   edits_over base size edit makes card asked = subst (λ (one : CachedNode). MakesOver base size old new (edit one.fields.number)) (same_card (cards_of old) place was card there asked) makes
 
-  pub turns : (change : CachedNode → CachedNode) → HasNow old new place (change was) → Turns old new place change
+  pub turns : (change : CachedNode → CachedNode) → HasNow old new place (change was) → NodeBecomes old new place change
   turns change now card asked = subst (λ (one : CachedNode). HasNow old new place (change one)) (same_card (cards_of old) place was card there asked) now
 
 pub overcharged : (old : Transaction) (place : ℕ) (was : CachedNode) (blocks : CachedNode → ℕ) → get_or (cards_of old) place None ≡ Some was → length old.places + charge_of was < charge_of_all (cards_of old) + charge_of_blocks (blocks was) → IsOvercharged old place blocks

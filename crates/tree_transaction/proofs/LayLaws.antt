@@ -45,7 +45,7 @@ lays-node old now new sector card content apart front content_is new_is = record
   others = λ n off none. ap (λ (image : Image). image n) new_is ∙ put-elsewhere now (record { target = sector; content = content }) n (λ e. off (sym e)) ∙ front.others n none;
 }
 
-pub lays-card : (old now new : Image) (sector : ℕ) (card : CachedNode) (numbers : List ℕ) (runs : List Run) (content : List ℕ) → numbers ≡ card.fields.run_sectors → runs ≡ card.runs → times sector card.fields.run_sectors ≡ 0
+pub lays-cached : (old now new : Image) (sector : ℕ) (card : CachedNode) (numbers : List ℕ) (runs : List Run) (content : List ℕ) → numbers ≡ card.fields.run_sectors → runs ≡ card.runs → times sector card.fields.run_sectors ≡ 0
     → LaysFront old now numbers runs (length numbers) → content ≡ inode_sector card.form card.fields → new ≡ put now (record { target = sector; content = content }) → LaysNode old new sector card
-lays-card old now new sector card numbers runs content e f apart front content_is new_is =
+lays-cached old now new sector card numbers runs content e f apart front content_is new_is =
     lays-node old now new sector card content apart (subst (λ (r : List Run). LaysFront old now card.fields.run_sectors r (length card.fields.run_sectors)) f (subst (λ (n : List ℕ). LaysFront old now n runs (length n)) e front)) content_is new_is

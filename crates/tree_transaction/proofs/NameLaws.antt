@@ -7,7 +7,7 @@ use Rattle.disk.specs.declared.update.Update.{Update}
 use Rattle.freemap.specs.Kept.{free_places}
 use Rattle.directory.specs.declared.names.TheConstants.Names.{MAX_NAMES}
 use Rattle.directory.specs.Listing.{by_stamp}
-use Rattle.directory.specs.Records.{Record, IsDirectory, AreStamped, with_record, record_from, place_of}
+use Rattle.directory.specs.Records.{Record, IsDirectory, NamesStamped, with_record, record_from, place_of}
 use Rattle.directory.specs.Spelling.{directory_sector}
 use Rattle.directory.proofs.Places.{with_record-push}
 use Rattle.inode.specs.Fields.{Fields}
@@ -92,7 +92,7 @@ module _ (old : Transaction) (place : ℕ) (was : CachedNode) (known : IsKnown o
   }
 
   -- over the same blocks its runs are those that it had
-  pub same_runs : (blocks : List (Option ℕ)) (names : List Record) → blocks ≡ was.blocks → length blocks ≡ blocks_of kind.Directory (length names) → IsDirectory names → AreStamped names → HasItsRuns place (named_card was blocks names)
+  pub same_runs : (blocks : List (Option ℕ)) (names : List Record) → blocks ≡ was.blocks → length blocks ≡ blocks_of kind.Directory (length names) → IsDirectory names → NamesStamped names → HasItsRuns place (named_card was blocks names)
   same_runs blocks names alike count are_names stamped =
       let is = directory_is in
       let fits = is.fits in
@@ -122,7 +122,7 @@ module _ (old : Transaction) (place : ℕ) (was : CachedNode) (known : IsKnown o
         apart = omega (arith, within, named_here (148 + place), mark-front first old.places (148 + place));
       }
 
-  module _ (new : Transaction) (blocks : List (Option ℕ)) (names : List Record) (mid_places : List Bool) (mid_updates : List Update) (are_names : IsDirectory names) (stamped : AreStamped names) (moved : IsMoved old was (named_card was blocks names) mid_places mid_updates)
+  module _ (new : Transaction) (blocks : List (Option ℕ)) (names : List Record) (mid_places : List Bool) (mid_updates : List Update) (are_names : IsDirectory names) (stamped : NamesStamped names) (moved : IsMoved old was (named_card was blocks names) mid_places mid_updates)
       (back : StandsAgain old new place (named_card was blocks names) mid_places mid_updates) where
     abbrev is : CachedNode
     is = back.is
@@ -138,7 +138,7 @@ module _ (old : Transaction) (place : ℕ) (was : CachedNode) (known : IsKnown o
 
     pub named_stays : StaysKnown old new
     named_stays = stays old new place was (named_card was blocks names) mid_places mid_updates known there moved back
-        (content_of_directory is is_directory (record { count = size_now; names = subst IsDirectory (sym rerun.names) are_names; stamped = subst AreStamped (sym rerun.names) stamped }))
+        (content_of_directory is is_directory (record { count = size_now; names = subst IsDirectory (sym rerun.names) are_names; stamped = subst NamesStamped (sym rerun.names) stamped }))
 
     pub named_now : HasNow old new place (renamed was names)
     named_now = has_now old new place was (named_card was blocks names) mid_places mid_updates known there moved back (renamed was names) refl refl refl
@@ -162,8 +162,8 @@ module _ (old : Transaction) (place : ℕ) (was : CachedNode) (name : List ℕ) 
   abbrev entry : Record
   entry = record_from stamp name number
 
-  same : can.card ≡ was
-  same = same_card (cards_of old) place can.card was can.there there
+  same : can.cached ≡ was
+  same = same_card (cards_of old) place can.cached was can.there there
 
   pub directory : was.fields.kind ≡ kind.Directory
   directory = ap (λ (one : CachedNode). one.fields.kind) (sym same) ∙ can.directory
@@ -181,7 +181,7 @@ module _ (old : Transaction) (place : ℕ) (was : CachedNode) (name : List ℕ) 
   pub unused : at stamp was.names ≡ None
   unused = subst (λ (one : CachedNode). at stamp one.names ≡ None) same can.new_stamp
 
-  pub stamped_was : AreStamped was.names
+  pub stamped_was : NamesStamped was.names
   stamped_was = let here = names_here old place was known there directory in here.stamped
 
   pub named_region : HaveRegion (148 + old.nodes) old.places was.blocks
@@ -206,8 +206,8 @@ module _ (old : Transaction) (place : ℕ) (was : CachedNode) (name : List ℕ) 
     longer : length names ≡ length was.names + 1
     longer = ap length pushed ∙ length-append was.names (entry ∷ [])
 
-    stamped : AreStamped names
-    stamped = let here = names_here old place was known there directory in subst AreStamped (sym pushed) (puts_stamped was.names entry here.stamped can.above (stamp-new was.names entry.0 unused))
+    stamped : NamesStamped names
+    stamped = let here = names_here old place was known there directory in subst NamesStamped (sym pushed) (puts_stamped was.names entry here.stamped can.above (stamp-new was.names entry.0 unused))
 
     module _ (blocks : List (Option ℕ)) (mid_places : List Bool) (mid_updates : List Update) (gets : GetSectors (148 + old.nodes) old.places mid_places was.blocks blocks)
         (writes : (image : Image) → WritesOne (applied old.updates image) (applied mid_updates image) was.blocks blocks block (directory_sector (names_of_block block names))) where
@@ -263,7 +263,7 @@ module _ (old : Transaction) (place : ℕ) (was : CachedNode) (name : List ℕ) 
             (steps old new place was (named_card was blocks names) mid_places mid_updates known there moved back base transaction.laid)
             (record {
               directories = directories old place was known there directory new blocks names mid_places mid_updates are_names stamped moved back base holds;
-              stamped = subst AreStamped (sym rerun.names) stamped;
+              stamped = subst NamesStamped (sym rerun.names) stamped;
               names = rerun.names ∙ are;
               blocks = record {
                 kept = λ i off again h. let keeps = one.kept i off (let long = ap length rerun.blocks in omega arith) in (keeps.0, unmoved i ∙ keeps.1);

@@ -13,17 +13,17 @@ use Rattle.layout.specs.CachedNodes as layout
 use Rattle.layout.specs.ChangeLaws.{ChangesOwn}
 use Rattle.layout.specs.Known.{IsCard, HasContent, AreCards}
 use Rattle.layout.specs.Laid.{AreLaid, HoldsNode, HoldsContent}
-use Rattle.layout.specs.Marks.{times, times_set, named_by, mark_by}
-use Rattle.layout.specs.Steps.{Steps, Gives}
+use Rattle.layout.specs.Marks.{times, times_set, namings_of, mark_by}
+use Rattle.layout.specs.Steps.{NodeSteps, LaysTree}
 use Rattle.layout.proofs.Frame.{run_sectors-kept}
 use Rattle.layout.proofs.Knowing.{one_card_change}
 use Rattle.layout.proofs.MarkProofs.{each_mark}
 use Rattle.layout.proofs.NodeEditLaws.{named_by-parts, make_node, show_other}
 use Rattle.layout.proofs.ChargeLaws.{named-none}
-use Rattle.node_table.specs.Tables.{number_of, HasNot, IsFree}
-use Rattle.tree_transaction.specs.Blocks.{IsPut}
+use Rattle.node_table.specs.Tables.{node_number, HasNoNode, IsFree}
+use Rattle.tree_transaction.specs.Blocks.{IsSectorPut}
 use Rattle.tree_transaction.specs.declared.transaction.Transaction.{Transaction}
-use Rattle.tree_transaction.specs.Transactions.{cards_of, image_of, tree_of, IsKnown, StaysKnown}
+use Rattle.tree_transaction.specs.Transactions.{cards_of, image_of, changed_tree, IsKnown, StaysKnown}
 use Rattle.tree_transaction.specs.Transactions.{MakesOver, HasNow}
 use Rattle.tree_transaction.specs.Nodes.{new_card, IsNewCard, no_content, new_node, fields_showing}
 use Rattle.tree_transaction.specs.Nodes.{showing, CanShow}
@@ -52,7 +52,7 @@ new_of image form fields kind.File = refl
 new_of image form fields kind.Directory = refl
 
 module _ (nodes place : ℕ) (old new : Image) (mark : ℕ → ℕ) (cards : List (Option CachedNode)) (form : Form) (fields : Fields) (within : place < nodes) (laid : AreLaid nodes old mark cards) (free : IsFree cards place) (fits : IsInode form (new_card form fields).fields)
-    (some : 0 < fields.number) (fresh : HasNot cards fields.number) (is : IsPut old new (148 + place) (inode_sector form (new_card form fields).fields)) where
+    (some : 0 < fields.number) (fresh : HasNoNode cards fields.number) (is : IsSectorPut old new (148 + place) (inode_sector form (new_card form fields).fields)) where
   node : HoldsNode new place (new_card form fields)
   node = record {
     fits = fits;
@@ -65,11 +65,11 @@ module _ (nodes place : ℕ) (old new : Image) (mark : ℕ → ℕ) (cards : Lis
     blocks = sym (no_blocks fields.kind);
   }
 
-  nothing : (n : ℕ) → named_by n (Some (new_card form fields)) ≡ 0
+  nothing : (n : ℕ) → namings_of n (Some (new_card form fields)) ≡ 0
   nothing n = named_by-parts n (new_card form fields)
 
-  none : (n : ℕ) → named_by n None ≡ 0
-  unfolding named_by
+  none : (n : ℕ) → namings_of n None ≡ 0
+  unfolding namings_of
   none n = refl
 
   own : ChangesOwn nodes old new mark mark place None (Some (new_card form fields))
@@ -84,13 +84,13 @@ module _ (nodes place : ℕ) (old new : Image) (mark : ℕ → ℕ) (cards : Lis
   unfolding node_of
   shown = ap (node_with (new_card form fields).fields) (new_of new form fields fields.kind)
 
-  pub make_gives : Gives nodes new mark cards place (new_card form fields) (done (PutNode fields.number (new_node (new_card form fields))) (layout.tree_of old cards))
+  pub make_gives : LaysTree nodes new mark cards place (new_card form fields) (done (PutNode fields.number (new_node (new_card form fields))) (layout.tree_of old cards))
   make_gives =
       let gives = make_node nodes old new mark mark cards place (new_card form fields) (record {
         within = within;
         free = free.free;
         laid = laid;
-        fresh = λ i other off there same. fresh i (ap number_of there ∙ ap (λ (n : ℕ). Some n) same);
+        fresh = λ i other off there same. fresh i (ap node_number there ∙ ap (λ (n : ℕ). Some n) same);
         node = node;
         content = new_content new form fields fields.kind;
         own = own;
@@ -105,8 +105,8 @@ known_content form fields kind.Directory = record {
   stamped = record { above = tt; apart = λ i j d low h. absurd (omega arith) };
 }
 
-module _ (old new : Transaction) (place : ℕ) (card : CachedNode) (known : IsKnown old) (free : IsFree (cards_of old) place) (is_new : IsNewCard card) (fresh : HasNot (cards_of old) card.fields.number) (same : new.nodes ≡ old.nodes) (places : new.places ≡ old.places)
-    (cards : cards_of new ≡ set (cards_of old) place (Some card)) (put : (image : Image) → IsPut (applied old.updates image) (applied new.updates image) (148 + place) (inode_sector card.form card.fields)) where
+module _ (old new : Transaction) (place : ℕ) (card : CachedNode) (known : IsKnown old) (free : IsFree (cards_of old) place) (is_new : IsNewCard card) (fresh : HasNoNode (cards_of old) card.fields.number) (same : new.nodes ≡ old.nodes) (places : new.places ≡ old.places)
+    (cards : cards_of new ≡ set (cards_of old) place (Some card)) (put : (image : Image) → IsSectorPut (applied old.updates image) (applied new.updates image) (148 + place) (inode_sector card.form card.fields)) where
   abbrev first : ℕ
   first = 148 + old.nodes
 
@@ -124,15 +124,15 @@ module _ (old new : Transaction) (place : ℕ) (card : CachedNode) (known : IsKn
     content = known_content card.form card.fields card.fields.kind;
   })
 
-  new-named : (n : ℕ) → named_by n (Some card) ≡ 0
-  new-named n = ap (λ (c : CachedNode). named_by n (Some c)) is_new.is ∙ named_by-parts n (new_card card.form card.fields)
+  new-named : (n : ℕ) → namings_of n (Some card) ≡ 0
+  new-named n = ap (λ (c : CachedNode). namings_of n (Some c)) is_new.is ∙ named_by-parts n (new_card card.form card.fields)
 
   cards_known : AreCards old.nodes (mark_by first old.places) (set (cards_of old) place (Some card))
   cards_known =
       let known_cards = known.cards in
       one_card_change old.nodes (mark_by first old.places) (mark_by first old.places) (cards_of old) place (Some card) in_it known_cards
-      (λ i other off there e. fresh i (ap number_of there ∙ ap (λ (n : ℕ). Some n) e)) is_known
-      (record { marks = λ n. omega (arith, ap (named_by n) free.free, named-none n, new-named n); once = known_cards.once; behind = known_cards.behind })
+      (λ i other off there e. fresh i (ap node_number there ∙ ap (λ (n : ℕ). Some n) e)) is_known
+      (record { marks = λ n. omega (arith, ap (namings_of n) free.free, named-none n, new-named n); once = known_cards.once; behind = known_cards.behind })
 
   pub make_stays : StaysKnown old new
   make_stays = stays_put old new (148 + place) known
@@ -142,21 +142,21 @@ module _ (old new : Transaction) (place : ℕ) (card : CachedNode) (known : IsKn
   pub make_made : (base : Image) (size : ℕ) → MakesOver base size old new (PutNode card.fields.number (new_node card))
   make_made base size transaction =
       let fresh_card : CachedNode = new_card card.form card.fields in
-      let is : IsPut (image_of base old) (image_of base new) (148 + place) (inode_sector fresh_card.form fresh_card.fields) =
-      subst (λ (one : CachedNode). IsPut (image_of base old) (image_of base new) (148 + place) (inode_sector one.form one.fields)) is_new.is (put base) in
+      let is : IsSectorPut (image_of base old) (image_of base new) (148 + place) (inode_sector fresh_card.form fresh_card.fields) =
+      subst (λ (one : CachedNode). IsSectorPut (image_of base old) (image_of base new) (148 + place) (inode_sector one.form one.fields)) is_new.is (put base) in
       let gives = make_gives old.nodes place (image_of base old) (image_of base new) (mark_by first old.places) (cards_of old) card.form card.fields in_it transaction.laid free
       (subst (λ (one : CachedNode). IsInode one.form one.fields) is_new.is is_new.fits) is_new.number fresh is in
       made base size old new place (Some card) (PutNode card.fields.number (new_node card)) transaction same (ap length places) cards
       (subst (λ (p : List Bool). AreLaid old.nodes (image_of base new) (mark_by first p) (set (cards_of old) place (Some card))) (sym places)
       (subst (λ (one : CachedNode). AreLaid old.nodes (image_of base new) (mark_by first old.places) (set (cards_of old) place (Some one))) (sym is_new.is) gives.laid))
       (ap (λ (one : CachedNode). layout.tree_of (image_of base new) (set (cards_of old) place (Some one))) is_new.is ∙ gives.tree_is
-      ∙ ap (λ (one : CachedNode). done (PutNode one.fields.number (new_node one)) (tree_of base old)) (sym is_new.is))
+      ∙ ap (λ (one : CachedNode). done (PutNode one.fields.number (new_node one)) (changed_tree base old)) (sym is_new.is))
 
 -- ---- a node's own sector alone is written: its run sectors and blocks stay
 
 module _ (old new : Transaction) (place : ℕ) (was is : CachedNode) (known : IsKnown old) (there : get_or (cards_of old) place None ≡ Some was) (number : is.fields.number ≡ was.fields.number) (runs : is.runs ≡ was.runs) (sectors : is.fields.run_sectors ≡ was.fields.run_sectors)
     (blocks : (n : ℕ) → times_set n is.blocks ≡ times_set n was.blocks) (is_known : IsCard is) (same : new.nodes ≡ old.nodes) (places : new.places ≡ old.places) (cards : cards_of new ≡ set (cards_of old) place (Some is))
-    (put : (image : Image) → IsPut (applied old.updates image) (applied new.updates image) (148 + place) (inode_sector is.form is.fields)) where
+    (put : (image : Image) → IsSectorPut (applied old.updates image) (applied new.updates image) (148 + place) (inode_sector is.form is.fields)) where
   abbrev first_here : ℕ
   first_here = 148 + old.nodes
 
@@ -189,7 +189,7 @@ module _ (old new : Transaction) (place : ℕ) (was is : CachedNode) (known : Is
   alone_kept base n some = away base n (apart n (omega arith))
 
   pub alone_steps : (base : Image) → AreLaid old.nodes (image_of base old) (mark_by first_here old.places) (cards_of old)
-      → Steps old.nodes (image_of base old) (image_of base new) (mark_by first_here old.places) (mark_by first_here new.places) (cards_of old) place was is
+      → NodeSteps old.nodes (image_of base old) (image_of base new) (mark_by first_here old.places) (mark_by first_here new.places) (cards_of old) place was is
   alone_steps base laid =
       let each = each_mark first_here new.places 0 in
       let held = held_at old.nodes (image_of base old) (mark_by first_here old.places) (cards_of old) place was laid there in
@@ -222,7 +222,7 @@ module _ (old new : Transaction) (place : ℕ) (was is : CachedNode) (known : Is
 
 -- what is asked is of the cached node at the place
 pub fits_at : (cards : List (Option CachedNode)) (place : ℕ) (shown : Shown) (was : CachedNode) → CanShow cards place shown → get_or cards place None ≡ Some was → IsInode was.form (fields_showing was.fields shown)
-fits_at cards place shown was can there = subst (λ (one : CachedNode). IsInode one.form (fields_showing one.fields shown)) (same_card cards place can.card was can.there there) can.fits
+fits_at cards place shown was can there = subst (λ (one : CachedNode). IsInode one.form (fields_showing one.fields shown)) (same_card cards place can.cached was can.there there) can.fits
 
 content_shown : (shown : Shown) (card : CachedNode) (k : NodeKind) → HasContent k card → HasContent k (showing shown card)
 content_shown it card kind.File none = none
@@ -241,7 +241,7 @@ shown_card it card is fits = record {
 
 module _ (old new : Transaction) (place : ℕ) (was : CachedNode) (shown : Shown) (known : IsKnown old) (there : get_or (cards_of old) place None ≡ Some was) (fits : IsInode was.form (fields_showing was.fields shown)) (same : new.nodes ≡ old.nodes) (places : new.places ≡ old.places)
     (cards : cards_of new ≡ set (cards_of old) place (Some (showing shown was)))
-    (put : (image : Image) → IsPut (applied old.updates image) (applied new.updates image) (148 + place) (inode_sector was.form (fields_showing was.fields shown))) where
+    (put : (image : Image) → IsSectorPut (applied old.updates image) (applied new.updates image) (148 + place) (inode_sector was.form (fields_showing was.fields shown))) where
   was_known : IsCard was
   was_known = card_at old.nodes (mark_by (148 + old.nodes) old.places) (cards_of old) place was known.cards there
 

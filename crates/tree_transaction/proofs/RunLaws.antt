@@ -4,7 +4,7 @@ use Rattle.std.proofs.lemmas.Bool.{cases_order, cases_lt}
 use Rattle.std.proofs.lemmas.List.{length-take, get_or-take}
 use Rattle.std.proofs.lemmas.Option.{same_Some, none-some}
 use Rattle.extents.specs.declared.run.Run.{Run}
-use Rattle.extents.specs.Runs.{sector_by, AreRising, AreApart}
+use Rattle.extents.specs.Runs.{sector_by, AreRising, RunsApart}
 use Rattle.extents.proofs.RunLemmas.{is_in-yes, is_in-before, is_in-behind}
 use Rattle.layout.specs.CachedNodes.{CachedNode}
 use Rattle.layout.specs.Known.{IsCard}
@@ -52,7 +52,7 @@ same_sector run other runs others from limit count rising up same =
     same_Some run.sector other.sector (sym (at_first run runs rising.1) ∙ same run.block rising.0 (omega (arith, rising.1, rising.2)) ∙ ap (sector_by (other ∷ others)) block ∙ at_first other others up.1)
 
 -- one that goes on in the other list is followed by none here
-runs_on : (run other : Run) (runs others : List Run) (from limit count : ℕ) → AreRising from limit (run ∷ runs) → AreApart (run ∷ runs) → AreRising from count (other ∷ others) → AreSame (run ∷ runs) (other ∷ others) from limit → run.length < other.length
+runs_on : (run other : Run) (runs others : List Run) (from limit count : ℕ) → AreRising from limit (run ∷ runs) → RunsApart (run ∷ runs) → AreRising from count (other ∷ others) → AreSame (run ∷ runs) (other ∷ others) from limit → run.length < other.length
     → length runs ≤ 0
 runs_on run other [] others from limit count rising apart up same longer = omega arith
 runs_on run other (next ∷ runs) others from limit count rising apart up same longer =
@@ -75,15 +75,15 @@ runs_on run other (next ∷ runs) others from limit count rising apart up same l
 abbrev rest_of : Run → (count : ℕ) → Run
 rest_of run count = record { block = run.block + count; length = run.length - count; sector = run.sector + count }
 
-rest_apart : (run : Run) (count : ℕ) (runs : List Run) → count ≤ run.length → AreApart (run ∷ runs) → AreApart (rest_of run count ∷ runs)
+rest_apart : (run : Run) (count : ℕ) (runs : List Run) → count ≤ run.length → RunsApart (run ∷ runs) → RunsApart (rest_of run count ∷ runs)
 rest_apart run count [] few apart = tt
 rest_apart run count (next ∷ runs) few apart = ((λ join. apart.0 (omega (arith, join.0), omega (arith, join.1))), apart.1)
 
-apart_behind : (run : Run) (runs : List Run) → AreApart (run ∷ runs) → AreApart runs
+apart_behind : (run : Run) (runs : List Run) → RunsApart (run ∷ runs) → RunsApart runs
 apart_behind run [] apart = tt
 apart_behind run (next ∷ runs) apart = apart.1
 
-pub fewest : (others runs : List Run) (from limit count : ℕ) → AreRising from limit runs → AreApart runs → AreRising from count others → AreSame runs others from limit → length runs ≤ length others
+pub fewest : (others runs : List Run) (from limit count : ℕ) → AreRising from limit runs → RunsApart runs → AreRising from count others → AreSame runs others from limit → length runs ≤ length others
 fewest others [] from limit count rising apart up same = omega arith
 fewest [] (run ∷ runs) from limit count rising apart up same =
     absurd (none-some run.sector (sym (same run.block rising.0 (omega (arith, rising.1, rising.2))) ∙ at_first run runs rising.1))

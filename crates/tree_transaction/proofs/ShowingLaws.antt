@@ -13,11 +13,11 @@ use Rattle.layout.specs.CachedNodes.{CachedNode}
 use Rattle.layout.specs.Marks.{times}
 use Rattle.layout.proofs.Frame.{run_sectors-kept}
 use Rattle.layout.proofs.MarkProofs.{mark-front}
-use Rattle.tree_transaction.specs.Blocks.{IsPut}
+use Rattle.tree_transaction.specs.Blocks.{IsSectorPut}
 use Rattle.tree_transaction.specs.declared.transaction.Transaction.{Transaction}
 use Rattle.tree_transaction.specs.Laying.{fields_with}
 use Rattle.tree_transaction.specs.Nodes.{fields_showing, showing}
-use Rattle.tree_transaction.specs.Transactions.{cards_of, IsKnown, StaysKnown, Edits, Turns, StandsAgain}
+use Rattle.tree_transaction.specs.Transactions.{cards_of, IsKnown, StaysKnown, Edits, NodeBecomes, StandsAgain}
 use Rattle.tree_transaction.proofs.BlockLaws.{here, elsewhere}
 use Rattle.tree_transaction.proofs.KnownLaws.{edits, turns}
 use Rattle.tree_transaction.proofs.NodeLaws.{show_stays, show_now, show_made}
@@ -66,7 +66,7 @@ module _ (mid new : Transaction) (place : ℕ) (card : CachedNode) (shown : Show
         each_ace = plain.each_ace;
       }
 
-  put_plain : (image : Image) → IsPut (applied new.updates image) (applied through.updates image) (148 + place) (inode_sector plain_is.form plain_is.fields)
+  put_plain : (image : Image) → IsSectorPut (applied new.updates image) (applied through.updates image) (148 + place) (inode_sector plain_is.form plain_is.fields)
   put_plain image = applied-last new.updates plain_update image
 
   away : (image : Image) (n : ℕ) → n ≢ 148 + place → applied through.updates image n ≡ applied new.updates image n
@@ -111,7 +111,7 @@ module _ (mid new : Transaction) (place : ℕ) (card : CachedNode) (shown : Show
     cards : cards_of new ≡ set (cards_of through) place (Some (showing shown plain_is))
     cards = stands.put ∙ sym (set-set (cards_of mid) place (Some plain_is) (Some is)) ∙ ap (λ (one : CachedNode). set (cards_of through) place (Some one)) (sym shown_again)
 
-    put : (image : Image) → IsPut (applied through.updates image) (applied new.updates image) (148 + place) (inode_sector plain_is.form (fields_showing plain_is.fields shown))
+    put : (image : Image) → IsSectorPut (applied through.updates image) (applied new.updates image) (148 + place) (inode_sector plain_is.form (fields_showing plain_is.fields shown))
     put image =
         let update : Update = record { target = 148 + place; content = inode_sector plain_is.form (fields_showing plain_is.fields shown) } in
         fun_ext (λ n. elim (cases_eq n (148 + place)) [
@@ -122,7 +122,7 @@ module _ (mid new : Transaction) (place : ℕ) (card : CachedNode) (shown : Show
     pub shown_stays : StaysKnown through new
     shown_stays = show_stays through new place plain_is shown known there fits refl refl cards put
 
-    pub shown_turns : Turns through new place (showing shown)
+    pub shown_turns : NodeBecomes through new place (showing shown)
     shown_turns = turns through new place plain_is there (showing shown) (show_now through new place plain_is shown known there fits refl refl cards put)
 
     pub shown_edits : Edits through new place (λ number. Show number shown)

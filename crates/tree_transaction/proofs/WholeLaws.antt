@@ -4,7 +4,7 @@ use Rattle.std.proofs.lemmas.Bool.{cases_lt}
 use Rattle.std.proofs.lemmas.List.{get_or_past}
 use Rattle.disk.specs.Moments.{Image, applied}
 use Rattle.disk.specs.declared.update.Update.{Update}
-use Rattle.freemap.specs.Places.{bit_from, bit_of, bit_in, mark_of, Shows}
+use Rattle.freemap.specs.Places.{bit_from, bit_of, bit_in, mark_of, ShowsPlaces}
 use Rattle.freemap.proofs.Bits.{low_bit, high_bit}
 use Rattle.freemap.proofs.PartLaws.{also_marked}
 use Rattle.layout.specs.CachedNodes.{CachedNode, node_sector, tree_of}
@@ -12,7 +12,7 @@ use Rattle.layout.specs.Laid.{AreLaid}
 use Rattle.layout.specs.Marks.{mark_in, mark_by}
 use Rattle.layout.specs.Stands.{Version, HaveForms, IsLaid}
 use Rattle.layout.proofs.MarkProofs.{lays_marks, tree_still, bit_of-past}
-use Rattle.tree_transaction.specs.Blocks.{IsPut}
+use Rattle.tree_transaction.specs.Blocks.{IsSectorPut}
 use Rattle.tree_transaction.specs.Whole.{IsMarked, ShowsPart}
 use Rattle.tree_transaction.specs.Updates.{AreBetween}
 use Rattle.tree_transaction.proofs.BlockLaws.{here, elsewhere}
@@ -20,9 +20,9 @@ use Rattle.tree_transaction.proofs.UpdateLaws.{applied-other, between-one}
 
 -- ---- one bitmap sector
 
-pub written_part : (old new : Image) (before places : List Bool) (part : ℕ) (content : List ℕ) → Shows content places (32768 * part) → IsPut old new (98 + part) content → ShowsPart old new before places part
+pub written_part : (old new : Image) (before places : List Bool) (part : ℕ) (content : List ℕ) → ShowsPlaces content places (32768 * part) → IsSectorPut old new (98 + part) content → ShowsPart old new before places part
 written_part old new before places part content shows is = record {
-  shows = inl (subst (λ (s : List ℕ). Shows s places (32768 * part)) (sym (here old new (98 + part) content is)) shows);
+  shows = inl (subst (λ (s : List ℕ). ShowsPlaces s places (32768 * part)) (sym (here old new (98 + part) content is)) shows);
   others = elsewhere old new (98 + part) content is;
 }
 

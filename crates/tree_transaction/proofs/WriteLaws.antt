@@ -18,7 +18,7 @@ use Rattle.layout.proofs.Frame.{byte_at-kept}
 use Rattle.layout.proofs.NodeEditLaws.{write_file}
 use Rattle.layout.proofs.StepLaws.{each_change}
 use Rattle.node_table.specs.Tables.{charge_of, charge_of_all}
-use Rattle.tree_transaction.specs.Blocks.{IsPut, HaveRegion, GetSectors, ChangeBlocks, WritesBytes}
+use Rattle.tree_transaction.specs.Blocks.{IsSectorPut, HaveRegion, GetSectors, ChangeBlocks, WritesBytes}
 use Rattle.tree_transaction.specs.Blocks.{set_blocks}
 use Rattle.tree_transaction.specs.declared.transaction.Transaction.{Transaction}
 use Rattle.tree_transaction.specs.Transactions.{cards_of, image_of, IsKnown, StaysKnown, MakesOver, StandsAgain}
@@ -35,8 +35,8 @@ module _ (old : Transaction) (place end : ℕ) (was : CachedNode) (known : IsKno
   abbrev first : ℕ
   first = 148 + old.nodes
 
-  same : can.card ≡ was
-  same = same_card (cards_of old) place can.card was can.there there
+  same : can.cached ≡ was
+  same = same_card (cards_of old) place can.cached was can.there there
 
   file : was.fields.kind ≡ kind.File
   file = ap (λ (one : CachedNode). one.fields.kind) (sym same) ∙ can.file
@@ -89,7 +89,7 @@ module _ (old : Transaction) (place end : ℕ) (was : CachedNode) (known : IsKno
 
     -- no block got a sector: its runs are those that it had
     pub put_stands : blocks ≡ (grown was end).blocks → (new : Transaction) (mid_updates : List Update) → cards_of new ≡ set (set (cards_of old) place None) place (Some mid_card) → new.nodes ≡ old.nodes → new.places ≡ mid_places
-        → ((image : Image) → IsPut (applied mid_updates image) (applied new.updates image) (148 + place) (inode_sector was.form mid_card.fields)) → StandsAgain old new place mid_card mid_places mid_updates
+        → ((image : Image) → IsSectorPut (applied mid_updates image) (applied new.updates image) (148 + place) (inode_sector was.form mid_card.fields)) → StandsAgain old new place mid_card mid_places mid_updates
     put_stands alike new mid_updates = put_again old new place mid_card mid_places mid_updates (mid_known alike)
         (omega (arith, in_table old.nodes (mark_by first old.places) (cards_of old) place was known.cards there, once (148 + place), mark-front first old.places (148 + place)))
 

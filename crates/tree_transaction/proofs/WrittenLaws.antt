@@ -11,7 +11,7 @@ use Rattle.layout.specs.Marks.{times, times_set, mark_by}
 use Rattle.layout.proofs.MarkProofs.{mark-front}
 use Rattle.tree_transaction.specs.Blocks.{WritesBytes, set_blocks}
 use Rattle.tree_transaction.specs.declared.transaction.Transaction.{Transaction}
-use Rattle.tree_transaction.specs.Transactions.{cards_of, IsKnown, StaysKnown, EditsOver, Turns, StandsAgain, IsOvercharged}
+use Rattle.tree_transaction.specs.Transactions.{cards_of, IsKnown, StaysKnown, EditsOver, NodeBecomes, StandsAgain, IsOvercharged}
 use Rattle.tree_transaction.specs.Grown.{grown, reaching, blocks_to, CanWrite}
 use Rattle.tree_transaction.specs.Laying.{CanBeLaid, fields_with, sectors_for, Follow}
 use Rattle.tree_transaction.specs.Nodes.{fields_showing, showing}
@@ -110,7 +110,7 @@ module _ (old mid : Transaction) (place end : ℕ) (card : CachedNode) (filled :
     pub known_now : StaysKnown old new
     known_now = write_stays old place end w.was known w.there can card.blocks mid.places w.gets w.count new mid.updates w.others again
 
-    pub cards_now : Turns old new place (reaching end)
+    pub cards_now : NodeBecomes old new place (reaching end)
     cards_now = turns old new place w.was w.there (reaching end) (write_now old place end w.was known w.there can card.blocks mid.places w.gets w.count new mid.updates w.others again)
 
     pub tree_now : (base : Image) (size offset : ℕ) (bytes : List ℕ) → end ≡ offset + length bytes → WritesBytes (applied old.updates base) (applied mid.updates base) (grown w.was end).blocks card.blocks offset bytes
@@ -141,7 +141,7 @@ module _ (old mid : Transaction) (place end : ℕ) (card : CachedNode) (filled :
     writes_showing word base size offset bytes end_is writes = record {
       mid = between;
       known_mid = known_between;
-      cards_mid = subst (λ (e : ℕ). Turns old between place (reaching e)) end_is (cards_now between stands_between);
+      cards_mid = subst (λ (e : ℕ). NodeBecomes old between place (reaching e)) end_is (cards_now between stands_between);
       written = λ k. tree_now between stands_between base size offset bytes end_is (writes k);
       known = shown_stays mid new place card shown plain apart within_mid stands known_between.known within_now;
       cards = shown_turns mid new place card shown plain apart within_mid stands known_between.known within_now;

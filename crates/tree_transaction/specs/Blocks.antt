@@ -10,11 +10,11 @@ use Rattle.layout.specs.Files.{over, below}
 use Rattle.layout.specs.Marks.{times_set, mark_by}
 
 -- one sector gets this content
-abbrev pub IsPut : (old new : Image) (sector : ℕ) → List ℕ → Type 0
-IsPut old new sector content = new ≡ put old (record { target = sector; content = content })
+abbrev pub IsSectorPut : (old new : Image) (sector : ℕ) → List ℕ → Type 0
+IsSectorPut old new sector content = new ≡ put old (record { target = sector; content = content })
 
 -- a sector that was free is taken
-pub record Takes (first : ℕ) (was is : List Bool) (sector : ℕ) : Type 0 where
+pub record TakesSector (first : ℕ) (was is : List Bool) (sector : ℕ) : Type 0 where
   pub behind : first ≤ sector
   pub free : slice_get was (sector - first) ≡ Some false
   pub taken : is ≡ slice_set was (sector - first) true
@@ -79,8 +79,8 @@ pub record WritesOne (old new : Image) (was is : List (Option ℕ)) (block : ℕ
   pub count : length is ≡ max (length was) (block + 1)
 
 -- the sectors of these blocks are the volume's
-abbrev pub AreWithin : (size : ℕ) → List (Option ℕ) → Type 0
-AreWithin size blocks = (block sector : ℕ)
+abbrev pub BlocksWithin : (size : ℕ) → List (Option ℕ) → Type 0
+BlocksWithin size blocks = (block sector : ℕ)
     → slice_index_or blocks block None ≡ Some sector → sector < size
 
 -- In the block of byte `size` zeros stand from there on; no other block has changed

@@ -29,24 +29,24 @@ grown card end = record {
 
 -- a file of at most 16,777,216 bytes stands at a place, and an end is as low
 pub record CanWrite (cards : List (Option CachedNode)) (place end : ℕ) : Type 0 where
-  pub card : CachedNode
-  pub there : slice_index_or cards place None ≡ Some card
-  pub file : card.fields.kind ≡ kind.File
-  pub few : card.fields.size ≤ 16777216
+  pub cached : CachedNode
+  pub there : slice_index_or cards place None ≡ Some cached
+  pub file : cached.fields.kind ≡ kind.File
+  pub few : cached.fields.size ≤ 16777216
   pub low : end ≤ 16777216
 
 -- a file stands at a place that is no longer than this
 pub record CanGrow (cards : List (Option CachedNode)) (place size : ℕ) : Type 0 where
-  pub card : CachedNode
-  pub there : slice_index_or cards place None ≡ Some card
-  pub file : card.fields.kind ≡ kind.File
-  pub longer : card.fields.size ≤ size
+  pub cached : CachedNode
+  pub there : slice_index_or cards place None ≡ Some cached
+  pub file : cached.fields.kind ≡ kind.File
+  pub longer : cached.fields.size ≤ size
   pub few : size ≤ 16777216
 
 -- a file stands at a place that is no shorter than this
 pub record CanCut (cards : List (Option CachedNode)) (place size : ℕ) : Type 0 where
-  pub card : CachedNode
-  pub there : slice_index_or cards place None ≡ Some card
-  pub file : card.fields.kind ≡ kind.File
-  pub shorter : size ≤ card.fields.size
-  pub few : card.fields.size ≤ 16777216
+  pub cached : CachedNode
+  pub there : slice_index_or cards place None ≡ Some cached
+  pub file : cached.fields.kind ≡ kind.File
+  pub shorter : size ≤ cached.fields.size
+  pub few : cached.fields.size ≤ 16777216

@@ -8,7 +8,7 @@ use Rattle.inode.specs.Fields.{Fields, IsInode}
 use Rattle.inode.specs.Spelling.{inode_sector}
 use Rattle.extents.specs.declared.run.Run.{Run}
 use Rattle.extents.specs.Sector.{run_sector, IsRun}
-use Rattle.extents.specs.Runs.{AreRunsOf, AreApart}
+use Rattle.extents.specs.Runs.{AreRunsOf, RunsApart}
 use Rattle.model.specs.Trees.Charge.{divided_up}
 use Rattle.layout.specs.CachedNodes.{CachedNode}
 use Rattle.layout.specs.Marks.{times}
@@ -77,7 +77,7 @@ sectors_for runs = divided_up runs 500
 
 -- the shortest list of its runs wants no more run sectors than it has
 abbrev pub HasEnough : CachedNode → Type 0
-HasEnough card = (runs : List Run) → AreRunsOf runs card.blocks → AreApart runs
+HasEnough card = (runs : List Run) → AreRunsOf runs card.blocks → RunsApart runs
     → sectors_for (length runs) ≤ length card.fields.run_sectors
 
 -- a cached node gets runs and is laid at a place, whatever is under the updates

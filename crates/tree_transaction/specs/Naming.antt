@@ -11,28 +11,29 @@ use Rattle.model.specs.Trees.Keyed.{at}
 use Rattle.model.specs.Trees.Tree.{entry_of}
 use Rattle.layout.specs.CachedNodes.{CachedNode}
 use Rattle.tree_transaction.specs.declared.transaction.Transaction.{Transaction}
-use Rattle.tree_transaction.specs.Transactions.{cards_of, Makes}
+use Rattle.tree_transaction.specs.Transactions.{cards_of, MakesEdit}
 
 -- a directory of fewer than MAX_NAMES names stands at a place, which has neither the name nor
 -- the stamp
 pub record CanName (cards : List (Option CachedNode)) (place : ℕ) (name : List ℕ)
     (stamp : ℕ) : Type 0 where
-  pub card : CachedNode
-  pub there : slice_index_or cards place None ≡ Some card
-  pub directory : card.fields.kind ≡ kind.Directory
-  pub few : length card.names < MAX_NAMES
+  pub cached : CachedNode
+  pub there : slice_index_or cards place None ≡ Some cached
+  pub directory : cached.fields.kind ≡ kind.Directory
+  pub few : length cached.names < MAX_NAMES
   pub some : 0 < length name
   pub short : length name ≤ 255
-  pub new_name : (place_of name card.names ≡ length card.names) × (entry_of name card.names ≡ None)
+  pub new_name : (place_of name cached.names ≡ length cached.names)
+      × (entry_of name cached.names ≡ None)
   pub above : 0 < stamp
-  pub new_stamp : at stamp card.names ≡ None
+  pub new_stamp : at stamp cached.names ≡ None
 
 -- a directory stands at a place, and has the name
-pub record HasName (cards : List (Option CachedNode)) (place : ℕ) (name : List ℕ) : Type 0 where
-  pub card : CachedNode
-  pub there : slice_index_or cards place None ≡ Some card
-  pub directory : card.fields.kind ≡ kind.Directory
-  pub within : place_of name card.names < length card.names
+pub record HasNameAt (cards : List (Option CachedNode)) (place : ℕ) (name : List ℕ) : Type 0 where
+  pub cached : CachedNode
+  pub there : slice_index_or cards place None ≡ Some cached
+  pub directory : cached.fields.kind ≡ kind.Directory
+  pub within : place_of name cached.names < length cached.names
 
 -- the directory with these names, with one more, and with one less
 
@@ -54,7 +55,7 @@ abbrev pub DropsNamed : (old new : Transaction) → (place : ℕ) → (name : Li
 DropsNamed old new place name = (card : CachedNode) (entry : Record)
     → slice_index_or (cards_of old) place None ≡ Some card
     → entry_of name card.names ≡ Some entry
-    → Makes old new (DropName card.fields.number entry.0)
+    → MakesEdit old new (DropName card.fields.number entry.0)
 
 -- how many blocks one more name wants
 abbrev pub blocks_named : CachedNode → ℕ

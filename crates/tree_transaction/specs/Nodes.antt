@@ -58,10 +58,10 @@ showing shown card = record card { fields = fields_showing card.fields shown }
 -- a node stands at a place, and one that can show this
 
 pub record HasNode (cards : List (Option CachedNode)) (place : ℕ) : Type 0 where
-  pub card : CachedNode
-  pub there : slice_index_or cards place None ≡ Some card
+  pub cached : CachedNode
+  pub there : slice_index_or cards place None ≡ Some cached
 
 pub record CanShow (cards : List (Option CachedNode)) (place : ℕ) (shown : Shown) : Type 0 where
-  pub card : CachedNode
-  pub there : slice_index_or cards place None ≡ Some card
-  pub fits : IsInode card.form (fields_showing card.fields shown)
+  pub cached : CachedNode
+  pub there : slice_index_or cards place None ≡ Some cached
+  pub fits : IsInode cached.form (fields_showing cached.fields shown)

@@ -29,8 +29,8 @@ end_of transaction = 148 + transaction.nodes + length transaction.places
 abbrev pub image_of : Image → Transaction → Image
 image_of base transaction = applied transaction.updates base
 
-abbrev pub tree_of : Image → Transaction → Tree
-tree_of base transaction = layout.tree_of (image_of base transaction) (cards_of transaction)
+abbrev pub changed_tree : Image → Transaction → Tree
+changed_tree base transaction = layout.tree_of (image_of base transaction) (cards_of transaction)
 
 -- What is known of a transaction whatever its sectors hold: its cached nodes by its places, and
 -- that its updates are of the node table and the data region
@@ -58,10 +58,10 @@ pub record IsTransaction (base : Image) (size : ℕ) (transaction : Transaction)
 
 abbrev pub MakesOver : (base : Image) (size : ℕ) → (old new : Transaction) → Edit → Type 0
 MakesOver base size old new edit = IsTransaction base size old
-    → IsTransaction base size new × (tree_of base new ≡ done edit (tree_of base old))
+    → IsTransaction base size new × (changed_tree base new ≡ done edit (changed_tree base old))
 
-abbrev pub Makes : (old new : Transaction) → Edit → Type 0
-Makes old new edit = (base : Image) (size : ℕ) → MakesOver base size old new edit
+abbrev pub MakesEdit : (old new : Transaction) → Edit → Type 0
+MakesEdit old new edit = (base : Image) (size : ℕ) → MakesOver base size old new edit
 
 -- an edit of the node at a place, by its number
 
@@ -75,7 +75,7 @@ EditsOver base size old new place edit = (card : CachedNode)
 abbrev pub Edits : (old new : Transaction) → (place : ℕ) → (ℕ → Edit) → Type 0
 Edits old new place edit = (card : CachedNode)
     → slice_index_or (cards_of old) place None ≡ Some card
-    → Makes old new (edit card.fields.number)
+    → MakesEdit old new (edit card.fields.number)
 
 -- The cached node at a place alone is another one: this one, but for where its content stands
 pub record HasNow (old new : Transaction) (place : ℕ) (card : CachedNode) : Type 0 where
@@ -85,8 +85,8 @@ pub record HasNow (old new : Transaction) (place : ℕ) (card : CachedNode) : Ty
   pub fields : is.fields ≡ fields_with card.fields is.fields.runs is.fields.run_sectors
   pub names : is.names ≡ card.names
 
-abbrev pub Turns : (old new : Transaction) → (place : ℕ) → (CachedNode → CachedNode) → Type 0
-Turns old new place change = (card : CachedNode)
+abbrev pub NodeBecomes : (old new : Transaction) → (place : ℕ) → (CachedNode → CachedNode) → Type 0
+NodeBecomes old new place change = (card : CachedNode)
     → slice_index_or (cards_of old) place None ≡ Some card
     → HasNow old new place (change card)
 

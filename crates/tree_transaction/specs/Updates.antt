@@ -10,8 +10,8 @@ target_of [] i = 0
 target_of (update ∷ updates) zero = update.target
 target_of (update ∷ updates) (suc i) = target_of updates i
 
-abbrev pub HasNot : (target : ℕ) → List Update → Type 0
-HasNot target updates = (i : ℕ) → i < length updates → target_of updates i ≢ target
+abbrev pub HasNoUpdate : (target : ℕ) → List Update → Type 0
+HasNoUpdate target updates = (i : ℕ) → i < length updates → target_of updates i ≢ target
 
 -- the update at this place is the first one of the sector
 pub record IsFirst (updates : List Update) (target place : ℕ) : Type 0 where
@@ -19,9 +19,9 @@ pub record IsFirst (updates : List Update) (target place : ℕ) : Type 0 where
   pub there : target_of updates place ≡ target
   pub before : (i : ℕ) → i < place → target_of updates i ≢ target
 
-abbrev pub AreApart : List Update → Type 0
-AreApart [] = Unit {0}
-AreApart (update ∷ updates) = HasNot update.target updates × AreApart updates
+abbrev pub UpdatesApart : List Update → Type 0
+UpdatesApart [] = Unit {0}
+UpdatesApart (update ∷ updates) = HasNoUpdate update.target updates × UpdatesApart updates
 
 -- with this update in place of the one of its sector, or after the others
 abbrev pub updated : List Update → Update → List Update
@@ -36,9 +36,9 @@ AreBetween first end updates = (i : ℕ) → i < length updates
 
 -- the updates of a whole transaction: of sectors after the journal's, below the volume's size, and
 -- all different
-pub record AreTargets (size : ℕ) (updates : List Update) : Type 0 where
+pub record AreTreeUpdates (size : ℕ) (updates : List Update) : Type 0 where
   pub between : AreBetween 98 size updates
-  pub apart : AreApart updates
+  pub apart : UpdatesApart updates
 
 -- whatever is under the updates, one sector alone has changed
 abbrev pub ChangeOne : (old new : List Update) → (sector : ℕ) → Type 0

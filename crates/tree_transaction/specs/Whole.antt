@@ -1,10 +1,10 @@
 -- A transaction whose marks are written: what it leaves of a volume.
 use Rattle.std.specs.Prelude.{◌≡◌, ◌≢◌, ◌≤◌, ◌<◌, ◌+◌, ◌*◌, ◌⊎◌, ℕ, Bool, List, length}
 use Rattle.disk.specs.Moments.{Image}
-use Rattle.freemap.specs.Places.{Shows, HaveSamePart, mark_of, bit_in}
+use Rattle.freemap.specs.Places.{ShowsPlaces, HaveSamePart, mark_of, bit_in}
 use Rattle.layout.specs.Stands.{Version, HaveForms, IsLaid}
 use Rattle.tree_transaction.specs.declared.transaction.Transaction.{Transaction}
-use Rattle.tree_transaction.specs.Transactions.{cards_of, image_of, tree_of, IsTransaction}
+use Rattle.tree_transaction.specs.Transactions.{cards_of, image_of, changed_tree, IsTransaction}
 
 -- the bitmap sectors show these places and nothing past them, however long these sectors are
 pub record IsMarked (base : Image) (places : List Bool) : Type 0 where
@@ -14,7 +14,7 @@ pub record IsMarked (base : Image) (places : List Bool) : Type 0 where
 -- bitmap sector 0 or 1 shows the places from its first on, or is as it was, where there they are as
 -- before; and no other sector has changed
 pub record ShowsPart (old new : Image) (before places : List Bool) (part : ℕ) : Type 0 where
-  pub shows : Shows (new (98 + part)) places (32768 * part)
+  pub shows : ShowsPlaces (new (98 + part)) places (32768 * part)
       ⊎ (new (98 + part) ≡ old (98 + part)) × HaveSamePart places before (32768 * part)
   pub others : (n : ℕ) → n ≢ 98 + part → new n ≡ old n
 
@@ -32,7 +32,7 @@ pub record IsWhole (version : Version) (base : Image) (size : ℕ) (transaction 
 pub record LeavesLaid (version : Version) (base : Image) (size : ℕ) (old new : Transaction)
     : Type 0 where
   pub laid : IsLaid version size old.nodes (image_of base new) (cards_of old)
-  pub tree_is : tree_of base new ≡ tree_of base old
+  pub tree_is : changed_tree base new ≡ changed_tree base old
 
 abbrev pub Finishes : (before : List Bool) → (old new : Transaction) → Type 0
 Finishes before old new = (version : Version) (base : Image) (size : ℕ)

@@ -9,7 +9,7 @@ use Rattle.tree_transaction.specs.declared.transaction.Transaction.{Transaction}
 use Rattle.tree_transaction.specs.Blocks.{GetSectors, ChangeBlocks, FillHoles, WritesBytes}
 use Rattle.tree_transaction.specs.Grown.{grown, reaching}
 use Rattle.tree_transaction.specs.Nodes.{showing}
-use Rattle.tree_transaction.specs.Transactions.{cards_of, StaysKnown, Edits, EditsOver, Turns}
+use Rattle.tree_transaction.specs.Transactions.{cards_of, StaysKnown, Edits, EditsOver, NodeBecomes}
 
 -- A file's cached node was taken out, and reaches to an end; some of its holes have sectors
 pub record IsWritten (old new : Transaction) (place end : ℕ) (card : CachedNode) (filled : Bool)
@@ -45,10 +45,10 @@ pub record WritesShowing (word : Type 0) (base : Image) (size : ℕ) (old new : 
   pub mid : Transaction
   -- the bytes are written
   pub known_mid : StaysKnown old mid
-  pub cards_mid : Turns old mid place (reaching (offset + length bytes))
+  pub cards_mid : NodeBecomes old mid place (reaching (offset + length bytes))
   pub written : word
       → EditsOver base size old mid place (λ number. PutBytes number offset bytes)
   -- the file shows this
   pub known : StaysKnown mid new
-  pub cards : Turns mid new place (showing shown)
+  pub cards : NodeBecomes mid new place (showing shown)
   pub shows : Edits mid new place (λ number. Show number shown)

@@ -5,11 +5,11 @@ ghost use Rattle.disk.specs.Calls.{zero_sector};
 ghost use Rattle.sector.specs.Placed.{placed};
 ghost use Rattle.disk.specs.Moments.{Image, applied};
 ghost use Rattle.freemap.specs.Kept.{free_places};
-ghost use Rattle.tree_transaction.specs.Blocks.{IsPut, Takes, HaveRegion, GetSectors, GetsSector, FindsNone, WritesOne, AreWithin, ClearsTail, WritesBytes, ChangeBlocks, FillHoles, set_blocks};
+ghost use Rattle.tree_transaction.specs.Blocks.{IsSectorPut, TakesSector, HaveRegion, GetSectors, GetsSector, FindsNone, WritesOne, BlocksWithin, ClearsTail, WritesBytes, ChangeBlocks, FillHoles, set_blocks};
 ghost use Rattle.tree_transaction.specs.Naming.{Rewrites};
 ghost use Rattle.tree_transaction.specs.Updates.{ChangeOne};
 ghost use Rattle.directory.specs.Spelling.{directory_sector};
-ghost use Rattle.layout.specs.Health.{Reads};
+ghost use Rattle.layout.specs.Health.{FailsOrStays};
 ghost use Rattle.layout.specs.Laid.{names_of_block};
 ghost use Rattle.layout.specs.Marks.{times_set};
 
@@ -18,7 +18,7 @@ use crate::updates::Updates;
 use directory::{Names, RECORDS};
 use disk::SECTOR;
 use extents::BlockList;
-use freemap::Places;
+use freemap::SharedBitmap;
 use layout::sectors::Sectors;
 use sector::{put_bytes, put_zeros};
 use std::alloc::AllocError;
@@ -41,7 +41,7 @@ fn write_over<S: Sectors>(
 ) -> Result<(), TransactionFault>
     requires within { sector < S.size (S.kept base.old) }
     requires room { from + length bytes.now ≤ SECTOR }
-    ensures image { S.keeps_word → OnOk result (IsPut
+    ensures image { S.keeps_word → OnOk result (IsSectorPut
         (applied updates.old (S.image (S.kept base.old)))
         (applied updates.new (S.image (S.kept base.old))) sector
         (placed (applied updates.old (S.image (S.kept base.old)) sector) from bytes.now)) }
@@ -53,7 +53,7 @@ fn write_over<S: Sectors>(
     ensures full { ¬ IsErrOf result TransactionFault.Full }
     // It only reads the base
     ensures kept { S.kept base.new ≡ S.kept base.old }
-    ensures health { Reads (S.health base.old) (S.health base.new)
+    ensures health { FailsOrStays (S.health base.old) (S.health base.new)
         (IsErrOf result TransactionFault.Device) }
 {
     let mut content = updates.read(base, sector)?;
@@ -71,7 +71,7 @@ fn write_new(
 ) -> Result<(), AllocError>
     requires room { from + length bytes.now ≤ SECTOR }
     ensures image { OnOk result ((image : Image)
-        → IsPut (applied updates.old image) (applied updates.new image) sector
+        → IsSectorPut (applied updates.old image) (applied updates.new image) sector
         (placed zero_sector from bytes.now)) }
     ensures count { length updates.new ≤ length updates.old + 1 }
 {
@@ -88,7 +88,7 @@ fn write_new(
 
 /// Takes a sector for a hole.
 fn take_sector(
-    places: &mut Places,
+    places: &mut SharedBitmap,
     first: u32,
     blocks: &mut BlockList,
     block: u32,
@@ -96,7 +96,7 @@ fn take_sector(
     requires room { first + length places.old < 2 ^ 32 }
     requires within { block < length blocks.old }
     requires few { length blocks.old ≤ BlockList.MAX_BLOCKS }
-    ensures taken { IfOk result (λ sector. Takes first places.old places.new sector) }
+    ensures taken { IfOk result (λ sector. TakesSector first places.old places.new sector) }
     ensures blocks { IfOk result (λ sector. blocks.new ≡ set blocks.old block (Some sector)) }
     // Refused
     ensures full { IsErrOf result SpaceFault.Full → free_places places.old ≡ 0 }
@@ -110,7 +110,7 @@ fn take_sector(
 /// one.
 fn write_block<S: Sectors>(
     updates: &mut Updates,
-    places: &mut Places,
+    places: &mut SharedBitmap,
     base: &mut S,
     first: u32,
     blocks: &mut BlockList,
@@ -134,7 +134,7 @@ fn write_block<S: Sectors>(
         → FindsNone places.old blocks.old part.entry.block }
     // It only reads the base
     ensures kept { S.kept base.new ≡ S.kept base.old }
-    ensures health { Reads (S.health base.old) (S.health base.new)
+    ensures health { FailsOrStays (S.health base.old) (S.health base.new)
         (IsErrOf result TransactionFault.Device) }
 {
     match blocks.at(part.block) {
@@ -159,7 +159,7 @@ fn write_block<S: Sectors>(
 /// any.
 pub(crate) fn write_blocks<S: Sectors>(
     updates: &mut Updates,
-    places: &mut Places,
+    places: &mut SharedBitmap,
     base: &mut S,
     first: u32,
     blocks: &mut BlockList,
@@ -184,7 +184,7 @@ pub(crate) fn write_blocks<S: Sectors>(
         → free_places places.old + set_blocks blocks.old < length blocks.old }
     // It only reads the base
     ensures kept { S.kept base.new ≡ S.kept base.old }
-    ensures health { Reads (S.health base.old) (S.health base.new)
+    ensures health { FailsOrStays (S.health base.old) (S.health base.new)
         (IsErrOf result TransactionFault.Device) }
 {
     let mut filled = false;
@@ -206,7 +206,7 @@ pub(crate) fn write_blocks<S: Sectors>(
 
 /// The sector of a block, which takes one where it is a hole.
 fn sector_for(
-    places: &mut Places,
+    places: &mut SharedBitmap,
     first: u32,
     blocks: &mut BlockList,
     block: u32,
@@ -229,7 +229,7 @@ fn sector_for(
 /// a hole.
 pub(crate) fn write_names(
     updates: &mut Updates,
-    places: &mut Places,
+    places: &mut SharedBitmap,
     first: u32,
     blocks: &mut BlockList,
     names: &Names,
@@ -285,7 +285,7 @@ pub(crate) fn clear_tail<S: Sectors>(
     blocks: &BlockList,
     size: u64,
 ) -> Result<(), TransactionFault>
-    requires sectors { AreWithin (S.size (S.kept base.old)) blocks.now
+    requires sectors { BlocksWithin (S.size (S.kept base.old)) blocks.now
         × ((n : ℕ) → times_set n blocks.now ≤ 1) }
     requires small { size ≤ SECTOR * BlockList.MAX_BLOCKS }
     ensures tail { S.keeps_word → OnOk result (ClearsTail
@@ -297,7 +297,7 @@ pub(crate) fn clear_tail<S: Sectors>(
     ensures full { ¬ IsErrOf result TransactionFault.Full }
     // It only reads the base
     ensures kept { S.kept base.new ≡ S.kept base.old }
-    ensures health { Reads (S.health base.old) (S.health base.new)
+    ensures health { FailsOrStays (S.health base.old) (S.health base.new)
         (IsErrOf result TransactionFault.Device) }
 {
     let from = (size % 4096) as usize;
@@ -319,7 +319,7 @@ fn clear_from<S: Sectors>(
 ) -> Result<(), TransactionFault>
     requires within { sector < S.size (S.kept base.old) }
     requires room { from ≤ SECTOR }
-    ensures image { S.keeps_word → OnOk result (IsPut
+    ensures image { S.keeps_word → OnOk result (IsSectorPut
         (applied updates.old (S.image (S.kept base.old)))
         (applied updates.new (S.image (S.kept base.old))) sector
         (placed (applied updates.old (S.image (S.kept base.old)) sector) from
@@ -332,7 +332,7 @@ fn clear_from<S: Sectors>(
     ensures full { ¬ IsErrOf result TransactionFault.Full }
     // It only reads the base
     ensures kept { S.kept base.new ≡ S.kept base.old }
-    ensures health { Reads (S.health base.old) (S.health base.new)
+    ensures health { FailsOrStays (S.health base.old) (S.health base.new)
         (IsErrOf result TransactionFault.Device) }
 {
     let mut content = updates.read(base, sector)?;

@@ -12,7 +12,7 @@ use crate::fault::SpaceFault;
 use crate::numbers::{give_numbers, take_numbers};
 use crate::updates::Updates;
 use extents::{MAX_SECTOR_RUNS, Run, Runs};
-use freemap::Places;
+use freemap::SharedBitmap;
 use layout::places::NODES;
 use node_table::CachedNode;
 use std::alloc::{AllocError, Global};
@@ -41,21 +41,21 @@ fn lay_runs(updates: &mut Updates, numbers: &[u32], runs: &[Run]) -> Result<(), 
 fn store_node_sectors(
     updates: &mut Updates,
     sector: u32,
-    card: &CachedNode,
+    cached: &CachedNode,
 ) -> Result<(), AllocError>
     // A cached node that has a spelling, in sectors that are apart
-    requires fits { IsInode card.now.form card.now.fields }
-    requires count { length card.now.runs ≡ card.now.fields.runs }
-    requires once { AreOnce card.now.fields.run_sectors }
-    requires apart { times sector card.now.fields.run_sectors ≡ 0 }
+    requires fits { IsInode cached.now.form cached.now.fields }
+    requires count { length cached.now.runs ≡ cached.now.fields.runs }
+    requires once { AreOnce cached.now.fields.run_sectors }
+    requires apart { times sector cached.now.fields.run_sectors ≡ 0 }
     // Written
     ensures lays { OnOk result ((image : Image)
-        → LaysNode (applied updates.old image) (applied updates.new image) sector card.now) }
+        → LaysNode (applied updates.old image) (applied updates.new image) sector cached.now) }
     ensures count { length updates.new
-        ≤ length updates.old + 1 + length card.now.fields.run_sectors }
+        ≤ length updates.old + 1 + length cached.now.fields.run_sectors }
 {
-    lay_runs(updates, &card.inode.run_sectors, card.runs.as_slice())?;
-    updates.put_inode(sector, &card.inode, card.form)?;
+    lay_runs(updates, &cached.inode.run_sectors, cached.runs.as_slice())?;
+    updates.put_inode(sector, &cached.inode, cached.form)?;
     Ok(())
 }
 
@@ -63,26 +63,26 @@ fn store_node_sectors(
 /// writes its node.
 fn store_given_runs(
     updates: &mut Updates,
-    places: &mut Places,
+    places: &mut SharedBitmap,
     nodes: u32,
     place: u32,
-    card: &mut CachedNode,
+    cached: &mut CachedNode,
     runs: Vec<Run>,
 ) -> Result<(), AllocError>
-    requires can { CanBeLaid nodes place places.old card.old }
-    requires runs { AreRunsFor runs.items card.old }
-    requires enough { sectors_for (length runs.items) ≤ length card.old.fields.run_sectors }
+    requires can { CanBeLaid nodes place places.old cached.old }
+    requires runs { AreRunsFor runs.items cached.old }
+    requires enough { sectors_for (length runs.items) ≤ length cached.old.fields.run_sectors }
     ensures laid { OnOk result
-        (LaysCard nodes place places.old places.new updates.old updates.new card.old card.new) }
+        (LaysCard nodes place places.old places.new updates.old updates.new cached.old cached.new) }
     ensures count { length updates.new
         ≤ length updates.old + 1 + sectors_for (length runs.items) }
 {
     let wanted = (runs.len() + 499) / MAX_SECTOR_RUNS;
-    give_numbers(places, NODES + nodes, &mut card.inode.run_sectors, wanted)?;
-    card.inode.runs = runs.len() as u16;
+    give_numbers(places, NODES + nodes, &mut cached.inode.run_sectors, wanted)?;
+    cached.inode.runs = runs.len() as u16;
     let runs = Runs::from_vec(runs)?;
-    card.runs = runs;
-    store_node_sectors(updates, NODES + place, card)?;
+    cached.runs = runs;
+    store_node_sectors(updates, NODES + place, cached)?;
     Ok(())
 }
 
@@ -90,24 +90,24 @@ fn store_given_runs(
 pub(crate) fn rerun(
     alloc: Global,
     updates: &mut Updates,
-    places: &mut Places,
+    places: &mut SharedBitmap,
     nodes: u32,
     place: u32,
-    card: &mut CachedNode,
+    cached: &mut CachedNode,
 ) -> Result<(), SpaceFault>
-    requires { CanBeLaid nodes place places.old card.old }
+    requires { CanBeLaid nodes place places.old cached.old }
     ensures laid { OnOk result
-        (LaysCard nodes place places.old places.new updates.old updates.new card.old card.new) }
+        (LaysCard nodes place places.old places.new updates.old updates.new cached.old cached.new) }
     ensures count { length updates.new
-        ≤ length updates.old + 1 + sectors_for (set_blocks card.old.blocks) }
+        ≤ length updates.old + 1 + sectors_for (set_blocks cached.old.blocks) }
     ensures full { IsErrOf result SpaceFault.Full
-        → free_places places.old + length card.old.fields.run_sectors
-        < sectors_for (set_blocks card.old.blocks) }
+        → free_places places.old + length cached.old.fields.run_sectors
+        < sectors_for (set_blocks cached.old.blocks) }
 {
-    let runs = card.blocks.to_runs(alloc)?;
+    let runs = cached.blocks.to_runs(alloc)?;
     let wanted = (runs.len() + 499) / MAX_SECTOR_RUNS;
-    take_numbers(places, NODES + nodes, &mut card.inode.run_sectors, wanted)?;
-    store_given_runs(updates, places, nodes, place, card, runs)?;
+    take_numbers(places, NODES + nodes, &mut cached.inode.run_sectors, wanted)?;
+    store_given_runs(updates, places, nodes, place, cached, runs)?;
     Ok(())
 }
 
@@ -115,19 +115,19 @@ pub(crate) fn rerun(
 pub(crate) fn rerun_fewer(
     alloc: Global,
     updates: &mut Updates,
-    places: &mut Places,
+    places: &mut SharedBitmap,
     nodes: u32,
     place: u32,
-    card: &mut CachedNode,
+    cached: &mut CachedNode,
 ) -> Result<(), AllocError>
-    requires can { CanBeLaid nodes place places.old card.old }
-    requires enough { HasEnough card.old }
+    requires can { CanBeLaid nodes place places.old cached.old }
+    requires enough { HasEnough cached.old }
     ensures laid { OnOk result
-        (LaysCard nodes place places.old places.new updates.old updates.new card.old card.new) }
+        (LaysCard nodes place places.old places.new updates.old updates.new cached.old cached.new) }
     ensures count { length updates.new
-        ≤ length updates.old + 1 + sectors_for (set_blocks card.old.blocks) }
+        ≤ length updates.old + 1 + sectors_for (set_blocks cached.old.blocks) }
 {
-    let runs = card.blocks.to_runs(alloc)?;
-    store_given_runs(updates, places, nodes, place, card, runs)?;
+    let runs = cached.blocks.to_runs(alloc)?;
+    store_given_runs(updates, places, nodes, place, cached, runs)?;
     Ok(())
 }

@@ -4,7 +4,7 @@ ghost use Rattle.std.specs.Prelude.{◌≤◌, ◌<◌, ◌+◌, ◌^◌, length
 ghost use Rattle.disk.specs.Moments.{Image, applied};
 ghost use Rattle.inode.specs.Fields.{IsInode};
 ghost use Rattle.inode.specs.Spelling.{inode_sector};
-ghost use Rattle.tree_transaction.specs.Blocks.{IsPut};
+ghost use Rattle.tree_transaction.specs.Blocks.{IsSectorPut};
 ghost use Rattle.tree_transaction.specs.Ranges.{IsInRange};
 
 use crate::updates::Updates;
@@ -31,13 +31,14 @@ pub struct Shown {
 pub(crate) fn put_node(
     updates: &mut Updates,
     place: u32,
-    card: &CachedNode,
+    cached: &CachedNode,
 ) -> Result<(), AllocError>
-    requires fits { IsInode card.now.form card.now.fields }
+    requires fits { IsInode cached.now.form cached.now.fields }
     requires small { NODES + place < 2 ^ 32 }
-    ensures image { OnOk result ((image : Image) → IsPut (applied updates.old image)
-        (applied updates.new image) (NODES + place) (inode_sector card.now.form card.now.fields)) }
+    ensures image { OnOk result ((image : Image) → IsSectorPut (applied updates.old image)
+        (applied updates.new image) (NODES + place)
+        (inode_sector cached.now.form cached.now.fields)) }
     ensures count { length updates.new ≤ length updates.old + 1 }
 {
-    updates.put_inode(NODES + place, &card.inode, card.form)
+    updates.put_inode(NODES + place, &cached.inode, cached.form)
 }

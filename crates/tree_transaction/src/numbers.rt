@@ -8,12 +8,12 @@ ghost use Rattle.layout.specs.Marks.{times_set, mark_by};
 
 use crate::fault::SpaceFault;
 use extents::BlockList;
-use freemap::Places;
+use freemap::SharedBitmap;
 use std::alloc::AllocError;
 
 /// Takes sectors until there are so many.
 pub(crate) fn take_numbers(
-    places: &mut Places,
+    places: &mut SharedBitmap,
     first: u32,
     numbers: &mut Vec<u32>,
     wanted: usize,
@@ -39,7 +39,7 @@ pub(crate) fn take_numbers(
 
 /// Gives sectors back until there are no more than so many.
 pub(crate) fn give_numbers(
-    places: &mut Places,
+    places: &mut SharedBitmap,
     first: u32,
     numbers: &mut Vec<u32>,
     wanted: usize,
@@ -63,7 +63,7 @@ pub(crate) fn give_numbers(
 
 /// Gives the sectors of the blocks from one on back.
 pub(crate) fn give_blocks(
-    places: &mut Places,
+    places: &mut SharedBitmap,
     first: u32,
     blocks: &BlockList,
     from: u32,

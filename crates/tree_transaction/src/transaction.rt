@@ -1,8 +1,8 @@
 //! One transaction in the making.
 
 ghost use Rattle.std.specs.Prelude.{◌≡◌, ◌≤◌, ◌<◌, ◌+◌, ◌*◌, ◌/◌, ◌%◌, ◌^◌, false, set, [], Some, None, length, slice_index_or, IfOk, OnOk, IsErrOf};
-ghost use Rattle.node_table.specs.Overlays.{changed};
-ghost use Rattle.node_table.specs.Tables.{HasNot, IsFree};
+ghost use Rattle.node_table.specs.Overlays.{overlaid};
+ghost use Rattle.node_table.specs.Tables.{HasNoNode, IsFree};
 ghost use Rattle.directory.specs.Records.{record_from};
 ghost use Rattle.disk.specs.Moments.{Image, applied};
 ghost use Rattle.freemap.specs.Kept.{free_places};
@@ -10,16 +10,16 @@ ghost use Rattle.inode.specs.Fields.{IsInode};
 ghost use Rattle.inode.specs.Spelling.{inode_sector};
 ghost use Rattle.model.specs.Trees.Edit.{PutNode, DropNode, Show, PutName, PutBytes, SetSize};
 ghost use Rattle.layout.specs.CachedNodes as layout;
-ghost use Rattle.layout.specs.Health.{Reads};
-ghost use Rattle.tree_transaction.specs.Blocks.{IsPut, set_blocks};
-ghost use Rattle.tree_transaction.specs.Transactions.{cards_of, end_of, IsKnown, StaysKnown, Makes, Edits, EditsOver, Turns, IsBack, StandsAgain, IsOvercharged};
+ghost use Rattle.layout.specs.Health.{FailsOrStays};
+ghost use Rattle.tree_transaction.specs.Blocks.{IsSectorPut, set_blocks};
+ghost use Rattle.tree_transaction.specs.Transactions.{cards_of, end_of, IsKnown, StaysKnown, MakesEdit, Edits, EditsOver, NodeBecomes, IsBack, StandsAgain, IsOvercharged};
 ghost use Rattle.tree_transaction.specs.Grown.{grown, reaching, sized, blocks_to, CanWrite};
 ghost use Rattle.tree_transaction.specs.Grown.{CanGrow, CanCut};
 ghost use Rattle.tree_transaction.specs.Laying.{CanBeLaid, HasEnough, sectors_for};
-ghost use Rattle.tree_transaction.specs.Naming.{CanName, HasName, DropsNamed, with_name, without_name, blocks_named};
+ghost use Rattle.tree_transaction.specs.Naming.{CanName, HasNameAt, DropsNamed, with_name, without_name, blocks_named};
 ghost use Rattle.tree_transaction.specs.Nodes.{IsNewCard, new_node, shown_of, showing, HasNode};
 ghost use Rattle.tree_transaction.specs.Nodes.{CanShow};
-ghost use Rattle.tree_transaction.specs.Updates.{AreTargets};
+ghost use Rattle.tree_transaction.specs.Updates.{AreTreeUpdates};
 ghost use Rattle.tree_transaction.specs.Whole.{Finishes};
 ghost use Rattle.tree_transaction.specs.Written.{HasBytes, HasItsRuns, IsWritten, WritesShowing};
 
@@ -33,7 +33,7 @@ use crate::updates::Updates;
 use directory::RECORDS;
 use disk::{SECTOR, Update};
 use extents::BlockList;
-use freemap::Places;
+use freemap::SharedBitmap;
 use layout::places::NODES;
 use layout::sectors::Sectors;
 use node_table::{CachedNode, Changes, Overlay, Table};
@@ -45,7 +45,7 @@ pub struct Transaction<'a> {
     pub alloc: Global,
     pub nodes: u32,
     pub updates: Updates,
-    pub places: Places,
+    pub places: SharedBitmap,
     pub cards: Overlay<'a>,
 }
 
@@ -54,14 +54,14 @@ pub struct Transaction<'a> {
 #[derive(Drop)]
 pub struct PreparedTransaction {
     pub updates: Vec<Update>,
-    pub places: Places,
+    pub places: SharedBitmap,
     pub changes: Changes,
 }
 
 /// A cached node that was taken out, and whose blocks are written.
 #[derive(Drop)]
 struct WrittenCard {
-    card: CachedNode,
+    cached: CachedNode,
     /// Whether holes got sectors.
     filled: bool,
 }
@@ -69,44 +69,45 @@ struct WrittenCard {
 /// Takes the cached node of a place out of the table.
 fn take_card(cards: &mut Overlay<'_>, place: u32) -> Result<CachedNode, AllocError>
     requires { HasNode cards.old.cards place }
-    ensures card { IfOk result (λ card. slice_index_or cards.old.cards place None ≡ Some card) }
+    ensures cached { IfOk result
+        (λ cached. slice_index_or cards.old.cards place None ≡ Some cached) }
     ensures cards { OnOk result (cards.new.cards ≡ set cards.old.cards place None) }
     ensures table { cards.new.table ≡ cards.old.table }
 {
-    let card = cards.take(place)?;
-    Ok(card.unwrap())
+    let cached = cards.take(place)?;
+    Ok(cached.unwrap())
 }
 
 /// Puts a cached node into a place of the table.
-fn put_card(cards: &mut Overlay<'_>, place: u32, card: CachedNode) -> Result<(), AllocError>
+fn put_card(cards: &mut Overlay<'_>, place: u32, cached: CachedNode) -> Result<(), AllocError>
     requires { place < length cards.old.cards }
-    ensures cards { OnOk result (cards.new.cards ≡ set cards.old.cards place (Some card)) }
+    ensures cards { OnOk result (cards.new.cards ≡ set cards.old.cards place (Some cached)) }
     ensures table { cards.new.table ≡ cards.old.table }
 {
-    cards.put(place, Some(card))
+    cards.put(place, Some(cached))
 }
 
 /// Lets a cached node show something else beside its content.
-fn show_in(card: &mut CachedNode, shown: &Shown) -> Result<(), AllocError>
-    ensures { OnOk result (card.new ≡ showing (shown_of shown.now) card.old) }
+fn show_in(cached: &mut CachedNode, shown: &Shown) -> Result<(), AllocError>
+    ensures { OnOk result (cached.new ≡ showing (shown_of shown.now) cached.old) }
 {
-    card.inode.acl = shown.acl.try_clone()?;
-    card.inode.owner = shown.owner;
-    card.inode.group = shown.group;
-    card.inode.change = shown.change;
-    card.inode.time_modify = shown.time_modify;
+    cached.inode.acl = shown.acl.try_clone()?;
+    cached.inode.owner = shown.owner;
+    cached.inode.group = shown.group;
+    cached.inode.change = shown.change;
+    cached.inode.time_modify = shown.time_modify;
     Ok(())
 }
 
 /// Lets a file reach to an end at least, by holes.
-fn grow_to(card: &mut CachedNode, end: u64) -> Result<(), AllocError>
+fn grow_to(cached: &mut CachedNode, end: u64) -> Result<(), AllocError>
     requires end { end ≤ SECTOR * BlockList.MAX_BLOCKS }
-    requires few { card.old.fields.size ≤ SECTOR * BlockList.MAX_BLOCKS }
-    ensures { OnOk result (card.new ≡ grown card.old end) }
+    requires few { cached.old.fields.size ≤ SECTOR * BlockList.MAX_BLOCKS }
+    ensures { OnOk result (cached.new ≡ grown cached.old end) }
 {
-    let size = card.inode.size.max(end);
-    card.blocks.grow(((size + 4095) / 4096) as u32)?;
-    card.inode.size = size;
+    let size = cached.inode.size.max(end);
+    cached.blocks.grow(((size + 4095) / 4096) as u32)?;
+    cached.inode.size = size;
     Ok(())
 }
 
@@ -116,7 +117,7 @@ impl<'a> Transaction<'a> {
     pub fn new(
         alloc: Global,
         table: &'a Table,
-        places: &Places,
+        places: &SharedBitmap,
     ) -> Result<Transaction<'a>, AllocError>
         // Nothing is written yet
         ensures updates { IfOk result (λ transaction. transaction.updates ≡ []) }
@@ -139,7 +140,7 @@ impl<'a> Transaction<'a> {
     pub fn into_prepared(self) -> PreparedTransaction
         ensures updates { result.updates.items ≡ self.entry.updates }
         ensures places { result.places ≡ self.entry.places }
-        ensures changes { changed self.entry.cards.table result.changes ≡ cards_of self.entry }
+        ensures changes { overlaid self.entry.cards.table result.changes ≡ cards_of self.entry }
     {
         PreparedTransaction {
             updates: self.updates.into_vec(),
@@ -153,22 +154,22 @@ impl<'a> Transaction<'a> {
     /// # Errors
     ///
     /// Memory alone.
-    pub fn make(&mut self, place: u32, card: CachedNode) -> Result<(), AllocError>
+    pub fn make(&mut self, place: u32, cached: CachedNode) -> Result<(), AllocError>
         requires known { IsKnown self.old }
         requires free { IsFree (cards_of self.old) place }
-        requires node { IsNewCard card }
-        requires fresh { HasNot (cards_of self.old) card.fields.number }
+        requires node { IsNewCard cached }
+        requires fresh { HasNoNode (cards_of self.old) cached.fields.number }
         ensures known { OnOk result (StaysKnown self.old self.new) }
         ensures cards { OnOk result
-            (cards_of self.new ≡ set (cards_of self.old) place (Some card)) }
-        ensures made { OnOk result (Makes self.old self.new
-            (PutNode card.fields.number (new_node card))) }
+            (cards_of self.new ≡ set (cards_of self.old) place (Some cached)) }
+        ensures made { OnOk result (MakesEdit self.old self.new
+            (PutNode cached.fields.number (new_node cached))) }
         // In any case
         ensures count { length self.new.updates ≤ length self.old.updates + 1 }
         ensures table { self.new.cards.table ≡ self.old.cards.table }
     {
-        put_node(&mut self.updates, place, &card)?;
-        put_card(&mut self.cards, place, card)?;
+        put_node(&mut self.updates, place, &cached)?;
+        put_card(&mut self.cards, place, cached)?;
         Ok(())
     }
 
@@ -182,17 +183,17 @@ impl<'a> Transaction<'a> {
         requires node { CanShow (cards_of self.old) place (shown_of shown.now) }
         ensures known { OnOk result (StaysKnown self.old self.new) }
         ensures cards { OnOk result
-            (Turns self.old self.new place (showing (shown_of shown.now))) }
+            (NodeBecomes self.old self.new place (showing (shown_of shown.now))) }
         ensures shown { OnOk result (Edits self.old self.new place
             (λ number. Show number (shown_of shown.now))) }
         // In any case
         ensures count { length self.new.updates ≤ length self.old.updates + 1 }
         ensures table { self.new.cards.table ≡ self.old.cards.table }
     {
-        let mut card = take_card(&mut self.cards, place)?;
-        show_in(&mut card, shown)?;
-        put_node(&mut self.updates, place, &card)?;
-        put_card(&mut self.cards, place, card)?;
+        let mut cached = take_card(&mut self.cards, place)?;
+        show_in(&mut cached, shown)?;
+        put_node(&mut self.updates, place, &cached)?;
+        put_card(&mut self.cards, place, cached)?;
         Ok(())
     }
 
@@ -211,10 +212,10 @@ impl<'a> Transaction<'a> {
         ensures count { length self.new.updates ≤ length self.old.updates + 1 }
         ensures table { self.new.cards.table ≡ self.old.cards.table }
     {
-        let mut card = take_card(&mut self.cards, place)?;
+        let mut cached = take_card(&mut self.cards, place)?;
         let first = NODES + self.nodes;
-        give_blocks(&mut self.places, first, &card.blocks, 0)?;
-        give_numbers(&mut self.places, first, &mut card.inode.run_sectors, 0)?;
+        give_blocks(&mut self.places, first, &cached.blocks, 0)?;
+        give_numbers(&mut self.places, first, &mut cached.inode.run_sectors, 0)?;
         self.updates.put(NODES + place, &[0; SECTOR])?;
         Ok(())
     }
@@ -234,7 +235,7 @@ impl<'a> Transaction<'a> {
         requires known { IsKnown self.old }
         requires names { CanName (cards_of self.old) place name.now stamp }
         ensures known { OnOk result (StaysKnown self.old self.new) }
-        ensures cards { OnOk result (Turns self.old self.new place
+        ensures cards { OnOk result (NodeBecomes self.old self.new place
             (with_name (record_from stamp name.now number))) }
         ensures put { OnOk result (Edits self.old self.new place
             (λ to. PutName to stamp (record { name = name.now; number = number }))) }
@@ -244,21 +245,21 @@ impl<'a> Transaction<'a> {
         // In any case
         ensures table { self.new.cards.table ≡ self.old.cards.table }
     {
-        let mut card = take_card(&mut self.cards, place)?;
+        let mut cached = take_card(&mut self.cards, place)?;
         // There is room for the name, so memory alone can be missing.
-        let Ok(at) = card.names.put(name, stamp, number) else {
+        let Ok(at) = cached.names.put(name, stamp, number) else {
             return Err(SpaceFault::Memory);
         };
-        card.inode.size = card.names.count() as u64;
+        cached.inode.size = cached.names.count() as u64;
         let filled = write_names(
             &mut self.updates,
             &mut self.places,
             NODES + self.nodes,
-            &mut card.blocks,
-            &card.names,
+            &mut cached.blocks,
+            &cached.names,
             (at / RECORDS) as u32,
         )?;
-        self.store_written(place, WrittenCard { card, filled })?;
+        self.store_written(place, WrittenCard { cached, filled })?;
         Ok(())
     }
 
@@ -269,27 +270,27 @@ impl<'a> Transaction<'a> {
     /// Memory alone.
     pub fn drop_name(&mut self, place: u32, name: &[u8]) -> Result<(), AllocError>
         requires known { IsKnown self.old }
-        requires names { HasName (cards_of self.old) place name.now }
+        requires names { HasNameAt (cards_of self.old) place name.now }
         ensures known { OnOk result (StaysKnown self.old self.new) }
-        ensures cards { OnOk result (Turns self.old self.new place (without_name name.now)) }
+        ensures cards { OnOk result (NodeBecomes self.old self.new place (without_name name.now)) }
         ensures dropped { OnOk result (DropsNamed self.old self.new place name.now) }
         // In any case
         ensures count { length self.new.updates ≤ length self.old.updates + 4 }
         ensures table { self.new.cards.table ≡ self.old.cards.table }
     {
-        let mut card = take_card(&mut self.cards, place)?;
-        let (at, _entry) = card.names.remove(name)?.unwrap();
-        let left = card.names.count();
-        card.inode.size = left as u64;
+        let mut cached = take_card(&mut self.cards, place)?;
+        let (at, _entry) = cached.names.remove(name)?.unwrap();
+        let left = cached.names.count();
+        cached.inode.size = left as u64;
         let count = ((left + RECORDS - 1) / RECORDS) as u32;
-        give_blocks(&mut self.places, NODES + self.nodes, &card.blocks, count)?;
-        let before = card.blocks.count();
-        card.blocks.cut(count);
+        give_blocks(&mut self.places, NODES + self.nodes, &cached.blocks, count)?;
+        let before = cached.blocks.count();
+        cached.blocks.cut(count);
         let block = (at / RECORDS) as u32;
         let last = (left / RECORDS) as u32;
-        rewrite_names(&mut self.updates, &card.blocks, &card.names, block)?;
-        rewrite_names(&mut self.updates, &card.blocks, &card.names, last)?;
-        self.store_cut(place, card, before)?;
+        rewrite_names(&mut self.updates, &cached.blocks, &cached.names, block)?;
+        rewrite_names(&mut self.updates, &cached.blocks, &cached.names, last)?;
+        self.store_cut(place, cached, before)?;
         Ok(())
     }
 
@@ -302,17 +303,18 @@ impl<'a> Transaction<'a> {
         requires known { IsKnown self.old }
         requires file { CanGrow (cards_of self.old) place size }
         ensures known { OnOk result (StaysKnown self.old self.new) }
-        ensures cards { OnOk result (Turns self.old self.new place (λ card. sized card size)) }
+        ensures cards { OnOk result
+            (NodeBecomes self.old self.new place (λ cached. sized cached size)) }
         ensures grown { OnOk result (Edits self.old self.new place
             (λ number. SetSize number size)) }
         // In any case
         ensures count { length self.new.updates ≤ length self.old.updates + 1 }
         ensures table { self.new.cards.table ≡ self.old.cards.table }
     {
-        let mut card = take_card(&mut self.cards, place)?;
-        grow_to(&mut card, size)?;
-        put_node(&mut self.updates, place, &card)?;
-        put_card(&mut self.cards, place, card)?;
+        let mut cached = take_card(&mut self.cards, place)?;
+        grow_to(&mut cached, size)?;
+        put_node(&mut self.updates, place, &cached)?;
+        put_card(&mut self.cards, place, cached)?;
         Ok(())
     }
 
@@ -330,7 +332,8 @@ impl<'a> Transaction<'a> {
         requires known { IsKnown self.old × (end_of self.old ≤ S.size (S.kept base.old)) }
         requires file { CanCut (cards_of self.old) place size }
         ensures known { OnOk result (StaysKnown self.old self.new) }
-        ensures cards { OnOk result (Turns self.old self.new place (λ card. sized card size)) }
+        ensures cards { OnOk result
+            (NodeBecomes self.old self.new place (λ cached. sized cached size)) }
         ensures tree { S.keeps_word → OnOk result (EditsOver (S.image (S.kept base.old))
             (S.size (S.kept base.old)) self.old self.new place (λ number. SetSize number size)) }
         // What it takes
@@ -339,16 +342,16 @@ impl<'a> Transaction<'a> {
         // It only reads the base
         ensures kept { (S.kept base.new ≡ S.kept base.old)
             × (self.new.cards.table ≡ self.old.cards.table) }
-        ensures health { Reads (S.health base.old) (S.health base.new)
+        ensures health { FailsOrStays (S.health base.old) (S.health base.new)
             (IsErrOf result TransactionFault.Device) }
     {
-        let mut card = take_card(&mut self.cards, place)?;
-        clear_tail(&mut self.updates, base, &card.blocks, size)?;
+        let mut cached = take_card(&mut self.cards, place)?;
+        clear_tail(&mut self.updates, base, &cached.blocks, size)?;
         let count = ((size + 4095) / 4096) as u32;
-        give_blocks(&mut self.places, NODES + self.nodes, &card.blocks, count)?;
-        card.blocks.cut(count);
-        card.inode.size = size;
-        self.store_node_and_fewer_runs(place, card)?;
+        give_blocks(&mut self.places, NODES + self.nodes, &cached.blocks, count)?;
+        cached.blocks.cut(count);
+        cached.inode.size = size;
+        self.store_node_and_fewer_runs(place, cached)?;
         Ok(())
     }
 
@@ -369,7 +372,7 @@ impl<'a> Transaction<'a> {
         requires known { IsKnown self.old × (end_of self.old ≤ S.size (S.kept base.old)) }
         requires file { CanWrite (cards_of self.old) place (offset + length bytes.now) }
         ensures known { OnOk result (StaysKnown self.old self.new) }
-        ensures cards { OnOk result (Turns self.old self.new place
+        ensures cards { OnOk result (NodeBecomes self.old self.new place
             (reaching (offset + length bytes.now))) }
         ensures tree { S.keeps_word → OnOk result (EditsOver (S.image (S.kept base.old))
             (S.size (S.kept base.old)) self.old self.new place
@@ -382,7 +385,7 @@ impl<'a> Transaction<'a> {
         // It only reads the base
         ensures kept { (S.kept base.new ≡ S.kept base.old)
             × (self.new.cards.table ≡ self.old.cards.table) }
-        ensures health { Reads (S.health base.old) (S.health base.new)
+        ensures health { FailsOrStays (S.health base.old) (S.health base.new)
             (IsErrOf result TransactionFault.Device) }
     {
         let written = self.write_blocks_of(base, place, offset, bytes)?;
@@ -418,11 +421,11 @@ impl<'a> Transaction<'a> {
         // It only reads the base
         ensures kept { (S.kept base.new ≡ S.kept base.old)
             × (self.new.cards.table ≡ self.old.cards.table) }
-        ensures health { Reads (S.health base.old) (S.health base.new)
+        ensures health { FailsOrStays (S.health base.old) (S.health base.new)
             (IsErrOf result TransactionFault.Device) }
     {
         let mut written = self.write_blocks_of(base, place, offset, bytes)?;
-        show_in(&mut written.card, shown)?;
+        show_in(&mut written.cached, shown)?;
         self.store_written(place, written)?;
         Ok(())
     }
@@ -439,10 +442,10 @@ impl<'a> Transaction<'a> {
         requires known { IsKnown self.old × (end_of self.old ≤ S.size (S.kept base.old)) }
         requires file { CanWrite (cards_of self.old) place (offset + length bytes.now) }
         ensures written { IfOk result (λ written. IsWritten self.old self.new place
-            (offset + length bytes.now) written.card written.filled) }
+            (offset + length bytes.now) written.cached written.filled) }
         ensures bytes { S.keeps_word → IfOk result (λ written.
             HasBytes (S.image (S.kept base.old)) self.old self.new place offset bytes.now
-            written.card) }
+            written.cached) }
         // What it takes
         ensures count { OnOk result (length self.new.updates
             ≤ length self.old.updates + (offset % SECTOR + length bytes.now + 4095) / SECTOR) }
@@ -451,21 +454,21 @@ impl<'a> Transaction<'a> {
         // It only reads the base
         ensures kept { (S.kept base.new ≡ S.kept base.old)
             × (self.new.cards.table ≡ self.old.cards.table) }
-        ensures health { Reads (S.health base.old) (S.health base.new)
+        ensures health { FailsOrStays (S.health base.old) (S.health base.new)
             (IsErrOf result TransactionFault.Device) }
     {
-        let mut card = take_card(&mut self.cards, place)?;
-        grow_to(&mut card, (offset + bytes.len()) as u64)?;
+        let mut cached = take_card(&mut self.cards, place)?;
+        grow_to(&mut cached, (offset + bytes.len()) as u64)?;
         let filled = write_blocks(
             &mut self.updates,
             &mut self.places,
             base,
             NODES + self.nodes,
-            &mut card.blocks,
+            &mut cached.blocks,
             offset,
             bytes,
         )?;
-        Ok(WrittenCard { card, filled })
+        Ok(WrittenCard { cached, filled })
     }
 
     /// Writes the marks of the places where they are not as before: the last step. What is to be
@@ -474,10 +477,10 @@ impl<'a> Transaction<'a> {
     /// # Errors
     ///
     /// Memory alone.
-    pub fn finish(&mut self, before: &Places) -> Result<(), AllocError>
+    pub fn finish(&mut self, before: &SharedBitmap) -> Result<(), AllocError>
         requires { IsKnown self.old }
         ensures laid { OnOk result (Finishes before.now self.old self.new) }
-        ensures targets { OnOk result (AreTargets (end_of self.old) self.new.updates) }
+        ensures targets { OnOk result (AreTreeUpdates (end_of self.old) self.new.updates) }
         // What stays
         ensures cards { self.new.cards ≡ self.old.cards }
         ensures places { self.new.places ≡ self.old.places }
@@ -493,85 +496,86 @@ impl<'a> Transaction<'a> {
     /// Puts a cached node whose blocks were written back. Its runs are laid anew only where holes
     /// got sectors.
     fn store_written(&mut self, place: u32, written: WrittenCard) -> Result<(), SpaceFault>
-        requires can { CanBeLaid self.old.nodes place self.old.places written.card }
+        requires can { CanBeLaid self.old.nodes place self.old.places written.cached }
         requires within { place < length (cards_of self.old) }
-        requires same { written.filled ≡ false → HasItsRuns place written.card }
-        ensures stands { OnOk result (StandsAgain self.old self.new place written.card
+        requires same { written.filled ≡ false → HasItsRuns place written.cached }
+        ensures stands { OnOk result (StandsAgain self.old self.new place written.cached
             self.old.places self.old.updates) }
         // In any case
         ensures table { self.new.cards.table ≡ self.old.cards.table }
         // What it takes
         ensures count { length self.new.updates
-            ≤ length self.old.updates + 1 + sectors_for (set_blocks written.card.blocks) }
+            ≤ length self.old.updates + 1 + sectors_for (set_blocks written.cached.blocks) }
         ensures full { IsErrOf result SpaceFault.Full
-            → free_places self.old.places + length written.card.fields.run_sectors
-            < sectors_for (set_blocks written.card.blocks) }
+            → free_places self.old.places + length written.cached.fields.run_sectors
+            < sectors_for (set_blocks written.cached.blocks) }
     {
         if written.filled {
-            self.store_node_and_runs(place, written.card)?;
+            self.store_node_and_runs(place, written.cached)?;
         } else {
             // The runs of its blocks are as they were.
-            self.store_node(place, written.card)?;
+            self.store_node(place, written.cached)?;
         }
         Ok(())
     }
 
     /// Puts a cached node back that had so many blocks before. Its runs are laid anew only where it
     /// has fewer.
-    fn store_cut(&mut self, place: u32, card: CachedNode, before: u32) -> Result<(), AllocError>
-        requires can { CanBeLaid self.old.nodes place self.old.places card }
+    fn store_cut(&mut self, place: u32, cached: CachedNode, before: u32) -> Result<(), AllocError>
+        requires can { CanBeLaid self.old.nodes place self.old.places cached }
         requires within { place < length (cards_of self.old) }
-        requires enough { HasEnough card }
-        requires same { before ≤ length card.blocks → HasItsRuns place card }
+        requires enough { HasEnough cached }
+        requires same { before ≤ length cached.blocks → HasItsRuns place cached }
         ensures stands { OnOk result
-            (StandsAgain self.old self.new place card self.old.places self.old.updates) }
+            (StandsAgain self.old self.new place cached self.old.places self.old.updates) }
         // In any case
         ensures table { self.new.cards.table ≡ self.old.cards.table }
         ensures count { length self.new.updates
-            ≤ length self.old.updates + 1 + sectors_for (set_blocks card.blocks) }
+            ≤ length self.old.updates + 1 + sectors_for (set_blocks cached.blocks) }
     {
-        if card.blocks.count() < before {
-            self.store_node_and_fewer_runs(place, card)?;
+        if cached.blocks.count() < before {
+            self.store_node_and_fewer_runs(place, cached)?;
         } else {
-            self.store_node(place, card)?;
+            self.store_node(place, cached)?;
         }
         Ok(())
     }
 
     /// Puts a cached node that was taken out back, and writes its node alone.
-    fn store_node(&mut self, place: u32, card: CachedNode) -> Result<(), AllocError>
-        requires fits { IsInode card.form card.fields }
+    fn store_node(&mut self, place: u32, cached: CachedNode) -> Result<(), AllocError>
+        requires fits { IsInode cached.form cached.fields }
         requires within { place < length (cards_of self.old) }
         requires small { NODES + place < 2 ^ 32 }
-        ensures node { OnOk result ((image : Image) → IsPut (applied self.old.updates image)
-            (applied self.new.updates image) (NODES + place) (inode_sector card.form card.fields)) }
+        ensures node { OnOk result ((image : Image) → IsSectorPut (applied self.old.updates image)
+            (applied self.new.updates image) (NODES + place)
+            (inode_sector cached.form cached.fields)) }
         ensures cards { OnOk result
-            (cards_of self.new ≡ set (cards_of self.old) place (Some card)) }
+            (cards_of self.new ≡ set (cards_of self.old) place (Some cached)) }
         // In any case
         ensures nodes { self.new.nodes ≡ self.old.nodes }
         ensures places { self.new.places ≡ self.old.places }
         ensures table { self.new.cards.table ≡ self.old.cards.table }
         ensures count { length self.new.updates ≤ length self.old.updates + 1 }
     {
-        put_node(&mut self.updates, place, &card)?;
-        put_card(&mut self.cards, place, card)?;
+        put_node(&mut self.updates, place, &cached)?;
+        put_card(&mut self.cards, place, cached)?;
         Ok(())
     }
 
     /// Lays a cached node that was taken out, and puts it back.
-    fn store_node_and_runs(&mut self, place: u32, mut card: CachedNode) -> Result<(), SpaceFault>
-        requires can { CanBeLaid self.old.nodes place self.old.places card }
+    fn store_node_and_runs(&mut self, place: u32, mut cached: CachedNode) -> Result<(), SpaceFault>
+        requires can { CanBeLaid self.old.nodes place self.old.places cached }
         requires within { place < length (cards_of self.old) }
         ensures back { OnOk result (IsBack self.old.nodes place self.old.places self.old.updates
-            (cards_of self.old) self.new card) }
+            (cards_of self.old) self.new cached) }
         // In any case
         ensures table { self.new.cards.table ≡ self.old.cards.table }
         // What it takes
         ensures count { length self.new.updates
-            ≤ length self.old.updates + 1 + sectors_for (set_blocks card.blocks) }
+            ≤ length self.old.updates + 1 + sectors_for (set_blocks cached.blocks) }
         ensures full { IsErrOf result SpaceFault.Full
-            → free_places self.old.places + length card.fields.run_sectors
-            < sectors_for (set_blocks card.blocks) }
+            → free_places self.old.places + length cached.fields.run_sectors
+            < sectors_for (set_blocks cached.blocks) }
     {
         rerun(
             self.alloc,
@@ -579,9 +583,9 @@ impl<'a> Transaction<'a> {
             &mut self.places,
             self.nodes,
             place,
-            &mut card,
+            &mut cached,
         )?;
-        put_card(&mut self.cards, place, card)?;
+        put_card(&mut self.cards, place, cached)?;
         Ok(())
     }
 
@@ -589,17 +593,17 @@ impl<'a> Transaction<'a> {
     fn store_node_and_fewer_runs(
         &mut self,
         place: u32,
-        mut card: CachedNode,
+        mut cached: CachedNode,
     ) -> Result<(), AllocError>
-        requires can { CanBeLaid self.old.nodes place self.old.places card }
+        requires can { CanBeLaid self.old.nodes place self.old.places cached }
         requires within { place < length (cards_of self.old) }
-        requires enough { HasEnough card }
+        requires enough { HasEnough cached }
         ensures back { OnOk result (IsBack self.old.nodes place self.old.places self.old.updates
-            (cards_of self.old) self.new card) }
+            (cards_of self.old) self.new cached) }
         // In any case
         ensures table { self.new.cards.table ≡ self.old.cards.table }
         ensures count { length self.new.updates
-            ≤ length self.old.updates + 1 + sectors_for (set_blocks card.blocks) }
+            ≤ length self.old.updates + 1 + sectors_for (set_blocks cached.blocks) }
     {
         rerun_fewer(
             self.alloc,
@@ -607,9 +611,9 @@ impl<'a> Transaction<'a> {
             &mut self.places,
             self.nodes,
             place,
-            &mut card,
+            &mut cached,
         )?;
-        put_card(&mut self.cards, place, card)?;
+        put_card(&mut self.cards, place, cached)?;
         Ok(())
     }
 }

@@ -6,8 +6,8 @@ ghost use Rattle.disk.specs.declared.update.Update.{Update};
 ghost use Rattle.extents.specs.Sector.{run_sector};
 ghost use Rattle.inode.specs.Fields.{IsInode, fields_of};
 ghost use Rattle.inode.specs.Spelling.{inode_sector};
-ghost use Rattle.layout.specs.Health.{Reads};
-ghost use Rattle.tree_transaction.specs.Updates.{AreApart, updated, IsFirst, HasNot, target_of};
+ghost use Rattle.layout.specs.Health.{FailsOrStays};
+ghost use Rattle.tree_transaction.specs.Updates.{UpdatesApart, updated, IsFirst, HasNoUpdate, target_of};
 
 use disk::{SECTOR, Update};
 use extents::{MAX_SECTOR_RUNS, Run, write_run_sector};
@@ -28,13 +28,13 @@ pub struct Updates {
 impl Model for Updates {
     ghost use Rattle.std.specs.Prelude.{List};
     ghost use Rattle.disk.specs.declared.update.Update.{Update};
-    ghost use Rattle.tree_transaction.specs.Updates.{AreApart};
+    ghost use Rattle.tree_transaction.specs.Updates.{UpdatesApart};
 
     ghost Value = { List Update };
 
     ghost view = { λ updates. updates.list.items };
 
-    ghost invariant = { λ updates. AreApart updates.list.items };
+    ghost invariant = { λ updates. UpdatesApart updates.list.items };
 }
 
 impl Updates {
@@ -49,7 +49,7 @@ impl Updates {
 
     /// Tells that no two of them are of one sector.
     pub(crate) fn tell_apart(&self)
-        ensures { AreApart self.now }
+        ensures { UpdatesApart self.now }
     {
         let _ = &self.list;
     }
@@ -61,7 +61,8 @@ impl Updates {
             → IfOk result (λ content. content ≡ applied self.now (S.image (S.kept base.old)) n) }
         // It only reads
         ensures kept { S.kept base.new ≡ S.kept base.old }
-        ensures health { Reads (S.health base.old) (S.health base.new) (IsTrue (is_err result)) }
+        ensures health { FailsOrStays (S.health base.old) (S.health base.new)
+            (IsTrue (is_err result)) }
     {
         match place_of(&self.list, n) {
             Some(place) => Ok(self.list[place].content),
@@ -76,7 +77,7 @@ impl Updates {
         ensures image { OnOk result ((image : Image) → applied self.new image
             ≡ put (applied self.old image) (record { target = target; content = content.now })) }
         // In any case
-        ensures apart { AreApart self.new }
+        ensures apart { UpdatesApart self.new }
         ensures count { length self.new ≤ length self.old + 1 }
         // Refused
         ensures err { OnErr result (self.new ≡ self.old) }
@@ -191,7 +192,7 @@ fn fill_runs(list: &mut Vec<Update>, place: usize, runs: &[Run])
 /// Where the update of a sector stands.
 fn place_of(updates: &[Update], target: u32) -> Option<usize>
     ensures some { IfSome result (λ place. IsFirst updates.now target place) }
-    ensures none { IfNone result (HasNot target updates.now) }
+    ensures none { IfNone result (HasNoUpdate target updates.now) }
 {
     for (i, update) in updates.iter().enumerate() {
         if update.target == target {

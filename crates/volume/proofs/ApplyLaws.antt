@@ -8,7 +8,7 @@ use Rattle.disk.specs.declared.update.Update.{Update}
 use Rattle.disk.specs.Moments.{Image, applied}
 use Rattle.tree_edits.proofs.BlankLaws.{each_outline}
 use Rattle.journal.specs.Calls.{IsSafe, HasApplied, list_with}
-use Rattle.journal.specs.Log.{Log, IsSettled, Moved, contents, applied_all, Answers}
+use Rattle.journal.specs.Log.{Log, IsSettled, Moved, contents, applied_all, AnswersByDevice}
 use Rattle.journal.specs.Settled.{AreSame}
 use Rattle.journal.specs.declared.fault.JournalFault.{JournalFault}
 use Rattle.journal.specs.declared.fault.JournalFault.TheVariants as faults
@@ -20,11 +20,11 @@ use Rattle.layout.proofs.KeptLaws.{now_told, same_kept, stands_now}
 use Rattle.model.specs.declared.limits.Limits.{Limits}
 use Rattle.model.specs.Sessions.Seats.{Seats}
 use Rattle.model.specs.Trees.Tree.{Tree}
-use Rattle.volume.specs.Changes.{Given, Done, Broken, Changes, ending_of}
+use Rattle.volume.specs.Changes.{Given, Done, Broken, VolumeChanges, ending_of}
 use Rattle.volume.specs.VolumeState.{VolumeState, IsRecent, AddsTrees, fronts_from, with_tree}
-use Rattle.volume.specs.Known.{IsServing, kept_in}
+use Rattle.volume.specs.Known.{IsServing, kept_in_image}
 use Rattle.volume.specs.Refusals.{fault_of}
-use Rattle.volume.specs.Stands.{Stands}
+use Rattle.volume.specs.Stands.{VolumeStands}
 use Rattle.volume.specs.Views.{volume_state_by}
 use Rattle.volume.proofs.FrontLaws.{among_more, applied_recent, front_among}
 use Rattle.volume.proofs.ServeLaws.{flush_adds, seats_stay, still_serving, tree_stays}
@@ -67,15 +67,15 @@ module _ (limits : Limits) (run : ℕ) (cards : List (Option CachedNode)) (old n
   was_beside tree = ap (λ (seats : Seats). let of : Kept = record { tree = tree; seats = seats } in of) (sym moved_seats)
 
   covered : (recent : List Tree) → IsRecent (volume_state_by limits run cards old) recent → (count : ℕ) → count ≤ length new.list
-      → (tree : Tree) × IsAmong recent tree × ∥ Stands new.size limits.nodes (applied_all (take count new.list) new.base) run (beside tree) ∥₁
+      → (tree : Tree) × IsAmong recent tree × ∥ VolumeStands new.size limits.nodes (applied_all (take count new.list) new.base) run (beside tree) ∥₁
   covered recent is count few =
       let before = front_moved old.list old new moved count few in
       let one = is.covers (applied_all (take before.0 old.list) old.base) (front_among old.base old.list before.0 before.1) in (
         one.0,
         one.1,
-        ∥∥₁_map one.2 (λ stands. subst (λ (s : ℕ). Stands s limits.nodes (applied_all (take count new.list) new.base) run (beside one.0)) (sym size)
+        ∥∥₁_map one.2 (λ stands. subst (λ (s : ℕ). VolumeStands s limits.nodes (applied_all (take count new.list) new.base) run (beside one.0)) (sym size)
             (stands_same old.size limits.nodes (applied_all (take before.0 old.list) old.base) (applied_all (take count new.list) new.base) run (beside one.0) before.2
-            (subst (Stands old.size limits.nodes (applied_all (take before.0 old.list) old.base) run) (was_beside one.0) stands))),
+            (subst (VolumeStands old.size limits.nodes (applied_all (take before.0 old.list) old.base) run) (was_beside one.0) stands))),
       )
 
   pub moved_recent : (recent : List Tree) → IsRecent (volume_state_by limits run cards old) recent → IsRecent (volume_state_by limits run cards new) recent
@@ -91,7 +91,7 @@ module _ (limits : Limits) (run : ℕ) (cards : List (Option CachedNode)) (old n
         let one = covered recent is there.0 there.1 in (
           one.0,
           one.1,
-          subst (λ (i : Image). ∥ Stands new.size limits.nodes i run (beside one.0) ∥₁) (sym there.2) one.2,
+          subst (λ (i : Image). ∥ VolumeStands new.size limits.nodes i run (beside one.0) ∥₁) (sym there.2) one.2,
         );
     newest = subst (IsAmong recent) (sym moved_tree) is.newest;
   }
@@ -108,7 +108,7 @@ pub record StandsWith (nodes run : ℕ) (old : Log) (updates : List Update) (is 
 
 -- so a volume stands after it
 pub stands_after : (nodes run : ℕ) (old : Log) (updates : List Update) (is : List (Option CachedNode)) (after : Kept) → StandsWith nodes run old updates is after
-    → ∥ Stands old.size nodes (applied updates (contents old)) run after ∥₁
+    → ∥ VolumeStands old.size nodes (applied updates (contents old)) run after ∥₁
 stands_after nodes run old updates is after behind = ∥∥₁_map behind.stands (stands_now old.size nodes (applied updates (contents old)) run after)
 
 -- the same seats beside another tree
@@ -134,7 +134,7 @@ module _ (nodes run : ℕ) (cards is : List (Option CachedNode)) (old : Log) (up
   pub then_serves : ∥ IsServing then_log nodes run is ∥₁
   then_serves = ∥∥₁_map serving (λ served. record {
     read = behind.read ∙ ap (cards_in nodes) (sym then_contents);
-    stands = subst (λ (kept : Kept). ∥ StandsNow old.size nodes (contents then_log) run kept ∥₁) (sym (same_kept (kept_in (contents then_log) is) after then_tree then_seats))
+    stands = subst (λ (kept : Kept). ∥ StandsNow old.size nodes (contents then_log) run kept ∥₁) (sym (same_kept (kept_in_image (contents then_log) is) after then_tree then_seats))
         (subst (λ (image : Image). ∥ StandsNow old.size nodes image run after ∥₁) (sym then_contents) behind.stands);
     settled = served.settled;
   })
@@ -201,7 +201,7 @@ module _ (keeps_word : Type 0) (limits : Limits) (run : ℕ) (cards is : List (O
     applied_seats k = moved_seats limits run is between new safe.size (goes k) (safe.settled k up) (middle k)
         ∙ pushed_seats limits run cards is old updates after (behind k) (serves k)
 
-    pub apply_done : failed_after ≡ failed_before → Changes keeps_word given was now failed_before failed_after Done
+    pub apply_done : failed_after ≡ failed_before → VolumeChanges keeps_word given was now failed_before failed_after Done
     apply_done told = record {
       same = record { sectors = safe.size; limits = refl; run = refl };
       later = later;
@@ -226,7 +226,7 @@ module _ (keeps_word : Type 0) (limits : Limits) (run : ℕ) (cards is : List (O
       };
     }
 
-  pub apply_broken : new.is_down ≡ true → IsCounted failed_before failed_after → Changes keeps_word given was (volume_state_by limits run cards new) failed_before failed_after Broken
+  pub apply_broken : new.is_down ≡ true → IsCounted failed_before failed_after → VolumeChanges keeps_word given was (volume_state_by limits run cards new) failed_before failed_after Broken
   apply_broken down counted = record {
     same = record { sectors = safe.size; limits = refl; run = refl };
     later = later;
@@ -241,9 +241,9 @@ module _ (keeps_word : Type 0) (limits : Limits) (run : ℕ) (cards is : List (O
 
 -- The journal refuses it
 pub apply_refused : (keeps_word : Type 0) (limits : Limits) (run : ℕ) (cards : List (Option CachedNode)) (old new : Log) (after : Tree) (failed_before failed_after : ℕ) (fault : JournalFault)
-    → IsSafe keeps_word old new → old.is_down ≡ false → (fault ≡ faults.TooMany → ⊥) → Answers {T = Unit {0}} old new failed_before failed_after (Err fault)
+    → IsSafe keeps_word old new → old.is_down ≡ false → (fault ≡ faults.TooMany → ⊥) → AnswersByDevice {T = Unit {0}} old new failed_before failed_after (Err fault)
     → (fault ≡ faults.TooMany) ⊎ ((fault ≡ faults.Fault) ⊎ (fault ≡ faults.Down))
-    → Changes keeps_word (λ kept lasts. (kept ≡ seated old after) × (lasts ≡ false)) (volume_state_by limits run cards old) (volume_state_by limits run cards new) failed_before failed_after
+    → VolumeChanges keeps_word (λ kept lasts. (kept ≡ seated old after) × (lasts ≡ false)) (volume_state_by limits run cards old) (volume_state_by limits run cards new) failed_before failed_after
     (ending_of {T = Unit {0}} (Err (fault_of fault)))
 apply_refused keeps_word limits run cards old new after failed_before failed_after faults.Fault safe up few answers refuses =
     apply_broken keeps_word limits run cards cards old new [] after failed_before failed_after safe answers.later (answers.goes_down refl) (answers.counted refl)

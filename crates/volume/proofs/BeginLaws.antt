@@ -11,7 +11,7 @@ use Rattle.layout.proofs.KeptLaws.{now_told, same_kept, stands_by, stands_now}
 use Rattle.model.specs.Sessions.Seats.{Seats}
 use Rattle.model.specs.declared.limits.Limits.{Limits}
 use Rattle.volume.specs.VolumeState.{Holds, LeavesCurrent}
-use Rattle.volume.specs.Known.{IsServing, kept_in}
+use Rattle.volume.specs.Known.{IsServing, kept_in_image}
 use Rattle.volume.specs.Loads.{IsLoaded, read_as}
 use Rattle.volume.specs.Mounts.{StandsOn, StandsForEither, AddsRaised, IsNotBegun}
 use Rattle.volume.specs.Starts.{HasStarted}
@@ -44,17 +44,17 @@ module _ (keeps_word : Type 0) (found : Superblock) (old mid new : Log) (mark : 
   same_seats k = ∥∥₁_elim (started.serves k) (Seats-set (seats_at (contents new)) seats) (λ serves.
       ap seats_at emptied ∙ now_told found.sectors found.nodes new.base (found.run + 1) (read_as mid.base cards seats) serves.stands)
 
-  pub kept_read : keeps_word → kept_in (contents new) cards ≡ read_as old.base cards seats
-  kept_read k = same_kept (kept_in (contents new) cards) (read_as old.base cards seats) (same_tree k) (same_seats k)
+  pub kept_read : keeps_word → kept_in_image (contents new) cards ≡ read_as old.base cards seats
+  kept_read k = same_kept (kept_in_image (contents new) cards) (read_as old.base cards seats) (same_tree k) (same_seats k)
 
-  stands_base : keeps_word → ∥ StandsNow new.size found.nodes new.base (found.run + 1) (kept_in (contents new) cards) ∥₁
+  stands_base : keeps_word → ∥ StandsNow new.size found.nodes new.base (found.run + 1) (kept_in_image (contents new) cards) ∥₁
   stands_base k = ∥∥₁_map (started.serves k) (λ serves.
-      subst (λ (s : ℕ). StandsNow s found.nodes new.base (found.run + 1) (kept_in (contents new) cards)) now_size
+      subst (λ (s : ℕ). StandsNow s found.nodes new.base (found.run + 1) (kept_in_image (contents new) cards)) now_size
       (subst (StandsNow found.sectors found.nodes new.base (found.run + 1))
       (ap (λ (image : Image). read_as image cards seats) base ∙ sym (kept_read k)) serves.stands))
 
-  stands_there : keeps_word → ∥ StandsNow new.size found.nodes (contents new) (found.run + 1) (kept_in (contents new) cards) ∥₁
-  stands_there k = subst (λ (image : Image). ∥ StandsNow new.size found.nodes image (found.run + 1) (kept_in (contents new) cards) ∥₁) (sym emptied) (stands_base k)
+  stands_there : keeps_word → ∥ StandsNow new.size found.nodes (contents new) (found.run + 1) (kept_in_image (contents new) cards) ∥₁
+  stands_there k = subst (λ (image : Image). ∥ StandsNow new.size found.nodes image (found.run + 1) (kept_in_image (contents new) cards) ∥₁) (sym emptied) (stands_base k)
 
   pub begun_serving : keeps_word → ∥ IsServing new found.nodes (found.run + 1) cards ∥₁
   begun_serving k = ∥∥₁_map (started.serves k) (λ serves. record {
@@ -70,8 +70,8 @@ module _ (keeps_word : Type 0) (found : Superblock) (old mid new : Log) (mark : 
   module _ (limits : Limits) (nodes : limits.nodes ≡ found.nodes) where
     pub begun_holds : keeps_word → Holds (volume_state_by limits (found.run + 1) cards new)
     begun_holds k = holds_base limits (found.run + 1) cards new started.rests.listed
-        (subst (λ (n : ℕ). ∥ StandsAs new.size n (contents new) (found.run + 1) (kept_in (contents new) cards) ∥₁) (sym nodes)
-        (∥∥₁_map (stands_there k) (stands_now new.size found.nodes (contents new) (found.run + 1) (kept_in (contents new) cards))))
+        (subst (λ (n : ℕ). ∥ StandsAs new.size n (contents new) (found.run + 1) (kept_in_image (contents new) cards) ∥₁) (sym nodes)
+        (∥∥₁_map (stands_there k) (stands_now new.size found.nodes (contents new) (found.run + 1) (kept_in_image (contents new) cards))))
         (started.settled k)
 
     pub begun_current : keeps_word
@@ -79,7 +79,7 @@ module _ (keeps_word : Type 0) (found : Superblock) (old mid new : Log) (mark : 
     begun_current k image left = ∥∥₁_map (stands_base k) (λ stands. (
       new.base,
       started.settled k image left,
-      subst (λ (n : ℕ). StandsNow new.size n new.base (found.run + 1) (kept_in (contents new) cards)) (sym nodes) stands,
+      subst (λ (n : ℕ). StandsNow new.size n new.base (found.run + 1) (kept_in_image (contents new) cards)) (sym nodes) stands,
     ))
 
 pub raised_from : (found : Superblock) (old mid : Log) (new : History) → mid ≡ record old { is_down = mid.is_down }

@@ -8,12 +8,12 @@ use Rattle.node_table.specs.Overlays.{CanBecome}
 use Rattle.node_table.specs.Tables.{HaveOwnPlaces}
 use Rattle.disk.specs.Moments.{Image, applied}
 use Rattle.disk.specs.declared.update.Update.{Update}
-use Rattle.tree_transaction.specs.Updates.{target_of, AreApart, HasNot, AreTargets}
+use Rattle.tree_transaction.specs.Updates.{target_of, UpdatesApart, HasNoUpdate, AreTreeUpdates}
 use Rattle.tree_transaction.specs.declared.transaction.PreparedTransaction.{PreparedTransaction}
 use Rattle.tree_transaction.proofs.UpdateLaws.{applied-other}
 use Rattle.tree_edits.specs.declared.edit.Edit.{Edit}
 use Rattle.tree_edits.specs.Edits.{edits_of}
-use Rattle.tree_edits.specs.Outcomes.{ComesTo, LaysEdited, cards_after}
+use Rattle.tree_edits.specs.Outcomes.{ComesTo, LaysEditedTree, cards_after}
 use Rattle.tree_edits.specs.Outlines.{without_data, tree_without_data}
 use Rattle.tree_edits.proofs.BlankLaws.{each_outline}
 use Rattle.tree_edits.proofs.PlaceLaws.{there_at}
@@ -25,7 +25,7 @@ use Rattle.layout.specs.CachedNodes.{CachedNode, tree_of, cards_in}
 use Rattle.layout.specs.Known.{AreCards}
 use Rattle.layout.specs.Laid.{AreNumbered}
 use Rattle.layout.specs.Marks.{mark_by}
-use Rattle.layout.specs.Stands.{IsLaid, Kept, StandsNow, current, seats_at}
+use Rattle.layout.specs.Stands.{IsLaid, Kept, StandsNow, current_version, seats_at}
 use Rattle.layout.proofs.CachedNodeLaws.{cards-back, only_cards}
 use Rattle.model.specs.declared.limits.Limits.{Limits}
 use Rattle.model.specs.Trees.Charge.{fits}
@@ -42,7 +42,7 @@ use Rattle.volume.proofs.FormedLaws.{names_most}
 use Rattle.volume.proofs.ParentLaws.{parents_after}
 use Rattle.volume.specs.Formed.{IsFormed}
 use Rattle.volume.specs.VolumeState.{VolumeState}
-use Rattle.volume.specs.Known.{IsKnown, IsServing, kept_in}
+use Rattle.volume.specs.Known.{AreKnownNodes, IsServing, kept_in_image}
 use Rattle.volume.specs.Views.{volume_state_by}
 use Rattle.volume.proofs.ApplyLaws.{StandsWith, seated}
 use Rattle.volume.proofs.EditLaws.{can_settle, edited_alike, outline_alike}
@@ -55,13 +55,13 @@ target_at [] i other within = absurd (omega (arith, within))
 target_at (update ∷ updates) zero other within = refl
 target_at (update ∷ updates) (suc i) other within = target_at updates i other (omega (arith, within))
 
-apart_at : (updates : List Update) → AreApart updates → (i j : ℕ) → i < j → j < length updates → target_of updates i ≢ target_of updates j
+apart_at : (updates : List Update) → UpdatesApart updates → (i j : ℕ) → i < j → j < length updates → target_of updates i ≢ target_of updates j
 apart_at [] apart i j less within = absurd (omega (arith, within))
 apart_at (update ∷ updates) apart i zero less within = absurd (omega (arith, less))
 apart_at (update ∷ updates) apart zero (suc j) less within = λ same. apart.0 j (omega (arith, within)) (sym same)
 apart_at (update ∷ updates) apart (suc i) (suc j) less within = apart_at updates apart.1 i j (omega (arith, less)) (omega (arith, within))
 
-pub journal_targets : (size : ℕ) (updates : List Update) → AreTargets size updates → journal.AreTargets size (targets updates)
+pub journal_targets : (size : ℕ) (updates : List Update) → AreTreeUpdates size updates → journal.AreTargets size (targets updates)
 journal_targets size updates are =
     let there : (i other : ℕ) → i < length (targets updates) → get_or (targets updates) i other ≡ target_of updates i =
     λ i other within. target_at updates i other (omega (arith, within, length-targets updates)) in
@@ -76,7 +76,7 @@ journal_targets size updates are =
     }
 
 -- sector 0 is none of them
-not_first : (size : ℕ) (updates : List Update) → AreTargets size updates → HasNot 0 updates
+not_first : (size : ℕ) (updates : List Update) → AreTreeUpdates size updates → HasNoUpdate 0 updates
 not_first size updates are = λ i within same. (let above = (are.between i within).0 in omega (arith, above, same))
 
 -- The tree after the edits stands
@@ -102,13 +102,13 @@ module _ (word : Type 0) (k : word) (nodes run : ℕ) (log : Log) (cards : List 
   abbrev seats : Seats
   seats = seats_at image
 
-  behind_stands : cards ≡ cards_in nodes image → StandsNow log.size nodes image run (kept_in image cards) → StandsWith nodes run log outcome.updates.items is (seated log after)
+  behind_stands : cards ≡ cards_in nodes image → StandsNow log.size nodes image run (kept_in_image image cards) → StandsWith nodes run log outcome.updates.items is (seated log after)
   behind_stands read stood =
       let stands = stood.stands in
-      let here : IsLaid (current seats) log.size (length cards) image cards = subst (λ (n : ℕ). IsLaid (current seats) log.size n image cards) (sym count)
-      (subst (IsLaid (current seats) log.size nodes image) (sym read) stands.laid) in
-      let lays : LaysEdited seats image log.size cards edits outcome = comes.lays k seats here in
-      let laid : IsLaid (current seats) log.size nodes now is = subst (λ (n : ℕ). IsLaid (current seats) log.size n now is) count lays.laid in
+      let here : IsLaid (current_version seats) log.size (length cards) image cards = subst (λ (n : ℕ). IsLaid (current_version seats) log.size n image cards) (sym count)
+      (subst (IsLaid (current_version seats) log.size nodes image) (sym read) stands.laid) in
+      let lays : LaysEditedTree seats image log.size cards edits outcome = comes.lays k seats here in
+      let laid : IsLaid (current_version seats) log.size nodes now is = subst (λ (n : ℕ). IsLaid (current_version seats) log.size n now is) count lays.laid in
       let back : cards_in nodes now ≡ is = cards-back now nodes is laid.laid.count laid.laid.held in
       record {
         read = sym back;
@@ -122,7 +122,7 @@ module _ (word : Type 0) (k : word) (nodes run : ℕ) (log : Log) (cards : List 
                 sized = stands.sized;
                 counted = stands.counted;
                 first = applied-other outcome.updates.items image 0 (not_first log.size outcome.updates.items comes.targets) ∙ stands.first;
-                laid = only_cards (current seats) log.size nodes now is laid;
+                laid = only_cards (current_version seats) log.size nodes now is laid;
                 tree_is = sym lays.tree_is ∙ ap (tree_of now) (sym back);
                 well_formed = both.0;
                 before = both.1;
@@ -142,7 +142,7 @@ own_places cards apart place other number here there = elim (cases_eq place othe
   | inr off ↦
       let one = there_at cards place number here in
       let two = there_at cards other number there in
-      absurd (apart place other one.card two.card off one.there two.there (one.number_is ∙ sym two.number_is))
+      absurd (apart place other one.cached two.cached off one.there two.there (one.number_is ∙ sym two.number_is))
 ]
 
 -- what reads left of a journal, where they did not fail
@@ -156,7 +156,7 @@ formed_alike limits at tree other alike formed = record {
 }
 
 module _ (word : Type 0) (limits : Limits) (run : ℕ) (log : Log) (cards : List (Option CachedNode)) (places : List Bool) (edits : List Edit) (outcome : PreparedTransaction)
-    (change : IsChange (volume_state_by limits run cards log) edits) (known : IsKnown log.size limits.nodes cards places)
+    (change : IsChange (volume_state_by limits run cards log) edits) (known : AreKnownNodes log.size limits.nodes cards places)
     (comes : ComesTo word (contents log) log.size cards places edits outcome) where
   abbrev held : VolumeState
   held = volume_state_by limits run cards log
@@ -173,7 +173,7 @@ module _ (word : Type 0) (limits : Limits) (run : ℕ) (log : Log) (cards : List
   pub formed_after : IsTrue (fits limits (edited_by held edits)) → IsFormed limits (stamp (run + 1) 0) (tree_without_data new)
   formed_after fit = formed_alike limits (stamp (run + 1) 0) (edited_by held edits) (tree_without_data new) (outline_after (λ n. [])) (change.formed fit)
 
-  pub known_after : IsKnown log.size limits.nodes new outcome.places
+  pub known_after : AreKnownNodes log.size limits.nodes new outcome.places
   known_after = record {
     are_cards = subst (λ (n : ℕ). AreCards n (mark_by (148 + n) outcome.places) new) known.are_cards.count comes.cards;
     forms = comes.forms;

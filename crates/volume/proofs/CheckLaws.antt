@@ -18,7 +18,7 @@ use Rattle.volume.specs.Loads.{AreLoaded, HoldsVolume, read_as}
 use Rattle.volume.specs.MountAnswers.{first_verdict}
 use Rattle.volume.specs.Mounts.{StandsOn}
 use Rattle.volume.specs.Refusals.{gate_fault}
-use Rattle.volume.specs.Stands.{Stands, StandsFor}
+use Rattle.volume.specs.Stands.{VolumeStands, StandsFor}
 use Rattle.volume.specs.Superblock.{superblock}
 use Rattle.volume.specs.declared.checking.Checked.{Checked}
 use Rattle.volume.specs.declared.fault.MountFault.{MountFault}
@@ -106,7 +106,7 @@ module _ (sectors : ℕ) (old : History) (found : Superblock) (base : Image) (se
         (∥∥₁_map (loaded.stood k) (λ stands. record {
           base = base;
           settles = settles;
-          stands = subst (λ (s : ℕ). Stands s found.nodes base found.run (read_as base cards seats)) sectors_is
+          stands = subst (λ (s : ℕ). VolumeStands s found.nodes base found.run (read_as base cards seats)) sectors_is
               (stands_by found.version mark found.sectors found.nodes base found.run (read_as base cards seats) loaded.marked stands.may stands.keeps stands.stands);
         })));
   }

@@ -13,10 +13,10 @@ use Rattle.layout.specs.Stands.{Kept}
 use Rattle.model.specs.declared.limits.Limits.{Limits}
 use Rattle.model.specs.Sessions.Seats.{Seats}
 use Rattle.model.specs.Trees.Tree.{Tree}
-use Rattle.volume.specs.Changes.{Done, Stays, Changes}
+use Rattle.volume.specs.Changes.{Done, Stays, VolumeChanges}
 use Rattle.volume.specs.VolumeState.{VolumeState, KeepsRecent, fronts_from, with_tree}
 use Rattle.volume.specs.Known.{IsServing}
-use Rattle.volume.specs.Stands.{Stands}
+use Rattle.volume.specs.Stands.{VolumeStands}
 use Rattle.volume.specs.Views.{volume_state_by}
 use Rattle.volume.proofs.FrontLaws.{among_more, among_rest, front_among}
 use Rattle.volume.proofs.OneTree.{Seats-set, Tree-set}
@@ -51,9 +51,9 @@ module _ (keeps_word : Type 0) (limits : Limits) (run : ℕ) (cards : List (Opti
   checkpoint_seats k = ∥∥₁_elim (serves k) (Seats-set is.seats was.seats) (seats_stay limits.nodes run cards old new (done.contents k))
 
   -- where the old base stands for a tree, so does the new one
-  stands_on : (a b : Image) (kept : Kept) → AreSame old.size a b → Stands old.size limits.nodes a run kept → Stands new.size limits.nodes b run kept
+  stands_on : (a b : Image) (kept : Kept) → AreSame old.size a b → VolumeStands old.size limits.nodes a run kept → VolumeStands new.size limits.nodes b run kept
   stands_on a b kept same stands =
-      subst (λ (size : ℕ). Stands size limits.nodes b run kept) (sym safe.size) (stands_same old.size limits.nodes a b run kept same stands)
+      subst (λ (size : ℕ). VolumeStands size limits.nodes b run kept) (sym safe.size) (stands_same old.size limits.nodes a b run kept same stands)
 
   beside : keeps_word → (tree : Tree) → with_tree was tree ≡ with_tree is tree
   beside k tree = ap (λ (seats : Seats). let of : Kept = record { tree = tree; seats = seats } in of) (sym (checkpoint_seats k))
@@ -77,13 +77,13 @@ module _ (keeps_word : Type 0) (limits : Limits) (run : ℕ) (cards : List (Opti
             let covered = ready.covers there.0 there.1 in (
               covered.0,
               covered.1,
-              ∥∥₁_map covered.2 (λ stands. subst (Stands new.size limits.nodes front run) (beside k covered.0)
+              ∥∥₁_map covered.2 (λ stands. subst (VolumeStands new.size limits.nodes front run) (beside k covered.0)
                   (stands_on there.0 front (with_tree was covered.0) there.2 stands)),
             );
         newest = subst (λ (tree : Tree). IsAmong recent tree) (sym (checkpoint_keeps k)) ready.newest;
       }
 
-  pub checkpoint_done : (before after : ℕ) → before ≤ after → after ≡ before → Changes keeps_word (Stays was) was is before after Done
+  pub checkpoint_done : (before after : ℕ) → before ≤ after → after ≡ before → VolumeChanges keeps_word (Stays was) was is before after Done
   checkpoint_done before after later told = record {
     same = record { sectors = safe.size; limits = refl; run = refl };
     later = later;

@@ -3,7 +3,7 @@ use Rattle.std.proofs.Common.{◌≡◌, ◌+◌, ◌≤◌, ◌<◌, ℕ, suc, 
 use Rattle.std.specs.Prelude.{is_some, IsTrue}
 use Rattle.std.specs.List.{IsAmong}
 use Rattle.node_table.specs.Overlays.{IsMade, CanBecome}
-use Rattle.node_table.specs.Tables.{number_at, HaveOwnPlaces}
+use Rattle.node_table.specs.Tables.{node_number_at, HaveOwnPlaces}
 use Rattle.disk.specs.Moments.{Image}
 use Rattle.tree_edits.specs.declared.edit.Edit.{Edit}
 use Rattle.tree_edits.specs.Doing.{made_by, AreMade}
@@ -104,18 +104,18 @@ module _ (held : VolumeState) (edits : List Edit) (change : IsChange held edits)
       (made held edits change)
 
   made_among : (place number : ℕ) → IsMade old new place number → IsAmong (made_by edits) number
-  made_among place number is = ⊎_elim (λ (stood : number_at old place ≡ Some number). absurd (is.before stood)) (λ (among : IsAmong (made_by edits) number). among)
+  made_among place number is = ⊎_elim (λ (stood : node_number_at old place ≡ Some number). absurd (is.before stood)) (λ (among : IsAmong (made_by edits) number). among)
       (are_made place number is.now)
 
   -- of a number above those of all nodes
-  made_above : AreNumbered old → (number : ℕ) → IsAmong (made_by edits) number → (place other : ℕ) → number_at old place ≡ Some other → other < number
+  made_above : AreNumbered old → (number : ℕ) → IsAmong (made_by edits) number → (place other : ℕ) → node_number_at old place ≡ Some other → other < number
   made_above apart number among place other stands =
       let it = there_at old place other stands in
-      fresh held edits change number among other (ap is_some (ap (at other) tree_is ∙ ap (λ (n : ℕ). at n (tree_of image old)) (sym it.number_is) ∙ tree-has image old place it.card apart it.there))
+      fresh held edits change number among other (ap is_some (ap (at other) tree_is ∙ ap (λ (n : ℕ). at n (tree_of image old)) (sym it.number_is) ∙ tree-has image old place it.cached apart it.there))
 
   pub can_settle : (nodes : ℕ) (mark marked : ℕ → ℕ) → AreCards nodes mark old → AreCards nodes marked new → HaveOwnPlaces new → CanBecome old new
   can_settle nodes mark marked known new_known own = record {
-    fresh = λ place number is. (let it = there_at new place number is.now in let card = card_at nodes marked new place it.card new_known it.there in let some = card.number in record {
+    fresh = λ place number is. (let it = there_at new place number is.now in let card = card_at nodes marked new place it.cached new_known it.there in let some = card.number in record {
       some = omega (arith, some, it.number_is);
       above = made_above known.apart number (made_among place number is);
     });

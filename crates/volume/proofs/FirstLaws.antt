@@ -5,12 +5,12 @@ use Rattle.std.proofs.lemmas.Nat.{from_be_bytes-to_be_bytes_4}
 use Rattle.volume.specs.declared.superblock.Verdict.TheVariants.{NotVolume, Worn, Damaged, Sound}
 use Rattle.std.proofs.lemmas.Bool.{eq-eqb, and_parts, and_left, and_right, lt-leb, eqb-false, cond-true}
 use Rattle.std.specs.Cmp.Lexicographic.{bytes_decides}
-use Rattle.layout.specs.Stands.{number_of}
+use Rattle.layout.specs.Stands.{number_of_version}
 use Rattle.layout.specs.declared.versions.VersionNumber.{VersionNumber}
 use Rattle.layout.specs.declared.versions.VersionNumber.TheVariants.{One, Two}
 use Rattle.layout.specs.Superblock as layout
 use Rattle.layout.specs.Superblock.{is_size, magic}
-use Rattle.volume.specs.Superblock.{is_volume, verdict, version_in, last_run, superblock, word}
+use Rattle.volume.specs.Superblock.{is_volume, mount_verdict, version_in, last_run, superblock, word}
 use Rattle.std.specs.List.{starts_with}
 
 pub word_nodes : (version : VersionNumber) (sectors nodes run : ℕ) → nodes < 2 ^ 32 → word 16 (superblock version sectors nodes run) ≡ nodes
@@ -25,16 +25,16 @@ word_sectors : (version : VersionNumber) (sectors nodes run : ℕ) → sectors <
 unfolding word layout.superblock
 word_sectors version sectors nodes run fits = from_be_bytes-to_be_bytes_4 sectors fits
 
-word_version : (version : VersionNumber) (sectors nodes run : ℕ) → word 8 (superblock version sectors nodes run) ≡ number_of version
+word_version : (version : VersionNumber) (sectors nodes run : ℕ) → word 8 (superblock version sectors nodes run) ≡ number_of_version version
 unfolding word layout.superblock
 word_version One sectors nodes run = refl
 word_version Two sectors nodes run = refl
 
-has_version : (version : VersionNumber) → (eqb (number_of version) 1 || eqb (number_of version) 2) ≡ true
+has_version : (version : VersionNumber) → (eqb (number_of_version version) 1 || eqb (number_of_version version) 2) ≡ true
 has_version One = refl
 has_version Two = refl
 
-version_told : (version : VersionNumber) → (let told : VersionNumber = if eqb (number_of version) 1 then One else Two in told) ≡ version
+version_told : (version : VersionNumber) → (let told : VersionNumber = if eqb (number_of_version version) 1 then One else Two in told) ≡ version
 version_told One = refl
 version_told Two = refl
 
@@ -68,9 +68,9 @@ parts true false false h = absurd (cc)
 parts true true same h = absurd (cc)
 parts false worn same h = absurd (cc)
 
-sound_parts : (sectors : ℕ) (sector : List ℕ) → verdict sectors sector ≡ Sound
+sound_parts : (sectors : ℕ) (sector : List ℕ) → mount_verdict sectors sector ≡ Sound
     → (is_volume sectors sector ≡ true) × ((eqb (word 20 sector) last_run ≡ false) × (bytes_eq sector (superblock (version_in sector) sectors (word 16 sector) (word 20 sector)) ≡ true))
-unfolding verdict
+unfolding mount_verdict
 sound_parts sectors sector sound = parts (is_volume sectors sector) _ _ sound
 
 size_of : (sectors : ℕ) (sector : List ℕ) → is_volume sectors sector ≡ true → IsTrue (is_size sectors (word 16 sector))
@@ -78,13 +78,13 @@ unfolding is_volume
 size_of sectors sector volume =
     (and_parts ((starts_with eqb sector magic && (eqb (word 8 sector) 1 || eqb (word 8 sector) 2)) && eqb (word 12 sector) sectors) (is_size sectors (word 16 sector)) volume).1
 
-pub sound_size : (sectors : ℕ) (sector : List ℕ) → verdict sectors sector ≡ Sound → IsTrue (is_size sectors (word 16 sector))
+pub sound_size : (sectors : ℕ) (sector : List ℕ) → mount_verdict sectors sector ≡ Sound → IsTrue (is_size sectors (word 16 sector))
 sound_size sectors sector sound = size_of sectors sector (sound_parts sectors sector sound).0
 
-pub sound_run : (sectors : ℕ) (sector : List ℕ) → verdict sectors sector ≡ Sound → word 20 sector < 2 ^ 32 → word 20 sector + 1 < 2 ^ 32
+pub sound_run : (sectors : ℕ) (sector : List ℕ) → mount_verdict sectors sector ≡ Sound → word 20 sector < 2 ^ 32 → word 20 sector + 1 < 2 ^ 32
 sound_run sectors sector sound fits = let apart = eqb-false (word 20 sector) last_run (sound_parts sectors sector sound).1.0 in omega (arith, apart, fits)
 
-pub sound_first : (sectors : ℕ) (sector : List ℕ) → verdict sectors sector ≡ Sound → sector ≡ superblock (version_in sector) sectors (word 16 sector) (word 20 sector)
+pub sound_first : (sectors : ℕ) (sector : List ℕ) → mount_verdict sectors sector ≡ Sound → sector ≡ superblock (version_in sector) sectors (word 16 sector) (word 20 sector)
 sound_first sectors sector sound = (bytes_decides sector (superblock (version_in sector) sectors (word 16 sector) (word 20 sector))).0 (sound_parts sectors sector sound).1.1
 
 -- no volume is on a device that is too small for one
@@ -97,8 +97,8 @@ none_on_few sectors sector few =
     and_right ((starts_with eqb sector magic && (eqb (word 8 sector) 1 || eqb (word 8 sector) 2)) && eqb (word 12 sector) sectors) (is_size sectors (word 16 sector))
     (few_sectors sectors (word 16 sector) few)
 
-pub not_volume_on_few : (sectors : ℕ) (sector : List ℕ) → sectors < 256 → verdict sectors sector ≡ NotVolume
-unfolding verdict
+pub not_volume_on_few : (sectors : ℕ) (sector : List ℕ) → sectors < 256 → mount_verdict sectors sector ≡ NotVolume
+unfolding mount_verdict
 not_volume_on_few sectors sector few = cond-true (not (is_volume sectors sector)) _ _ (ap not (none_on_few sectors sector few))
 
 -- what is a volume of this version has its size
@@ -107,6 +107,6 @@ some_volume : (volume worn same : Bool) → (cond (not volume) NotVolume (cond w
 some_volume true worn same is = refl
 some_volume false worn same is = absurd (is refl)
 
-pub seen_size : (sectors : ℕ) (sector : List ℕ) → (verdict sectors sector ≡ NotVolume → ⊥) → IsTrue (is_size sectors (word 16 sector))
-unfolding verdict
+pub seen_size : (sectors : ℕ) (sector : List ℕ) → (mount_verdict sectors sector ≡ NotVolume → ⊥) → IsTrue (is_size sectors (word 16 sector))
+unfolding mount_verdict
 seen_size sectors sector is = size_of sectors sector (some_volume (is_volume sectors sector) _ _ is)

@@ -13,7 +13,7 @@ use Rattle.journal.proofs.Images.{put_other}
 use Rattle.journal.proofs.Lists.{targets_of-Fit}
 use Rattle.layout.specs.FreshLaws.{IsFresh}
 use Rattle.layout.specs.Stands as layout
-use Rattle.layout.specs.Stands.{bare, current}
+use Rattle.layout.specs.Stands.{bare, current_version}
 use Rattle.layout.specs.declared.versions.VersionNumber.TheVariants.{Two}
 use Rattle.layout.proofs.KeptLaws.{current_stands}
 use Rattle.layout.proofs.SeatLaws.{no_seats_kept, spare_none}
@@ -37,7 +37,7 @@ zeros_at sectors nodes n some other =
     ∙ ap (λ (b : Bool). let content : List ℕ = if b then superblock Two sectors nodes 0 else zero_sector in content) (ne_eqb n 0 (λ e. omega (arith, e, some)))
 
 module _ (sectors nodes : ℕ) (size : IsTrue (is_size sectors nodes)) where
-  is_fresh : IsFresh (current no_seats) sectors nodes (new_volume sectors nodes)
+  is_fresh : IsFresh (current_version no_seats) sectors nodes (new_volume sectors nodes)
   is_fresh = record {
     sized = size;
     first = refl;
@@ -47,8 +47,8 @@ module _ (sectors nodes : ℕ) (size : IsTrue (is_size sectors nodes)) where
     others = λ place some within. zeros_at sectors nodes (148 + place) (omega arith) (λ e. omega (arith, e, some));
   }
 
-  stands : layout.Stands (current no_seats) sectors nodes (new_volume sectors nodes) 0 fresh_tree
-  stands = fresh_stands (current no_seats) sectors nodes (new_volume sectors nodes) is_fresh
+  stands : layout.TreeStands (current_version no_seats) sectors nodes (new_volume sectors nodes) 0 fresh_tree
+  stands = fresh_stands (current_version no_seats) sectors nodes (new_volume sectors nodes) is_fresh
 
   pub root_fits : AreTargets sectors (targets (root_update ∷ []))
   root_fits = let parts = sized sectors nodes size in targets_of-Fit sectors (148 ∷ []) (omega arith, omega (arith, parts.some, parts.room), tt, tt)

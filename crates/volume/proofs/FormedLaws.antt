@@ -17,7 +17,7 @@ use Rattle.model.specs.Trees.WellFormed.{IsWellFormed, IsBefore}
 use Rattle.model.proofs.Trees.ChangeLaws.{was_before}
 use Rattle.tree_check.specs.Trees.{IsOneTree}
 use Rattle.tree_check.proofs.WholeLaws.{each_known_tree}
-use Rattle.volume.specs.Formed.{IsFormed, Shows}
+use Rattle.volume.specs.Formed.{IsFormed, ShowsTree}
 use Rattle.model.specs.Sessions.Seats.{Seats}
 use Rattle.directory.specs.declared.names.TheConstants.Names.{MAX_NAMES}
 use Rattle.volume.specs.Loads.{IsLoaded}
@@ -48,7 +48,7 @@ tree_formed limits at image cards formed =
     }
 
 -- two trees of the same cached nodes show one another
-pub shows_same : (keeps_word : Type 0) (old new : Image) (cards : List (Option CachedNode)) → (keeps_word → tree_of new cards ≡ tree_of old cards) → Shows keeps_word (tree_of old cards) (tree_of new cards)
+pub shows_same : (keeps_word : Type 0) (old new : Image) (cards : List (Option CachedNode)) → (keeps_word → tree_of new cards ≡ tree_of old cards) → ShowsTree keeps_word (tree_of old cards) (tree_of new cards)
 shows_same keeps_word old new cards kept = record {
   outline = each_outline new cards ∙ sym (each_outline old cards);
   tree_is = kept;

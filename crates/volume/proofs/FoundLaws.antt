@@ -10,7 +10,7 @@ use Rattle.journal.specs.Settled.{Settles, SettlesAs}
 use Rattle.journal.specs.declared.fault.JournalFault.{JournalFault}
 use Rattle.journal.specs.declared.fault.JournalFault.TheVariants as journals
 use Rattle.journal.proofs.Recovers.{settles_once}
-use Rattle.layout.specs.Stands.{Kept, Version, current_number, number_of}
+use Rattle.layout.specs.Stands.{Kept, Version, served_version, number_of_version}
 use Rattle.layout.specs.Superblock as layout
 use Rattle.layout.specs.declared.versions.VersionNumber.{VersionNumber}
 use Rattle.layout.proofs.KeptLaws.{version_parts}
@@ -18,8 +18,8 @@ use Rattle.layout.proofs.MarkOnce.{version_number}
 use Rattle.volume.specs.declared.fault.MountFault.TheVariants as mounts
 use Rattle.volume.specs.declared.superblock.Verdict.TheVariants.{NotVolume, Worn, Damaged, Sound}
 use Rattle.volume.specs.Refusals.{gate_fault}
-use Rattle.volume.specs.Stands.{Stands, IsBase, StandsFor, StandsForIn}
-use Rattle.volume.specs.Superblock.{is_volume, superblock, verdict, version_in, word, last_run}
+use Rattle.volume.specs.Stands.{VolumeStands, IsBase, StandsFor, StandsForIn}
+use Rattle.volume.specs.Superblock.{is_volume, superblock, mount_verdict, version_in, word, last_run}
 use Rattle.journal.proofs.First.{first_kept}
 use Rattle.volume.proofs.FirstLaws.{word_nodes, word_run, version_back, volume_first}
 use Rattle.volume.proofs.StandLaws.{sized, large, stands_same}
@@ -52,7 +52,7 @@ module _ (size nodes run : ℕ) (kept : Kept) (seen : Image) (base : IsBase size
   abbrev version : VersionNumber
   version = (version_parts nodes base.stands.version kept.seats base.stands.is_version).0
 
-  number_is : base.stands.version.number ≡ number_of version
+  number_is : base.stands.version.number ≡ number_of_version version
   number_is =
       let parts = version_parts nodes base.stands.version kept.seats base.stands.is_version in
       ap (λ (of : Version). of.number) parts.4 ∙ version_number parts.0 parts.1 kept.seats
@@ -81,8 +81,8 @@ module _ (size nodes run : ℕ) (kept : Kept) (seen : Image) (base : IsBase size
   never_damaged false worn same is h = cc
 
   -- where one stands, the first sector is not damaged
-  pub not_damaged : verdict size (seen 0) ≡ Damaged → ⊥
-  unfolding verdict
+  pub not_damaged : mount_verdict size (seen 0) ≡ Damaged → ⊥
+  unfolding mount_verdict
   not_damaged is = never_damaged (is_volume size (seen 0)) (eqb (word 20 (seen 0)) last_run) (bytes_eq (seen 0) (superblock (version_in (seen 0)) size (word 16 (seen 0)) (word 20 (seen 0))))
       ((bytes_decides (seen 0) (superblock (version_in (seen 0)) size (word 16 (seen 0)) (word 20 (seen 0)))).1 spelled) is
 
@@ -93,8 +93,8 @@ module _ (size nodes run : ℕ) (kept : Kept) (seen : Image) (base : IsBase size
   never_none false worn same is h = true≢false (sym is)
 
   -- and tells of a volume
-  pub is_volume_there : verdict size (seen 0) ≡ NotVolume → ⊥
-  unfolding verdict
+  pub is_volume_there : mount_verdict size (seen 0) ≡ NotVolume → ⊥
+  unfolding mount_verdict
   is_volume_there is = never_none (is_volume size (seen 0)) (eqb (word 20 (seen 0)) last_run) (bytes_eq (seen 0) (superblock (version_in (seen 0)) size (word 16 (seen 0)) (word 20 (seen 0))))
       (ap (is_volume size) first_is ∙ volume_first version size nodes run small few_nodes base.stands.stands.sized) is
 
@@ -105,8 +105,8 @@ module _ (size nodes run : ℕ) (kept : Kept) (seen : Image) (base : IsBase size
   worn_alone false worn same h = absurd (cc)
 
   -- it is worn where the count is full alone
-  pub count_full : verdict size (seen 0) ≡ Worn → run + 1 ≡ 2 ^ 32
-  unfolding verdict
+  pub count_full : mount_verdict size (seen 0) ≡ Worn → run + 1 ≡ 2 ^ 32
+  unfolding mount_verdict
   count_full is =
       let worn = worn_alone (is_volume size (seen 0)) (eqb (word 20 (seen 0)) last_run)
       (bytes_eq (seen 0) (superblock (version_in (seen 0)) size (word 16 (seen 0)) (word 20 (seen 0)))) is in
@@ -115,7 +115,7 @@ module _ (size nodes run : ℕ) (kept : Kept) (seen : Image) (base : IsBase size
 
   -- what may be left of it: in its version and under its count, or in the current one and under the next
   abbrev Leaves : Image → Type 0
-  Leaves image = StandsForIn base.stands.version.number size nodes run kept image ⊎ StandsForIn current_number size nodes (run + 1) kept image
+  Leaves image = StandsForIn base.stands.version.number size nodes run kept image ⊎ StandsForIn served_version size nodes (run + 1) kept image
 
   -- a crash within the journal's mount leaves it
   pub settled_moments : (old new : History) → AddsOnly (SettlesAs size seen) old new → AddsOnly Leaves old new
@@ -134,37 +134,37 @@ module _ (size nodes run : ℕ) (kept : Kept) (seen : Image) (base : IsBase size
     same_run = sym (word_run told size found_nodes found_run counts) ∙ (ap (word 20) found_first ∙ run_is)
 
     -- it stands on the base that the journal found
-    pub found_stands : Stands sectors found_nodes at found_run kept
-    found_stands = subst (λ (s : ℕ). Stands s found_nodes at found_run kept) (sym sectors_is)
-        (subst (λ (n : ℕ). Stands size n at found_run kept) (sym same_nodes)
-        (subst (λ (r : ℕ). Stands size nodes at r kept) (sym same_run)
+    pub found_stands : VolumeStands sectors found_nodes at found_run kept
+    found_stands = subst (λ (s : ℕ). VolumeStands s found_nodes at found_run kept) (sym sectors_is)
+        (subst (λ (n : ℕ). VolumeStands size n at found_run kept) (sym same_nodes)
+        (subst (λ (r : ℕ). VolumeStands size nodes at r kept) (sym same_run)
         (stands_same size nodes base.base at run kept (settles_once size seen base.base at small base.settles settles) base.stands)))
 
-    told_number : number_of told ≡ base.stands.version.number
-    told_number = ap number_of (sym (version_back told size found_nodes found_run) ∙ (ap version_in found_first ∙ version_is)) ∙ sym number_is
+    told_number : number_of_version told ≡ base.stands.version.number
+    told_number = ap number_of_version (sym (version_back told size found_nodes found_run) ∙ (ap version_in found_first ∙ version_is)) ∙ sym number_is
 
     pub found_moments : (old mid new : History) → AddsOnly (SettlesAs size seen) old mid
-        → (Stands sectors found_nodes at found_run kept
-        → AddsOnly (λ image. StandsForIn (number_of told) sectors found_nodes found_run kept image ⊎ StandsForIn current_number sectors found_nodes (found_run + 1) kept image) mid new)
+        → (VolumeStands sectors found_nodes at found_run kept
+        → AddsOnly (λ image. StandsForIn (number_of_version told) sectors found_nodes found_run kept image ⊎ StandsForIn served_version sectors found_nodes (found_run + 1) kept image) mid new)
         → AddsOnly Leaves old new
     found_moments old mid new before after = AddsOnly-join Leaves old mid new
         (settled_moments old mid before)
-        (subst (λ (v : ℕ). AddsOnly (λ image. StandsForIn v size nodes run kept image ⊎ StandsForIn current_number size nodes (run + 1) kept image) mid new) told_number
-        (subst (λ (s : ℕ). AddsOnly (λ image. StandsForIn (number_of told) s nodes run kept image ⊎ StandsForIn current_number s nodes (run + 1) kept image) mid new) sectors_is
-        (subst (λ (n : ℕ). AddsOnly (λ image. StandsForIn (number_of told) sectors n run kept image ⊎ StandsForIn current_number sectors n (run + 1) kept image) mid new) same_nodes
-        (subst (λ (r : ℕ). AddsOnly (λ image. StandsForIn (number_of told) sectors found_nodes r kept image ⊎ StandsForIn current_number sectors found_nodes (r + 1) kept image) mid new) same_run
+        (subst (λ (v : ℕ). AddsOnly (λ image. StandsForIn v size nodes run kept image ⊎ StandsForIn served_version size nodes (run + 1) kept image) mid new) told_number
+        (subst (λ (s : ℕ). AddsOnly (λ image. StandsForIn (number_of_version told) s nodes run kept image ⊎ StandsForIn served_version s nodes (run + 1) kept image) mid new) sectors_is
+        (subst (λ (n : ℕ). AddsOnly (λ image. StandsForIn (number_of_version told) sectors n run kept image ⊎ StandsForIn served_version sectors n (run + 1) kept image) mid new) same_nodes
+        (subst (λ (r : ℕ). AddsOnly (λ image. StandsForIn (number_of_version told) sectors found_nodes r kept image ⊎ StandsForIn served_version sectors found_nodes (r + 1) kept image) mid new) same_run
         (after found_stands)))))
 
 -- what stands on the base that was found stood in what was seen
 pub seen_stands : (size nodes run sectors found_nodes found_run fs_run : ℕ) (kept : Kept) (seen at : Image) → Settles size seen at → sectors ≡ size → fs_run ≡ found_run + 1
-    → nodes ≡ found_nodes → fs_run ≡ run + 1 → ∥ Stands sectors found_nodes at found_run kept ∥₁ → StandsFor size nodes run kept seen
+    → nodes ≡ found_nodes → fs_run ≡ run + 1 → ∥ VolumeStands sectors found_nodes at found_run kept ∥₁ → StandsFor size nodes run kept seen
 seen_stands size nodes run sectors found_nodes found_run fs_run kept seen at settles sectors_is run_is nodes_is counted stands =
     let same_run : found_run ≡ run = omega (arith, run_is, counted) in
     ∥∥₁_map stands (λ is. record {
       base = at;
       settles = settles;
-      stands = subst (λ (s : ℕ). Stands s nodes at run kept) sectors_is (subst (λ (n : ℕ). Stands sectors n at run kept) (sym nodes_is)
-          (subst (λ (r : ℕ). Stands sectors found_nodes at r kept) same_run is));
+      stands = subst (λ (s : ℕ). VolumeStands s nodes at run kept) sectors_is (subst (λ (n : ℕ). VolumeStands sectors n at run kept) (sym nodes_is)
+          (subst (λ (r : ℕ). VolumeStands sectors found_nodes at r kept) same_run is));
     })
 
 pub only_damaged : (fault : JournalFault) → gate_fault fault ≡ mounts.Damaged → fault ≡ journals.Damaged

@@ -15,7 +15,7 @@ use Rattle.journal.proofs.Fronts.{applied_all-push}
 use Rattle.layout.specs.Stands.{Kept}
 use Rattle.model.specs.Trees.Tree.{Tree}
 use Rattle.volume.specs.VolumeState.{VolumeState, StandsForOne, IsRecent, MayAdd, AddsTrees, fronts_from, with_tree}
-use Rattle.volume.specs.Stands.{Stands}
+use Rattle.volume.specs.Stands.{VolumeStands}
 
 pub among_rest : {A : Type 0} (first : A) (rest : List A) (one : A) → IsAmong rest one → IsAmong (first ∷ rest) one
 among_rest first rest one among = (suc among.0, (omega (arith, among.1.0), among.1.1))
@@ -55,7 +55,7 @@ front_more base (first ∷ list) updates front among = ⊎_elim
 
 module _ (held : VolumeState) (log : Log) (size : held.sectors ≡ log.size) (history : held.history ≡ log.history) (fronts : held.fronts ≡ fronts_from log.base log.list)
     (updates : List Update) where
-  module _ (after : Kept) (behind : ∥ Stands held.sectors held.limits.nodes (applied updates (applied_all log.list log.base)) held.run after ∥₁) where
+  module _ (after : Kept) (behind : ∥ VolumeStands held.sectors held.limits.nodes (applied updates (applied_all log.list log.base)) held.run after ∥₁) where
     one_front : (recent : List Tree) → IsRecent held recent → (image : Image) → StandsForFront log.size log.base (log.list ++ updates ∷ []) image → StandsForOne held (MayAdd held recent after) image
     one_front recent is image front = elim (cases_lt (length log.list) front.count) [
       | inl last ↦
@@ -94,7 +94,7 @@ module _ (held : VolumeState) (log : Log) (size : held.sectors ≡ log.size) (hi
         (AddsOnly-weaken (StandsForFront log.size log.base (log.list ++ updates ∷ [])) (StandsForOne held (MayAdd held recent after)) log.history new (one_front recent is) adds)
 
   -- a change that is not flushed: the trees that a crash may leave from now on, and the device is as it was
-  pub applied_recent : (after : Tree) → ∥ Stands held.sectors held.limits.nodes (applied updates (applied_all log.list log.base)) held.run (with_tree held after) ∥₁
+  pub applied_recent : (after : Tree) → ∥ VolumeStands held.sectors held.limits.nodes (applied updates (applied_all log.list log.base)) held.run (with_tree held after) ∥₁
       → (recent : List Tree) → IsRecent held recent
       → IsRecent (record held { tree = after; fronts = fronts_from log.base (log.list ++ updates ∷ []) }) (after ∷ recent)
   applied_recent after behind recent is = record {
@@ -104,7 +104,7 @@ module _ (held : VolumeState) (log : Log) (size : held.sectors ≡ log.size) (hi
           let one = is.covers front (subst (λ (l : List Image). IsAmong l front) (sym fronts) old) in
           (one.0, among_rest after recent one.0 one.1, one.2)
       | inr new ↦
-          (after, (0, (omega arith, refl)), subst (λ (i : Image). ∥ Stands held.sectors held.limits.nodes i held.run (with_tree held after) ∥₁) (sym new) behind)
+          (after, (0, (omega arith, refl)), subst (λ (i : Image). ∥ VolumeStands held.sectors held.limits.nodes i held.run (with_tree held after) ∥₁) (sym new) behind)
     ];
     newest = (0, (omega arith, refl));
   }

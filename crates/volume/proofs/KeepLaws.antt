@@ -10,8 +10,8 @@ use Rattle.disk.proofs.MomentLemmas.{AddsOnly-join, AddsOnly-same, AddsOnly-weak
 use Rattle.layout.specs.Stands.{Kept}
 use Rattle.layout.proofs.KeptLaws.{same_kept}
 use Rattle.model.specs.Trees.Tree.{Tree}
-use Rattle.volume.specs.Changes.{Given, Ending, Done, Nothing, Broken, IsTree, Changes, ending_of}
-use Rattle.volume.specs.Formed.{Shows}
+use Rattle.volume.specs.Changes.{Given, Ending, Done, Nothing, Broken, IsTree, VolumeChanges, ending_of}
+use Rattle.volume.specs.Formed.{ShowsTree}
 use Rattle.volume.specs.VolumeState.{VolumeState, IsSameVolume, StandsForOne, IsLeft, MayAdd, AddsTrees, kept_of, with_tree}
 use Rattle.volume.specs.Shown.{ShowsAs}
 use Rattle.volume.specs.Stands.{StandsFor}
@@ -30,10 +30,10 @@ counted_later before between after later counted = elim counted [
 
 module _ (keeps_word : Type 0) (was between now : VolumeState) (after : Tree)
     (first middle last : ℕ)
-    (change : Changes keeps_word (λ kept lasts. (kept ≡ with_tree was after) × (lasts ≡ false)) was between first middle Done)
-    (shown : Shows keeps_word after between.tree) where
+    (change : VolumeChanges keeps_word (λ kept lasts. (kept ≡ with_tree was after) × (lasts ≡ false)) was between first middle Done)
+    (shown : ShowsTree keeps_word after between.tree) where
   abbrev Flushes : Ending → Type 0
-  Flushes ending = Changes keeps_word (IsTree between between.tree) between now middle last ending
+  Flushes ending = VolumeChanges keeps_word (IsTree between between.tree) between now middle last ending
 
   -- what stands for what is kept in between stands for what may be kept of the volume before
   one_before : (recent left : List Tree) (kept : Kept) → ((one : Tree) → IsAmong left one → IsAmong recent one ⊎ (one ≡ kept.tree))
@@ -73,7 +73,7 @@ module _ (keeps_word : Type 0) (was between now : VolumeState) (after : Tree)
     run = flush.same.run ∙ change.same.run;
   }
 
-  pub keep_done : Flushes Done → Changes keeps_word (IsTree was after) was now first last Done
+  pub keep_done : Flushes Done → VolumeChanges keeps_word (IsTree was after) was now first last Done
   keep_done flush = record {
     same = same_volume Done flush;
     later = omega (arith, change.later, flush.later);
@@ -107,7 +107,7 @@ module _ (keeps_word : Type 0) (was between now : VolumeState) (after : Tree)
       (λ (each : (kept : Kept) (lasts : Bool) → kept ≡ kept_of between → ShowsAs kept.tree now.tree). each (kept_of between) false refl)
       either
 
-  pub keep_broken : Flushes Broken → Changes keeps_word (IsTree was after) was now first last Broken
+  pub keep_broken : Flushes Broken → VolumeChanges keeps_word (IsTree was after) was now first last Broken
   keep_broken flush = record {
     same = same_volume Broken flush;
     later = omega (arith, change.later, flush.later);
@@ -122,7 +122,7 @@ module _ (keeps_word : Type 0) (was between now : VolumeState) (after : Tree)
 
   -- a flush is refused for the device alone, where the change answered
   pub keep_flushed : (result : Result (Unit {0}) VolumeFault) → Flushes (ending_of result) → (IsErrOf result faults.Down ↔ (between.is_down ≡ true))
-      → IfErr result (λ fault. (fault ≡ faults.Device) ⊎ (fault ≡ faults.Down)) → Changes keeps_word (IsTree was after) was now first last (ending_of result)
+      → IfErr result (λ fault. (fault ≡ faults.Device) ⊎ (fault ≡ faults.Down)) → VolumeChanges keeps_word (IsTree was after) was now first last (ending_of result)
   keep_flushed (Ok done) flush down refuses = keep_done flush
   keep_flushed (Err faults.Device) flush down refuses = keep_broken flush
   keep_flushed (Err faults.Down) flush down refuses = absurd (true≢false (sym (down.0 refl) ∙ change.ends.still_up))
@@ -131,8 +131,8 @@ module _ (keeps_word : Type 0) (was between now : VolumeState) (after : Tree)
 
 -- where the change did not answer, what is said of a change that may be lost holds of one that is kept
 pub unchanged : (keeps_word : Type 0) (was now : VolumeState) (after : Tree) (first last : ℕ) (ending : Ending) → (ending ≡ Done → ⊥)
-    → Changes keeps_word (λ kept lasts. (kept ≡ with_tree was after) × (lasts ≡ false)) was now first last ending
-    → Changes keeps_word (IsTree was after) was now first last ending
+    → VolumeChanges keeps_word (λ kept lasts. (kept ≡ with_tree was after) × (lasts ≡ false)) was now first last ending
+    → VolumeChanges keeps_word (IsTree was after) was now first last ending
 unchanged keeps_word was now after first last Done never change = absurd (never refl)
 unchanged keeps_word was now after first last Nothing never change = record {
   same = change.same;
@@ -158,15 +158,15 @@ unchanged keeps_word was now after first last Broken never change = record {
 
 -- which is where it was refused
 pub refused_unchanged : (keeps_word : Type 0) (was now : VolumeState) (after : Tree) (first last : ℕ) (fault : VolumeFault)
-    → Changes keeps_word (λ kept lasts. (kept ≡ with_tree was after) × (lasts ≡ false)) was now first last (ending_of {T = Unit {0}} (Err fault))
-    → Changes keeps_word (IsTree was after) was now first last (ending_of {T = Unit {0}} (Err fault))
+    → VolumeChanges keeps_word (λ kept lasts. (kept ≡ with_tree was after) × (lasts ≡ false)) was now first last (ending_of {T = Unit {0}} (Err fault))
+    → VolumeChanges keeps_word (IsTree was after) was now first last (ending_of {T = Unit {0}} (Err fault))
 refused_unchanged keeps_word was now after first last faults.NoSpace change = unchanged keeps_word was now after first last Nothing (λ done. cc) change
 refused_unchanged keeps_word was now after first last faults.Memory change = unchanged keeps_word was now after first last Nothing (λ done. cc) change
 refused_unchanged keeps_word was now after first last faults.Device change = unchanged keeps_word was now after first last Broken (λ done. cc) change
 refused_unchanged keeps_word was now after first last faults.Down change = unchanged keeps_word was now after first last Nothing (λ done. cc) change
 
 -- a call that ends before its change leaves all as it was
-pub left : (keeps_word : Type 0) (given : Given) (held : VolumeState) (failed : ℕ) → Changes keeps_word given held held failed failed Nothing
+pub left : (keeps_word : Type 0) (given : Given) (held : VolumeState) (failed : ℕ) → VolumeChanges keeps_word given held held failed failed Nothing
 left keeps_word given held failed = record {
   same = record { sectors = refl; limits = refl; run = refl };
   later = omega arith;

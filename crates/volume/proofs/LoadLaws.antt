@@ -18,7 +18,7 @@ use Rattle.layout.specs.Stands as layout
 use Rattle.inode.specs.declared.node.Form.TheVariants.{Two}
 use Rattle.layout.specs.Known.{AreCards}
 use Rattle.layout.specs.Rewriting.{all_second, in_second, second_image, IsLaidSecond}
-use Rattle.layout.specs.Stands.{Kept, MayKeep, Version, IsLaid, IsMark, current, version_by}
+use Rattle.layout.specs.Stands.{Kept, MayHaveSeats, Version, IsLaid, IsMark, current_version, version_by}
 use Rattle.layout.specs.Superblock.{is_size}
 use Rattle.layout.specs.declared.versions.VersionNumber.{VersionNumber}
 use Rattle.layout.proofs.FirstLaws.{sized_parts}
@@ -42,8 +42,8 @@ use Rattle.tree_check.specs.WellFormed.{AreWellFormed}
 use Rattle.tree_check.proofs.WholeLaws.{each_tree}
 use Rattle.volume.specs.Refusals.{mount_fault, table_fault}
 use Rattle.volume.specs.declared.fault.MountFault.TheVariants as mounts
-use Rattle.volume.specs.Known.{IsKnown}
-use Rattle.volume.specs.Stands.{Stands}
+use Rattle.volume.specs.Known.{AreKnownNodes}
+use Rattle.volume.specs.Stands.{VolumeStands}
 use Rattle.volume.specs.Superblock.{superblock}
 
 abbrev HoldsSectors : (size : ℕ) → Image → Type 0
@@ -71,7 +71,7 @@ module _ (number : VersionNumber) (mark : Option ℕ) (seats : Seats) (size node
   as_second = laid_as_second (version_by number mark seats) size nodes image cards laid below
 
   second_bytes : HoldBytes (second_image nodes image) (mark_in nodes (second_image nodes image))
-  second_bytes = marked_bytes (current no_seats) size nodes (second_image nodes image) second as_second.laid
+  second_bytes = marked_bytes (current_version no_seats) size nodes (second_image nodes image) second as_second.laid
       (λ n behind within. subst IsSector (sym ((then_second (version_by number mark seats) size nodes image cards laid below).region n behind within)) (sectors n within))
 
   same_tree : tree_of (second_image nodes image) second ≡ tree_of image second
@@ -83,7 +83,7 @@ module _ (number : VersionNumber) (mark : Option ℕ) (seats : Seats) (size node
 
   -- where they are well formed, their tree stands
   pub found_stands : run < 2 ^ 32 → image 0 ≡ superblock number size nodes run → AreWellFormed (limits_of size nodes) (stamp (run + 1) 0) second
-      → layout.Stands (version_by number mark seats) size nodes image run (tree_of image second)
+      → layout.TreeStands (version_by number mark seats) size nodes image run (tree_of image second)
   found_stands counted first well_formed =
       let both = each.0 well_formed in
       record {
@@ -97,23 +97,23 @@ module _ (number : VersionNumber) (mark : Option ℕ) (seats : Seats) (size node
       }
 
   -- and where they are not, none does
-  pub none_stands : (kept : Kept) → (AreWellFormed (limits_of size nodes) (stamp (run + 1) 0) second → ⊥) → Stands size nodes image run kept → ⊥
+  pub none_stands : (kept : Kept) → (AreWellFormed (limits_of size nodes) (stamp (run + 1) 0) second → ⊥) → VolumeStands size nodes image run kept → ⊥
   none_stands kept never stands = ∥∥₁_elim stands.stands.well_formed (Prim.hlevel props) (λ well_formed.
       let same : kept.tree ≡ tree_of (second_image nodes image) second = stands.stands.tree_is ∙ (ap (tree_of image) (sym read) ∙ sym as_second.tree) in
       never (each.1 (subst (IsWellFormed (limits_of size nodes)) same well_formed, subst (IsBefore (stamp (run + 1) 0)) same stands.stands.before)))
 
 -- what stands is laid in the version that the first sector tells
-pub laid_told : (number : VersionNumber) (size nodes run : ℕ) (image : Image) (kept : Kept) → image 0 ≡ superblock number size nodes run → Stands size nodes image run kept
-    → (mark : Option ℕ) × IsMark number nodes mark × MayKeep number mark kept.seats × IsLaid (version_by number mark kept.seats) size nodes image (cards_in nodes image)
+pub laid_told : (number : VersionNumber) (size nodes run : ℕ) (image : Image) (kept : Kept) → image 0 ≡ superblock number size nodes run → VolumeStands size nodes image run kept
+    → (mark : Option ℕ) × IsMark number nodes mark × MayHaveSeats number mark kept.seats × IsLaid (version_by number mark kept.seats) size nodes image (cards_in nodes image)
 laid_told number size nodes run image kept first stands =
     let parts = version_parts nodes stands.version kept.seats stands.is_version in
     let seats = kept.seats in
-    let there : layout.Stands (version_by parts.0 parts.1 seats) size nodes image run kept.tree =
-    subst (λ (version : Version). layout.Stands version size nodes image run kept.tree) parts.4 stands.stands in
+    let there : layout.TreeStands (version_by parts.0 parts.1 seats) size nodes image run kept.tree =
+    subst (λ (version : Version). layout.TreeStands version size nodes image run kept.tree) parts.4 stands.stands in
     let same : parts.0 ≡ number = one_number parts.0 number size nodes run size nodes run (sym (first_number parts.0 parts.1 seats size nodes run) ∙ (sym there.first ∙ first)) in (
       parts.1,
       subst (λ (n : VersionNumber). IsMark n nodes parts.1) same parts.2,
-      subst (λ (n : VersionNumber). MayKeep n parts.1 seats) same parts.3,
+      subst (λ (n : VersionNumber). MayHaveSeats n parts.1 seats) same parts.3,
       subst (λ (n : VersionNumber). IsLaid (version_by n parts.1 seats) size nodes image (cards_in nodes image)) same there.laid,
     )
 
@@ -127,7 +127,7 @@ some_form cards place card there = form_at (get_or cards place None) card (sym (
 
 -- the cached nodes are known on any device, once each has form two
 pub known_second : (sectors nodes : ℕ) (cards : List (Option CachedNode)) (places : List Bool) → AreCards nodes (mark_by (148 + nodes) places) cards
-    → sectors ≡ 148 + nodes + length places → IsKnown sectors nodes (all_second cards) places
+    → sectors ≡ 148 + nodes + length places → AreKnownNodes sectors nodes (all_second cards) places
 known_second sectors nodes cards places known whole = record {
   are_cards = known_as_second nodes (mark_by (148 + nodes) places) cards known;
   forms = λ place card there. some_form cards place card there;
@@ -138,7 +138,7 @@ known_second sectors nodes cards places known whole = record {
 pub second_numbered : (nodes : ℕ) (mark : ℕ → ℕ) (cards : List (Option CachedNode)) → AreCards nodes mark cards → AreNumbered (all_second cards)
 second_numbered nodes mark cards known place number there =
     let it = there_at (all_second cards) place number there in
-    let is = card_at nodes mark (all_second cards) place it.card (known_as_second nodes mark cards known) it.there in
+    let is = card_at nodes mark (all_second cards) place it.cached (known_as_second nodes mark cards known) it.there in
     omega (arith, is.number, it.number_is)
 
 -- what is asked of the table is asked of the cached nodes
@@ -173,7 +173,7 @@ allowed_few size nodes image mark cards laid allowed place card there = elim (ca
     none_some x e = cc
 
 -- so where a tree stands, few blocks do
-pub stands_few : (size nodes run : ℕ) (image : Image) (kept : Kept) → HoldsSectors size image → Stands size nodes image run kept
+pub stands_few : (size nodes run : ℕ) (image : Image) (kept : Kept) → HoldsSectors size image → VolumeStands size nodes image run kept
     → (AreFew (cards_in nodes image) → ⊥) → ⊥
 stands_few size nodes run image kept sectors stands never = ∥∥₁_elim stands.stands.well_formed (Prim.hlevel props) (λ well_formed.
     let cards = cards_in nodes image in

@@ -12,7 +12,7 @@ use Rattle.journal.proofs.Images.{put_same, put_other}
 use Rattle.layout.specs.CachedNodes.{node_sector}
 use Rattle.layout.specs.Rewriting.{all_second, in_form, IsRewritten}
 use Rattle.layout.specs.Stands as layout
-use Rattle.layout.specs.Stands.{By, IsMark, Kept, MayKeep, Version, version_1, version_2, version_by}
+use Rattle.layout.specs.Stands.{By, IsMark, Kept, MayHaveSeats, Version, version_1, version_2, version_by}
 use Rattle.layout.specs.declared.versions.VersionNumber.{VersionNumber}
 use Rattle.layout.specs.declared.versions.VersionNumber.TheVariants.{One, Two}
 use Rattle.layout.proofs.MarkOnce.{version_number}
@@ -20,7 +20,7 @@ use Rattle.layout.proofs.SeatLaws.{kept_later, version_spare}
 use Rattle.layout.proofs.Rewriting.{form_stays, rewritten_cards, rewritten_stands}
 use Rattle.model.specs.Sessions.Seats.{Seats}
 use Rattle.model.specs.Trees.Tree.{Tree}
-use Rattle.volume.specs.Mounts.{HasMoved, IsRaisedTo, StandsForEither, StandsIn}
+use Rattle.volume.specs.Mounts.{AllHaveMoved, IsRaisedTo, StandsForEither, StandsIn}
 use Rattle.volume.specs.Superblock.{superblock}
 use Rattle.volume.specs.declared.mount.Superblock.{Superblock}
 use Rattle.volume.proofs.StandLaws.{cards_same, sized, tree_same}
@@ -28,23 +28,23 @@ use Rattle.volume.proofs.StandLaws.{cards_same, sized, tree_same}
 abbrev pub first_update : (sectors nodes run : ℕ) → Update
 first_update sectors nodes run = record { target = 0; content = superblock Two sectors nodes run }
 
-all_two : (version : VersionNumber) (nodes : ℕ) (mark : Option ℕ) (seats : Seats) → HasMoved version nodes mark → (place : ℕ) → place < nodes
+all_two : (version : VersionNumber) (nodes : ℕ) (mark : Option ℕ) (seats : Seats) → AllHaveMoved version nodes mark → (place : ℕ) → place < nodes
     → (version_by version mark seats).form place ≡ forms.Two
 all_two One nodes mark seats moved place within =
     ap (λ (m : Option ℕ). (version_1 m).form place) moved
     ∙ ap (λ (past : Bool). let form : Form = if past then forms.One else forms.Two in form) (lt-leb nodes place within)
 all_two Two nodes mark seats moved place within = refl
 
-may_after : (version : VersionNumber) (nodes : ℕ) (mark : Option ℕ) (seats : Seats) → HasMoved version nodes mark → MayKeep version mark seats → MayKeep Two mark seats
-may_after One nodes mark seats moved none = subst (λ (m : Option ℕ). MayKeep Two m seats) (sym moved) none
+may_after : (version : VersionNumber) (nodes : ℕ) (mark : Option ℕ) (seats : Seats) → AllHaveMoved version nodes mark → MayHaveSeats version mark seats → MayHaveSeats Two mark seats
+may_after One nodes mark seats moved none = subst (λ (m : Option ℕ). MayHaveSeats Two m seats) (sym moved) none
 may_after Two nodes mark seats moved may = may
 
-mark_moved : (version : VersionNumber) (nodes : ℕ) (mark : Option ℕ) → HasMoved version nodes mark → IsMark Two nodes mark
+mark_moved : (version : VersionNumber) (nodes : ℕ) (mark : Option ℕ) → AllHaveMoved version nodes mark → IsMark Two nodes mark
 mark_moved One nodes mark moved = subst (IsMark Two nodes) (sym moved) refl
 mark_moved Two nodes mark moved = moved
 
 -- a mark of version 1 that tells all places, or one of version 2
-mark_before : (version : VersionNumber) (sectors nodes : ℕ) (mark : Option ℕ) → 0 < nodes → HasMoved version nodes mark → IsMark version nodes mark
+mark_before : (version : VersionNumber) (sectors nodes : ℕ) (mark : Option ℕ) → 0 < nodes → AllHaveMoved version nodes mark → IsMark version nodes mark
 mark_before One sectors nodes mark some moved = subst (IsMark One nodes) (sym moved) (some, omega arith)
 mark_before Two sectors nodes mark some moved = moved
 
@@ -59,7 +59,7 @@ module _ (found : Superblock) (base : Image) (counted : found.run + 1 < 2 ^ 32) 
   others : (n : ℕ) → 98 ≤ n → raised n ≡ base n
   others n above = put_other base (first_update found.sectors found.nodes (found.run + 1)) n (λ same. omega (arith, same, above))
 
-  module _ (mark : Option ℕ) (kept : Kept) (moved : HasMoved found.version found.nodes mark) (stood : StandsIn found mark base kept) where
+  module _ (mark : Option ℕ) (kept : Kept) (moved : AllHaveMoved found.version found.nodes mark) (stood : StandsIn found mark base kept) where
     abbrev tree : Tree
     tree = kept.tree
 
@@ -69,7 +69,7 @@ module _ (found : Superblock) (base : Image) (counted : found.run + 1 < 2 ^ 32) 
     abbrev is : Version
     is = version_2 mark kept.seats
 
-    stands : layout.Stands was found.sectors found.nodes base found.run tree
+    stands : layout.TreeStands was found.sectors found.nodes base found.run tree
     stands = stood.stands
 
     -- the count is raised, the version is 2, and nothing else changes

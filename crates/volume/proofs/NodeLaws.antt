@@ -8,7 +8,7 @@ use Rattle.layout.specs.CachedNodes.{CachedNode, byte_at, bytes_in, node_of, con
 use Rattle.layout.specs.Laid.{AreNumbered}
 use Rattle.layout.proofs.Answering.{tree-has}
 use Rattle.layout.proofs.Changing.{tree-lacks}
-use Rattle.node_table.specs.Tables.{number_of, number_at, HasNot}
+use Rattle.node_table.specs.Tables.{node_number, node_number_at, HasNoNode}
 use Rattle.model.specs.declared.node.NodeKind.{NodeKind}
 use Rattle.model.specs.declared.node.NodeKind.TheVariants as kind
 use Rattle.model.specs.Trees.Keyed.{at}
@@ -23,12 +23,12 @@ shows image kind.File card = record {
 }
 shows image kind.Directory card = refl
 
-shown_number : (card : CachedNode) (option : Option CachedNode) (number : ℕ) → option ≡ Some card → number_of option ≡ Some number → card.fields.number ≡ number
+shown_number : (card : CachedNode) (option : Option CachedNode) (number : ℕ) → option ≡ Some card → node_number option ≡ Some number → card.fields.number ≡ number
 shown_number card None number there is = absurd (cc)
 shown_number card (Some other) number there is = cc
 
 pub node_there : (image : Image) (cards : List (Option CachedNode)) (place number : ℕ) (card : CachedNode) → AreNumbered cards → get_or cards place None ≡ Some card
-    → number_at cards place ≡ Some number → IsNodeOf (tree_of image cards) number card
+    → node_number_at cards place ≡ Some number → IsNodeOf (tree_of image cards) number card
 unfolding node_of
 node_there image cards place number card apart there is =
     let same : card.fields.number ≡ number = shown_number card (get_or cards place None) number there is in
@@ -44,5 +44,5 @@ node_there image cards place number card apart there is =
       content = shows image card.fields.kind card;
     }
 
-pub none_there : (image : Image) (cards : List (Option CachedNode)) (number : ℕ) → HasNot cards number → at number (tree_of image cards) ≡ None
-none_there image cards number has_not = tree-lacks image cards number (λ i card there same. has_not i (ap number_of there ∙ ap (λ (n : ℕ). Some n) same))
+pub none_there : (image : Image) (cards : List (Option CachedNode)) (number : ℕ) → HasNoNode cards number → at number (tree_of image cards) ≡ None
+none_there image cards number has_not = tree-lacks image cards number (λ i card there same. has_not i (ap node_number there ∙ ap (λ (n : ℕ). Some n) same))

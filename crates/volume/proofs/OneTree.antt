@@ -8,7 +8,7 @@ use Rattle.layout.specs.Stands.{Kept}
 use Rattle.layout.proofs.KeptLaws.{one_kept}
 use Rattle.model.specs.Sessions.Seats.{Seats}
 use Rattle.model.specs.Trees.Tree.{Tree}
-use Rattle.volume.specs.Stands.{Stands, IsBase, IsOne, OneStands}
+use Rattle.volume.specs.Stands.{VolumeStands, IsBase, IsOne, OneStands}
 use Rattle.volume.proofs.StandLaws.{sized, stands_same}
 
 pub Tree-set : IsSet Tree
@@ -28,7 +28,7 @@ one_base : (sectors nodes run other_nodes other_run : ℕ) (kept other : Kept) (
 one_base sectors nodes run other_nodes other_run kept other image left right =
     let few = sized sectors nodes left.stands.stands.sized in
     let small : sectors < 2 ^ 32 = omega (arith, few.most) in
-    let here : Stands sectors nodes right.base run kept =
+    let here : VolumeStands sectors nodes right.base run kept =
     stands_same sectors nodes left.base right.base run kept (settles_once sectors image left.base right.base small left.settles right.settles) left.stands in
     let one = one_kept sectors sectors nodes other_nodes run other_run right.base kept other here right.stands in
     record { kept_is = one.kept_is; nodes_are = one.same.nodes_are; run_is = one.same.run_is }

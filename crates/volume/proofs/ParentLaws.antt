@@ -5,7 +5,7 @@ use Rattle.std.proofs.Math.Logic.{∥∥₁_elim}
 use Rattle.std.proofs.Props.{props}
 use Rattle.std.specs.List.{IsAmong}
 use Rattle.std.proofs.lemmas.Option.{same_Some}
-use Rattle.node_table.specs.Tables.{number_of, number_at, HasNot}
+use Rattle.node_table.specs.Tables.{node_number, node_number_at, HasNoNode}
 use Rattle.disk.specs.Moments.{Image}
 use Rattle.tree_transaction.specs.Nodes.{no_content, shown_of}
 use Rattle.tree_edits.specs.declared.edit.Edit.{Edit}
@@ -26,7 +26,7 @@ use Rattle.model.specs.Trees.Tree.{Tree, Node, DirEntry, File, bytes_of, names_o
 use Rattle.model.specs.Trees.WellFormed.{links_in, links_from, one_if}
 use Rattle.model.proofs.Trees.KeyedLaws.{at-with_same, at-with_other, at-without_same, at-without_other}
 use Rattle.directory.specs.declared.names.TheConstants.Names.{MAX_NAMES}
-use Rattle.volume.specs.ParentIndex.{HasName, AreParents}
+use Rattle.volume.specs.ParentIndex.{HasChild, AreParents}
 use Rattle.volume.proofs.ParentMoves.{KeepsNames, MovesName, each_kept, each_move}
 use Rattle.volume.proofs.ParentLinks.{own-places, no_other}
 use Rattle.volume.proofs.ParentTrees.{name_of_card, card_of_name}
@@ -215,15 +215,15 @@ module _ (held : VolumeState) (edits : List Edit) (change : IsChange held edits)
       ∙ ap (links_in number) (names-without_data (edited_by held edits) of)
 
   -- each name of another number was there
-  name_was : (of number : ℕ) → times number (named_by edits) ≡ 0 → HasName new of number → HasName old of number
+  name_was : (of number : ℕ) → times number (named_by edits) ≡ 0 → HasChild new of number → HasChild old of number
   name_was of number none has =
       let now = card_of_name nodes marked new new_known (λ n. []) number of has in
       name_there (omega (arith, links_edited edits (tree_without_data old) of number none, links_new of number, links_node of number (tree_without_data new) now.0 now.1.0, now.1.1))
     where
-      name_there : 0 < links_at (tree_without_data old) of number → HasName old of number
+      name_there : 0 < links_at (tree_without_data old) of number → HasChild old of number
       name_there some = by_node (at of (tree_without_data old)) refl some
         where
-          by_node : (found : Option Node) → at of (tree_without_data old) ≡ found → 0 < links_in number (names_of_node found) → HasName old of number
+          by_node : (found : Option Node) → at of (tree_without_data old) ≡ found → 0 < links_in number (names_of_node found) → HasChild old of number
           by_node None is leads = absurd (omega (arith, leads))
           by_node (Some node) is leads = name_of_card nodes mark old known (λ n. []) number of node is leads
 
@@ -231,8 +231,8 @@ module _ (held : VolumeState) (edits : List Edit) (change : IsChange held edits)
   count_is = new_known.count ∙ sym known.count
 
   -- each other node stood there
-  node_was : (place number : ℕ) → number_at new place ≡ Some number → (IsAmong (named_by edits) number → ⊥) → number_at old place ≡ Some number
-  node_was place number there off = ⊎_elim (λ (stood : number_at old place ≡ Some number). stood)
+  node_was : (place number : ℕ) → node_number_at new place ≡ Some number → (IsAmong (named_by edits) number → ⊥) → node_number_at old place ≡ Some number
+  node_was place number there off = ⊎_elim (λ (stood : node_number_at old place ≡ Some number). stood)
       (λ (among : IsAmong (made_by edits) number). absurd (⊎_elim
       (λ (none : made_by edits ≡ []). (let count : length (made_by edits) ≡ 0 = ap (λ (numbers : List ℕ). length numbers) none in (let ⊥_is : ⊥ = absurd (omega (arith, count, among.1.0)) in ⊥_is)))
       (λ (is : made_by edits ≡ named_by edits). off (subst (λ (numbers : List ℕ). IsAmong numbers number) is among))
@@ -253,14 +253,14 @@ module _ (held : VolumeState) (edits : List Edit) (change : IsChange held edits)
     put_is : IsPut (edited_by held edits) edits number directory
     put_is = put_some (edited_by held edits) edits number directory some (put held edits change)
 
-    name_put_there : HasName new directory number
+    name_put_there : HasChild new directory number
     name_put_there = by_node (at directory (tree_without_data new)) refl (omega (arith, links_behind directory number, put_is.leads))
       where
-        by_node : (found : Option Node) → at directory (tree_without_data new) ≡ found → 0 < links_in number (names_of_node found) → HasName new directory number
+        by_node : (found : Option Node) → at directory (tree_without_data new) ≡ found → 0 < links_in number (names_of_node found) → HasChild new directory number
         by_node None is leads = absurd (omega (arith, leads))
         by_node (Some node) is leads = name_of_card nodes marked new new_known (λ n. []) number directory node is leads
 
-    moves_name : (place : ℕ) → number_at new place ≡ Some number → MovesName old new number place directory
+    moves_name : (place : ℕ) → node_number_at new place ≡ Some number → MovesName old new number place directory
     moves_name place there = record {
       count = count_is;
       node = there;
@@ -277,12 +277,12 @@ module _ (held : VolumeState) (edits : List Edit) (change : IsChange held edits)
     parents_kept : put_by edits ≡ None → AreParents new parents
     parents_kept none = each_kept old new parents are (keeps_names none)
 
-    parents_put : (number directory place : ℕ) → put_by edits ≡ Some (number, directory) → number_at new place ≡ Some number → AreParents new (set parents place directory)
+    parents_put : (number directory place : ℕ) → put_by edits ≡ Some (number, directory) → node_number_at new place ≡ Some number → AreParents new (set parents place directory)
     parents_put number directory place some there = ∥∥₁_elim one_tree (Prim.hlevel props)
         (λ tree. each_move old new parents number place directory are (own-places new new_known.apart) tree (moves_name number directory some place there))
 
     -- the number is a node's
-    put_stands : (number directory : ℕ) → put_by edits ≡ Some (number, directory) → HasNot new number → ⊥
+    put_stands : (number directory : ℕ) → put_by edits ≡ Some (number, directory) → HasNoNode new number → ⊥
     put_stands number directory some lack = ∥∥₁_elim one_tree (Prim.hlevel props)
         (λ tree. (let name = name_put_there number directory some in no_other new tree number name.place lack name.leads))
 
@@ -292,7 +292,7 @@ module _ (held : VolumeState) (edits : List Edit) (change : IsChange held edits)
       where
         by_place : (number directory : ℕ) → put_by edits ≡ Some (number, directory) → Finds new number → AreParents new behind
         by_place number directory some (There place card there is) =
-            let stands : number_at new place ≡ Some number = ap number_of there ∙ ap Some is in
+            let stands : node_number_at new place ≡ Some number = ap node_number there ∙ ap Some is in
             subst (AreParents new) (sym (puts.some number directory place some stands)) (parents_put number directory place some stands)
         by_place number directory some (Nowhere none) = absurd (put_stands number directory some (λ place there. (let it = numbered new place number there in none place it.0 it.1.0 it.1.1)))
 

@@ -2,7 +2,7 @@
 use Rattle.std.proofs.Common.{◌≡◌, ◌≢◌, ◌≤◌, ◌<◌, ◌+◌, ℕ, zero, suc, List, [], ◌∷◌, Option, Some, None, get_or, refl, sym, ap, ◌∙◌, arith, inl, inr, eq-eqb, ne_eqb}
 use Rattle.std.proofs.lemmas.Bool.{cases_eq}
 use Rattle.std.proofs.lemmas.Option.{same_Some}
-use Rattle.node_table.specs.Tables.{number_at, number_of, HaveOwnPlaces, HasNot}
+use Rattle.node_table.specs.Tables.{node_number_at, node_number, HaveOwnPlaces, HasNoNode}
 use Rattle.layout.specs.CachedNodes.{CachedNode}
 use Rattle.layout.specs.Marks.{times}
 use Rattle.layout.specs.Laid.{AreNumbered}
@@ -13,7 +13,7 @@ use Rattle.model.proofs.Facts.OptionLaws.{some≢none}
 use Rattle.tree_check.specs.Trees.{led_at, led_by, IsOneTree}
 use Rattle.tree_check.proofs.TreeLaws.{numbered}
 use Rattle.tree_check.proofs.Counting.{root-others}
-use Rattle.volume.specs.ParentIndex.{LeadsTo, HasName}
+use Rattle.volume.specs.ParentIndex.{PlaceLeadsTo, HasChild}
 
 -- Names at places, and all names
 
@@ -35,7 +35,7 @@ led-two n (None ∷ cards) (suc p) (suc q) off = led-two n cards p q (omega arit
 led-two n (Some card ∷ cards) (suc p) (suc q) off = omega (arith, times-append n (numbers_of card.names) (entry_numbers cards), led-two n cards p q (omega arith))
 
 -- where a name leads to a number
-led-where : (n : ℕ) (cards : List (Option CachedNode)) → 0 < times n (entry_numbers cards) → (p : ℕ) × LeadsTo cards p n
+led-where : (n : ℕ) (cards : List (Option CachedNode)) → 0 < times n (entry_numbers cards) → (p : ℕ) × PlaceLeadsTo cards p n
 led-where n [] some = absurd (omega arith)
 led-where n (None ∷ cards) some = let found = led-where n cards some in (suc found.0, found.1)
 led-where n (Some card ∷ cards) some = elim (cases_eq (times n (numbers_of card.names)) 0) [
@@ -47,7 +47,7 @@ led-where n (Some card ∷ cards) some = elim (cases_eq (times n (numbers_of car
 
 -- The numbers of the nodes but the root
 
-others-lack : (n : ℕ) (cards : List (Option CachedNode)) → HasNot cards n → times n (other_numbers cards) ≡ 0
+others-lack : (n : ℕ) (cards : List (Option CachedNode)) → HasNoNode cards n → times n (other_numbers cards) ≡ 0
 others-lack n [] lack = refl
 others-lack n (None ∷ cards) lack = others-lack n cards (λ p. lack (suc p))
 others-lack n (Some card ∷ cards) lack =
@@ -76,7 +76,7 @@ others-few n (Some card ∷ cards) own =
       ]
     ]
 
-others-have : (n : ℕ) (cards : List (Option CachedNode)) (p : ℕ) → n ≢ root → number_at cards p ≡ Some n → 0 < times n (other_numbers cards)
+others-have : (n : ℕ) (cards : List (Option CachedNode)) (p : ℕ) → n ≢ root → node_number_at cards p ≡ Some n → 0 < times n (other_numbers cards)
 others-have n [] p off there = absurd (some≢none n (sym there))
 others-have n (None ∷ cards) zero off there = absurd (some≢none n (sym there))
 others-have n (None ∷ cards) (suc p) off there = others-have n cards p off there
@@ -91,10 +91,10 @@ others-have n (Some card ∷ cards) (suc p) off there =
     ]
 
 -- a name stands in a directory that has a number
-pub led-number : (cards : List (Option CachedNode)) (p n : ℕ) → LeadsTo cards p n → (directory : ℕ) × (number_at cards p ≡ Some directory)
+pub led-number : (cards : List (Option CachedNode)) (p n : ℕ) → PlaceLeadsTo cards p n → (directory : ℕ) × (node_number_at cards p ≡ Some directory)
 led-number cards p n leads = from (get_or cards p None) leads
   where
-    from : (card : Option CachedNode) → 0 < times n (led_by card) → (directory : ℕ) × (number_of card ≡ Some directory)
+    from : (card : Option CachedNode) → 0 < times n (led_by card) → (directory : ℕ) × (node_number card ≡ Some directory)
     from None some = absurd (omega arith)
     from (Some card) some = (card.fields.number, refl)
 
@@ -109,28 +109,28 @@ own-places cards apart p q n here there = elim (cases_eq p q) [
 ]
 
 module _ (cards : List (Option CachedNode)) (tree : IsOneTree cards) where
-  pub no_root : (p : ℕ) → LeadsTo cards p root → ⊥
+  pub no_root : (p : ℕ) → PlaceLeadsTo cards p root → ⊥
   no_root p leads = omega (arith, leads, led-one root cards p, tree.linked root, root-others cards)
 
   -- no name leads to no node
-  pub no_other : (n p : ℕ) → HasNot cards n → LeadsTo cards p n → ⊥
+  pub no_other : (n p : ℕ) → HasNoNode cards n → PlaceLeadsTo cards p n → ⊥
   no_other n p lack leads = omega (arith, leads, led-one n cards p, tree.linked n, others-lack n cards lack)
 
   -- each other node has a name
-  pub has_name : (n p : ℕ) → n ≢ root → number_at cards p ≡ Some n → (directory : ℕ) × HasName cards directory n
+  pub has_name : (n p : ℕ) → n ≢ root → node_number_at cards p ≡ Some n → (directory : ℕ) × HasChild cards directory n
   has_name n p off there =
       let found = led-where n cards (omega (arith, tree.linked n, others-have n cards p off there)) in
       let directory = led-number cards found.0 n found.1 in
       (directory.0, record { place = found.0; there = directory.1; leads = found.1 })
 
   module _ (own : HaveOwnPlaces cards) where
-    pub one_place : (n p q : ℕ) → LeadsTo cards p n → LeadsTo cards q n → p ≡ q
+    pub one_place : (n p q : ℕ) → PlaceLeadsTo cards p n → PlaceLeadsTo cards q n → p ≡ q
     one_place n p q here there = elim (cases_eq p q) [
       | inl same ↦ same
       | inr off ↦ absurd (omega (arith, here, there, led-two n cards p q off, tree.linked n, others-few n cards own))
     ]
 
-    pub one_name : (n a b : ℕ) → HasName cards a n → HasName cards b n → a ≡ b
+    pub one_name : (n a b : ℕ) → HasChild cards a n → HasChild cards b n → a ≡ b
     one_name n a b first second =
         let same = one_place n first.place second.place first.leads second.leads in
-        same_Some a b (sym first.there ∙ ap (number_at cards) same ∙ second.there)
+        same_Some a b (sym first.there ∙ ap (node_number_at cards) same ∙ second.there)

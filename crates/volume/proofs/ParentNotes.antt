@@ -4,7 +4,7 @@ use Rattle.std.proofs.lemmas.Bool.{cases_eq}
 use Rattle.std.proofs.lemmas.List.{length-set, get_or-set_same, get_or-set_other, get_or-map, length-map}
 use Rattle.std.proofs.lemmas.Option.{same_Some}
 use Rattle.directory.specs.Records.{Record}
-use Rattle.node_table.specs.Tables.{number_at, HasNot, HaveOwnPlaces}
+use Rattle.node_table.specs.Tables.{node_number_at, HasNoNode, HaveOwnPlaces}
 use Rattle.node_table.proofs.TableLaws.{within-numbered}
 use Rattle.layout.specs.CachedNodes.{CachedNode}
 use Rattle.layout.specs.Marks.{once_if, times}
@@ -14,7 +14,7 @@ use Rattle.model.specs.Trees.Tree.{root}
 use Rattle.tree_check.specs.Trees.{led_at, IsOneTree}
 use Rattle.tree_check.proofs.Sums.{take-one}
 use Rattle.volume.specs.ParentNotes.{IsNoted}
-use Rattle.volume.specs.ParentIndex.{LeadsTo, AreParents}
+use Rattle.volume.specs.ParentIndex.{PlaceLeadsTo, AreParents}
 use Rattle.volume.proofs.ParentLinks.{no_root, one_place}
 
 -- One name
@@ -29,7 +29,7 @@ module _ (cards : List (Option CachedNode)) (old now numbers : List ℕ) (direct
   off : (n : ℕ) → n ≢ number → once_if (eqb n number) ≡ 0
   off n apart = rw (ne_eqb n number apart) refl
 
-  note-found : HaveOwnPlaces cards → (place : ℕ) → number_at cards place ≡ Some number → place < length now
+  note-found : HaveOwnPlaces cards → (place : ℕ) → node_number_at cards place ≡ Some number → place < length now
       → IsNoted cards old (set now place directory) (numbers ++ number ∷ []) directory
   note-found own place is inside = record {
     count = length-set now place directory ∙ noted.count;
@@ -38,18 +38,18 @@ module _ (cards : List (Option CachedNode)) (old now numbers : List ℕ) (direct
           let at : p ≡ place = own p place number (there ∙ ap Some same) is in
           ap (λ k. get_or (set now place directory) k 0) at ∙ get_or-set_same now place directory 0 inside
       | inr apart ↦
-          get_or-set_other now place p directory 0 (λ at. apart (same_Some n number (sym there ∙ ap (number_at cards) at ∙ is)))
+          get_or-set_other now place p directory 0 (λ at. apart (same_Some n number (sym there ∙ ap (node_number_at cards) at ∙ is)))
           ∙ noted.led p n there (omega (arith, some, times-one n, off n apart))
     ];
     others = λ p n there none. elim (cases_eq n number) [
       | inl same ↦ absurd (omega (arith, none, times-one n, here n same))
       | inr apart ↦
-          get_or-set_other now place p directory 0 (λ at. apart (same_Some n number (sym there ∙ ap (number_at cards) at ∙ is)))
+          get_or-set_other now place p directory 0 (λ at. apart (same_Some n number (sym there ∙ ap (node_number_at cards) at ∙ is)))
           ∙ noted.others p n there (omega (arith, none, times-one n, off n apart))
     ];
   }
 
-  note-none : HasNot cards number → IsNoted cards old now (numbers ++ number ∷ []) directory
+  note-none : HasNoNode cards number → IsNoted cards old now (numbers ++ number ∷ []) directory
   note-none lack = record {
     count = noted.count;
     led = λ p n there some. elim (cases_eq n number) [
@@ -71,14 +71,14 @@ module _ (cards : List (Option CachedNode)) (old now : List ℕ) (directory i : 
       (let e : i + 1 ≡ suc i = omega arith in ap (λ n. take n all) e)
       ∙ (take-one all i 0 within ∙ ap (λ n. take i all ++ n ∷ []) number-is)
 
-  pub next-found : HaveOwnPlaces cards → (place : ℕ) → number_at cards place ≡ Some one.1.number → place < length now
+  pub next-found : HaveOwnPlaces cards → (place : ℕ) → node_number_at cards place ≡ Some one.1.number → place < length now
       → (new : List ℕ) → new ≡ set now place directory → IsNoted cards old new (take (i + 1) (numbers_of names)) directory
   next-found own place there low new set_is =
       subst (λ numbers. IsNoted cards old new numbers directory) (sym one-more)
       (subst (λ list. IsNoted cards old list (take i (numbers_of names) ++ one.1.number ∷ []) directory) (sym set_is)
       (note-found cards old now (take i (numbers_of names)) directory one.1.number noted own place there low))
 
-  pub next-none : HasNot cards one.1.number → (new : List ℕ) → new ≡ now → IsNoted cards old new (take (i + 1) (numbers_of names)) directory
+  pub next-none : HasNoNode cards one.1.number → (new : List ℕ) → new ≡ now → IsNoted cards old new (take (i + 1) (numbers_of names)) directory
   next-none lack new same =
       subst (λ numbers. IsNoted cards old new numbers directory) (sym one-more)
       (subst (λ list. IsNoted cards old list (take i (numbers_of names) ++ one.1.number ∷ []) directory) (sym same)
@@ -88,9 +88,9 @@ module _ (cards : List (Option CachedNode)) (old now : List ℕ) (directory i : 
 
 pub record AreNoted (cards : List (Option CachedNode)) (parents : List ℕ) (front : ℕ) : Type 0 where
   pub count : length parents ≡ length cards
-  pub named : (place number of directory : ℕ) → of < front → number_at cards place ≡ Some number
-      → number_at cards of ≡ Some directory → LeadsTo cards of number → get_or parents place 0 ≡ directory
-  pub nameless : (place number : ℕ) → number_at cards place ≡ Some number
+  pub named : (place number of directory : ℕ) → of < front → node_number_at cards place ≡ Some number
+      → node_number_at cards of ≡ Some directory → PlaceLeadsTo cards of number → get_or parents place 0 ≡ directory
+  pub nameless : (place number : ℕ) → node_number_at cards place ≡ Some number
       → ((of : ℕ) → of < front → times number (led_at cards of) ≡ 0) → get_or parents place 0 ≡ 0
 
 module _ (cards : List (Option CachedNode)) (tree : IsOneTree cards) (own : HaveOwnPlaces cards) (front : ℕ) (now : List ℕ) (noted : AreNoted cards now front) where
@@ -106,7 +106,7 @@ module _ (cards : List (Option CachedNode)) (tree : IsOneTree cards) (own : Have
     nameless = λ p n there all. noted.nameless p n there (λ of low. all of (omega (arith, low)));
   }
 
-  pub directory-noted : (new numbers : List ℕ) (directory : ℕ) → number_at cards front ≡ Some directory → led_at cards front ≡ numbers
+  pub directory-noted : (new numbers : List ℕ) (directory : ℕ) → node_number_at cards front ≡ Some directory → led_at cards front ≡ numbers
       → IsNoted cards now new numbers directory → AreNoted cards new (front + 1)
   directory-noted new numbers directory there_is led_is one = record {
     count = one.count ∙ noted.count;
@@ -118,7 +118,7 @@ module _ (cards : List (Option CachedNode)) (tree : IsOneTree cards) (own : Have
       | inr some ↦
           let led : times n (led_at cards front) ≡ times n numbers = ap (times n) led_is in
           let same : front ≡ of = one_place cards tree own n front of (omega (arith, led, some)) leads in
-          one.led p n there (omega (arith, some)) ∙ same_Some directory of_number (sym there_is ∙ ap (number_at cards) same ∙ at)
+          one.led p n there (omega (arith, some)) ∙ same_Some directory of_number (sym there_is ∙ ap (node_number_at cards) same ∙ at)
     ];
     nameless = λ p n there all.
         (let empty : times n numbers ≡ 0 = ap (times n) (sym led_is) ∙ all front (omega arith) in

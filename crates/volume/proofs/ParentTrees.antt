@@ -10,7 +10,7 @@ use Rattle.model.specs.Trees.WellFormed.{links_from}
 use Rattle.model.proofs.Trees.KeyedLaws.{at-first, at-rest, at-above}
 use Rattle.model.proofs.Facts.OptionLaws.{some≢none}
 use Rattle.model.proofs.Facts.BooleanLaws.{if_true, if_false}
-use Rattle.node_table.specs.Tables.{number_at, number_of, HasNot, count_of_all}
+use Rattle.node_table.specs.Tables.{node_number_at, node_number, HasNoNode, count_of_all}
 use Rattle.layout.specs.CachedNodes.{CachedNode, tree_of, node_of}
 use Rattle.layout.specs.Known.{AreCards}
 use Rattle.layout.specs.Marks.{times}
@@ -18,10 +18,10 @@ use Rattle.layout.specs.SumLaws.{numbers_of}
 use Rattle.layout.proofs.Answering.{tree-has}
 use Rattle.layout.proofs.Changing.{tree-above, tree-lacks}
 use Rattle.layout.proofs.Knowing.{AreEach, each_above, each_card}
-use Rattle.layout.proofs.Summing.{known_sum, links-card}
+use Rattle.layout.proofs.Summing.{known_sum, links-cached}
 use Rattle.tree_check.specs.Trees.{led_at, led_by, IsOneTree}
 use Rattle.tree_check.proofs.TreeLaws.{find, There, Nowhere, numbered}
-use Rattle.volume.specs.ParentIndex.{LeadsTo, HasName, AreParents}
+use Rattle.volume.specs.ParentIndex.{PlaceLeadsTo, HasChild, AreParents}
 use Rattle.volume.proofs.ParentLinks.{no_root, no_other, has_name}
 
 -- A tree's parents
@@ -75,18 +75,18 @@ module _ (nodes : ℕ) (mark : ℕ → ℕ) (cards : List (Option CachedNode)) (
 
   module _ (image : Image) (number : ℕ) where
     -- a name in the tree is one of the cached nodes
-    pub name_of_card : (key : ℕ) (node : Node) → at key (tree_of image cards) ≡ Some node → 0 < links_from number node → HasName cards key number
+    pub name_of_card : (key : ℕ) (node : Node) → at key (tree_of image cards) ≡ Some node → 0 < links_from number node → HasChild cards key number
     name_of_card key node is leads = elim (find cards key) [
       | There p card there same ↦
           let node_is : node_of image card ≡ node = same_Some (node_of image card) node (sym (tree-has image cards p card known.apart there) ∙ ap (λ n. at n (tree_of image cards)) same ∙ is) in
-          let links : links_from number node ≡ times number (numbers_of card.names) = ap (links_from number) (sym node_is) ∙ links-card number image card (is_card p card there) in
+          let links : links_from number node ≡ times number (numbers_of card.names) = ap (links_from number) (sym node_is) ∙ links-cached number image card (is_card p card there) in
           let led : times number (led_at cards p) ≡ times number (numbers_of card.names) = ap (λ (found : Option CachedNode). times number (led_by found)) there in
-          record { place = p; there = ap number_of there ∙ ap Some same; leads = omega arith }
+          record { place = p; there = ap node_number there ∙ ap Some same; leads = omega arith }
       | Nowhere none ↦ absurd (some≢none node (sym is ∙ tree-lacks image cards key none))
     ]
 
     -- and the other way
-    pub card_of_name : (directory : ℕ) → HasName cards directory number → (node : Node) × ((at directory (tree_of image cards) ≡ Some node) × (0 < links_from number node))
+    pub card_of_name : (directory : ℕ) → HasChild cards directory number → (node : Node) × ((at directory (tree_of image cards) ≡ Some node) × (0 < links_from number node))
     card_of_name directory has =
         let found = numbered cards has.place directory has.there in
         let card = found.0 in
@@ -95,11 +95,11 @@ module _ (nodes : ℕ) (mark : ℕ → ℕ) (cards : List (Option CachedNode)) (
           node_of image card,
           (
             ap (λ n. at n (tree_of image cards)) (sym found.1.1) ∙ tree-has image cards has.place card known.apart there,
-            omega (arith, led, has.leads, links-card number image card (is_card has.place card there)),
+            omega (arith, led, has.leads, links-cached number image card (is_card has.place card there)),
           ),
         )
 
-    pub no-parent : ((p : ℕ) → LeadsTo cards p number → ⊥) → parent_of (tree_of image cards) number ≡ 0
+    pub no-parent : ((p : ℕ) → PlaceLeadsTo cards p number → ⊥) → parent_of (tree_of image cards) number ≡ 0
     unfolding Never
     no-parent none = parent_none (tree_of image cards) 0 number (above image) (λ key node is. elim (cases_eq (links_from number node) 0) [
       | inl zero_links ↦ zero_links
@@ -107,11 +107,11 @@ module _ (nodes : ℕ) (mark : ℕ → ℕ) (cards : List (Option CachedNode)) (
     ])
 
     module _ (tree : IsOneTree cards) (parents : List ℕ) (are : AreParents cards parents) where
-      pub parent-there : (place : ℕ) → number_at cards place ≡ Some number → parent_of (tree_of image cards) number ≡ get_or parents place 0
+      pub parent-there : (place : ℕ) → node_number_at cards place ≡ Some number → parent_of (tree_of image cards) number ≡ get_or parents place 0
       unfolding Only
       parent-there place there = elim (cases_eq number root) [
         | inl is ↦
-            no-parent (λ p leads. no_root cards tree p (subst (LeadsTo cards p) is leads))
+            no-parent (λ p leads. no_root cards tree p (subst (PlaceLeadsTo cards p) is leads))
             ∙ sym (are.rooted place (there ∙ ap Some is))
         | inr off ↦
             let has = has_name cards tree number place off there in
@@ -120,7 +120,7 @@ module _ (nodes : ℕ) (mark : ℕ → ℕ) (cards : List (Option CachedNode)) (
             (λ key node is leads. sym (are.named place number key there (name_of_card key node is leads))) stands.1.0 stands.1.1
       ]
 
-      pub parent-nowhere : HasNot cards number → parent_of (tree_of image cards) number ≡ 0
+      pub parent-nowhere : HasNoNode cards number → parent_of (tree_of image cards) number ≡ 0
       parent-nowhere lack = no-parent (λ p leads. no_other cards tree number p lack leads)
 
 -- How many nodes the tree has

@@ -7,7 +7,7 @@ use Rattle.disk.specs.Moments.{Image}
 use Rattle.layout.specs.CachedNodes.{CachedNode, content_at, byte_at, bytes_in}
 use Rattle.layout.proofs.FileLaws.{in-block, zeros-at}
 use Rattle.volume.specs.FileBlocks.{GetsMore}
-use Rattle.volume.specs.FileParts.{Appends, IsFront}
+use Rattle.volume.specs.FileParts.{Appends, IsBytesFront}
 
 -- a part of one block: of its sector, or of a hole
 
@@ -63,7 +63,7 @@ part_on word image blocks offset done at more old mid new at_is first second = r
 
 -- what stands in front, and how many bytes come after it
 
-pub front_is : (old part new : List ℕ) → new ≡ old ++ part → IsFront old new
+pub front_is : (old part new : List ℕ) → new ≡ old ++ part → IsBytesFront old new
 front_is old part new is = ap (take (length old)) is ∙ take-append-le (length old) old part (omega arith) ∙ take_all (length old) old (omega arith)
 
 pub gets_more : (word : Type 0) (image : Image) (blocks : List (Option ℕ)) (offset count : ℕ) (old new : List ℕ) → Appends word image blocks offset count old new → GetsMore old new count

@@ -3,10 +3,10 @@ use Rattle.std.proofs.Common.{◌≡◌, ◌+◌, ℕ, Bool, List, Option, Some,
 use Rattle.std.proofs.lemmas.Bool.{cases_lt}
 use Rattle.std.specs.Prelude.{IsSome, IfSome, IfNone}
 use Rattle.disk.specs.Moments.{Image}
-use Rattle.node_table.specs.Tables.{number_at, HasNot}
+use Rattle.node_table.specs.Tables.{node_number_at, HasNoNode}
 use Rattle.layout.specs.CachedNodes.{CachedNode, bytes_in, content_of, node_of, tree_of}
 use Rattle.layout.specs.Laid.{AreNumbered}
-use Rattle.layout.specs.Marks.{named_by}
+use Rattle.layout.specs.Marks.{namings_of}
 use Rattle.layout.proofs.Answering.{tree-has}
 use Rattle.layout.proofs.Changing.{named-at}
 use Rattle.layout.proofs.Frame.{times_set-at}
@@ -16,18 +16,18 @@ use Rattle.model.specs.declared.node.NodeKind.TheVariants as kind
 use Rattle.model.specs.Operations.Files.{bytes_at, bytes_of_node}
 use Rattle.model.specs.Trees.Keyed.{at}
 use Rattle.model.specs.Trees.Tree.{Node, kind_of, bytes_of}
-use Rattle.volume.specs.FileBlocks.{AreWithin}
-use Rattle.volume.specs.Known.{IsKnown}
+use Rattle.volume.specs.FileBlocks.{FileWithin}
+use Rattle.volume.specs.Known.{AreKnownNodes}
 use Rattle.volume.specs.Reading.{HasFile}
 use Rattle.volume.proofs.NodeLaws.{node_there, none_there}
 
 -- its blocks are the volume's
-pub blocks_within : (size nodes place : ℕ) (cards : List (Option CachedNode)) (places : List Bool) (card : CachedNode) → IsKnown size nodes cards places → get_or cards place None ≡ Some card → AreWithin size card.blocks
-unfolding named_by
+pub blocks_within : (size nodes place : ℕ) (cards : List (Option CachedNode)) (places : List Bool) (card : CachedNode) → AreKnownNodes size nodes cards places → get_or cards place None ≡ Some card → FileWithin size card.blocks
+unfolding namings_of
 blocks_within size nodes place cards places card known there block sector is =
     let each = each_mark (148 + nodes) places 0 in
     let some = times_set-at card.blocks block sector is in
-    let here = ap (named_by sector) there in
+    let here = ap (namings_of sector) there in
     elim (cases_lt sector size) [
       | inl low ↦ low
       | inr high ↦ absurd (let none = each.within sector (omega (arith, known.whole)) in omega (arith, named-at sector cards place, known.are_cards.marks sector))
@@ -38,7 +38,7 @@ content_bytes image kind.File card is = refl
 content_bytes image kind.Directory card is = absurd (cc)
 
 -- its bytes are those of its cached node
-pub file_bytes : (image : Image) (cards : List (Option CachedNode)) (place number : ℕ) (card : CachedNode) → AreNumbered cards → get_or cards place None ≡ Some card → number_at cards place ≡ Some number
+pub file_bytes : (image : Image) (cards : List (Option CachedNode)) (place number : ℕ) (card : CachedNode) → AreNumbered cards → get_or cards place None ≡ Some card → node_number_at cards place ≡ Some number
     → HasFile (tree_of image cards) number → bytes_at (tree_of image cards) number ≡ bytes_in image card.blocks card.fields.size
 unfolding node_of
 file_bytes image cards place number card apart there is file =
@@ -49,7 +49,7 @@ file_bytes image cards place number card apart there is file =
     ap bytes_of_node found ∙ content_bytes image card.fields.kind card (ap (λ (n : Node). kind_of n.content) (sym node) ∙ file.file)
 
 -- and its place is there
-pub place_there : (image : Image) (cards : List (Option CachedNode)) (number : ℕ) (place : Option ℕ) → IfNone place (HasNot cards number) → HasFile (tree_of image cards) number → IsSome place
+pub place_there : (image : Image) (cards : List (Option CachedNode)) (number : ℕ) (place : Option ℕ) → IfNone place (HasNoNode cards number) → HasFile (tree_of image cards) number → IsSome place
 place_there image cards number (Some place) none file = refl
 place_there image cards number None none file = absurd (let lacks = none_there image cards number none in let there = file.there in cc)
 

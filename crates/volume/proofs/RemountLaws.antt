@@ -6,10 +6,10 @@ use Rattle.std.proofs.Math.Logic.{∥∥₁_elim, ∥∥₁_map, ∥∥₁_prop}
 use Rattle.std.proofs.Math.Path.{fun_ext}
 use Rattle.journal.proofs.Moments.{seen-may_hold}
 use Rattle.disk.specs.Moments.{Image, Moment, History, Left, LeftSince, LeftWithin, at_rest, moment, seen}
-use Rattle.layout.specs.Stands.{Kept, current_number}
+use Rattle.layout.specs.Stands.{Kept, served_version}
 use Rattle.volume.specs.Stands.{StandsFor, StandsForIn}
 use Rattle.volume.specs.VolumeState.{VolumeState, kept_of}
-use Rattle.volume.specs.Remounts.{AddsMount, IsFound, IsFront, Now, Before, Remounts, Stays, Mounts, Ends, Stops, StandsForGood, LeavesGood, ServesGood, EveryRemount, StillStands}
+use Rattle.volume.specs.Remounts.{AddsMount, IsFound, IsMomentOf, Now, Before, Remounts, Stays, Mounts, Ends, Stops, StandsForGood, LeavesGood, ServesGood, EveryRemount, StillStands}
 use Rattle.volume.proofs.OneTree.{one_stands}
 
 pub seen_left : (m : Moment) → Left m (seen m)
@@ -23,7 +23,7 @@ rests_left first image left = ⊎_elim
     left
 
 -- what a crash of a device may leave that was let go, it may have left of the device before
-front_left : (device earlier : History) (t : ℕ) (image : Image) → IsFront device earlier → t ≤ moment earlier → LeftSince earlier t image → LeftSince device t image
+front_left : (device earlier : History) (t : ℕ) (image : Image) → IsMomentOf device earlier → t ≤ moment earlier → LeftSince earlier t image → LeftSince device t image
 front_left device earlier t image Now late left = left
 front_left device earlier t image (Before {now = now} {before = before} {past = past} front) late left =
     front_left device (record { now = now; past = before ∷ past }) t image front (omega (arith, late)) (⊎_elim
@@ -51,16 +51,16 @@ module _ (sectors nodes run : ℕ) (good : Kept → Type 0) where
         leaves = λ image left. ∥∥₁_elim now ∥∥₁_prop (λ stood. ∥∥₁_elim stood.3 ∥∥₁_prop (λ base. ⊎_elim
             (λ (before : LeftSince old from image). was.leaves image before)
             (λ (either : StandsForIn base.stands.version.number sectors nodes (run + stood.2) stood.0 image
-            ⊎ StandsForIn current_number sectors nodes (run + stood.2 + 1) stood.0 image). ⊎_elim
+            ⊎ StandsForIn served_version sectors nodes (run + stood.2 + 1) stood.0 image). ⊎_elim
             (λ (same : StandsForIn base.stands.version.number sectors nodes (run + stood.2) stood.0 image).
             ∣ (stood.0, stood.1, stood.2, in_version base.stands.version.number sectors nodes (run + stood.2) stood.0 image same) ∣₁)
-            (λ (more : StandsForIn current_number sectors nodes (run + stood.2 + 1) stood.0 image).
+            (λ (more : StandsForIn served_version sectors nodes (run + stood.2 + 1) stood.0 image).
             ∣ (
               stood.0,
               stood.1,
               stood.2 + 1,
               subst (λ (r : ℕ). StandsFor sectors nodes r stood.0 image) (omega arith)
-                  (in_version current_number sectors nodes (run + stood.2 + 1) stood.0 image more),
+                  (in_version served_version sectors nodes (run + stood.2 + 1) stood.0 image more),
             ) ∣₁)
             either)
             ((adds nodes (run + stood.2) stood.0 base).added from image was.within left)));

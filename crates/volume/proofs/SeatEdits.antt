@@ -9,12 +9,12 @@ use Rattle.journal.specs.Layout.{targets}
 use Rattle.journal.proofs.Images.{Out, Fit, Out-join, applied_out}
 use Rattle.journal.proofs.Lists.{targets_of-Fit}
 use Rattle.layout.specs.Stands.{HoldSeats}
-use Rattle.model.specs.Sessions.SeatEdits.{SeatEdit, Stays, Frees, Takes, Holds, CanEditAll, edit_view, edits_view, edited, edited_all}
+use Rattle.model.specs.Sessions.SeatEdits.{SeatEdit, Stays, Frees, Takes, Holds, CanEditAll, edit_view, edits_view, edited_seat, edited_all}
 use Rattle.model.specs.Sessions.Seats.{HeldReply, Seat, Seats}
 use Rattle.model.specs.declared.seats.SeatEdit as code_edit
 use Rattle.model.specs.declared.seats.SeatEdits as code
 use Rattle.model.specs.declared.seats.SeatEdit.TheVariants as kinds
-use Rattle.seats.specs.Spelling.{ArePlaces, IsHeld, IsPlace, IsSeat, IsSlot, seat_sector}
+use Rattle.seats.specs.Spelling.{ArePlaces, IsHeld, IsSeatPlace, IsSeat, IsSlot, seat_sector}
 use Rattle.seats.proofs.Every.{every_held, every_seat}
 use Rattle.volume.specs.SeatTransactions.{AreUpdates}
 use Rattle.volume.specs.SeatUpdates.{edit_updates, updates_from}
@@ -94,7 +94,7 @@ all_short place (edit ∷ edits) =
 abbrev pub Lays : (place : ℕ) → Seats → Image → Type 0
 Lays place seats image = (j k : ℕ) → j < length seats → k < 9 → image (100 + 9 * (place + j) + k) ≡ seat_sector k (get_or seats j None)
 
-all_there : (place : ℕ) (edits : List SeatEdit) (seats : Seats) (image : Image) → AllByRecursion IsPlace seats → CanEditAll edits seats → Lays place seats image
+all_there : (place : ℕ) (edits : List SeatEdit) (seats : Seats) (image : Image) → AllByRecursion IsSeatPlace seats → CanEditAll edits seats → Lays place seats image
     → (j k : ℕ) → j < length seats → k < 9 → applied (updates_from place edits) image (100 + 9 * (place + j) + k) ≡ seat_sector k (get_or (edited_all edits seats) j None)
 all_there place [] seats image are can lays j k low small = lays j k low small
 all_there place (edit ∷ edits) [] image are can lays j k low small = absurd can
@@ -138,7 +138,7 @@ slots_set [] i held all is = tt
 slots_set (slot ∷ slots) zero held all is = (is, all.1)
 slots_set (slot ∷ slots) (suc i) held all is = (all.0, slots_set slots i held all.1 is)
 
-edited_place : (edit : SeatEdit) (old : Option Seat) → IsEdit edit → IsPlace old → IsPlace (edited edit old)
+edited_place : (edit : SeatEdit) (old : Option Seat) → IsEdit edit → IsSeatPlace old → IsSeatPlace (edited_seat edit old)
 edited_place Stays old edit is = is
 edited_place Frees old edit is = tt
 edited_place (Takes seat) old edit is = edit
@@ -154,7 +154,7 @@ edited_place (Holds slot held) (Some seat) edit is =
       slots = slots_set seat.slots slot held is.slots edit;
     }
 
-edited_places : (edits : List SeatEdit) (seats : Seats) → AllByRecursion IsEdit edits → AllByRecursion IsPlace seats → AllByRecursion IsPlace (edited_all edits seats)
+edited_places : (edits : List SeatEdit) (seats : Seats) → AllByRecursion IsEdit edits → AllByRecursion IsSeatPlace seats → AllByRecursion IsSeatPlace (edited_all edits seats)
 edited_places [] seats are places = places
 edited_places (edit ∷ edits) [] are places = tt
 edited_places (edit ∷ edits) (old ∷ seats) are places = (edited_place edit old are.0 places.0, edited_places edits seats are.1 places.1)

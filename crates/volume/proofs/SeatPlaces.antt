@@ -6,9 +6,9 @@ use Rattle.disk.specs.declared.update.Update.{Update}
 use Rattle.disk.specs.Moments.{Image, applied}
 use Rattle.journal.specs.Layout.{targets}
 use Rattle.journal.proofs.Images.{Out, Fit, applied_out}
-use Rattle.model.specs.Sessions.SeatEdits.{SeatEdit, Stays, Frees, Takes, Holds, CanEdit, edited}
+use Rattle.model.specs.Sessions.SeatEdits.{SeatEdit, Stays, Frees, Takes, Holds, CanEdit, edited_seat}
 use Rattle.model.specs.Sessions.Seats.{HeldReply, Seat, with_held}
-use Rattle.seats.specs.Spelling.{IsPlace, part_of, seat_sector, slot_text}
+use Rattle.seats.specs.Spelling.{IsSeatPlace, part_of, seat_sector, slot_text}
 use Rattle.seats.proofs.Edits.{held_sector, kept_sector}
 use Rattle.volume.specs.SeatUpdates.{row, edit_updates, slot_updates}
 use Rattle.volume.proofs.SeatRows.{row_out, row_fit, row_there, length-row}
@@ -104,8 +104,8 @@ module _ (place slot : ℕ) (held : HeldReply) (seat : Seat) (image : Image) (k 
       (cases_lt k 1)
 
 -- each sector of the place is that of the edited place
-pub edit_there : (place : ℕ) (edit : SeatEdit) (old : Option Seat) (k : ℕ) (image : Image) → IsPlace old → CanEdit edit old → k < 9
-    → image (100 + 9 * place + k) ≡ seat_sector k old → applied (edit_updates place edit) image (100 + 9 * place + k) ≡ seat_sector k (edited edit old)
+pub edit_there : (place : ℕ) (edit : SeatEdit) (old : Option Seat) (k : ℕ) (image : Image) → IsSeatPlace old → CanEdit edit old → k < 9
+    → image (100 + 9 * place + k) ≡ seat_sector k old → applied (edit_updates place edit) image (100 + 9 * place + k) ≡ seat_sector k (edited_seat edit old)
 edit_there place Stays old k image is can small there = there
 edit_there place Frees old k image is can small there = row_there (100 + 9 * place) 9 (λ i. seat_sector i None) k image small
 edit_there place (Takes seat) old k image is can small there = row_there (100 + 9 * place) 9 (λ i. seat_sector i (Some seat)) k image small

@@ -12,7 +12,7 @@ use Rattle.disk.specs.declared.update.Update.{Update}
 use Rattle.disk.proofs.MomentLemmas.{AddsOnly-join, AddsOnly-weaken}
 use Rattle.tree_edits.proofs.BlankLaws.{each_outline}
 use Rattle.journal.specs.Calls.{IsSafe, HasApplied, HasFlushed, list_with}
-use Rattle.journal.specs.Log.{Log, Answers, Moved, StandsForFront, contents, applied_all}
+use Rattle.journal.specs.Log.{Log, AnswersByDevice, Moved, StandsForFront, contents, applied_all}
 use Rattle.journal.specs.Settled.{AreSame, Settles}
 use Rattle.journal.specs.declared.fault.JournalFault.{JournalFault}
 use Rattle.journal.specs.declared.fault.JournalFault.TheVariants as faults
@@ -21,7 +21,7 @@ use Rattle.journal.proofs.Joins.{front_moved}
 use Rattle.layout.specs.CachedNodes.{CachedNode, cards_in, node_sector, tree_of}
 use Rattle.layout.specs.Rewriting.{IsRewritten}
 use Rattle.layout.specs.Stands as layout
-use Rattle.layout.specs.Stands.{HoldSeats, Kept, StandsNow, current, seats_at, spare_by}
+use Rattle.layout.specs.Stands.{HoldSeats, Kept, StandsNow, current_version, seats_at, spare_by}
 use Rattle.layout.proofs.Rewriting.{current_second, form_stays, rewritten_cards, rewritten_stands}
 use Rattle.layout.proofs.SeatLaws.{spare_seats}
 use Rattle.model.specs.declared.limits.Limits.{Limits}
@@ -30,11 +30,11 @@ use Rattle.model.specs.Sessions.Seats.{Seat, Seats}
 use Rattle.model.specs.Trees.Tree.{Tree}
 use Rattle.volume.specs.SeatTransactions.{AreUpdates}
 use Rattle.seats.specs.Spelling.{ArePlaces, seat_sector, seats_sector}
-use Rattle.volume.specs.Changes.{Done, Broken, IsSeats, Changes, ending_of}
+use Rattle.volume.specs.Changes.{Done, Broken, IsSeats, VolumeChanges, ending_of}
 use Rattle.volume.specs.VolumeState.{VolumeState, Holds, IsRecent, IsSameVolume, MayAdd, StandsForOne, AddsTrees, with_tree}
-use Rattle.volume.specs.Known.{IsServing, kept_in}
+use Rattle.volume.specs.Known.{IsServing, kept_in_image}
 use Rattle.volume.specs.Refusals.{fault_of}
-use Rattle.volume.specs.Stands.{Stands}
+use Rattle.volume.specs.Stands.{VolumeStands}
 use Rattle.volume.specs.Views.{volume_state_by}
 use Rattle.volume.proofs.ApplyLaws.{StandsWith, listed_with, moved_seats, moved_serves, moved_tree, stands_after, then_seats, then_serves, then_tree}
 use Rattle.volume.proofs.ChangeLaws.{StandsWith-prop}
@@ -51,7 +51,7 @@ behind_seats : (seats : Seats) (n : ℕ) → length seats ≡ 5 → 45 ≤ n →
 behind_seats seats n five low high = ap (seat_sector (n % 9)) (get_or_past seats (n / 9) None (omega (arith, five, low)))
 
 module _ (nodes run : ℕ) (log : Log) (cards : List (Option CachedNode)) (edits : List SeatEdit) (updates : List Update) (are : AreUpdates edits updates)
-    (read : cards ≡ cards_in nodes (contents log)) (stood : StandsNow log.size nodes (contents log) run (kept_in (contents log) cards))
+    (read : cards ≡ cards_in nodes (contents log)) (stood : StandsNow log.size nodes (contents log) run (kept_in_image (contents log) cards))
     (can : AreEdits run edits (seats_at (contents log))) where
   abbrev image : Image
   image = contents log
@@ -68,7 +68,7 @@ module _ (nodes run : ℕ) (log : Log) (cards : List (Option CachedNode)) (edits
   abbrev tree : Tree
   tree = tree_of image cards
 
-  stands : layout.Stands (current was) log.size nodes image run tree
+  stands : layout.TreeStands (current_version was) log.size nodes image run tree
   stands = stood.stands
 
   holds : HoldSeats image was
@@ -98,7 +98,7 @@ module _ (nodes run : ℕ) (log : Log) (cards : List (Option CachedNode)) (edits
       below : (n : ℕ) → n < 148 → (n ≡ 147 → ⊥) → 100 ≤ n → n - 100 < 47
       below n high other low = ⊎_elim (λ (less : n < 147). omega (arith, less, low)) (λ (no : 147 ≤ n). absurd (other (omega (arith, no, high)))) (cases_lt n 147)
 
-  rewrites : IsRewritten (current was) (current is) log.size nodes run image now
+  rewrites : IsRewritten (current_version was) (current_version is) log.size nodes run image now
   rewrites = record {
     first = are.others image 0 (inl (omega arith)) ∙ stands.first;
     others = record {
@@ -106,18 +106,18 @@ module _ (nodes run : ℕ) (log : Log) (cards : List (Option CachedNode)) (edits
       bitmap = λ n low high. are.others image n (inl high);
       spare = spare_is;
       nodes_are = λ place within. are.others image (node_sector place) (inr (omega arith))
-          ∙ sym (form_stays (current was) log.size nodes run image tree place stands within);
+          ∙ sym (form_stays (current_version was) log.size nodes run image tree place stands within);
       region = λ n low high. are.others image n (inr (omega (arith, low)));
     };
   }
 
-  now_stands : layout.Stands (current is) log.size nodes now run tree
-  now_stands = rewritten_stands (current was) (current is) log.size nodes run run image now tree stands (omega arith) stands.counted rewrites
+  now_stands : layout.TreeStands (current_version is) log.size nodes now run tree
+  now_stands = rewritten_stands (current_version was) (current_version is) log.size nodes run run image now tree stands (omega arith) stands.counted rewrites
 
   same_cards : cards_in nodes now ≡ cards_in nodes image
   same_cards =
       sym (current_second (cards_in nodes now) now_stands.laid.forms)
-      ∙ (rewritten_cards (current was) (current is) log.size nodes run run image now tree stands rewrites
+      ∙ (rewritten_cards (current_version was) (current_version is) log.size nodes run run image now tree stands rewrites
       ∙ current_second (cards_in nodes image) stands.laid.forms)
 
   pub seated_with : StandsWith nodes run log updates cards (record { tree = tree; seats = is })
@@ -175,7 +175,7 @@ module _ (keeps_word : Type 0) (limits : Limits) (run : ℕ) (cards : List (Opti
 
   -- each front of the list with the transaction stands for what a crash may leave, and all of it for the edited seats
   front_stands : keeps_word → (recent : List Tree) → IsRecent before recent → (count : ℕ) → count ≤ length all
-      → (kept : Kept) × MayAdd before recent after kept × ∥ Stands old.size limits.nodes (applied_all (take count all) old.base) run kept ∥₁
+      → (kept : Kept) × MayAdd before recent after kept × ∥ VolumeStands old.size limits.nodes (applied_all (take count all) old.base) run kept ∥₁
   front_stands k recent ready count few = ⊎_elim
       (λ (whole : length old.list < count).
       let many : length all ≡ length old.list + 1 = length-append old.list (updates ∷ []) in
@@ -183,14 +183,14 @@ module _ (keeps_word : Type 0) (limits : Limits) (run : ℕ) (cards : List (Opti
       let base : applied_all (take count all) old.base ≡ applied updates (contents old) = ap (λ (l : List (List Update)). applied_all l old.base) is_all ∙ applied_all-push old.list updates old.base in (
         after,
         inr refl,
-        subst (λ (image : Image). ∥ Stands old.size limits.nodes image run after ∥₁) (sym base) (stands_after limits.nodes run old updates cards after (behind k)),
+        subst (λ (image : Image). ∥ VolumeStands old.size limits.nodes image run after ∥₁) (sym base) (stands_after limits.nodes run old updates cards after (behind k)),
       ))
       (λ (part : count ≤ length old.list).
       let same : take count all ≡ take count old.list = take-append-le count old.list (updates ∷ []) part in
       let covered = ready.covers (applied_all (take count old.list) old.base) (front_among old.base old.list count part) in (
         with_tree before covered.0,
         inl (covered.1, refl),
-        subst (λ (l : List (List Update)). ∥ Stands old.size limits.nodes (applied_all l old.base) run (with_tree before covered.0) ∥₁) (sym same) covered.2,
+        subst (λ (l : List (List Update)). ∥ VolumeStands old.size limits.nodes (applied_all l old.base) run (with_tree before covered.0) ∥₁) (sym same) covered.2,
       ))
       (cases_lt (length old.list) count)
 
@@ -219,7 +219,7 @@ module _ (keeps_word : Type 0) (limits : Limits) (run : ℕ) (cards : List (Opti
         (AddsOnly-weaken (StandsForFront mid.size mid.base mid.list) (StandsForOne before (MayAdd before recent after)) mid.history new.history
         (mid_front k recent ready) (flushes.moments k)))
 
-    pub seated_done : last ≡ middle → new.is_down ≡ false → HasFlushed keeps_word mid new → Changes keeps_word (IsSeats before seats) before now_held first last Done
+    pub seated_done : last ≡ middle → new.is_down ≡ false → HasFlushed keeps_word mid new → VolumeChanges keeps_word (IsSeats before seats) before now_held first last Done
     seated_done none is_up flushed = record {
       same = same_volume;
       later = omega (arith, later, rises);
@@ -258,7 +258,7 @@ module _ (keeps_word : Type 0) (limits : Limits) (run : ℕ) (cards : List (Opti
     pub seated_tree : keeps_word → HasFlushed keeps_word mid new → now_held.tree ≡ before.tree
     seated_tree k flushed = flush_keeps keeps_word limits.nodes run cards mid new flushed mid_serves k ∙ mid_tree k
 
-    seated_broken : new.is_down ≡ true → IsCounted middle last → Changes keeps_word (IsSeats before seats) before now_held first last Broken
+    seated_broken : new.is_down ≡ true → IsCounted middle last → VolumeChanges keeps_word (IsSeats before seats) before now_held first last Broken
     seated_broken down counted = record {
       same = same_volume;
       later = omega (arith, later, rises);
@@ -272,8 +272,8 @@ module _ (keeps_word : Type 0) (limits : Limits) (run : ℕ) (cards : List (Opti
     }
 
     -- the flush is refused for the device alone
-    pub seated_refused : (fault : JournalFault) → Answers {T = Unit {0}} mid new middle last (Err fault) → (fault ≡ faults.Fault) ⊎ (fault ≡ faults.Down)
-        → Changes keeps_word (IsSeats before seats) before now_held first last (ending_of {T = Unit {0}} (Err (fault_of fault)))
+    pub seated_refused : (fault : JournalFault) → AnswersByDevice {T = Unit {0}} mid new middle last (Err fault) → (fault ≡ faults.Fault) ⊎ (fault ≡ faults.Down)
+        → VolumeChanges keeps_word (IsSeats before seats) before now_held first last (ending_of {T = Unit {0}} (Err (fault_of fault)))
     seated_refused faults.Fault answers refuses = seated_broken (answers.goes_down refl) (answers.counted refl)
     seated_refused faults.Down answers refuses = absurd (true≢false (sym (answers.down.0 refl) ∙ up))
     seated_refused faults.Memory answers refuses = absurd (⊎_elim (λ (is : faults.Memory ≡ faults.Fault). cc) (λ (is : faults.Memory ≡ faults.Down). cc) refuses)

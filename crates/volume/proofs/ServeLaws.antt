@@ -10,21 +10,21 @@ use Rattle.disk.specs.Moments.{Image}
 use Rattle.disk.proofs.MomentLemmas.{AddsOnly-weaken}
 use Rattle.tree_edits.proofs.BlankLaws.{each_outline}
 use Rattle.journal.specs.Calls.{IsSafe, HasFlushed}
-use Rattle.journal.specs.Log.{Log, IsSettled, StandsForFront, contents, applied_all, AddsFronts, Answers}
+use Rattle.journal.specs.Log.{Log, IsSettled, StandsForFront, contents, applied_all, AddsFronts, AnswersByDevice}
 use Rattle.journal.specs.Settled.{AreSame}
 use Rattle.layout.specs.CachedNodes.{CachedNode, tree_of, cards_in}
 use Rattle.layout.specs.MarkLaws.{SeesSame}
-use Rattle.layout.specs.Stands.{Kept, StandsNow, Version, current, seats_at}
+use Rattle.layout.specs.Stands.{Kept, StandsNow, Version, current_version, seats_at}
 use Rattle.layout.proofs.KeptLaws.{same_kept, stands_now}
 use Rattle.layout.proofs.MarkProofs.{kept_alone}
 use Rattle.model.specs.declared.limits.Limits.{Limits}
 use Rattle.journal.specs.declared.fault.JournalFault.{JournalFault}
 use Rattle.journal.specs.declared.fault.JournalFault.TheVariants as faults
-use Rattle.volume.specs.Changes.{Given, Done, Nothing, Broken, IsTree, Changes, ending_of}
+use Rattle.volume.specs.Changes.{Given, Done, Nothing, Broken, IsTree, VolumeChanges, ending_of}
 use Rattle.volume.specs.Refusals.{fault_of}
 use Rattle.volume.specs.VolumeState.{VolumeState, IsSameVolume, Holds, MayAdd, StandsForOne, AddsTrees, fronts_from, with_tree}
-use Rattle.volume.specs.Known.{IsServing, kept_in}
-use Rattle.volume.specs.Stands.{Stands}
+use Rattle.volume.specs.Known.{IsServing, kept_in_image}
+use Rattle.volume.specs.Stands.{VolumeStands}
 use Rattle.volume.specs.Views.{volume_state_by}
 use Rattle.volume.proofs.FrontLaws.{front_among}
 use Rattle.volume.proofs.OneTree.{Seats-set, Tree-set}
@@ -32,14 +32,14 @@ use Rattle.volume.proofs.StandLaws.{now_same, seats_same, sized}
 
 -- what serves stands with its seats
 pub served_stands : (nodes run : ℕ) (cards : List (Option CachedNode)) (log : Log) → IsServing log nodes run cards
-    → ∥ Stands log.size nodes (contents log) run (kept_in (contents log) cards) ∥₁
-served_stands nodes run cards log serving = ∥∥₁_map serving.stands (stands_now log.size nodes (contents log) run (kept_in (contents log) cards))
+    → ∥ VolumeStands log.size nodes (contents log) run (kept_in_image (contents log) cards) ∥₁
+served_stands nodes run cards log serving = ∥∥₁_map serving.stands (stands_now log.size nodes (contents log) run (kept_in_image (contents log) cards))
 
 module _ (nodes run : ℕ) (cards : List (Option CachedNode)) (old new : Log) (same : AreSame old.size (contents old) (contents new)) where
   abbrev now : Version
-  now = current (seats_at (contents old))
+  now = current_version (seats_at (contents old))
 
-  sees : StandsNow old.size nodes (contents old) run (kept_in (contents old) cards)
+  sees : StandsNow old.size nodes (contents old) run (kept_in_image (contents old) cards)
       → SeesSame now old.size nodes (contents old) (contents new) (cards_in nodes (contents old))
   sees stands =
       let parts = sized old.size nodes stands.stands.sized in
@@ -54,17 +54,17 @@ module _ (nodes run : ℕ) (cards : List (Option CachedNode)) (old new : Log) (s
   -- and the same seats
   pub seats_stay : IsServing old nodes run cards → seats_at (contents new) ≡ seats_at (contents old)
   seats_stay serving = ∥∥₁_elim serving.stands (Seats-set (seats_at (contents new)) (seats_at (contents old)))
-      (seats_same old.size nodes (contents old) (contents new) run (kept_in (contents old) cards) same)
+      (seats_same old.size nodes (contents old) (contents new) run (kept_in_image (contents old) cards) same)
 
-  pub kept_stays : IsServing old nodes run cards → kept_in (contents new) cards ≡ kept_in (contents old) cards
-  kept_stays serving = same_kept (kept_in (contents new) cards) (kept_in (contents old) cards) (tree_stays serving) (seats_stay serving)
+  pub kept_stays : IsServing old nodes run cards → kept_in_image (contents new) cards ≡ kept_in_image (contents old) cards
+  kept_stays serving = same_kept (kept_in_image (contents new) cards) (kept_in_image (contents old) cards) (tree_stays serving) (seats_stay serving)
 
   pub still_serving : new.size ≡ old.size → IsSettled new → IsServing old nodes run cards → ∥ IsServing new nodes run cards ∥₁
   still_serving size settled serving = ∥∥₁_map serving.stands (λ stands. record {
     read = serving.read ∙ sym (sees stands).same_cards;
-    stands = ∣ subst (λ (s : ℕ). StandsNow s nodes (contents new) run (kept_in (contents new) cards)) (sym size)
+    stands = ∣ subst (λ (s : ℕ). StandsNow s nodes (contents new) run (kept_in_image (contents new) cards)) (sym size)
         (subst (StandsNow old.size nodes (contents new) run) (sym (kept_stays serving))
-        (now_same old.size nodes (contents old) (contents new) run (kept_in (contents old) cards) same stands)) ∣₁;
+        (now_same old.size nodes (contents old) (contents new) run (kept_in_image (contents old) cards) same stands)) ∣₁;
     settled = settled;
   })
 
@@ -101,11 +101,11 @@ among_one only other among = by_place among.0 among.1.0 among.1.1
 
 -- where nothing is left to flush, each map left stands for what the base does, and so does its only front
 pub holds_base : (limits : Limits) (run : ℕ) (cards : List (Option CachedNode)) (log : Log) → log.list ≡ []
-    → ∥ Stands log.size limits.nodes (contents log) run (kept_in (contents log) cards) ∥₁ → IsSettled log → Holds (volume_state_by limits run cards log)
+    → ∥ VolumeStands log.size limits.nodes (contents log) run (kept_in_image (contents log) cards) ∥₁ → IsSettled log → Holds (volume_state_by limits run cards log)
 holds_base limits run cards log listed stands settled =
     let base : contents log ≡ log.base = ap (λ l. applied_all l log.base) listed in
-    let kept = kept_in (contents log) cards in
-    let here : ∥ Stands log.size limits.nodes log.base run kept ∥₁ = subst (λ (image : Image). ∥ Stands log.size limits.nodes image run kept ∥₁) base stands in
+    let kept = kept_in_image (contents log) cards in
+    let here : ∥ VolumeStands log.size limits.nodes log.base run kept ∥₁ = subst (λ (image : Image). ∥ VolumeStands log.size limits.nodes image run kept ∥₁) base stands in
     let only : fronts_from log.base log.list ≡ log.base ∷ [] = ap (fronts_from log.base) listed in
     record {
       leaves = λ image left. (
@@ -116,7 +116,7 @@ holds_base limits run cards log listed stands settled =
       covers = λ front among. (
         kept.tree,
         (0, (omega arith, refl)),
-        subst (λ (i : Image). ∥ Stands log.size limits.nodes i run kept ∥₁) (sym (among_one log.base front (subst (λ (l : List Image). IsAmong l front) only among))) here,
+        subst (λ (i : Image). ∥ VolumeStands log.size limits.nodes i run kept ∥₁) (sym (among_one log.base front (subst (λ (l : List Image). IsAmong l front) only among))) here,
       );
       newest = (0, (omega arith, refl));
     }
@@ -140,7 +140,7 @@ module _ (keeps_word : Type 0) (limits : Limits) (run : ℕ) (cards : List (Opti
   IsUp = keeps_word → ∥ IsServing old limits.nodes run cards ∥₁
 
   module _ (safe : IsSafe keeps_word old new) (later : before ≤ after) where
-    pub flush_done : after ≡ before → new.is_down ≡ false → HasFlushed keeps_word old new → IsUp → Changes keeps_word (IsTree was was.tree) was is before after Done
+    pub flush_done : after ≡ before → new.is_down ≡ false → HasFlushed keeps_word old new → IsUp → VolumeChanges keeps_word (IsTree was was.tree) was is before after Done
     flush_done told false_from_ne_true flushed serves = record {
       same = same_volume safe.size;
       later = later;
@@ -169,7 +169,7 @@ module _ (keeps_word : Type 0) (limits : Limits) (run : ℕ) (cards : List (Opti
             (∥∥₁_elim (serves k) ∥∥₁_prop (λ serving. ∥∥₁_elim (still_serving limits.nodes run cards old new (flushed.contents k) safe.size (safe.settled k false_from_ne_true) serving) ∥∥₁_prop (served_stands limits.nodes run cards new)))
             (safe.settled k false_from_ne_true)
 
-    pub flush_broken : (given : Given) → new.is_down ≡ true → IsCounted before after → Changes keeps_word given was is before after Broken
+    pub flush_broken : (given : Given) → new.is_down ≡ true → IsCounted before after → VolumeChanges keeps_word given was is before after Broken
     flush_broken given down counted = record {
       same = same_volume safe.size;
       later = later;
@@ -182,7 +182,7 @@ module _ (keeps_word : Type 0) (limits : Limits) (run : ℕ) (cards : List (Opti
       };
     }
 
-    pub flush_nothing : (given : Given) → after ≡ before → new ≡ old → Changes keeps_word given was is before after Nothing
+    pub flush_nothing : (given : Given) → after ≡ before → new ≡ old → VolumeChanges keeps_word given was is before after Nothing
     flush_nothing given told same = record {
       same = same_volume safe.size;
       later = later;
@@ -199,14 +199,14 @@ down_up : (b : Bool) → b ≡ true → b ≡ false → ⊥
 down_up b down is_up = cc
 
 -- a call that answered found the journal up and left it up
-pub found_up : (old new : Log) (before after : ℕ) (done : Unit {0}) → Answers old new before after (Ok done) → (old.is_down ≡ false) × (new.is_down ≡ false)
+pub found_up : (old new : Log) (before after : ℕ) (done : Unit {0}) → AnswersByDevice old new before after (Ok done) → (old.is_down ≡ false) × (new.is_down ≡ false)
 found_up old new before after done answers =
     let found : old.is_down ≡ false = false_from_ne_true old.is_down (λ down. let told = answers.down.1 down in cc) in
     (found, answers.stays_up found (λ fault. cc))
 
 -- a call that leaves it up has answered
 pub up_answered : (keeps_word : Type 0) (old new : Log) (before after : ℕ) (P : Type 0) (result : Result (Unit {0}) JournalFault) → OnOk result P
-    → Answers old new before after result → IfErr result (λ fault. (fault ≡ faults.Fault) ⊎ (fault ≡ faults.Down)) → new.is_down ≡ false
+    → AnswersByDevice old new before after result → IfErr result (λ fault. (fault ≡ faults.Fault) ⊎ (fault ≡ faults.Down)) → new.is_down ≡ false
     → P × (old.is_down ≡ false)
 up_answered keeps_word old new before after P (Ok done) answered answers refuses is_up = (answered, (found_up old new before after done answers).0)
 up_answered keeps_word old new before after P (Err fault) answered answers refuses is_up = ⊎_elim
@@ -215,8 +215,8 @@ up_answered keeps_word old new before after P (Err fault) answered answers refus
     refuses
 
 pub flush_refused : (keeps_word : Type 0) (given : Given) (limits : Limits) (run : ℕ) (cards : List (Option CachedNode)) (old new : Log) (before after : ℕ) (fault : JournalFault)
-    → IsSafe keeps_word old new → Answers {T = Unit {0}} old new before after (Err fault) → (fault ≡ faults.Fault) ⊎ (fault ≡ faults.Down)
-    → Changes keeps_word given (volume_state_by limits run cards old) (volume_state_by limits run cards new) before after (ending_of {T = Unit {0}} (Err (fault_of fault)))
+    → IsSafe keeps_word old new → AnswersByDevice {T = Unit {0}} old new before after (Err fault) → (fault ≡ faults.Fault) ⊎ (fault ≡ faults.Down)
+    → VolumeChanges keeps_word given (volume_state_by limits run cards old) (volume_state_by limits run cards new) before after (ending_of {T = Unit {0}} (Err (fault_of fault)))
 flush_refused keeps_word given limits run cards old new before after faults.Fault safe answers refuses =
     flush_broken keeps_word limits run cards old new before after safe answers.later given (answers.goes_down refl) (answers.counted refl)
 flush_refused keeps_word given limits run cards old new before after faults.Down safe answers refuses =

@@ -5,13 +5,13 @@ use Rattle.disk.specs.Moments.{Image}
 use Rattle.journal.specs.Settled.{AreSame}
 use Rattle.layout.specs.CachedNodes.{cards_in}
 use Rattle.layout.specs.Stands as layout
-use Rattle.layout.specs.Stands.{Kept, StandsNow, current, seats_at}
+use Rattle.layout.specs.Stands.{Kept, StandsNow, current_version, seats_at}
 use Rattle.layout.specs.Superblock.{is_size}
 use Rattle.layout.proofs.FirstLaws.{Sized, sized_parts}
 use Rattle.layout.proofs.KeptLaws.{now_told}
 use Rattle.layout.proofs.MarkProofs.{kept_alone, stands_alone}
 use Rattle.model.specs.Trees.Tree.{Tree}
-use Rattle.volume.specs.Stands.{Stands}
+use Rattle.volume.specs.Stands.{VolumeStands}
 
 pub sized : (sectors nodes : ℕ) → IsTrue (is_size sectors nodes) → Sized sectors nodes
 sized = sized_parts
@@ -21,7 +21,7 @@ large sectors nodes size = search rules
 
 -- the volume is the same where the kept sectors are
 pub stands_same : (sectors nodes : ℕ) (a b : Image) (run : ℕ) (kept : Kept) → AreSame sectors a b
-    → Stands sectors nodes a run kept → Stands sectors nodes b run kept
+    → VolumeStands sectors nodes a run kept → VolumeStands sectors nodes b run kept
 stands_same sectors nodes a b run kept same stands =
     let enough : 256 ≤ sectors = large sectors nodes stands.stands.sized in
     record {
@@ -34,7 +34,7 @@ stands_same sectors nodes a b run kept same stands =
 
 -- so it is in one version
 pub tree_same : (version : layout.Version) (sectors nodes : ℕ) (a b : Image) (run : ℕ) (tree : Tree) → AreSame sectors a b
-    → layout.Stands version sectors nodes a run tree → layout.Stands version sectors nodes b run tree
+    → layout.TreeStands version sectors nodes a run tree → layout.TreeStands version sectors nodes b run tree
 tree_same version sectors nodes a b run tree same stands =
     let enough : 256 ≤ sectors = large sectors nodes stands.sized in
     stands_alone version sectors nodes a b run tree stands (sym (same 0 (inl refl, omega (arith, enough))))
@@ -44,7 +44,7 @@ tree_same version sectors nodes a b run tree same stands =
 pub now_same : (sectors nodes : ℕ) (a b : Image) (run : ℕ) (kept : Kept) → AreSame sectors a b → StandsNow sectors nodes a run kept → StandsNow sectors nodes b run kept
 now_same sectors nodes a b run kept same now = record {
   keeps = now.keeps;
-  stands = tree_same (current kept.seats) sectors nodes a b run kept.tree same now.stands;
+  stands = tree_same (current_version kept.seats) sectors nodes a b run kept.tree same now.stands;
 }
 
 pub seats_same : (sectors nodes : ℕ) (a b : Image) (run : ℕ) (kept : Kept) → AreSame sectors a b → StandsNow sectors nodes a run kept → seats_at b ≡ seats_at a
@@ -53,7 +53,7 @@ seats_same sectors nodes a b run kept same now =
 
 -- and so are the cached nodes
 pub cards_same : (version : layout.Version) (sectors nodes : ℕ) (a b : Image) (run : ℕ) (tree : Tree) → AreSame sectors a b
-    → layout.Stands version sectors nodes a run tree → cards_in nodes b ≡ cards_in nodes a
+    → layout.TreeStands version sectors nodes a run tree → cards_in nodes b ≡ cards_in nodes a
 cards_same version sectors nodes a b run tree same stands =
     let parts = sized sectors nodes stands.sized in
     (kept_alone version sectors nodes a b (cards_in nodes a) (omega (arith, parts.room)) stands.laid

@@ -9,18 +9,18 @@ use Rattle.journal.specs.Log.{Log}
 use Rattle.layout.specs.CachedNodes.{CachedNode, cards_in, tree_of}
 use Rattle.layout.specs.Rewriting.{all_second}
 use Rattle.layout.specs.Stands as layout
-use Rattle.layout.specs.Stands.{IsMark, Kept, MayKeep, StandsNow, bare, current, current_number, mark_held, moved_by, number_of, version_1, version_2, version_by}
+use Rattle.layout.specs.Stands.{IsMark, Kept, MayHaveSeats, StandsNow, bare, current_version, served_version, mark_held, moved_by, number_of_version, version_1, version_2, version_by}
 use Rattle.layout.specs.Superblock.{is_size}
 use Rattle.layout.specs.declared.versions.VersionNumber.{VersionNumber}
 use Rattle.layout.specs.declared.versions.VersionNumber.TheVariants.{One, Two}
 use Rattle.layout.proofs.KeptLaws.{same_kept}
 use Rattle.layout.proofs.MarkOnce.{stands_told}
 use Rattle.layout.proofs.Rewriting.{current_second}
-use Rattle.migration.specs.Migrations.{Begins, StandsStill, AddsStill, HasMovedAll, Rests}
+use Rattle.migration.specs.Migrations.{BeginsMoving, StandsStill, AddsStill, HasMovedAll, Rests}
 use Rattle.model.specs.Sessions.Seats.{Seats, no_seats}
 use Rattle.model.specs.Trees.Tree.{Tree}
 use Rattle.volume.specs.Loads.{AreLoaded, HoldsVolume, read_as}
-use Rattle.volume.specs.Mounts.{AddsRaised, IsAtRest, HasMoved, IsRaisedTo, RaisesSafely, StandsForEither, StandsIn, StandsOn}
+use Rattle.volume.specs.Mounts.{AddsRaised, IsAtRest, AllHaveMoved, IsRaisedTo, RaisesSafely, StandsForEither, StandsIn, StandsOn}
 use Rattle.volume.specs.Stands.{StandsForIn}
 use Rattle.volume.specs.Starts.{HasMovedTo, IsCleared, ServesFrom, StandsInSecond, is_marked, moved_mark}
 use Rattle.volume.specs.declared.mount.Superblock.{Superblock}
@@ -52,20 +52,20 @@ module _ (keeps_word : Type 0) (found : Superblock) (mark : Option ℕ) (cards :
   count : length cards ≡ found.nodes
   count = loaded.known.are_cards.count
 
-  as_one : (kept : Kept) → StandsIn found mark old.base kept → layout.Stands (version_1 mark) old.size (length cards) old.base found.run kept.tree
+  as_one : (kept : Kept) → StandsIn found mark old.base kept → layout.TreeStands (version_1 mark) old.size (length cards) old.base found.run kept.tree
   as_one kept stands =
-      subst (λ (s : ℕ). layout.Stands (version_1 mark) s (length cards) old.base found.run kept.tree) size
-      (subst (λ (n : ℕ). layout.Stands (version_1 mark) found.sectors n old.base found.run kept.tree) (sym count)
-      (subst (λ (v : VersionNumber). layout.Stands (version_by v mark kept.seats) found.sectors found.nodes old.base found.run kept.tree) one stands.stands))
+      subst (λ (s : ℕ). layout.TreeStands (version_1 mark) s (length cards) old.base found.run kept.tree) size
+      (subst (λ (n : ℕ). layout.TreeStands (version_1 mark) found.sectors n old.base found.run kept.tree) (sym count)
+      (subst (λ (v : VersionNumber). layout.TreeStands (version_by v mark kept.seats) found.sectors found.nodes old.base found.run kept.tree) one stands.stands))
 
   -- what stands in version 1 keeps no seat
   is_bare : (kept : Kept) → StandsIn found mark old.base kept → kept.seats ≡ no_seats
-  is_bare kept stands = subst (λ (v : VersionNumber). MayKeep v mark kept.seats) one stands.may
+  is_bare kept stands = subst (λ (v : VersionNumber). MayHaveSeats v mark kept.seats) one stands.may
 
   as_bare : (kept : Kept) → StandsIn found mark old.base kept → bare kept.tree ≡ kept
   as_bare kept stands = same_kept (bare kept.tree) kept refl (sym (is_bare kept stands))
 
-  pub begins : keeps_word → (kept : Kept) → StandsIn found mark old.base kept → Begins mark (moved_by mark) found.run kept.tree cards old
+  pub begins : keeps_word → (kept : Kept) → StandsIn found mark old.base kept → BeginsMoving mark (moved_by mark) found.run kept.tree cards old
   begins k kept stands = record {
     marked = subst (λ (n : ℕ). IsMark One n mark) (sym count) (subst (λ (v : VersionNumber). IsMark v found.nodes mark) one loaded.marked);
     told = refl;
@@ -74,8 +74,8 @@ module _ (keeps_word : Type 0) (found : Superblock) (mark : Option ℕ) (cards :
   }
 
   pub moves_safely : (kept : Kept) → StandsIn found mark old.base kept → AddsStill 1 (length cards) found.run kept.tree old new
-      → AddsOnly (StandsForIn (number_of found.version) found.sectors found.nodes found.run kept) old.history new.history
-  moves_safely kept stands adds = subst (λ (v : VersionNumber). AddsOnly (StandsForIn (number_of v) found.sectors found.nodes found.run kept) old.history new.history) (sym one)
+      → AddsOnly (StandsForIn (number_of_version found.version) found.sectors found.nodes found.run kept) old.history new.history
+  moves_safely kept stands adds = subst (λ (v : VersionNumber). AddsOnly (StandsForIn (number_of_version v) found.sectors found.nodes found.run kept) old.history new.history) (sym one)
       (subst (λ (n : ℕ). AddsOnly (StandsForIn 1 found.sectors n found.run kept) old.history new.history) count
       (subst (λ (of : Kept). AddsOnly (StandsForIn 1 found.sectors (length cards) found.run of) old.history new.history) (as_bare kept stands)
       (still_for 1 found.sectors (length cards) found.run kept.tree old new size adds)))
@@ -86,11 +86,11 @@ module _ (keeps_word : Type 0) (found : Superblock) (mark : Option ℕ) (cards :
       let is = has mark found.run tree (begins k kept stands) in
       record {
         stands = record {
-          may = subst (λ (v : VersionNumber). MayKeep v (moved_mark v found.nodes mark) kept.seats) (sym one) (is_bare kept stands);
+          may = subst (λ (v : VersionNumber). MayHaveSeats v (moved_mark v found.nodes mark) kept.seats) (sym one) (is_bare kept stands);
           keeps = stands.keeps;
-          stands = subst (λ (v : VersionNumber). layout.Stands (version_by v (moved_mark v found.nodes mark) kept.seats) found.sectors found.nodes new.base found.run tree) (sym one)
-              (subst (λ (n : ℕ). layout.Stands (version_1 (Some n)) found.sectors n new.base found.run tree) count
-              (subst (λ (s : ℕ). layout.Stands (version_1 (Some (length cards))) s (length cards) new.base found.run tree) (sym size) is.stands));
+          stands = subst (λ (v : VersionNumber). layout.TreeStands (version_by v (moved_mark v found.nodes mark) kept.seats) found.sectors found.nodes new.base found.run tree) (sym one)
+              (subst (λ (n : ℕ). layout.TreeStands (version_1 (Some n)) found.sectors n new.base found.run tree) count
+              (subst (λ (s : ℕ). layout.TreeStands (version_1 (Some (length cards))) s (length cards) new.base found.run tree) (sym size) is.stands));
         };
         cards = subst (λ (n : ℕ). all_second (cards_in n new.base) ≡ all_second (cards_in n old.base)) count is.cards;
       }
@@ -99,18 +99,18 @@ module _ (keeps_word : Type 0) (found : Superblock) (mark : Option ℕ) (cards :
 pub stay_moved : (found : Superblock) (mark : Option ℕ) (kept : Kept) (base : Image) → found.version ≡ Two → StandsIn found mark base kept → HasMovedTo found mark kept base base
 stay_moved found mark kept base two stands = record {
   stands = record {
-    may = subst (λ (v : VersionNumber). MayKeep v (moved_mark v found.nodes mark) kept.seats) (sym two)
-        (subst (λ (v : VersionNumber). MayKeep v mark kept.seats) two stands.may);
+    may = subst (λ (v : VersionNumber). MayHaveSeats v (moved_mark v found.nodes mark) kept.seats) (sym two)
+        (subst (λ (v : VersionNumber). MayHaveSeats v mark kept.seats) two stands.may);
     keeps = stands.keeps;
-    stands = subst (λ (v : VersionNumber). layout.Stands (version_by v (moved_mark v found.nodes mark) kept.seats) found.sectors found.nodes base found.run kept.tree) (sym two)
-        (subst (λ (v : VersionNumber). layout.Stands (version_by v mark kept.seats) found.sectors found.nodes base found.run kept.tree) two stands.stands);
+    stands = subst (λ (v : VersionNumber). layout.TreeStands (version_by v (moved_mark v found.nodes mark) kept.seats) found.sectors found.nodes base found.run kept.tree) (sym two)
+        (subst (λ (v : VersionNumber). layout.TreeStands (version_by v mark kept.seats) found.sectors found.nodes base found.run kept.tree) two stands.stands);
   };
   cards = refl;
 }
 
 -- Then the mark is one of version 2
 
-moved_all : (version : VersionNumber) (nodes : ℕ) (mark : Option ℕ) → IsMark version nodes mark → HasMoved version nodes (moved_mark version nodes mark)
+moved_all : (version : VersionNumber) (nodes : ℕ) (mark : Option ℕ) → IsMark version nodes mark → AllHaveMoved version nodes (moved_mark version nodes mark)
 moved_all One nodes mark is = refl
 moved_all Two nodes mark is = is
 
@@ -139,7 +139,7 @@ module _ (found : Superblock) (mark : Option ℕ) (old : Log) (marked : IsMark f
       (few stands.stands.sized) marked holds.first marks stands in
       record { may = is.may; keeps = stands.keeps; stands = is.stands }
 
-  pub has_moved : HasMoved found.version found.nodes then_mark
+  pub has_moved : AllHaveMoved found.version found.nodes then_mark
   has_moved = moved_all found.version found.nodes mark marked
 
   pub mark_is : IsMark Two found.nodes then_mark
@@ -147,9 +147,9 @@ module _ (found : Superblock) (mark : Option ℕ) (old : Log) (marked : IsMark f
 
   module _ (moved : Log)
       (moments : (kept : Kept) → StandsIn found mark old.base kept
-      → AddsOnly (StandsForIn (number_of found.version) found.sectors found.nodes found.run kept) old.history moved.history) where
+      → AddsOnly (StandsForIn (number_of_version found.version) found.sectors found.nodes found.run kept) old.history moved.history) where
     first_part : (kept : Kept) → StandsIn found mark old.base kept → AddsOnly (StandsForEither found kept) old.history moved.history
-    first_part kept stands = AddsOnly-weaken (StandsForIn (number_of found.version) found.sectors found.nodes found.run kept) (StandsForEither found kept) old.history moved.history
+    first_part kept stands = AddsOnly-weaken (StandsForIn (number_of_version found.version) found.sectors found.nodes found.run kept) (StandsForEither found kept) old.history moved.history
         (λ image is. inl is) (moments kept stands)
 
     pub after_moves : AddsRaised found old.base old.history moved.history
@@ -176,20 +176,20 @@ module _ (found : Superblock) (mark : Option ℕ) (old : Log) (marked : IsMark f
               marked = mark_is;
               may = is.may;
               keeps = is.keeps;
-              stands = subst (λ (s : ℕ). layout.Stands (version_2 then_mark kept.seats) s found.nodes raised.base (found.run + 1) kept.tree) size is.stands;
+              stands = subst (λ (s : ℕ). layout.TreeStands (version_2 then_mark kept.seats) s found.nodes raised.base (found.run + 1) kept.tree) size is.stands;
             }
 
         pub after_unmark : (new : History)
             → ((kept : Kept) → StandsInSecond then_mark raised.size found.nodes (found.run + 1) raised.base kept
-            → AddsOnly (StandsForIn current_number raised.size found.nodes (found.run + 1) kept) raised.history new)
+            → AddsOnly (StandsForIn served_version raised.size found.nodes (found.run + 1) kept) raised.history new)
             → AddsRaised found old.base old.history new
         after_unmark new clears kept stands =
             let at = told kept stands in
             AddsOnly-join (StandsForEither found kept) old.history raised.history new
             (both_parts kept at)
-            (AddsOnly-weaken (StandsForIn current_number found.sectors found.nodes (found.run + 1) kept) (StandsForEither found kept) raised.history new
+            (AddsOnly-weaken (StandsForIn served_version found.sectors found.nodes (found.run + 1) kept) (StandsForEither found kept) raised.history new
             (λ image is. inr is)
-            (subst (λ (s : ℕ). AddsOnly (StandsForIn current_number s found.nodes (found.run + 1) kept) raised.history new) (sym size)
+            (subst (λ (s : ℕ). AddsOnly (StandsForIn served_version s found.nodes (found.run + 1) kept) raised.history new) (sym size)
             (clears kept (second_stands kept at))))
 
         -- and the nodes that were read are served
@@ -213,7 +213,7 @@ then_marked version nodes mark told is = still_marked version nodes mark ∙ sym
 -- Taking the mark away
 
 -- where there is one no seat is kept
-marked_bare : (mark : Option ℕ) (seats : Seats) → is_some mark ≡ true → MayKeep Two mark seats → seats ≡ no_seats
+marked_bare : (mark : Option ℕ) (seats : Seats) → is_some mark ≡ true → MayHaveSeats Two mark seats → seats ≡ no_seats
 marked_bare None seats some may = absurd (cc)
 marked_bare (Some moved) seats some may = may
 
@@ -224,13 +224,13 @@ module _ (mark : Option ℕ) (size nodes run : ℕ) (base : Image) (kept : Kept)
   pub is_bare_kept : bare kept.tree ≡ kept
   is_bare_kept = same_kept (bare kept.tree) kept refl (sym none_kept)
 
-  pub bare_second : layout.Stands (version_2 mark no_seats) size nodes base run kept.tree
-  bare_second = subst (λ (seats : Seats). layout.Stands (version_2 mark seats) size nodes base run kept.tree) none_kept stands.stands
+  pub bare_second : layout.TreeStands (version_2 mark no_seats) size nodes base run kept.tree
+  bare_second = subst (λ (seats : Seats). layout.TreeStands (version_2 mark seats) size nodes base run kept.tree) none_kept stands.stands
 
-  pub bare_now : (image : Image) → layout.Stands (current no_seats) size nodes image run kept.tree → StandsNow size nodes image run kept
+  pub bare_now : (image : Image) → layout.TreeStands (current_version no_seats) size nodes image run kept.tree → StandsNow size nodes image run kept
   bare_now image is = record {
     keeps = stands.keeps;
-    stands = subst (λ (seats : Seats). layout.Stands (current seats) size nodes image run kept.tree) (sym none_kept) is;
+    stands = subst (λ (seats : Seats). layout.TreeStands (current_version seats) size nodes image run kept.tree) (sym none_kept) is;
   }
 
 -- and where there is none it stands in the current version

@@ -45,7 +45,7 @@ Stays held after lasts = (after ≡ kept_of held) × (lasts ≡ false)
 
 -- a crash after the call leaves these trees: of those before and the one after it, and of what has
 -- to last that one alone; and the seats after it
-pub record Leaves (new : VolumeState) (after : Kept) (lasts : Bool) (recent left : List Tree)
+pub record LeavesOnCrash (new : VolumeState) (after : Kept) (lasts : Bool) (recent left : List Tree)
     : Type 0 where
   pub ready : IsRecent new left
   pub seats : new.seats ≡ after.seats
@@ -55,7 +55,7 @@ pub record Leaves (new : VolumeState) (after : Kept) (lasts : Bool) (recent left
 -- whichever trees a crash may leave before it
 abbrev pub LeavesTrees : (old new : VolumeState) → (after : Kept) → (lasts : Bool) → Type 0
 LeavesTrees old new after lasts = (recent : List Tree) → IsRecent old recent
-    → (left : List Tree) × Leaves new after lasts recent left
+    → (left : List Tree) × LeavesOnCrash new after lasts recent left
 
 pub record HasAnswered (keeps_word : Type 0) (given : Given) (old new : VolumeState) : Type 0 where
   pub still_up : new.is_down ≡ false
@@ -80,7 +80,7 @@ EndsAs keeps_word given old new before after Nothing = new ≡ old
 EndsAs keeps_word given old new before after Broken = HasBroken given old new before after
 
 -- how often the device has failed stands before and after
-pub record Changes (keeps_word : Type 0) (given : Given) (old new : VolumeState)
+pub record VolumeChanges (keeps_word : Type 0) (given : Given) (old new : VolumeState)
     (failed_before failed_after : ℕ) (ending : Ending) : Type 0 where
   pub same : IsSameVolume old new
   pub later : failed_before ≤ failed_after

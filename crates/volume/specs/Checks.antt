@@ -5,7 +5,7 @@ use Rattle.disk.specs.Moments.{History, seen}
 use Rattle.layout.specs.Stands.{Kept}
 use Rattle.volume.specs.MountAnswers.{first_verdict, NoTree}
 use Rattle.volume.specs.Stands.{StandsFor}
-use Rattle.volume.specs.Superblock.{superblock, verdict, version_in, word}
+use Rattle.volume.specs.Superblock.{superblock, mount_verdict, version_in, word}
 use Rattle.volume.specs.declared.checking.Checked.{Checked}
 use Rattle.volume.specs.declared.fault.MountFault.{MountFault}
 use Rattle.volume.specs.declared.fault.MountFault.TheVariants as mounts
@@ -15,11 +15,11 @@ use Rattle.volume.specs.declared.superblock.Verdict.TheVariants as verdicts
 -- what the first sector says of a volume, whether one more mount of it can be counted or not
 abbrev pub IsSeen : (sectors : ℕ) → (sector : List ℕ) → Result Superblock MountFault → Type 0
 IsSeen sectors sector (Ok found) =
-    (verdict sectors sector ≢ verdicts.NotVolume)
+    (mount_verdict sectors sector ≢ verdicts.NotVolume)
     × (sector ≡ superblock found.version found.sectors found.nodes found.run)
-IsSeen sectors sector (Err mounts.NotVolume) = verdict sectors sector ≡ verdicts.NotVolume
+IsSeen sectors sector (Err mounts.NotVolume) = mount_verdict sectors sector ≡ verdicts.NotVolume
 IsSeen sectors sector (Err mounts.Damaged) =
-    (verdict sectors sector ≢ verdicts.NotVolume)
+    (mount_verdict sectors sector ≢ verdicts.NotVolume)
     × (sector ≢ superblock (version_in sector) sectors (word 16 sector) (word 20 sector))
 IsSeen sectors sector (Err mounts.Worn) = ⊥
 IsSeen sectors sector (Err mounts.Memory) = ⊥

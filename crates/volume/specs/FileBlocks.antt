@@ -3,8 +3,8 @@ use Rattle.std.specs.Prelude.{◌≡◌, ◌<◌, ◌+◌, ℕ, List, Option, So
 use Rattle.std.specs.Prelude.{slice_index_or}
 
 -- each block that has a sector has one below the last
-abbrev pub AreWithin : (size : ℕ) → List (Option ℕ) → Type 0
-AreWithin size blocks = (block sector : ℕ)
+abbrev pub FileWithin : (size : ℕ) → List (Option ℕ) → Type 0
+FileWithin size blocks = (block sector : ℕ)
     → slice_index_or blocks block None ≡ Some sector → sector < size
 
 -- after the old bytes stand so many more

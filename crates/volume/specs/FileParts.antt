@@ -4,8 +4,8 @@ use Rattle.disk.specs.Moments.{Image}
 use Rattle.layout.specs.CachedNodes.{byte_at}
 
 -- the old bytes stand in front
-abbrev pub IsFront : (old new : List ℕ) → Type 0
-IsFront old new = take (length old) new ≡ old
+abbrev pub IsBytesFront : (old new : List ℕ) → Type 0
+IsBytesFront old new = take (length old) new ≡ old
 
 -- After the old bytes stand so many more. Where the device keeps its word, which is `word` here,
 -- they are the bytes of these blocks from a place on.

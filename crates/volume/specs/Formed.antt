@@ -13,6 +13,6 @@ pub record IsFormed (limits : Limits) (before_stamp : ℕ) (tree : Tree) : Type 
 
 -- what a call leaves shows a tree: all of it but the bytes of files on any device, and the tree
 -- where the device keeps its word
-pub record Shows (keeps_word : Type 0) (tree shown : Tree) : Type 0 where
+pub record ShowsTree (keeps_word : Type 0) (tree shown : Tree) : Type 0 where
   pub outline : without_data shown ≡ without_data tree
   pub tree_is : keeps_word → shown ≡ tree

@@ -5,7 +5,7 @@ use Rattle.journal.specs.Log.{Log, StandsForFront, applied_all}
 use Rattle.layout.specs.Stands.{Kept}
 use Rattle.model.specs.Trees.Tree.{Tree}
 use Rattle.volume.specs.VolumeState.{VolumeState, IsRecent, AddsTrees, fronts_from, with_tree}
-use Rattle.volume.specs.Stands.{Stands}
+use Rattle.volume.specs.Stands.{VolumeStands}
 
 pub record IsOver (held : VolumeState) (log : Log) : Type 0 where
   pub size : held.sectors ≡ log.size
@@ -13,22 +13,22 @@ pub record IsOver (held : VolumeState) (log : Log) : Type 0 where
   pub fronts : held.fronts ≡ fronts_from log.base log.list
 
 -- with these updates after its list the journal gives sectors that stand for this
-abbrev pub StandsAfter : VolumeState → Log → List Update → (after : Kept) → Type 0
-StandsAfter held log updates after = ∥ Stands held.sectors held.limits.nodes
+abbrev pub StandsUpdated : VolumeState → Log → List Update → (after : Kept) → Type 0
+StandsUpdated held log updates after = ∥ VolumeStands held.sectors held.limits.nodes
     (applied updates (applied_all log.list log.base)) held.run after ∥₁
 
 abbrev pub KeepsFronts : Type 0
 KeepsFronts =
     (held : VolumeState) (log : Log) (updates : List Update) (after : Kept) (new : History)
     → IsOver held log
-    → StandsAfter held log updates after
+    → StandsUpdated held log updates after
     → AddsOnly (StandsForFront log.size log.base (log.list ++ updates ∷ [])) log.history new
     → AddsTrees held after new
 
 abbrev pub AppliedRecent : Type 0
 AppliedRecent = (held : VolumeState) (log : Log) (updates : List Update) (after : Tree)
     (recent : List Tree) → IsOver held log
-    → StandsAfter held log updates (with_tree held after)
+    → StandsUpdated held log updates (with_tree held after)
     → IsRecent held recent
     → IsRecent (record held {
       tree = after;

@@ -9,19 +9,19 @@ use Rattle.layout.specs.Stands.{HaveCurrentForms, Kept, StandsNow, seats_at}
 
 -- on any device: cached nodes, and the set of places that they name, which are those of the whole
 -- data region
-pub record IsKnown (sectors nodes : ℕ) (cards : List (Option CachedNode)) (places : List Bool)
+pub record AreKnownNodes (sectors nodes : ℕ) (cards : List (Option CachedNode)) (places : List Bool)
     : Type 0 where
   pub are_cards : AreCards nodes (mark_by (148 + nodes) places) cards
   pub forms : HaveCurrentForms cards
   pub whole : sectors ≡ 148 + nodes + length places
 
 -- the tree of these cached nodes and the seats, as the sectors have them
-abbrev pub kept_in : Image → List (Option CachedNode) → Kept
-kept_in image cards = record { tree = tree_of image cards; seats = seats_at image }
+abbrev pub kept_in_image : Image → List (Option CachedNode) → Kept
+kept_in_image image cards = record { tree = tree_of image cards; seats = seats_at image }
 
 -- on a device that keeps its word, as long as it did not fail: the cached nodes are those of the
 -- sectors, flushed or not, and what a crash leaves settles to the journal's base
 pub record IsServing (log : Log) (nodes run : ℕ) (cards : List (Option CachedNode)) : Type 0 where
   pub read : cards ≡ cards_in nodes (contents log)
-  pub stands : ∥ StandsNow log.size nodes (contents log) run (kept_in (contents log) cards) ∥₁
+  pub stands : ∥ StandsNow log.size nodes (contents log) run (kept_in_image (contents log) cards) ∥₁
   pub settled : IsSettled log

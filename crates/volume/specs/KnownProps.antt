@@ -7,11 +7,11 @@ use Rattle.layout.specs.LaidProps.{HaveForms-prop}
 use Rattle.model.specs.declared.limits.Limits.{Limits}
 use Rattle.model.specs.Trees.Tree.{Tree}
 use Rattle.volume.specs.Formed.{IsFormed}
-use Rattle.volume.specs.Known.{IsKnown}
+use Rattle.volume.specs.Known.{AreKnownNodes}
 
-pub IsKnown-prop : (sectors nodes : ℕ) (cards : List (Option CachedNode)) (places : List Bool)
-    → IsProp (IsKnown sectors nodes cards places)
-IsKnown-prop sectors nodes cards places = Prim.hlevel (props, AreCards-prop, HaveForms-prop)
+pub AreKnownNodes-prop : (sectors nodes : ℕ) (cards : List (Option CachedNode)) (places : List Bool)
+    → IsProp (AreKnownNodes sectors nodes cards places)
+AreKnownNodes-prop sectors nodes cards places = Prim.hlevel (props, AreCards-prop, HaveForms-prop)
 
 pub IsFormed-prop : (limits : Limits) (before_stamp : ℕ) (tree : Tree)
     → IsProp (IsFormed limits before_stamp tree)

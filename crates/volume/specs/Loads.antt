@@ -3,14 +3,14 @@ use Rattle.std.specs.Prelude.{◌≡◌, ◌<◌, ◌+◌, ℕ, Bool, List, Opti
 use Rattle.disk.specs.Moments.{Image, IsSector}
 use Rattle.journal.specs.Log.{Log}
 use Rattle.layout.specs.CachedNodes.{CachedNode, tree_of, cards_in}
-use Rattle.layout.specs.Health.{Health, Reads}
+use Rattle.layout.specs.Health.{Health, FailsOrStays}
 use Rattle.layout.specs.Rewriting.{all_second}
-use Rattle.layout.specs.Stands.{AreKept, IsMark, Kept, MayKeep, mark_held}
+use Rattle.layout.specs.Stands.{AreKept, IsMark, Kept, MayHaveSeats, mark_held}
 use Rattle.model.specs.Sessions.Seats.{Seats}
 use Rattle.model.specs.Trees.Limits.{limits_of}
 use Rattle.model.specs.Trees.Stamp.{stamp}
 use Rattle.tree_check.specs.WellFormed.{AreWellFormed}
-use Rattle.volume.specs.Known.{IsKnown}
+use Rattle.volume.specs.Known.{AreKnownNodes}
 use Rattle.volume.specs.Mounts.{StandsIn}
 use Rattle.volume.specs.Superblock.{superblock}
 use Rattle.volume.specs.declared.mount.Superblock.{Superblock}
@@ -32,11 +32,11 @@ read_as image cards seats = record { tree = tree_of image cards; seats = seats }
 pub record AreLoaded (keeps_word : Type 0) (found : Superblock) (image : Image)
     (mark : Option ℕ) (cards : List (Option CachedNode)) (seats : Seats) (places : List Bool)
     : Type 0 where
-  pub known : IsKnown found.sectors found.nodes cards places
+  pub known : AreKnownNodes found.sectors found.nodes cards places
   pub well_formed : ∥ AreWellFormed (limits_of found.sectors found.nodes)
       (stamp (found.run + 1) 0) cards ∥₁
   pub marked : IsMark found.version found.nodes mark
-  pub may : MayKeep found.version mark seats
+  pub may : MayHaveSeats found.version mark seats
   pub keeps : AreKept found.run seats
   pub marks : keeps_word → image 147 ≡ mark_held mark
   pub read : keeps_word → cards ≡ all_second (cards_in found.nodes image)
@@ -53,4 +53,4 @@ health log failures = record { failed = failures; is_down = log.is_down }
 
 pub record Loads (old new : Log) (before after : ℕ) (faulted : Type 0) : Type 0 where
   pub only : new ≡ record old { is_down = new.is_down }
-  pub reads : Reads (health old before) (health new after) faulted
+  pub reads : FailsOrStays (health old before) (health new after) faulted

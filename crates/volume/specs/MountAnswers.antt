@@ -5,10 +5,10 @@ use Rattle.disk.specs.Moments.{Image, History, AddsOnly, seen, synced}
 use Rattle.journal.specs.Settled.{Settles, SettlesAs}
 use Rattle.layout.specs.Stands.{Kept}
 use Rattle.model.specs.Sessions.Seats.{Seats, AreOfRuns}
-use Rattle.volume.specs.VolumeState.{VolumeState, Holds, IsNew, LeavesCurrent}
+use Rattle.volume.specs.VolumeState.{VolumeState, Holds, IsJustMounted, LeavesCurrent}
 use Rattle.volume.specs.Remounts.{AddsMount, IsFound}
 use Rattle.volume.specs.Stands.{IsBase}
-use Rattle.volume.specs.Superblock.{verdict}
+use Rattle.volume.specs.Superblock.{mount_verdict}
 use Rattle.volume.specs.declared.fault.MountFault.{MountFault}
 use Rattle.volume.specs.declared.fault.MountFault.TheVariants as mounts
 use Rattle.volume.specs.declared.volume.Unmounted.{Unmounted}
@@ -17,7 +17,7 @@ use Rattle.volume.specs.declared.superblock.Verdict.TheVariants as verdicts
 
 -- what the first sector of a device says
 abbrev pub first_verdict : (sectors : ℕ) → History → Verdict
-first_verdict sectors old = verdict sectors (seen old.now 0)
+first_verdict sectors old = mount_verdict sectors (seen old.now 0)
 
 abbrev pub NoTree : (sectors : ℕ) → History → Type 0
 NoTree sectors old =
@@ -94,7 +94,7 @@ pub record ComesBack {D : Type 0} (size failed : D → ℕ) (sectors failures : 
 -- device has not failed
 pub record MountServes {D : Type 0} (keeps_word : Type 0) (size failed : D → ℕ)
     (history : D → History) (device : D) (held : VolumeState) (failures : ℕ) : Type 0 where
-  pub new : IsNew (size device) held
+  pub new : IsJustMounted (size device) held
   pub counted : failures ≡ failed device
   pub mounted : keeps_word → HasMounted (size device) (history device) held
 

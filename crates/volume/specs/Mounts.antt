@@ -5,13 +5,13 @@ use Rattle.journal.specs.Log.{Log, IsSettled}
 use Rattle.layout.specs.CachedNodes.{cards_in}
 use Rattle.layout.specs.Rewriting.{all_second}
 use Rattle.layout.specs.Stands as layout
-use Rattle.layout.specs.Stands.{AreKept, IsMark, Kept, MayKeep, current_number, number_of, version_2, version_by}
+use Rattle.layout.specs.Stands.{AreKept, IsMark, Kept, MayHaveSeats, served_version, number_of_version, version_2, version_by}
 use Rattle.layout.specs.Superblock.{is_size}
 use Rattle.layout.specs.declared.versions.VersionNumber.{VersionNumber}
 use Rattle.layout.specs.declared.versions.VersionNumber.TheVariants as numbers
 use Rattle.volume.specs.VolumeState.{VolumeState, Holds, LeavesCurrent, kept_of}
-use Rattle.volume.specs.Stands.{Stands, StandsForIn}
-use Rattle.volume.specs.Superblock.{superblock, verdict}
+use Rattle.volume.specs.Stands.{VolumeStands, StandsForIn}
+use Rattle.volume.specs.Superblock.{superblock, mount_verdict}
 use Rattle.volume.specs.declared.fault.MountFault.{MountFault}
 use Rattle.volume.specs.declared.fault.MountFault.TheVariants as mounts
 use Rattle.volume.specs.declared.mount.Superblock.{Superblock}
@@ -37,24 +37,24 @@ pub record IsAtRest (log : Log) : Type 0 where
 -- what the first sector says, by what a look at it answers
 abbrev pub IsTold : (sectors : ℕ) → (sector : List ℕ) → Result Superblock MountFault → Type 0
 IsTold sectors sector (Ok found) =
-    (verdict sectors sector ≡ verdicts.Sound)
+    (mount_verdict sectors sector ≡ verdicts.Sound)
     × (sector ≡ superblock found.version found.sectors found.nodes found.run)
-IsTold sectors sector (Err mounts.NotVolume) = verdict sectors sector ≡ verdicts.NotVolume
-IsTold sectors sector (Err mounts.Worn) = verdict sectors sector ≡ verdicts.Worn
-IsTold sectors sector (Err mounts.Damaged) = verdict sectors sector ≡ verdicts.Damaged
+IsTold sectors sector (Err mounts.NotVolume) = mount_verdict sectors sector ≡ verdicts.NotVolume
+IsTold sectors sector (Err mounts.Worn) = mount_verdict sectors sector ≡ verdicts.Worn
+IsTold sectors sector (Err mounts.Damaged) = mount_verdict sectors sector ≡ verdicts.Damaged
 IsTold sectors sector (Err mounts.Memory) = ⊥
 IsTold sectors sector (Err mounts.Device) = ⊤
 
 -- a tree and seats stand on this base, under the count that was found
 abbrev pub StandsOn : Superblock → (base : Image) → Kept → Type 0
-StandsOn found base kept = Stands found.sectors found.nodes base found.run kept
+StandsOn found base kept = VolumeStands found.sectors found.nodes base found.run kept
 
 -- a map stands for them, in the version and under the count that were found, or in the current
 -- version and under the next count
 abbrev pub StandsForEither : Superblock → Kept → Image → Type 0
 StandsForEither found kept image =
-    StandsForIn (number_of found.version) found.sectors found.nodes found.run kept image
-    ⊎ StandsForIn current_number found.sectors found.nodes (found.run + 1) kept image
+    StandsForIn (number_of_version found.version) found.sectors found.nodes found.run kept image
+    ⊎ StandsForIn served_version found.sectors found.nodes (found.run + 1) kept image
 
 -- what a run that begins adds to what a crash may leave: what stands, under either count
 abbrev pub AddsRaised : Superblock → (base : Image) → (old new : History) → Type 0
@@ -62,38 +62,38 @@ AddsRaised found base old new =
     (kept : Kept) → StandsOn found base kept → AddsOnly (StandsForEither found kept) old new
 
 -- The nodes have form two: the version is 2, or the mark tells all places
-abbrev pub HasMoved : VersionNumber → (nodes : ℕ) → (mark : Option ℕ) → Type 0
-HasMoved numbers.One nodes mark = mark ≡ Some nodes
-HasMoved numbers.Two nodes mark = IsMark numbers.Two nodes mark
+abbrev pub AllHaveMoved : VersionNumber → (nodes : ℕ) → (mark : Option ℕ) → Type 0
+AllHaveMoved numbers.One nodes mark = mark ≡ Some nodes
+AllHaveMoved numbers.Two nodes mark = IsMark numbers.Two nodes mark
 
 -- a tree and seats stand on this base, in the version that was found, with this mark
 pub record StandsIn (found : Superblock) (mark : Option ℕ) (base : Image) (kept : Kept)
     : Type 0 where
-  pub may : MayKeep found.version mark kept.seats
+  pub may : MayHaveSeats found.version mark kept.seats
   pub keeps : AreKept found.run kept.seats
-  pub stands : layout.Stands (version_by found.version mark kept.seats)
+  pub stands : layout.TreeStands (version_by found.version mark kept.seats)
       found.sectors found.nodes base found.run kept.tree
 
 -- They stand in version 2, under the next count, with the cached nodes that there were but for
 -- their forms
 pub record IsRaisedTo (mark : Option ℕ) (found : Superblock) (kept : Kept) (old new : Image)
     : Type 0 where
-  pub may : MayKeep numbers.Two mark kept.seats
+  pub may : MayHaveSeats numbers.Two mark kept.seats
   pub keeps : AreKept (found.run + 1) kept.seats
-  pub stands : layout.Stands (version_2 mark kept.seats)
+  pub stands : layout.TreeStands (version_2 mark kept.seats)
       found.sectors found.nodes new (found.run + 1) kept.tree
   pub cards : all_second (cards_in found.nodes new) ≡ all_second (cards_in found.nodes old)
 
 -- The count is raised with the version, once the nodes have moved
 abbrev pub RaisesSafely : Superblock → (old : Log) → (new : History) → Type 0
 RaisesSafely found old new = (mark : Option ℕ) (kept : Kept)
-    → HasMoved found.version found.nodes mark → StandsIn found mark old.base kept
+    → AllHaveMoved found.version found.nodes mark → StandsIn found mark old.base kept
     → AddsOnly (StandsForEither found kept) old.history new
 
 pub record IsRaised (keeps_word : Type 0) (found : Superblock) (old new : Log) : Type 0 where
   pub still_up : new.is_down ≡ false
   pub stands : keeps_word → (mark : Option ℕ) (kept : Kept)
-      → HasMoved found.version found.nodes mark → StandsIn found mark old.base kept
+      → AllHaveMoved found.version found.nodes mark → StandsIn found mark old.base kept
       → IsRaisedTo mark found kept old.base new.base
   pub settled : keeps_word → IsSettled new
 

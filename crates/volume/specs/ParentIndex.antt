@@ -1,26 +1,26 @@
 -- In which directory the name of each node of a table stands.
 use Rattle.std.specs.Prelude.{◌≡◌, ◌<◌, ℕ, List, Option, Some, length, slice_index_or}
 use Rattle.model.specs.Trees.Tree.{root}
-use Rattle.node_table.specs.Tables.{number_at}
+use Rattle.node_table.specs.Tables.{node_number_at}
 use Rattle.layout.specs.CachedNodes.{CachedNode}
 use Rattle.layout.specs.Marks.{times}
 use Rattle.tree_check.specs.Trees.{led_at}
 
 -- a name at a place leads to a number
-abbrev pub LeadsTo : List (Option CachedNode) → (place number : ℕ) → Type 0
-LeadsTo cards place number = 0 < times number (led_at cards place)
+abbrev pub PlaceLeadsTo : List (Option CachedNode) → (place number : ℕ) → Type 0
+PlaceLeadsTo cards place number = 0 < times number (led_at cards place)
 
 -- a name of the directory of one number leads to another one: it stands at this place
-pub record HasName (cards : List (Option CachedNode)) (directory number : ℕ) : Type 0 where
+pub record HasChild (cards : List (Option CachedNode)) (directory number : ℕ) : Type 0 where
   pub place : ℕ
-  pub there : number_at cards place ≡ Some directory
-  pub leads : LeadsTo cards place number
+  pub there : node_number_at cards place ≡ Some directory
+  pub leads : PlaceLeadsTo cards place number
 
 -- Numbers by place: at the place of a node that of the directory which has its name, and at the
 -- root's 0, since no directory has a name of the root. At a free place it may be any.
 pub record AreParents (cards : List (Option CachedNode)) (parents : List ℕ) : Type 0 where
   pub count : length parents ≡ length cards
-  pub named : (place number directory : ℕ) → number_at cards place ≡ Some number
-      → HasName cards directory number → slice_index_or parents place 0 ≡ directory
-  pub rooted : (place : ℕ) → number_at cards place ≡ Some root
+  pub named : (place number directory : ℕ) → node_number_at cards place ≡ Some number
+      → HasChild cards directory number → slice_index_or parents place 0 ≡ directory
+  pub rooted : (place : ℕ) → node_number_at cards place ≡ Some root
       → slice_index_or parents place 0 ≡ 0

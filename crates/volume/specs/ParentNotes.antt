@@ -1,6 +1,6 @@
 -- Names of one directory after the other are noted at the places of what they lead to.
 use Rattle.std.specs.Prelude.{◌≡◌, ◌<◌, ℕ, List, Option, Some, length, slice_index_or}
-use Rattle.node_table.specs.Tables.{number_at}
+use Rattle.node_table.specs.Tables.{node_number_at}
 use Rattle.layout.specs.CachedNodes.{CachedNode}
 use Rattle.layout.specs.Marks.{times}
 
@@ -9,7 +9,7 @@ use Rattle.layout.specs.Marks.{times}
 pub record IsNoted (cards : List (Option CachedNode)) (old new numbers : List ℕ) (directory : ℕ)
     : Type 0 where
   pub count : length new ≡ length old
-  pub led : (place number : ℕ) → number_at cards place ≡ Some number
+  pub led : (place number : ℕ) → node_number_at cards place ≡ Some number
       → 0 < times number numbers → slice_index_or new place 0 ≡ directory
-  pub others : (place number : ℕ) → number_at cards place ≡ Some number
+  pub others : (place number : ℕ) → node_number_at cards place ≡ Some number
       → times number numbers ≡ 0 → slice_index_or new place 0 ≡ slice_index_or old place 0

@@ -1,6 +1,6 @@
 -- The parents of a volume's nodes, by place, after a change.
 use Rattle.std.specs.Prelude.{◌≡◌, ℕ, List, Option, Some, None, set}
-use Rattle.node_table.specs.Tables.{number_at}
+use Rattle.node_table.specs.Tables.{node_number_at}
 use Rattle.layout.specs.CachedNodes.{CachedNode}
 
 -- the directory of a name that was put stands at the place of the name's number
@@ -8,4 +8,4 @@ pub record PutsParent (cards : List (Option CachedNode)) (old new : List ℕ) (p
     : Type 0 where
   pub none : put ≡ None → new ≡ old
   pub some : (number directory place : ℕ) → put ≡ Some (number, directory)
-      → number_at cards place ≡ Some number → new ≡ set old place directory
+      → node_number_at cards place ≡ Some number → new ≡ set old place directory

@@ -2,7 +2,7 @@
 use Rattle.std.specs.Prelude.{ℕ, ◌∷◌, List, ◌≡◌, ◌<◌, ◌≤◌, ◌+◌, ◌⊎◌}
 use Rattle.std.specs.List.{IsAmong}
 use Rattle.disk.specs.Moments.{Image, Moment, History, LeftSince, AddsOnly, at_rest, moment, seen}
-use Rattle.layout.specs.Stands.{Kept, current_number}
+use Rattle.layout.specs.Stands.{Kept, served_version}
 use Rattle.volume.specs.VolumeState.{VolumeState, kept_of}
 use Rattle.volume.specs.Stands.{IsBase, StandsFor, StandsForIn}
 
@@ -14,7 +14,7 @@ AddsMount sectors old new =
     (nodes run : ℕ) (kept : Kept) (stood : IsBase sectors nodes run kept (seen old.now))
     → AddsOnly (λ image.
     StandsForIn stood.stands.version.number sectors nodes run kept image
-    ⊎ StandsForIn current_number sectors nodes (run + 1) kept image) old new
+    ⊎ StandsForIn served_version sectors nodes (run + 1) kept image) old new
 
 -- A mount serves the tree and the seats that stood, and raised their restart count.
 pub record IsFound (sectors : ℕ) (old : History) (held : VolumeState) : Type 0 where
@@ -23,11 +23,11 @@ pub record IsFound (sectors : ℕ) (old : History) (held : VolumeState) : Type 0
   pub stood : StandsFor sectors held.limits.nodes run (kept_of held) (seen old.now)
 
 -- a device as it was at one of its moments
-pub data IsFront (device : History) : History → Type 0 where
-  Now : IsFront device device
+pub data IsMomentOf (device : History) : History → Type 0 where
+  Now : IsMomentOf device device
   Before : {now before : Moment} {past : List Moment}
-      → IsFront device (record { now = now; past = before ∷ past })
-      → IsFront device (record { now = before; past = past })
+      → IsMomentOf device (record { now = now; past = before ∷ past })
+      → IsMomentOf device (record { now = before; past = past })
 
 -- What may have become of a device since a moment of it, and from which of its moments on a crash
 -- of it counts. It stays on, with what is not synced, and mounts are begun on it, of which each
@@ -38,7 +38,7 @@ pub data Remounts (sectors : ℕ) (first : History) (since : ℕ) : History → 
   Mounts : {old new : History} {from : ℕ} → Remounts sectors first since old from
       → AddsMount sectors old new → Remounts sectors first since new from
   Ends : {old new : History} {from : ℕ} → Remounts sectors first since old from
-      → IsFront old new → from ≤ moment new → Remounts sectors first since new from
+      → IsMomentOf old new → from ≤ moment new → Remounts sectors first since new from
   Stops : {old : History} {image : Image} {from : ℕ} → Remounts sectors first since old from
       → LeftSince old from image → Remounts sectors first since (at_rest image) 0
 

@@ -9,7 +9,7 @@ use Rattle.model.specs.Sessions.Seats.{Seats}
 use Rattle.seats.specs.Spelling.{ArePlaces}
 
 -- where seats stood that can be edited so, the edited ones stand, and they can be spelled
-pub record LaysEdited (edits : List SeatEdit) (updates : List Update) (seats : Seats)
+pub record LaysEditedSeats (edits : List SeatEdit) (updates : List Update) (seats : Seats)
     (image : Image) : Type 0 where
   pub places : ArePlaces (edited_all edits seats)
   pub lays : HoldSeats image seats → HoldSeats (applied updates image) (edited_all edits seats)
@@ -20,4 +20,4 @@ pub record AreUpdates (edits : List SeatEdit) (updates : List Update) : Type 0 w
   pub targets_are : (size : ℕ) → 148 ≤ size → AreTargets size (targets updates)
   pub others : (image : Image) (n : ℕ) → (n < 100) ⊎ (145 ≤ n) → applied updates image n ≡ image n
   pub edited : (image : Image) (seats : Seats) → ArePlaces seats → CanEditAll edits seats
-      → LaysEdited edits updates seats image
+      → LaysEditedSeats edits updates seats image

@@ -5,14 +5,14 @@ use Rattle.journal.specs.Settled.{Settles}
 use Rattle.layout.specs.Stands.{Kept, StandsAs}
 
 -- the sectors of a volume that was mounted `run` times
-abbrev pub Stands : (sectors nodes : ℕ) → Image → (run : ℕ) → Kept → Type 0
-Stands sectors nodes image run kept = StandsAs sectors nodes image run kept
+abbrev pub VolumeStands : (sectors nodes : ℕ) → Image → (run : ℕ) → Kept → Type 0
+VolumeStands sectors nodes image run kept = StandsAs sectors nodes image run kept
 
 -- what a map settles to, and for what that stands
 pub record IsBase (sectors nodes run : ℕ) (kept : Kept) (image : Image) : Type 0 where
   pub base : Image
   pub settles : Settles sectors image base
-  pub stands : Stands sectors nodes base run kept
+  pub stands : VolumeStands sectors nodes base run kept
 
 -- A map that a crash left stands for this tree and these seats.
 abbrev pub StandsFor : (sectors nodes run : ℕ) → Kept → Image → Type 0

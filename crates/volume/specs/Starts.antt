@@ -7,7 +7,7 @@ use Rattle.journal.specs.declared.fault.JournalFault.{JournalFault}
 use Rattle.layout.specs.CachedNodes.{CachedNode, cards_in, tree_of}
 use Rattle.layout.specs.Rewriting.{all_second}
 use Rattle.layout.specs.Stands as layout
-use Rattle.layout.specs.Stands.{AreKept, IsMark, Kept, MayKeep, StandsNow, current_number, number_of, version_2}
+use Rattle.layout.specs.Stands.{AreKept, IsMark, Kept, MayHaveSeats, StandsNow, served_version, number_of_version, version_2}
 use Rattle.layout.specs.declared.versions.VersionNumber.{VersionNumber}
 use Rattle.layout.specs.declared.versions.VersionNumber.TheVariants.{One, Two}
 use Rattle.migration.specs.declared.fault.MigrationFault.{MigrationFault}
@@ -41,12 +41,13 @@ pub record HasMovedTo (found : Superblock) (mark : Option ℕ) (kept : Kept) (ol
   pub cards : all_second (cards_in found.nodes new) ≡ all_second (cards_in found.nodes old)
 
 -- The nodes move, and what stands with this mark does so at each moment
-pub record Moves (keeps_word : Type 0) (found : Superblock) (mark : Option ℕ) (old new : Log)
+pub record MovesNodes (keeps_word : Type 0) (found : Superblock) (mark : Option ℕ) (old new : Log)
     (result : Result (Unit {0}) MigrationFault) : Type 0 where
   pub size : new.size ≡ old.size
   pub rests : OnOk result (IsAtRest new)
   pub moments : keeps_word → (kept : Kept) → StandsIn found mark old.base kept
-      → AddsOnly (StandsForIn (number_of found.version) found.sectors found.nodes found.run kept)
+      → AddsOnly
+      (StandsForIn (number_of_version found.version) found.sectors found.nodes found.run kept)
       old.history new.history
   pub stands : keeps_word → OnOk result ((kept : Kept) → StandsIn found mark old.base kept
       → HasMovedTo found mark kept old.base new.base)
@@ -55,9 +56,9 @@ pub record Moves (keeps_word : Type 0) (found : Superblock) (mark : Option ℕ) 
 pub record StandsInSecond (mark : Option ℕ) (size nodes run : ℕ) (base : Image) (kept : Kept)
     : Type 0 where
   pub marked : IsMark Two nodes mark
-  pub may : MayKeep Two mark kept.seats
+  pub may : MayHaveSeats Two mark kept.seats
   pub keeps : AreKept run kept.seats
-  pub stands : layout.Stands (version_2 mark kept.seats) size nodes base run kept.tree
+  pub stands : layout.TreeStands (version_2 mark kept.seats) size nodes base run kept.tree
 
 -- it stands in the current version, with the cached nodes that there were but for their forms
 pub record IsCleared (nodes run : ℕ) (kept : Kept) (old new : Log) : Type 0 where
@@ -72,7 +73,7 @@ pub record Clears (keeps_word : Type 0) (marked : Bool) (old new : Log)
   pub settled : keeps_word → IsSettled old → OnOk result (IsSettled new)
   pub moments : keeps_word → (mark : Option ℕ) (nodes run : ℕ) (kept : Kept)
       → is_some mark ≡ marked → StandsInSecond mark old.size nodes run old.base kept
-      → AddsOnly (StandsForIn current_number old.size nodes run kept) old.history new.history
+      → AddsOnly (StandsForIn served_version old.size nodes run kept) old.history new.history
   pub stands : keeps_word → OnOk result ((mark : Option ℕ) (nodes run : ℕ) (kept : Kept)
       → is_some mark ≡ marked → StandsInSecond mark old.size nodes run old.base kept
       → IsCleared nodes run kept old new)

@@ -2,7 +2,7 @@
 use Rattle.std.specs.Prelude.{◌==◌, ◌&&◌, ◌||◌, ◌-◌, ◌^◌, ℕ, Bool, not, List, drop, nat_eq, bytes_eq, if◌then◌else◌}
 use Rattle.std.specs.List.{starts_with}
 use Rattle.std.specs.Int.{w32, from_be_bytes}
-use Rattle.layout.specs.Stands.{number_of}
+use Rattle.layout.specs.Stands.{number_of_version}
 use Rattle.layout.specs.Superblock as layout
 use Rattle.layout.specs.Superblock.{magic, is_size}
 use Rattle.layout.specs.declared.versions.VersionNumber.{VersionNumber}
@@ -12,7 +12,8 @@ use Rattle.volume.specs.declared.superblock.Verdict.TheVariants.{NotVolume, Worn
 
 -- the first sector of a volume of this version
 abbrev pub superblock : VersionNumber → (sectors nodes run : ℕ) → List ℕ
-superblock version sectors nodes run = layout.superblock (number_of version) sectors nodes run
+superblock version sectors nodes run =
+    layout.superblock (number_of_version version) sectors nodes run
 
 -- the number in the four bytes from place i
 unfoldable pub word : (i : ℕ) → List ℕ → ℕ
@@ -33,8 +34,8 @@ is_volume sectors sector =
     && (word 12 sector == sectors) && is_size sectors (word 16 sector)
 
 -- what a mount makes of sector 0
-unfoldable pub verdict : (sectors : ℕ) → List ℕ → Verdict
-verdict sectors sector =
+unfoldable pub mount_verdict : (sectors : ℕ) → List ℕ → Verdict
+mount_verdict sectors sector =
     if not (is_volume sectors sector) then NotVolume
     else if word 20 sector == last_run then Worn
     else if bytes_eq sector

@@ -1,11 +1,11 @@
 -- What contracts see of a mounted volume.
 use Rattle.std.specs.Prelude.{ℕ, List, Option}
-use Rattle.journal.specs.Journal.{log_of, failures_of}
+use Rattle.journal.specs.Journal.{log_of, journal_failures}
 use Rattle.journal.specs.Log.{Log, contents}
 use Rattle.layout.specs.CachedNodes.{CachedNode, tree_of}
 use Rattle.layout.specs.Stands.{seats_at}
 use Rattle.model.specs.declared.limits.Limits.{Limits}
-use Rattle.volume.specs.Changes.{Given, Ending, Changes}
+use Rattle.volume.specs.Changes.{Given, Ending, VolumeChanges}
 use Rattle.volume.specs.VolumeState.{VolumeState, fronts_from}
 use Rattle.volume.specs.declared.volume.Volume.{Volume}
 
@@ -28,10 +28,10 @@ volume_state volume =
 
 -- how often its device has failed
 unfoldable pub volume_failures : {D : _} {g : _} → Volume D g → ℕ
-volume_failures volume = failures_of volume.store.journal
+volume_failures volume = journal_failures volume.store.journal
 
 -- what a call makes of it, and of how often its device has failed
-abbrev pub Alters : {D : _} {g : _} → (old new : Volume D g) → Given → Ending → Type 0
-Alters {D} {g} old new given ending =
-    Changes g.keeps_word given (volume_state old) (volume_state new)
+abbrev pub AltersVolume : {D : _} {g : _} → (old new : Volume D g) → Given → Ending → Type 0
+AltersVolume {D} {g} old new given ending =
+    VolumeChanges g.keeps_word given (volume_state old) (volume_state new)
     (volume_failures old) (volume_failures new) ending

@@ -11,7 +11,7 @@ use Rattle.model.specs.Sessions.Seats.{Seats}
 use Rattle.model.specs.Trees.Stamp.{stamp}
 use Rattle.model.specs.Trees.Tree.{Tree}
 use Rattle.volume.specs.Formed.{IsFormed}
-use Rattle.volume.specs.Stands.{Stands, StandsFor}
+use Rattle.volume.specs.Stands.{VolumeStands, StandsFor}
 
 -- an image, and what it is after each transaction
 abbrev pub fronts_from : Image → List (List Update) → List Image
@@ -38,7 +38,7 @@ abbrev pub kept_of : VolumeState → Kept
 kept_of held = with_tree held held.tree
 
 -- a volume that was just mounted
-pub record IsNew (sectors : ℕ) (held : VolumeState) : Type 0 where
+pub record IsJustMounted (sectors : ℕ) (held : VolumeState) : Type 0 where
   pub is_up : held.is_down ≡ false
   pub on_device : held.sectors ≡ sectors
   pub limits : held.limits ≡ limits_of sectors held.limits.nodes
@@ -70,7 +70,7 @@ pub record IsRecent (held : VolumeState) (recent : List Tree) : Type 0 where
   pub leaves : LeavesOne held recent
   pub covers : (front : Image) → IsAmong held.fronts front
       → (tree : Tree) × IsAmong recent tree
-      × ∥ Stands held.sectors held.limits.nodes front held.run (with_tree held tree) ∥₁
+      × ∥ VolumeStands held.sectors held.limits.nodes front held.run (with_tree held tree) ∥₁
   pub newest : IsAmong recent held.tree
 
 -- whichever trees a crash might leave before, it may leave now, and no others

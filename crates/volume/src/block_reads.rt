@@ -3,9 +3,9 @@
 ghost use Rattle.std.specs.Prelude.{◌≡◌, ◌≤◌, ◌<◌, ◌+◌, ◌-◌, ◌*◌, ◌^◌, ◌++◌, None};
 ghost use Rattle.std.specs.Prelude.{length, take, drop, min, slice_index_or, OnOk, OnErr, IsErrOf};
 ghost use Rattle.layout.specs.CachedNodes.{bytes_in};
-ghost use Rattle.layout.specs.Health.{Reads};
-ghost use Rattle.volume.specs.FileBlocks.{AreWithin, GetsMore};
-ghost use Rattle.volume.specs.FileParts.{Appends, IsFront};
+ghost use Rattle.layout.specs.Health.{FailsOrStays};
+ghost use Rattle.volume.specs.FileBlocks.{FileWithin, GetsMore};
+ghost use Rattle.volume.specs.FileParts.{Appends, IsBytesFront};
 
 use crate::fault::ReadingFault;
 use disk::SECTOR;
@@ -56,7 +56,7 @@ fn read_block<S: Sectors>(
     count: usize,
     out: &mut Vec<u8>,
 ) -> Result<(), ReadingFault>
-    requires within { AreWithin (S.size (S.kept base.old)) blocks.now }
+    requires within { FileWithin (S.size (S.kept base.old)) blocks.now }
     requires room { from + count ≤ SECTOR }
     // What it appends
     ensures bytes { OnOk result (Appends S.keeps_word (S.image (S.kept base.old)) blocks.now
@@ -64,7 +64,7 @@ fn read_block<S: Sectors>(
     ensures err { OnErr result (out.new.items ≡ out.old.items) }
     // It only reads the base
     ensures kept { S.kept base.new ≡ S.kept base.old }
-    ensures health { Reads (S.health base.old) (S.health base.new)
+    ensures health { FailsOrStays (S.health base.old) (S.health base.new)
         (IsErrOf result ReadingFault.Device) }
 {
     match sector_of(blocks, block) {
@@ -85,15 +85,15 @@ fn read_blocks<S: Sectors>(
     count: usize,
     out: &mut Vec<u8>,
 ) -> Result<(), ReadingFault>
-    requires within { AreWithin (S.size (S.kept base.old)) blocks.now }
+    requires within { FileWithin (S.size (S.kept base.old)) blocks.now }
     requires room { offset + count < 2 ^ 64 }
     // What it appends
     ensures bytes { OnOk result (Appends S.keeps_word (S.image (S.kept base.old)) blocks.now
         offset count out.old.items out.new.items) }
-    ensures front { IsFront out.old.items out.new.items }
+    ensures front { IsBytesFront out.old.items out.new.items }
     // It only reads the base
     ensures kept { S.kept base.new ≡ S.kept base.old }
-    ensures health { Reads (S.health base.old) (S.health base.new)
+    ensures health { FailsOrStays (S.health base.old) (S.health base.new)
         (IsErrOf result ReadingFault.Device) }
 {
     let mut done = 0;
@@ -117,28 +117,28 @@ fn read_blocks<S: Sectors>(
 /// was.
 pub(crate) fn read_bytes<S: Sectors>(
     base: &mut S,
-    card: &CachedNode,
+    cached: &CachedNode,
     offset: u64,
     len: usize,
     out: &mut Vec<u8>,
 ) -> Result<(), ReadingFault>
-    requires within { AreWithin (S.size (S.kept base.old)) card.now.blocks }
+    requires within { FileWithin (S.size (S.kept base.old)) cached.now.blocks }
     ensures bytes { S.keeps_word → OnOk result (out.new.items ≡ out.old.items
         ++ take len (drop offset (bytes_in (S.image (S.kept base.old))
-        card.now.blocks card.now.fields.size))) }
+        cached.now.blocks cached.now.fields.size))) }
     // On any device
     ensures count { OnOk result (GetsMore out.old.items out.new.items
-        (min len (card.now.fields.size - offset))) }
+        (min len (cached.now.fields.size - offset))) }
     ensures err { OnErr result (out.new.items ≡ out.old.items) }
     // It only reads the base
     ensures kept { S.kept base.new ≡ S.kept base.old }
-    ensures health { Reads (S.health base.old) (S.health base.new)
+    ensures health { FailsOrStays (S.health base.old) (S.health base.new)
         (IsErrOf result ReadingFault.Device) }
 {
-    let count = count_from(card.inode.size, offset, len);
+    let count = count_from(cached.inode.size, offset, len);
     let before = out.len();
     out.reserve(count)?;
-    let read = read_blocks(base, &card.blocks, offset, count, out);
+    let read = read_blocks(base, &cached.blocks, offset, count, out);
     if read.is_err() {
         out.truncate(before);
     }

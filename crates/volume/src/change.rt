@@ -33,9 +33,9 @@ impl<D: Device> Volume<D> {
     ghost use Rattle.model.specs.Trees.Tree.{is_directory_at};
     ghost use Rattle.volume.specs.Changes.{IsTree, ending_of};
     ghost use Rattle.volume.specs.Edits.{IsChange, IsEdited, edited_by};
-    ghost use Rattle.volume.specs.Formed.{Shows};
+    ghost use Rattle.volume.specs.Formed.{ShowsTree};
     ghost use Rattle.volume.specs.Shown.{ShowsAs};
-    ghost use Rattle.volume.specs.Views.{volume_state, Alters};
+    ghost use Rattle.volume.specs.Views.{volume_state, AltersVolume};
 
     /// Whether the tree after edits has room: what [`Volume::change`] asks first. Each must be one
     /// that can be done in the tree that those before it give. It is answered where the volume is
@@ -70,9 +70,9 @@ impl<D: Device> Volume<D> {
     /// failed. None of them changes what is shown of the tree.
     pub fn change(&mut self, edits: &[Edit<'_>]) -> Result<(), VolumeFault>
         requires { IsChange (volume_state self.old) edits.now }
-        ensures volume { Alters self.old self.new
+        ensures volume { AltersVolume self.old self.new
             (IsEdited (volume_state self.old) edits.now) (ending_of result) }
-        ensures shows { OnOk result (Shows D.keeps_word
+        ensures shows { OnOk result (ShowsTree D.keeps_word
             (edited_by (volume_state self.old) edits.now) (volume_state self.new).tree) }
         // Refused
         ensures stays { OnErr result
@@ -116,10 +116,10 @@ impl<D: Device> Volume<D> {
     /// Those of [`Volume::change`].
     pub fn keep(&mut self, edits: &[Edit<'_>]) -> Result<(), VolumeFault>
         requires { IsChange (volume_state self.old) edits.now }
-        ensures volume { Alters self.old self.new
+        ensures volume { AltersVolume self.old self.new
             (IsTree (volume_state self.old) (edited_by (volume_state self.old) edits.now))
             (ending_of result) }
-        ensures shows { OnOk result (Shows D.keeps_word
+        ensures shows { OnOk result (ShowsTree D.keeps_word
             (edited_by (volume_state self.old) edits.now) (volume_state self.new).tree) }
         // Refused
         ensures down { IsErrOf result VolumeFault.Down ↔ ((volume_state self.old).is_down ≡ true) }

@@ -26,7 +26,7 @@ impl<D: Device> Volume<D> {
     ghost use Rattle.model.specs.Operations.Files.{bytes_at};
     ghost use Rattle.volume.specs.Changes.{IsTree};
     ghost use Rattle.volume.specs.Reading.{HasFile, ending_of_reading};
-    ghost use Rattle.volume.specs.Views.{volume_state, Alters};
+    ghost use Rattle.volume.specs.Views.{volume_state, AltersVolume};
 
     /// Appends to `out` the bytes of a file from `offset` on: `len` of them, or as many as there
     /// are up to its end.
@@ -47,7 +47,7 @@ impl<D: Device> Volume<D> {
             ++ take len (drop offset (bytes_at (volume_state self.old).tree number))) }
         ensures err { OnErr result (out.new.items ≡ out.old.items) }
         // It only reads
-        ensures volume { Alters self.old self.new
+        ensures volume { AltersVolume self.old self.new
             (IsTree (volume_state self.old) (volume_state self.old).tree)
             (ending_of_reading result) }
         // Refused
@@ -59,8 +59,8 @@ impl<D: Device> Volume<D> {
             return Err(VolumeFault::Down);
         }
         let place = self.table.find(number).unwrap();
-        let card = self.table.card(place).unwrap();
-        read_bytes(&mut self.store, card, offset, len, out)?;
+        let cached = self.table.cached(place).unwrap();
+        read_bytes(&mut self.store, cached, offset, len, out)?;
         Ok(())
     }
 }

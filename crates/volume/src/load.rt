@@ -1,12 +1,12 @@
 //! Reading the nodes of a volume into memory.
 
 ghost use Rattle.std.specs.Prelude.{◌≡◌, ◌⊎◌, IfOk, IfErr, IsErrOf};
-ghost use Rattle.journal.specs.Journal.{log_of, failures_of};
+ghost use Rattle.journal.specs.Journal.{log_of, journal_failures};
 ghost use Rattle.layout.specs.Rewriting.{all_second, in_second};
 ghost use Rattle.layout.specs.Stands.{Kept};
 ghost use Rattle.model.specs.Sessions.SeatViews.{seats_view};
 ghost use Rattle.volume.specs.ParentIndex.{AreParents};
-ghost use Rattle.layout.specs.Health.{Reads};
+ghost use Rattle.layout.specs.Health.{FailsOrStays};
 ghost use Rattle.volume.specs.Loads.{AreLoaded, HoldsBase, HoldsVolume, IsLoaded, Loads};
 ghost use Rattle.volume.specs.Mounts.{HasSize, IsVolumeOf, IsAtRest, StandsOn};
 
@@ -15,7 +15,7 @@ use crate::mount::Superblock;
 use crate::parents::Parents;
 use crate::store::Store;
 use disk::Device;
-use freemap::Places;
+use freemap::SharedBitmap;
 use inode::Form;
 use layout::sectors::Sectors;
 use model::limits::Limits;
@@ -34,17 +34,17 @@ pub(crate) struct Loaded {
     /// The seats of persistent sessions.
     pub(crate) seats: Seats,
     pub(crate) table: Table,
-    pub(crate) places: Places,
+    pub(crate) places: SharedBitmap,
     pub(crate) parents: Parents,
 }
 
 /// The cached node of a place as it is once its node has form two.
-fn in_second(card: Option<CachedNode>) -> Option<CachedNode>
-    ensures { result ≡ in_second card }
+fn in_second(cached: Option<CachedNode>) -> Option<CachedNode>
+    ensures { result ≡ in_second cached }
 {
-    let mut card = card?;
-    card.form = Form::Two;
-    Some(card)
+    let mut cached = cached?;
+    cached.form = Form::Two;
+    Some(cached)
 }
 
 /// The cached nodes of all places as they are then.
@@ -55,8 +55,8 @@ fn all_second(
     ensures { IfOk result (λ second. second.items ≡ all_second cards.items) }
 {
     let mut second = Vec::with_capacity(alloc, cards.len())?;
-    for card in cards {
-        second.push(in_second(card))?;
+    for cached in cards {
+        second.push(in_second(cached))?;
     }
     Ok(second)
 }
@@ -77,7 +77,7 @@ pub(crate) fn read_nodes<S: Sectors>(
     ensures parents { IfOk result (λ loaded. AreParents loaded.table loaded.parents) }
     // It only reads
     ensures kept { S.kept sectors.new ≡ S.kept sectors.old }
-    ensures health { Reads (S.health sectors.old) (S.health sectors.new)
+    ensures health { FailsOrStays (S.health sectors.old) (S.health sectors.new)
         (IsErrOf result MountFault.Device) }
     // Refused
     ensures damaged { S.keeps_word → IsErrOf result MountFault.Damaged → (kept : Kept)
@@ -100,7 +100,7 @@ pub(crate) fn read_nodes<S: Sectors>(
         return Err(MountFault::Damaged);
     }
     let parents = Parents::from_table(alloc, &table)?;
-    let places = Places::new(alloc, contents.places)?;
+    let places = SharedBitmap::new(alloc, contents.places)?;
     Ok(Loaded {
         mark: contents.mark,
         seats: contents.seats,
@@ -125,7 +125,7 @@ pub(crate) fn load<D: Device>(
     ensures parents { IfOk result (λ loaded. AreParents loaded.table loaded.parents) }
     // It only reads
     ensures loads { Loads (log_of store.old.journal) (log_of store.new.journal)
-        (failures_of store.old.journal) (failures_of store.new.journal)
+        (journal_failures store.old.journal) (journal_failures store.new.journal)
         (IsErrOf result MountFault.Device) }
     // Refused
     ensures damaged { D.keeps_word → IsErrOf result MountFault.Damaged → (kept : Kept)

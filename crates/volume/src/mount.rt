@@ -3,7 +3,7 @@
 ghost use Rattle.std.specs.Prelude.{◌≡◌, ◌≤◌, ◌<◌, ◌⊎◌, IfOk, IfErr, OnOk, OnErr, IsErrOf};
 ghost use Rattle.disk.specs.Cause.{IsCounted};
 ghost use Rattle.disk.specs.Moments.{seen};
-ghost use Rattle.journal.specs.Journal.{log_of, failures_of};
+ghost use Rattle.journal.specs.Journal.{log_of, journal_failures};
 ghost use Rattle.volume.specs.Checks.{IsSeen};
 ghost use Rattle.volume.specs.Mounts.{RaisesSafely, HasSize, IsVolumeOf, IsAtRest, IsTold, IsRaised};
 ghost use Rattle.volume.specs.Superblock.{superblock};
@@ -138,12 +138,13 @@ pub(crate) fn raise<D: Device>(
         (log_of journal.new).history }
     ensures raised { OnOk result (IsRaised D.keeps_word found
         (log_of journal.old) (log_of journal.new)) }
-    ensures cause { OnErr result (IsCounted (failures_of journal.old) (failures_of journal.new)) }
-    ensures none { OnOk result (failures_of journal.new ≡ failures_of journal.old) }
+    ensures cause { OnErr result
+        (IsCounted (journal_failures journal.old) (journal_failures journal.new)) }
+    ensures none { OnOk result (journal_failures journal.new ≡ journal_failures journal.old) }
     // In any case
     ensures list { (log_of journal.new).list ≡ (log_of journal.old).list }
     ensures size { (log_of journal.new).size ≡ (log_of journal.old).size }
-    ensures later { failures_of journal.old ≤ failures_of journal.new }
+    ensures later { journal_failures journal.old ≤ journal_failures journal.new }
 {
     let sector = superblock_of(
         VersionNumber::CURRENT,

@@ -41,8 +41,8 @@ impl Parents {
     {
         let mut numbers = vec![in alloc; 0; table.places() as usize]?;
         for place in 0..table.places() {
-            if let Some(card) = table.card(place) {
-                note_names(&mut numbers, table, &card.names, card.inode.number);
+            if let Some(cached) = table.cached(place) {
+                note_names(&mut numbers, table, &cached.names, cached.inode.number);
             }
         }
         Ok(Parents { numbers })

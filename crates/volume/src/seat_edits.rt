@@ -11,8 +11,8 @@ impl<D: Device> Volume<D> {
     ghost use Rattle.std.specs.Prelude.{◌≡◌, ◌↔◌, ◌⊎◌, true, OnOk, IfErr, IsErrOf};
     ghost use Rattle.model.specs.Sessions.SeatEdits.{AreEdits, edited_all, edits_view};
     ghost use Rattle.volume.specs.Changes.{IsSeats, ending_of};
-    ghost use Rattle.volume.specs.Formed.{Shows};
-    ghost use Rattle.volume.specs.Views.{volume_state, Alters};
+    ghost use Rattle.volume.specs.Formed.{ShowsTree};
+    ghost use Rattle.volume.specs.Views.{volume_state, AltersVolume};
 
     /// Edits the seats as one transaction, and keeps it: after `Ok` a crash leaves the new ones,
     /// and every change of the tree so far. Within it a crash leaves the old ones or the new.
@@ -24,10 +24,10 @@ impl<D: Device> Volume<D> {
     pub fn put_seats(&mut self, edits: &SeatEdits) -> Result<(), VolumeFault>
         requires { D.keeps_word → AreEdits (volume_state self.old).run (edits_view edits.now)
             (volume_state self.old).seats }
-        ensures volume { Alters self.old self.new
+        ensures volume { AltersVolume self.old self.new
             (IsSeats (volume_state self.old)
             (edited_all (edits_view edits.now) (volume_state self.old).seats)) (ending_of result) }
-        ensures shows { OnOk result (Shows D.keeps_word (volume_state self.old).tree
+        ensures shows { OnOk result (ShowsTree D.keeps_word (volume_state self.old).tree
             (volume_state self.new).tree) }
         // Refused
         ensures down { IsErrOf result VolumeFault.Down ↔ ((volume_state self.old).is_down ≡ true) }

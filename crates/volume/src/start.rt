@@ -2,12 +2,12 @@
 
 ghost use Rattle.std.specs.Prelude.{◌≡◌, ◌≤◌, ◌<◌, ◌⊎◌, IfErr, OnOk, OnErr, IsErrOf};
 ghost use Rattle.disk.specs.Cause.{IsCounted};
-ghost use Rattle.journal.specs.Journal.{log_of, failures_of};
+ghost use Rattle.journal.specs.Journal.{log_of, journal_failures};
 ghost use Rattle.migration.specs.Plans.{clearing_updates};
 ghost use Rattle.model.specs.Sessions.SeatViews.{seats_view};
 ghost use Rattle.volume.specs.Loads.{HoldsBase, IsLoaded};
 ghost use Rattle.volume.specs.Mounts.{AddsRaised, IsAtRest, IsVolumeOf};
-ghost use Rattle.volume.specs.Starts.{Clears, Counts, HasStarted, Moves, is_marked};
+ghost use Rattle.volume.specs.Starts.{Clears, Counts, HasStarted, MovesNodes, is_marked};
 
 use crate::fault::MountFault;
 use crate::load::Loaded;
@@ -29,16 +29,16 @@ fn move_nodes<D: Device>(
     requires rests { IsAtRest (log_of journal.old) }
     requires loaded { IsLoaded D.keeps_word found (log_of journal.old)
         loaded.now.mark loaded.now.table (seats_view loaded.now.seats) loaded.now.places }
-    ensures moves { Moves D.keeps_word found loaded.now.mark
+    ensures moves { MovesNodes D.keeps_word found loaded.now.mark
         (log_of journal.old) (log_of journal.new) result }
     // Refused
     ensures memory { IsErrOf result MigrationFault.Memory
         → log_of journal.new ≡ log_of journal.old }
-    ensures later { failures_of journal.old ≤ failures_of journal.new }
+    ensures later { journal_failures journal.old ≤ journal_failures journal.new }
     ensures cause { IsErrOf result MigrationFault.Device
-        → IsCounted (failures_of journal.old) (failures_of journal.new) }
+        → IsCounted (journal_failures journal.old) (journal_failures journal.new) }
     ensures none { (¬ IsErrOf result MigrationFault.Device)
-        → failures_of journal.new ≡ failures_of journal.old }
+        → journal_failures journal.new ≡ journal_failures journal.old }
 {
     match found.version {
         VersionNumber::One => migrate(alloc, journal, &loaded.table, loaded.mark.unwrap_or(0)),
@@ -68,9 +68,10 @@ fn unmark<D: Device>(
     ensures clears { Clears D.keeps_word is_marked
         (log_of journal.old) (log_of journal.new) result }
     // Refused
-    ensures later { failures_of journal.old ≤ failures_of journal.new }
-    ensures cause { OnErr result (IsCounted (failures_of journal.old) (failures_of journal.new)) }
-    ensures none { OnOk result (failures_of journal.new ≡ failures_of journal.old) }
+    ensures later { journal_failures journal.old ≤ journal_failures journal.new }
+    ensures cause { OnErr result
+        (IsCounted (journal_failures journal.old) (journal_failures journal.new)) }
+    ensures none { OnOk result (journal_failures journal.new ≡ journal_failures journal.old) }
 {
     if !is_marked {
         return Ok(());
@@ -104,7 +105,7 @@ pub(crate) fn start<D: Device>(
     ensures only { IfErr result (λ fault.
         (fault ≡ MountFault.Device) ⊎ (fault ≡ MountFault.Memory)) }
     ensures memory { IsErrOf result MountFault.Memory → log_of journal.new ≡ log_of journal.old }
-    ensures counted { Counts (failures_of journal.old) (failures_of journal.new)
+    ensures counted { Counts (journal_failures journal.old) (journal_failures journal.new)
         (IsErrOf result MountFault.Device) }
 {
     let updates = clearing(alloc)?;

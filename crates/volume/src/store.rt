@@ -10,10 +10,10 @@ pub struct Store<D: Device> {
     pub(crate) journal: Journal<D>,
 }
 
-#[tactic(auto, unfolding(journal::specs::Journal::log_of, journal::specs::Journal::failures_of))]
+#[tactic(auto, unfolding(journal::specs::Journal::log_of, journal::specs::Journal::journal_failures))]
 impl<D: Device> Sectors for Store<D> {
     ghost use Rattle.std.specs.Prelude.{false};
-    ghost use Rattle.journal.specs.Journal.{log_of, failures_of};
+    ghost use Rattle.journal.specs.Journal.{log_of, journal_failures};
     ghost use Rattle.journal.specs.Log.{Log, contents};
 
     ghost keeps_word = { D.keeps_word };
@@ -27,7 +27,7 @@ impl<D: Device> Sectors for Store<D> {
     ghost size = { λ log. log.size };
 
     ghost health = { λ store. record {
-      failed = failures_of store.journal;
+      failed = journal_failures store.journal;
       is_down = (log_of store.journal).is_down;
     } };
 

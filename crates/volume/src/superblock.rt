@@ -2,8 +2,8 @@
 
 ghost use Rattle.std.specs.Prelude.{◌≡◌, ◌==◌, ◌||◌, length, take};
 ghost use Rattle.layout.specs.Superblock.{is_size, fields};
-ghost use Rattle.layout.specs.Stands.{number_of};
-ghost use Rattle.volume.specs.Superblock.{is_volume, verdict, version_in, superblock, word};
+ghost use Rattle.layout.specs.Stands.{number_of_version};
+ghost use Rattle.volume.specs.Superblock.{is_volume, mount_verdict, version_in, superblock, word};
 
 use disk::SECTOR;
 use freemap::Bitmap;
@@ -54,7 +54,7 @@ pub fn is_volume_size(sectors: u32, nodes: u32) -> bool
 
 /// Writes the fields of the first sector.
 fn put_fields(sector: &mut [u8; SECTOR], version: VersionNumber, sectors: u32, nodes: u32, run: u32)
-    ensures front { take 24 sector.new ≡ fields (number_of version) sectors nodes run }
+    ensures front { take 24 sector.new ≡ fields (number_of_version version) sectors nodes run }
     ensures len { length sector.new ≡ SECTOR }
 {
     put_bytes(sector, 0, &MAGIC);
@@ -81,9 +81,9 @@ pub(crate) fn superblock_of(
 }
 
 /// What a mount makes of sector 0 of a device of this many sectors.
-#[tactic(auto, unfolding(crate::specs::Superblock::verdict))]
+#[tactic(auto, unfolding(crate::specs::Superblock::mount_verdict))]
 pub fn judge(sectors: u32, sector: &[u8; SECTOR]) -> Verdict
-    ensures { result ≡ verdict sectors sector.now }
+    ensures { result ≡ mount_verdict sectors sector.now }
 {
     if !has_header(sectors, sector) {
         Verdict::NotVolume

@@ -9,8 +9,8 @@ ghost use Rattle.tree_edits.specs.Outlines.{tree_without_data};
 ghost use Rattle.volume.specs.ParentIndex.{AreParents};
 ghost use Rattle.volume.specs.ParentProps.{AreParents-prop};
 ghost use Rattle.volume.specs.Formed.{IsFormed};
-ghost use Rattle.volume.specs.Known.{IsKnown, IsServing};
-ghost use Rattle.volume.specs.KnownProps.{IsKnown-prop, IsFormed-prop};
+ghost use Rattle.volume.specs.Known.{AreKnownNodes, IsServing};
+ghost use Rattle.volume.specs.KnownProps.{AreKnownNodes-prop, IsFormed-prop};
 
 use crate::fault::{MountFault, VolumeFault};
 use crate::load::load;
@@ -19,7 +19,7 @@ use crate::parents::Parents;
 use crate::start::start;
 use crate::store::Store;
 use disk::Device;
-use freemap::Places;
+use freemap::SharedBitmap;
 use journal::{CACHED_SECTORS, Journal};
 use model::limits::Limits;
 use model::seats::Seats;
@@ -39,13 +39,13 @@ pub struct Volume<D: Device> {
     pub(crate) limits: Limits,
     run: u32,
     pub(crate) table: Table,
-    pub(crate) places: Places,
+    pub(crate) places: SharedBitmap,
     pub(crate) parents: Parents,
     ghost bounded: { run < 2 ^ 32 },
     ghost sized: { IsTrue (is_size (log_of store.journal).size limits.nodes) },
     ghost limited: { limits ≡ limits_of (log_of store.journal).size limits.nodes },
     ghost formed: { IsFormed limits (stamp (run + 1) 0) (tree_without_data table) } by { IsFormed-prop limits (stamp (run + 1) 0) (tree_without_data table) },
-    ghost known: { IsKnown (log_of store.journal).size limits.nodes table places } by { IsKnown-prop (log_of store.journal).size limits.nodes table places },
+    ghost known: { AreKnownNodes (log_of store.journal).size limits.nodes table places } by { AreKnownNodes-prop (log_of store.journal).size limits.nodes table places },
     ghost named: { AreParents table parents } by { AreParents-prop table parents },
     ghost serves: { D.keeps_word → (log_of store.journal).is_down ≡ false
         → ∥ IsServing (log_of store.journal) limits.nodes run table ∥₁ },
@@ -70,19 +70,19 @@ pub struct Unmounted<D: Device> {
 impl<D: Device> Volume<D> {
     ghost use Rattle.std.specs.Prelude.{◌≡◌, ◌≤◌, ◌↔◌, ◌⊎◌, true, None, length};
     ghost use Rattle.std.specs.Prelude.{IfSome, IfNone, IfOk, IfErr, OnOk, IsErrOf};
-    ghost use Rattle.journal.specs.Journal.{log_of, failures_of};
+    ghost use Rattle.journal.specs.Journal.{log_of, journal_failures};
     ghost use Rattle.layout.specs.Known.{IsCard};
     ghost use Rattle.model.specs.declared.acl.TheConstants.Acl.{MAX_STORED};
     ghost use Rattle.model.specs.Trees.Keyed.{at};
     ghost use Rattle.model.specs.Sessions.SeatViews.{seats_view};
     ghost use Rattle.volume.specs.Changes.{IsTree, Stays, ending_of};
-    ghost use Rattle.volume.specs.Formed.{Shows};
-    ghost use Rattle.volume.specs.VolumeState.{IsNew, KeepsRecent};
+    ghost use Rattle.volume.specs.Formed.{ShowsTree};
+    ghost use Rattle.volume.specs.VolumeState.{IsJustMounted, KeepsRecent};
     ghost use Rattle.volume.specs.Loads.{HoldsBase};
     ghost use Rattle.volume.specs.MountAnswers.{FindsSeats, MountServes, MountGivesBack, ComesBack};
     ghost use Rattle.volume.specs.Mounts.{IsVolumeOf, IsAtRest, HasBegun, IsNotBegun};
     ghost use Rattle.volume.specs.Nodes.{IsNodeOf};
-    ghost use Rattle.volume.specs.Views.{volume_state, volume_failures, Alters};
+    ghost use Rattle.volume.specs.Views.{volume_state, volume_failures, AltersVolume};
 
     /// Mounts the volume: finds it by its first sector, replays the log, reads its nodes and seats,
     /// migrates one of version 1, and raises the restart count. Every map that a crash leaves from
@@ -165,9 +165,9 @@ impl<D: Device> Volume<D> {
         requires rests { IsAtRest (log_of journal) }
         requires base { D.keeps_word → HoldsBase found (log_of journal) }
         ensures new { IfOk result (λ mounted.
-            IsNew (log_of journal).size (volume_state mounted.volume)) }
+            IsJustMounted (log_of journal).size (volume_state mounted.volume)) }
         ensures counted { IfOk result (λ mounted.
-            volume_failures mounted.volume ≡ failures_of journal) }
+            volume_failures mounted.volume ≡ journal_failures journal) }
         ensures begun { D.keeps_word → IfOk result (λ mounted. HasBegun found
             (log_of journal).base (log_of journal).history (volume_state mounted.volume)) }
         ensures seats { IfOk result
@@ -175,7 +175,7 @@ impl<D: Device> Volume<D> {
             (seats_view mounted.seats)) }
         // Refused
         ensures back { IfErr result (ComesBack D.size D.failed (log_of journal).size
-            (failures_of journal)) }
+            (journal_failures journal)) }
         ensures refused { D.keeps_word → IfErr result (λ refused.
             IsNotBegun found (log_of journal).base (log_of journal).history
             (D.history refused.device) refused.fault) }
@@ -246,13 +246,13 @@ impl<D: Device> Volume<D> {
     /// the tree before the call that failed or after it.
     pub fn node(&self, number: u64) -> Option<&CachedNode>
         ensures some { IfSome result
-            (λ card. IsNodeOf (volume_state self.now).tree number card.now) }
+            (λ cached. IsNodeOf (volume_state self.now).tree number cached.now) }
         ensures none { IfNone result (at number (volume_state self.now).tree ≡ None) }
-        ensures fit { IfSome result (λ card. IsCard card.now) }
-        ensures few { IfSome result (λ card. length card.now.fields.acl ≤ MAX_STORED) }
+        ensures fit { IfSome result (λ cached. IsCard cached.now) }
+        ensures few { IfSome result (λ cached. length cached.now.fields.acl ≤ MAX_STORED) }
     {
         let place = self.table.find(number)?;
-        self.table.card(place)
+        self.table.cached(place)
     }
 
     /// Keeps all changes so far: after `Ok` no crash loses one.
@@ -262,9 +262,9 @@ impl<D: Device> Volume<D> {
     /// [`VolumeFault::Device`] where the device failed, and [`VolumeFault::Down`] after such a
     /// call.
     pub fn flush(&mut self) -> Result<(), VolumeFault>
-        ensures volume { Alters self.old self.new
+        ensures volume { AltersVolume self.old self.new
             (IsTree (volume_state self.old) (volume_state self.old).tree) (ending_of result) }
-        ensures shows { OnOk result (Shows D.keeps_word (volume_state self.old).tree
+        ensures shows { OnOk result (ShowsTree D.keeps_word (volume_state self.old).tree
             (volume_state self.new).tree) }
         // Refused
         ensures down { IsErrOf result VolumeFault.Down ↔ ((volume_state self.old).is_down ≡ true) }
@@ -283,9 +283,9 @@ impl<D: Device> Volume<D> {
     ///
     /// Those of [`Volume::flush`].
     pub fn checkpoint(&mut self) -> Result<(), VolumeFault>
-        ensures volume { Alters self.old self.new
+        ensures volume { AltersVolume self.old self.new
             (Stays (volume_state self.old)) (ending_of result) }
-        ensures shows { OnOk result (Shows D.keeps_word (volume_state self.old).tree
+        ensures shows { OnOk result (ShowsTree D.keeps_word (volume_state self.old).tree
             (volume_state self.new).tree) }
         ensures recent { D.keeps_word → OnOk result
             (KeepsRecent (volume_state self.old) (volume_state self.new)) }

@@ -15,7 +15,7 @@ use Rattle.inode.specs.Spelling.{inode_sector}
 use Rattle.inode.proofs.ReadBack.{one_node}
 use Rattle.layout.specs.CachedNodes.{CachedNode, node_sector}
 use Rattle.layout.specs.Laid.{runs_of_sector}
-use Rattle.layout.specs.Marks.{times, times_set, named_by, mark_by}
+use Rattle.layout.specs.Marks.{times, times_set, namings_of, mark_by}
 use Rattle.layout.proofs.Frame.{times_set-at}
 use Rattle.layout.proofs.NumberLaws.{times-at}
 use Rattle.layout.proofs.ChargeLaws.{named-none}
@@ -24,7 +24,7 @@ use Rattle.volume_load.specs.CachedNodes.{uses, FindsBlocks, FindsRest, FindsPla
 use Rattle.volume_load.specs.Marking.{max_marks, CanMark, AreMarked}
 use Rattle.volume_load.specs.Names.{AreSetWithin, FindsContent}
 use Rattle.volume_load.specs.Places.{FindsNode, FindsFields}
-use Rattle.volume_load.specs.Runs.{AreWithin, FindsRuns}
+use Rattle.volume_load.specs.Runs.{SectorsWithin, FindsRuns}
 use Rattle.volume_load.proofs.MarkingLaws.{most-some, can_more, can_marked}
 use Rattle.volume_load.proofs.NameLaws.{same_at}
 use Rattle.volume_load.proofs.RunLaws.{all-take, all-drop}
@@ -61,7 +61,7 @@ marked_within first old new often size n most marked long some =
     let there = most-some first (length new) n (omega (arith, most n, marked.marks n)) in
     omega (arith, there.1, marked.len)
 
-pub sectors_within : (first : ℕ) (old new : List Bool) (sectors : List ℕ) (size : ℕ) → AreMarked first old new (λ n. times n sectors) → first + length old ≡ size → AreWithin size sectors
+pub sectors_within : (first : ℕ) (old new : List Bool) (sectors : List ℕ) (size : ℕ) → AreMarked first old new (λ n. times n sectors) → first + length old ≡ size → SectorsWithin size sectors
 sectors_within first old new sectors size marked long i h =
     marked_within first old new (λ n. times n sectors) size (get_or sectors i 0) (can_marked first new) marked long (times-at sectors i 0 h)
 
@@ -74,14 +74,14 @@ can_blocks first places mid fields blocks marked can = can_more first places mid
 
 -- A place
 
-named-is : (n : ℕ) (card : CachedNode) → named_by n (Some card) ≡ uses card.fields card.blocks n
-unfolding named_by
+named-is : (n : ℕ) (card : CachedNode) → namings_of n (Some card) ≡ uses card.fields card.blocks n
+unfolding namings_of
 named-is n card = refl
 
-pub marked_card : (first : ℕ) (old new : List Bool) (card : CachedNode) → AreMarked first old new (uses card.fields card.blocks) → AreMarked first old new (λ n. named_by n (Some card))
+pub marked_card : (first : ℕ) (old new : List Bool) (card : CachedNode) → AreMarked first old new (uses card.fields card.blocks) → AreMarked first old new (λ n. namings_of n (Some card))
 marked_card first old new card marked = record { len = marked.len; marks = λ n. omega (arith, marked.marks n, named-is n card) }
 
-pub marked_free : (first : ℕ) (places : List Bool) → AreMarked first places places (λ n. named_by n None)
+pub marked_free : (first : ℕ) (places : List Bool) → AreMarked first places places (λ n. namings_of n None)
 marked_free first places = record { len = refl; marks = λ n. omega (arith, named-none n) }
 
 starts : (form : Form) (fields : Fields) → get_or (inode_sector form fields) 0 0 ≡ 78
@@ -103,7 +103,7 @@ found_there word form image place (Some card) found = found.node
 
 module _ (word : Type 0) (form : Form) (image : Image) (place first : ℕ) (places : List Bool) (fields : Fields) (w : word) (node : FindsNode word form (image (node_sector place)) fields) where
   pub none_there : ((card : CachedNode) → card.fields ≡ fields → FindsRest word image card → CanMark first places (uses card.fields card.blocks) → ⊥) → (card : Option CachedNode) → FindsPlace word form image place card
-      → CanMark first places (λ n. named_by n card) → ⊥
+      → CanMark first places (λ n. namings_of n card) → ⊥
   none_there none None found can = not_both form (image (node_sector place)) fields (found w) (node.spelled w)
   none_there none (Some card) found can =
       none card (one_node form form card.fields fields found.node.fits node.fits (sym (found.node.spelled w) ∙ node.spelled w)).1 found.rest (λ n. omega (arith, can n, named-is n card))

@@ -6,7 +6,7 @@ use Rattle.std.proofs.lemmas.List.{get_or_past}
 use Rattle.std.proofs.lemmas.Nat.{from_be_bytes-to_be_bytes_4}
 use Rattle.disk.specs.Moments.{Image}
 use Rattle.disk.specs.Calls.{zero_sector}
-use Rattle.layout.specs.Stands.{HoldSeats, IsMark, MayKeep, mark_held, mark_sector, moved_by, spare_by, version_by}
+use Rattle.layout.specs.Stands.{HoldSeats, IsMark, MayHaveSeats, mark_held, mark_sector, moved_by, spare_by, version_by}
 use Rattle.layout.specs.declared.versions.VersionNumber.{VersionNumber}
 use Rattle.layout.specs.declared.versions.VersionNumber.TheVariants as numbers
 use Rattle.layout.proofs.FileLaws.{zero_sector-at}
@@ -61,7 +61,7 @@ behind_seats seats n five far = ap (seat_sector (n % 9)) (get_or_past seats (n /
 in-front : (mark : Option ℕ) (seats : Seats) (n : ℕ) → length seats ≡ 5 → 145 ≤ n → n < 147 → spare_by seats mark n ≡ zero_sector
 in-front mark seats n five far low = spare_seats seats mark n (λ e. absurd (omega arith)) ∙ behind_seats seats (n - 100) five (omega arith)
 
-module _ (number : VersionNumber) (mark : Option ℕ) (seats : Seats) (image : Image) (may : MayKeep number mark seats) where
+module _ (number : VersionNumber) (mark : Option ℕ) (seats : Seats) (image : Image) (may : MayHaveSeats number mark seats) where
   pub spare_there : length seats ≡ 5 → image 147 ≡ mark_held mark → HoldSeats image seats → AreSpare image → (n : ℕ) → 100 ≤ n → n < 148 → image n ≡ (version_by number mark seats).spare n
   spare_there five there holds spare n low high = elim (cases_eq n 147) [
     | inl at ↦ ap image at ∙ there ∙ ap (spare_by seats mark) (sym at) ∙ sym (version_spare number mark seats n may)

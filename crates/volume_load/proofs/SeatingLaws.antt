@@ -6,10 +6,10 @@ use Rattle.std.proofs.Math.Seq.{drop-cons}
 use Rattle.disk.specs.Moments.{Image}
 use Rattle.model.specs.declared.seats.Seat as seats
 use Rattle.model.specs.Sessions.SeatViews.{place_view}
-use Rattle.model.specs.Sessions.Seats.{Seat, Seats, AreApart, has_seat, is_seat_of, no_seats, seat_of}
+use Rattle.model.specs.Sessions.Seats.{Seat, Seats, SeatsApart, has_seat, is_seat_of, no_seats, seat_of}
 use Rattle.model.proofs.Sessions.SeatLaws.{bytes_same}
 use Rattle.seats.specs.Reading.{SeatsReadBack}
-use Rattle.seats.specs.Spelling.{ArePlaces, IsPlace, seat_sector}
+use Rattle.seats.specs.Spelling.{ArePlaces, IsSeatPlace, seat_sector}
 use Rattle.directory.proofs.Places.{bytes_eq-true}
 use Rattle.sector.specs.Written.{each_at}
 use Rattle.layout.specs.Stands.{HoldSeats}
@@ -39,8 +39,8 @@ hold_all image seats each n h =
     let parts : 100 + n ≡ 100 + (9 * (n / 9) + n % 9) = omega arith in
     ap image parts ∙ each (n / 9) (omega arith) (n % 9) (omega arith)
 
-pub place_of : (seats : Seats) (place : ℕ) → place < 5 → ArePlaces seats → IsPlace (get_or seats place None)
-place_of seats place few are = each_at IsPlace seats place None are.each (omega (arith, are.five))
+pub place_of : (seats : Seats) (place : ℕ) → place < 5 → ArePlaces seats → IsSeatPlace (get_or seats place None)
+place_of seats place few are = each_at IsSeatPlace seats place None are.each (omega (arith, are.five))
 
 -- so they hold one list of seats at most
 pub one_seats : SeatsReadBack → (image : Image) (a b : Seats) → ArePlaces a → ArePlaces b → HoldSeats image a → HoldSeats image b → a ≡ b
@@ -48,7 +48,7 @@ one_seats back image a b first second holds other = sym (back a (λ n. image (10
 
 -- Seats that are apart
 
-pub apart_drop : (i : ℕ) (seats : Seats) → AreApart seats → AreApart (drop i seats)
+pub apart_drop : (i : ℕ) (seats : Seats) → SeatsApart seats → SeatsApart (drop i seats)
 apart_drop zero seats apart = apart
 apart_drop (suc i) [] apart = tt
 apart_drop (suc i) (None ∷ seats) apart = apart_drop i seats apart
@@ -57,14 +57,14 @@ apart_drop (suc i) (Some seat ∷ seats) apart = apart_drop i seats apart.1
 rest-at : (seats : Seats) (i : ℕ) (place : Option Seat) → i < length seats → get_or seats i None ≡ place → drop i seats ≡ place ∷ drop (i + 1) seats
 rest-at seats i place h is = drop-cons seats i None h ∙ ap₂ (λ (one : Option Seat) (k : ℕ). one ∷ drop k seats) is (let e : suc i ≡ i + 1 = omega arith in e)
 
-pub apart_here : (seats : Seats) (i : ℕ) (seat : Seat) → i < length seats → get_or seats i None ≡ Some seat → AreApart seats → has_seat seat.session (drop (i + 1) seats) ≡ false
-apart_here seats i seat h is apart = let here : AreApart (Some seat ∷ drop (i + 1) seats) = subst AreApart (rest-at seats i (Some seat) h is) (apart_drop i seats apart) in here.0
+pub apart_here : (seats : Seats) (i : ℕ) (seat : Seat) → i < length seats → get_or seats i None ≡ Some seat → SeatsApart seats → has_seat seat.session (drop (i + 1) seats) ≡ false
+apart_here seats i seat h is apart = let here : SeatsApart (Some seat ∷ drop (i + 1) seats) = subst SeatsApart (rest-at seats i (Some seat) h is) (apart_drop i seats apart) in here.0
 
-pub apart_free : (seats : Seats) (i : ℕ) → i < length seats → get_or seats i None ≡ None → AreApart (drop (i + 1) seats) → AreApart (drop i seats)
-apart_free seats i h is rest = subst AreApart (sym (rest-at seats i None h is)) rest
+pub apart_free : (seats : Seats) (i : ℕ) → i < length seats → get_or seats i None ≡ None → SeatsApart (drop (i + 1) seats) → SeatsApart (drop i seats)
+apart_free seats i h is rest = subst SeatsApart (sym (rest-at seats i None h is)) rest
 
-pub apart_more : (seats : Seats) (i : ℕ) (seat : Seat) → i < length seats → get_or seats i None ≡ Some seat → has_seat seat.session (drop (i + 1) seats) ≡ false → AreApart (drop (i + 1) seats) → AreApart (drop i seats)
-apart_more seats i seat h is other rest = subst AreApart (sym (rest-at seats i (Some seat) h is)) (other, rest)
+pub apart_more : (seats : Seats) (i : ℕ) (seat : Seat) → i < length seats → get_or seats i None ≡ Some seat → has_seat seat.session (drop (i + 1) seats) ≡ false → SeatsApart (drop (i + 1) seats) → SeatsApart (drop i seats)
+apart_more seats i seat h is other rest = subst SeatsApart (sym (rest-at seats i (Some seat) h is)) (other, rest)
 
 -- The seat of a session, from a place on
 

@@ -3,7 +3,7 @@ use Rattle.std.proofs.Common.{◌≡◌, ◌≤◌, ◌<◌, ℕ, zero, suc, Lis
 use Rattle.std.proofs.lemmas.List.{length-map}
 use Rattle.std.specs.List.{AllByRecursion}
 use Rattle.directory.specs.declared.entry.Entry.{Entry}
-use Rattle.directory.specs.Records.{Record, record_of, record_from, stamp_of, ApartBy, AreStamped}
+use Rattle.directory.specs.Records.{Record, record_of, record_from, stamp_of, ApartBy, NamesStamped}
 use Rattle.layout.specs.Marks.{times}
 use Rattle.volume_load.proofs.NumberLaws.{times-twice, once}
 
@@ -27,8 +27,8 @@ once_apart names once i j d before h same =
 apart_once : (names : List Record) → ApartBy stamp_of names → (n : ℕ) → times n (map stamp_of names) ≤ 1
 apart_once names apart n = once (map stamp_of names) (λ i j before h same. apart i j (record_from 0 [] 0) before (omega (arith, long names)) (sym (stamp_at names i (record_from 0 [] 0) (omega (arith, long names))) ∙ same ∙ stamp_at names j (record_from 0 [] 0) (omega (arith, long names)))) n
 
-pub stamped_so : (entries : List Entry) → AllByRecursion (λ (entry : Record). 0 < entry.0) (map record_of entries) → ((n : ℕ) → times n (map (λ (entry : Entry). entry.stamp) entries) ≤ 1) → AreStamped (map record_of entries)
+pub stamped_so : (entries : List Entry) → AllByRecursion (λ (entry : Record). 0 < entry.0) (map record_of entries) → ((n : ℕ) → times n (map (λ (entry : Entry). entry.stamp) entries) ≤ 1) → NamesStamped (map record_of entries)
 stamped_so entries above once = record { above = above; apart = once_apart (map record_of entries) (λ n. subst (λ (l : List ℕ). times n l ≤ 1) (sym (stamps_seen entries)) (once n)) }
 
-pub apart_so : (entries : List Entry) → AreStamped (map record_of entries) → (n : ℕ) → times n (map (λ (entry : Entry). entry.stamp) entries) ≤ 1
+pub apart_so : (entries : List Entry) → NamesStamped (map record_of entries) → (n : ℕ) → times n (map (λ (entry : Entry). entry.stamp) entries) ≤ 1
 apart_so entries stamped n = subst (λ (l : List ℕ). times n l ≤ 1) (stamps_seen entries) (apart_once (map record_of entries) stamped.apart n)

@@ -13,9 +13,9 @@ use Rattle.model.specs.declared.node.NodeKind.{NodeKind}
 use Rattle.model.specs.declared.node.NodeKind.TheVariants as kind
 use Rattle.layout.specs.CachedNodes.{CachedNode}
 use Rattle.layout.specs.Laid.{HoldsPlace, HoldsContent, AreNumbered}
-use Rattle.layout.specs.Known.{HasContent, IsPlace}
-use Rattle.layout.specs.Marks.{once_if, times, named, named_by, mark_by}
-use Rattle.layout.proofs.CachedNodeLaws.{card-back}
+use Rattle.layout.specs.Known.{HasContent, IsNodePlace}
+use Rattle.layout.specs.Marks.{once_if, times, named, namings_of, mark_by}
+use Rattle.layout.proofs.CachedNodeLaws.{cached-back}
 use Rattle.layout.proofs.MarkProofs.{mark-front, mark-back}
 use Rattle.volume_load.specs.CachedNodes.{FindsPlace, ArePlaces, numbers_of}
 use Rattle.volume_load.specs.Names.{FindsContent}
@@ -49,7 +49,7 @@ content_known : (word : Type 0) (image : Image) (kind : NodeKind) (card : Cached
 content_known word image kind.File card found = found.unnamed
 content_known word image kind.Directory card found = record { count = found.count; names = found.directory; stamped = found.stamped }
 
-pub place_known : (word : Type 0) (form : Form) (image : Image) (place : ℕ) (card : Option CachedNode) → FindsPlace word form image place card → IsPlace card
+pub place_known : (word : Type 0) (form : Form) (image : Image) (place : ℕ) (card : Option CachedNode) → FindsPlace word form image place card → IsNodePlace card
 place_known word form image place None found = tt
 place_known word form image place (Some card) found =
     let rest = found.rest in
@@ -90,26 +90,26 @@ place_found word form image place (Some card) forms few holds = record {
 
 -- so one cached node at most is found at a place
 pub one_place : (word : Type 0) (form : Form) (image : Image) (place : ℕ) (a b : Option CachedNode) → word → FindsPlace word form image place a → FindsPlace word form image place b → a ≡ b
-one_place word form image place a b w first second = sym (card-back image place a (place_held word form image place a w first)) ∙ card-back image place b (place_held word form image place b w second)
+one_place word form image place a b w first second = sym (cached-back image place a (place_held word form image place a w first)) ∙ cached-back image place b (place_held word form image place b w second)
 
 -- Sums of what is named
 
-pub named-push : (n : ℕ) (cards : List (Option CachedNode)) (card : Option CachedNode) → named n (cards ++ card ∷ []) ≡ named n cards + named_by n card
+pub named-push : (n : ℕ) (cards : List (Option CachedNode)) (card : Option CachedNode) → named n (cards ++ card ∷ []) ≡ named n cards + namings_of n card
 named-push n [] card = omega arith
 named-push n (one ∷ cards) card = omega (arith, named-push n cards card)
 
 pub named-front : (n : ℕ) (front cards : List (Option CachedNode)) → length front < length cards → ((p : ℕ) → p < length front → get_or front p None ≡ get_or cards p None)
-    → named n front + named_by n (get_or cards (length front) None) ≤ named n cards
+    → named n front + namings_of n (get_or cards (length front) None) ≤ named n cards
 named-front n front [] h same = absurd (omega arith)
 named-front n [] (card ∷ cards) h same = omega arith
 named-front n (one ∷ front) (card ∷ cards) h same =
     let first : one ≡ card = same 0 (omega arith) in
-    let e : named_by n one ≡ named_by n card = ap (named_by n) first in
+    let e : namings_of n one ≡ namings_of n card = ap (namings_of n) first in
     omega (arith, named-front n front cards (omega arith) (λ p below. same (suc p) (omega arith)))
 
 -- of a table whose first places are those that were found, the next one can be marked
 pub next_fits : (word : Type 0) (form : ℕ → Form) (image : Image) (nodes n : ℕ) (front cards : List (Option CachedNode)) → word → length cards ≡ nodes → length front < nodes → ((p : ℕ) → p < length front → FindsPlace word (form p) image p (get_or front p None)) → ArePlaces word form image nodes cards
-    → named n front + named_by n (get_or cards (length front) None) ≤ named n cards
+    → named n front + namings_of n (get_or cards (length front) None) ≤ named n cards
 next_fits word form image nodes n front cards w many h found each =
     named-front n front cards (omega arith) (λ p below. one_place word (form p) image p (get_or front p None) (get_or cards p None) w (found p below) (each p (omega arith)))
 

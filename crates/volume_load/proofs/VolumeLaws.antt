@@ -3,13 +3,13 @@ use Rattle.std.proofs.Common.{◌≡◌, ◌≤◌, ◌<◌, ◌+◌, ◌-◌, �
 use Rattle.std.proofs.lemmas.Bool.{cases_lt}
 use Rattle.std.proofs.lemmas.List.{ext_get_or, get_or_past}
 use Rattle.disk.specs.Moments.{Image}
-use Rattle.freemap.specs.Places.{Shows, mark_of, bit_of, bit_in}
+use Rattle.freemap.specs.Places.{ShowsPlaces, mark_of, bit_of, bit_in}
 use Rattle.inode.specs.declared.node.Form.{Form}
 use Rattle.layout.specs.CachedNodes.{CachedNode}
 use Rattle.layout.specs.Known.{AreCards}
 use Rattle.layout.specs.Laid.{AreLaid, AreNumbered}
 use Rattle.layout.specs.Marks.{named, mark_in, mark_by}
-use Rattle.layout.specs.Stands.{HoldSeats, Version, AreKept, HaveForms, IsLaid, IsMark, MayKeep, mark_held, version_by}
+use Rattle.layout.specs.Stands.{HoldSeats, Version, AreKept, HaveForms, IsLaid, IsMark, MayHaveSeats, mark_held, version_by}
 use Rattle.layout.specs.declared.versions.VersionNumber.{VersionNumber}
 use Rattle.model.specs.Sessions.Seats.{Seats, no_seats}
 use Rattle.layout.proofs.CachedNodeLaws.{cards-back}
@@ -43,15 +43,15 @@ laid_can word number mark seats image size nodes count cards sized laid few = re
 
 -- by the one mark that stands there
 pub record LaidHere (number : VersionNumber) (mark : Option ℕ) (seats : Seats) (image : Image) (size nodes : ℕ) (cards : List (Option CachedNode)) : Type 0 where
-  pub may : MayKeep number mark seats
+  pub may : MayHaveSeats number mark seats
   pub laid : IsLaid (version_by number mark seats) size nodes image cards
 
-pub laid_here : (number : VersionNumber) (mark other : Option ℕ) (seats : Seats) (image : Image) (size nodes : ℕ) (cards : List (Option CachedNode)) → nodes < 2 ^ 32 → IsMark number nodes mark → image 147 ≡ mark_held mark → IsMark number nodes other → MayKeep number other seats
+pub laid_here : (number : VersionNumber) (mark other : Option ℕ) (seats : Seats) (image : Image) (size nodes : ℕ) (cards : List (Option CachedNode)) → nodes < 2 ^ 32 → IsMark number nodes mark → image 147 ≡ mark_held mark → IsMark number nodes other → MayHaveSeats number other seats
     → IsLaid (version_by number other seats) size nodes image cards → LaidHere number mark seats image size nodes cards
 laid_here number mark other seats image size nodes cards small is there one may laid =
     let same : other ≡ mark = one_mark other mark (mark_fits number nodes other small one) (mark_fits number nodes mark small is) (sym (mark_there number other seats image may laid.spare) ∙ there) in
     record {
-      may = subst (λ (m : Option ℕ). MayKeep number m seats) same may;
+      may = subst (λ (m : Option ℕ). MayHaveSeats number m seats) same may;
       laid = subst (λ (m : Option ℕ). IsLaid (version_by number m seats) size nodes image cards) same laid;
     }
 
@@ -94,8 +94,8 @@ same_marks word version form image size nodes count cards others places w found 
 
 -- What is found of all is read
 
-module _ (word : Type 0) (number : VersionNumber) (run : ℕ) (mark : Option ℕ) (seats : Seats) (image : Image) (size nodes count : ℕ) (cards : List (Option CachedNode)) (places : List Bool) (sized : size ≡ 148 + nodes + count) (small : count ≤ 65536) (marked : IsMark number nodes mark) (may : MayKeep number mark seats) (keeps : AreKept run seats)
-    (found : IsFound word (version_by number mark no_seats).form image nodes count cards places) (apart : AreNumbered cards) (low : word → Shows (image 98) places 0) (high : word → Shows (image 99) places 32768) (there : word → image 147 ≡ mark_held mark) (holds : word → HoldSeats image seats) (spare : word → AreSpare image) where
+module _ (word : Type 0) (number : VersionNumber) (run : ℕ) (mark : Option ℕ) (seats : Seats) (image : Image) (size nodes count : ℕ) (cards : List (Option CachedNode)) (places : List Bool) (sized : size ≡ 148 + nodes + count) (small : count ≤ 65536) (marked : IsMark number nodes mark) (may : MayHaveSeats number mark seats) (keeps : AreKept run seats)
+    (found : IsFound word (version_by number mark no_seats).form image nodes count cards places) (apart : AreNumbered cards) (low : word → ShowsPlaces (image 98) places 0) (high : word → ShowsPlaces (image 99) places 32768) (there : word → image 147 ≡ mark_held mark) (holds : word → HoldSeats image seats) (spare : word → AreSpare image) where
   known : AreCards nodes (mark_by (148 + nodes) places) cards
   known =
       let each = each_mark (148 + nodes) places 0 in

@@ -5,7 +5,7 @@ use Rattle.std.specs.List.{AllByRecursion}
 use Rattle.disk.specs.Moments.{Image}
 use Rattle.model.specs.declared.node.NodeKind.{NodeKind}
 use Rattle.model.specs.declared.node.NodeKind.TheVariants as kind
-use Rattle.directory.specs.Records.{Record, IsRecord, IsDirectory, AreStamped}
+use Rattle.directory.specs.Records.{Record, IsRecord, IsDirectory, NamesStamped}
 use Rattle.directory.specs.Spelling.{directory_sector}
 use Rattle.layout.specs.CachedNodes.{byte_at}
 use Rattle.layout.specs.Laid.{AreSpelled}
@@ -42,7 +42,7 @@ pub record FindsNames (word : Type 0) (image : Image) (size : ℕ) (blocks : Lis
     (names : List Record) : Type 0 where
   pub count : length names ≡ size
   pub directory : IsDirectory names
-  pub stamped : AreStamped names
+  pub stamped : NamesStamped names
   pub spelled : word → AreSpelled image blocks names
 
 abbrev pub FindsContent : (word : Type 0) → Image → NodeKind → (size : ℕ) → List (Option ℕ)

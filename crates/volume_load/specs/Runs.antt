@@ -21,5 +21,5 @@ pub record FindsRuns (word : Type 0) (image : Image) (sectors : List ℕ) (count
   pub spelled : word → AreRunSectors image sectors runs
 
 -- each of these sectors can be read
-abbrev pub AreWithin : (size : ℕ) → List ℕ → Type 0
-AreWithin size sectors = (i : ℕ) → i < length sectors → slice_index_or sectors i 0 < size
+abbrev pub SectorsWithin : (size : ℕ) → List ℕ → Type 0
+SectorsWithin size sectors = (i : ℕ) → i < length sectors → slice_index_or sectors i 0 < size

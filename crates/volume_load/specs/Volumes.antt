@@ -8,7 +8,7 @@ use Rattle.model.specs.Sessions.Seats.{Seats}
 use Rattle.model.specs.Trees.Tree.{Tree}
 use Rattle.layout.specs.Known.{AreCards}
 use Rattle.layout.specs.Marks.{mark_by}
-use Rattle.layout.specs.Stands.{Version, AreKept, HaveForms, IsLaid, IsMark, MayKeep, Stands}
+use Rattle.layout.specs.Stands.{Version, AreKept, HaveForms, IsLaid, IsMark, MayHaveSeats, TreeStands}
 use Rattle.layout.specs.Stands.{version_by}
 
 -- no node has more blocks than a file may have
@@ -24,7 +24,7 @@ pub record IsRead (word : Type 0) (size nodes : ℕ) (number : VersionNumber) (r
     (mark : Option ℕ) (seats : Seats) (image : Image) (cards : List (Option CachedNode))
     (places : List Bool) : Type 0 where
   pub marked : IsMark number nodes mark
-  pub may : MayKeep number mark seats
+  pub may : MayHaveSeats number mark seats
   pub keeps : AreKept run seats
   pub known : AreCards nodes (mark_by (148 + nodes) places) cards
   pub forms : HaveForms (version_by number mark seats) cards
@@ -36,4 +36,4 @@ pub record IsRead (word : Type 0) (size nodes : ℕ) (number : VersionNumber) (r
 -- where a volume stands for a tree, the cached nodes that are read of it are so few
 abbrev pub StandsIsFew : Type 0
 StandsIsFew = (version : Version) (size nodes : ℕ) (image : Image) (run : ℕ) (tree : Tree)
-    → Stands version size nodes image run tree → AreFew (cards_in nodes image)
+    → TreeStands version size nodes image run tree → AreFew (cards_in nodes image)

@@ -1,7 +1,7 @@
 //! The mark of a migration.
 
 ghost use Rattle.std.specs.Prelude.{◌≡◌, ◌<◌, ◌^◌, ℕ, Option, IfOk, IsErrOf};
-ghost use Rattle.layout.specs.Health.{Reads};
+ghost use Rattle.layout.specs.Health.{FailsOrStays};
 ghost use Rattle.layout.specs.Stands.{IsMark, mark_held, moved_by};
 
 use crate::fault::ScanFault;
@@ -58,7 +58,7 @@ pub(crate) fn read_mark<S: Sectors>(
         → IsMark number nodes mark → ¬ (S.image (S.kept sectors.old) MARK ≡ mark_held mark) }
     // It only reads
     ensures kept { S.kept sectors.new ≡ S.kept sectors.old }
-    ensures health { Reads (S.health sectors.old) (S.health sectors.new)
+    ensures health { FailsOrStays (S.health sectors.old) (S.health sectors.new)
         (IsErrOf result ScanFault.Device) }
 {
     let content = fetch(sectors, MARK)?;

@@ -5,8 +5,8 @@ ghost use Rattle.std.specs.Prelude.{IsErrOf, IsTrue};
 ghost use Rattle.std.specs.List.{AllByRecursion};
 ghost use Rattle.model.specs.Trees.Charge.{blocks_of, divided_up};
 ghost use Rattle.model.specs.declared.node.NodeKind.TheVariants as kind;
-ghost use Rattle.directory.specs.Records.{Record, record_of, IsDirectory, AreStamped};
-ghost use Rattle.layout.specs.Health.{Reads};
+ghost use Rattle.directory.specs.Records.{Record, record_of, IsDirectory, NamesStamped};
+ghost use Rattle.layout.specs.Health.{FailsOrStays};
 ghost use Rattle.volume_load.specs.Names.{AreSetWithin, FindsPart, FindsRecords, FindsContent};
 ghost use Rattle.volume_load.specs.Names.{HasTail};
 
@@ -36,7 +36,7 @@ fn read_part<S: Sectors>(
         → ¬ FindsPart S.keeps_word (S.image (S.kept sectors.old) sector) count names }
     // It only reads
     ensures kept { S.kept sectors.new ≡ S.kept sectors.old }
-    ensures health { Reads (S.health sectors.old) (S.health sectors.new)
+    ensures health { FailsOrStays (S.health sectors.old) (S.health sectors.new)
         (IsErrOf result ScanFault.Device) }
 {
     let content = fetch(sectors, sector)?;
@@ -60,7 +60,7 @@ fn read_entries<S: Sectors>(
         → ¬ FindsRecords S.keeps_word (S.image (S.kept sectors.old)) blocks.now count names }
     // It only reads
     ensures kept { S.kept sectors.new ≡ S.kept sectors.old }
-    ensures health { Reads (S.health sectors.old) (S.health sectors.new)
+    ensures health { FailsOrStays (S.health sectors.old) (S.health sectors.new)
         (IsErrOf result ScanFault.Device) }
 {
     let mut entries = Vec::new(alloc);
@@ -99,7 +99,7 @@ fn stamps_of(alloc: Global, entries: &[Entry]) -> Result<Vec<u64>, AllocError>
 
 /// Whether stamps are above 0, and none stands twice.
 fn are_stamped(alloc: Global, entries: &[Entry]) -> Result<bool, AllocError>
-    ensures { IfOk result (λ are. IsTrue are ↔ AreStamped (map record_of entries.now)) }
+    ensures { IfOk result (λ are. IsTrue are ↔ NamesStamped (map record_of entries.now)) }
 {
     if !are_above(entries) {
         return Ok(false);
@@ -113,10 +113,10 @@ fn are_stamped(alloc: Global, entries: &[Entry]) -> Result<bool, AllocError>
 fn names_from(alloc: Global, entries: Vec<Entry>) -> Result<Names, ScanFault>
     ensures found { IfOk result (λ names. names ≡ map record_of entries.items) }
     ensures names { IfOk result IsDirectory }
-    ensures stamped { IfOk result AreStamped }
+    ensures stamped { IfOk result NamesStamped }
     // Refused
     ensures damaged { IsErrOf result ScanFault.Damaged
-        → IsDirectory (map record_of entries.items) → ¬ AreStamped (map record_of entries.items) }
+        → IsDirectory (map record_of entries.items) → ¬ NamesStamped (map record_of entries.items) }
     ensures device { ¬ IsErrOf result ScanFault.Device }
 {
     if !are_stamped(alloc, &entries)? {
@@ -145,7 +145,7 @@ fn read_names<S: Sectors>(
         names }
     // It only reads
     ensures kept { S.kept sectors.new ≡ S.kept sectors.old }
-    ensures health { Reads (S.health sectors.old) (S.health sectors.new)
+    ensures health { FailsOrStays (S.health sectors.old) (S.health sectors.new)
         (IsErrOf result ScanFault.Device) }
 {
     if size > Names::MAX_NAMES as u64 {
@@ -167,7 +167,7 @@ fn check_tail<S: Sectors>(sectors: &mut S, size: u64, blocks: &BlockList) -> Res
         → ¬ HasTail (S.image (S.kept sectors.old)) blocks.now size }
     // It only reads
     ensures kept { S.kept sectors.new ≡ S.kept sectors.old }
-    ensures health { Reads (S.health sectors.old) (S.health sectors.new)
+    ensures health { FailsOrStays (S.health sectors.old) (S.health sectors.new)
         (IsErrOf result ScanFault.Device) }
 {
     let Some(sector) = blocks.at((size / SECTOR as u64) as u32) else {
@@ -199,7 +199,7 @@ pub(crate) fn read_content<S: Sectors>(
         → ¬ FindsContent S.keeps_word (S.image (S.kept sectors.old)) kind size blocks.now names }
     // It only reads
     ensures kept { S.kept sectors.new ≡ S.kept sectors.old }
-    ensures health { Reads (S.health sectors.old) (S.health sectors.new)
+    ensures health { FailsOrStays (S.health sectors.old) (S.health sectors.new)
         (IsErrOf result ScanFault.Device) }
 {
     match kind {

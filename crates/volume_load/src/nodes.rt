@@ -4,7 +4,7 @@ ghost use Rattle.std.specs.Prelude.{◌≡◌, ◌<◌, ◌+◌, ◌^◌, Option
 ghost use Rattle.inode.specs.Fields.{Fields, fields_of};
 ghost use Rattle.volume_load.specs.Places.{FindsFields};
 ghost use Rattle.layout.specs.CachedNodes.{node_sector};
-ghost use Rattle.layout.specs.Health.{Reads};
+ghost use Rattle.layout.specs.Health.{FailsOrStays};
 
 use crate::fault::ScanFault;
 use crate::sectors::{fetch, is_zero_from};
@@ -49,7 +49,7 @@ pub(crate) fn read_node<S: Sectors>(
         fields }
     // It only reads
     ensures kept { S.kept sectors.new ≡ S.kept sectors.old }
-    ensures health { Reads (S.health sectors.old) (S.health sectors.new)
+    ensures health { FailsOrStays (S.health sectors.old) (S.health sectors.new)
         (IsErrOf result ScanFault.Device) }
 {
     let content = fetch(sectors, NODES + place)?;

@@ -5,8 +5,8 @@ ghost use Rattle.std.specs.Prelude.{min, IfOk, IfSome, IfNone, IsErrOf};
 ghost use Rattle.extents.specs.declared.run.Run.{Run};
 ghost use Rattle.extents.specs.Runs.{AreRunsOf};
 ghost use Rattle.model.specs.Trees.Charge.{blocks_of, divided_up};
-ghost use Rattle.volume_load.specs.Runs.{FindsPart, FindsRuns, AreWithin};
-ghost use Rattle.layout.specs.Health.{Reads};
+ghost use Rattle.volume_load.specs.Runs.{FindsPart, FindsRuns, SectorsWithin};
+ghost use Rattle.layout.specs.Health.{FailsOrStays};
 
 use crate::fault::ScanFault;
 use crate::sectors::fetch;
@@ -51,7 +51,7 @@ fn read_part<S: Sectors>(
         → ¬ FindsPart S.keeps_word (S.image (S.kept sectors.old) sector) count runs }
     // It only reads
     ensures kept { S.kept sectors.new ≡ S.kept sectors.old }
-    ensures health { Reads (S.health sectors.old) (S.health sectors.new)
+    ensures health { FailsOrStays (S.health sectors.old) (S.health sectors.new)
         (IsErrOf result ScanFault.Device) }
 {
     let content = fetch(sectors, sector)?;
@@ -65,7 +65,7 @@ pub(crate) fn read_runs<S: Sectors>(
     numbers: &[u32],
     count: usize,
 ) -> Result<Vec<Run>, ScanFault>
-    requires within { AreWithin (S.size (S.kept sectors.old)) numbers.now }
+    requires within { SectorsWithin (S.size (S.kept sectors.old)) numbers.now }
     requires enough { length numbers.now ≡ divided_up count MAX_SECTOR_RUNS }
     ensures found { IfOk result (λ runs. FindsRuns S.keeps_word
         (S.image (S.kept sectors.old)) numbers.now count runs.items) }
@@ -74,7 +74,7 @@ pub(crate) fn read_runs<S: Sectors>(
         → ¬ FindsRuns S.keeps_word (S.image (S.kept sectors.old)) numbers.now count runs }
     // It only reads
     ensures kept { S.kept sectors.new ≡ S.kept sectors.old }
-    ensures health { Reads (S.health sectors.old) (S.health sectors.new)
+    ensures health { FailsOrStays (S.health sectors.old) (S.health sectors.new)
         (IsErrOf result ScanFault.Device) }
 {
     let mut runs = Vec::new(alloc);

@@ -2,13 +2,13 @@
 
 ghost use Rattle.std.specs.Prelude.{◌≡◌, ◌≤◌, ◌<◌, ◌+◌, ◌*◌, ◌↔◌, ◌⊎◌, ℕ, Option, true};
 ghost use Rattle.std.specs.Prelude.{IfOk, IsErrOf, IsTrue, length, map, slice_index_or, []};
-ghost use Rattle.layout.specs.Health.{Reads};
-ghost use Rattle.layout.specs.Stands.{HoldSeats, MayKeep};
+ghost use Rattle.layout.specs.Health.{FailsOrStays};
+ghost use Rattle.layout.specs.Stands.{HoldSeats, MayHaveSeats};
 ghost use Rattle.model.specs.Sessions.Seats as model;
-ghost use Rattle.model.specs.Sessions.Seats.{AreApart, AreOfRuns, has_seat, no_seats};
+ghost use Rattle.model.specs.Sessions.Seats.{SeatsApart, AreOfRuns, has_seat, no_seats};
 ghost use Rattle.model.specs.Sessions.SeatViews.{place_view, seats_view};
 ghost use Rattle.volume_load.specs.Seating.{AreMade, HoldPlace, IsOfRuns, MayStand};
-ghost use Rattle.seats.specs.Spelling.{ArePlaces, IsPlace};
+ghost use Rattle.seats.specs.Spelling.{ArePlaces, IsSeatPlace};
 
 use crate::fault::ScanFault;
 use crate::sectors::fetch;
@@ -36,7 +36,7 @@ fn fetch_place<S: Sectors>(
     ensures damaged { ¬ IsErrOf result ScanFault.Damaged }
     // It only reads
     ensures kept { S.kept sectors.new ≡ S.kept sectors.old }
-    ensures health { Reads (S.health sectors.old) (S.health sectors.new)
+    ensures health { FailsOrStays (S.health sectors.old) (S.health sectors.new)
         (IsErrOf result ScanFault.Device) }
 {
     let mut content = Vec::with_capacity(alloc, PLACE_SECTORS as usize)?;
@@ -55,16 +55,16 @@ fn read_place<S: Sectors>(
 ) -> Result<Option<Seat>, ScanFault>
     requires place { place < 5 }
     requires within { MARK ≤ S.size (S.kept sectors.old) }
-    ensures fits { IfOk result (λ seat. IsPlace (place_view seat)) }
+    ensures fits { IfOk result (λ seat. IsSeatPlace (place_view seat)) }
     ensures found { S.keeps_word → IfOk result (λ seat.
         HoldPlace (S.image (S.kept sectors.old)) place (place_view seat)) }
     // Refused
     ensures damaged { S.keeps_word → IsErrOf result ScanFault.Damaged
-        → (seat : Option model.Seat) → IsPlace seat
+        → (seat : Option model.Seat) → IsSeatPlace seat
         → ¬ HoldPlace (S.image (S.kept sectors.old)) place seat }
     // It only reads
     ensures kept { S.kept sectors.new ≡ S.kept sectors.old }
-    ensures health { Reads (S.health sectors.old) (S.health sectors.new)
+    ensures health { FailsOrStays (S.health sectors.old) (S.health sectors.new)
         (IsErrOf result ScanFault.Device) }
 {
     let content = fetch_place(alloc, sectors, place)?;
@@ -83,7 +83,7 @@ fn read_places<S: Sectors>(alloc: Global, sectors: &mut S) -> Result<Seats, Scan
         → ArePlaces seats → ¬ HoldSeats (S.image (S.kept sectors.old)) seats }
     // It only reads
     ensures kept { S.kept sectors.new ≡ S.kept sectors.old }
-    ensures health { Reads (S.health sectors.old) (S.health sectors.new)
+    ensures health { FailsOrStays (S.health sectors.old) (S.health sectors.new)
         (IsErrOf result ScanFault.Device) }
 {
     let mut places = Vec::with_capacity(alloc, SEATS)?;
@@ -110,7 +110,7 @@ fn is_seated(id: &[u8; 16], places: &[Option<Seat>]) -> bool
 
 /// Whether no two seats are of one session.
 fn are_apart(places: &[Option<Seat>]) -> bool
-    ensures { IsTrue result ↔ AreApart (map place_view places.now) }
+    ensures { IsTrue result ↔ SeatsApart (map place_view places.now) }
 {
     for (i, place) in places.iter().enumerate() {
         if let Some(seat) = place {
@@ -167,7 +167,7 @@ fn is_free(seats: &Seats) -> bool
 /// Whether a volume of this version with this mark may keep seats; otherwise it keeps none.
 pub(crate) fn may_keep(number: VersionNumber, mark: Option<u32>) -> bool
     ensures { (seats : model.Seats)
-        → MayKeep number mark seats ↔ ((result ≡ true) ⊎ (seats ≡ no_seats)) }
+        → MayHaveSeats number mark seats ↔ ((result ≡ true) ⊎ (seats ≡ no_seats)) }
 {
     matches!((number, mark), (VersionNumber::Two, None))
 }
@@ -188,7 +188,7 @@ pub(crate) fn read_seats<S: Sectors>(
         → MayStand run may_keep seats → ¬ HoldSeats (S.image (S.kept sectors.old)) seats }
     // It only reads
     ensures kept { S.kept sectors.new ≡ S.kept sectors.old }
-    ensures health { Reads (S.health sectors.old) (S.health sectors.new)
+    ensures health { FailsOrStays (S.health sectors.old) (S.health sectors.new)
         (IsErrOf result ScanFault.Device) }
 {
     let seats = read_places(alloc, sectors)?;

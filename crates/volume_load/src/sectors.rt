@@ -4,7 +4,7 @@ ghost use Rattle.std.specs.Prelude.{◌≡◌, ◌<◌, IfOk, OnErr, IsErrOf, Er
 ghost use Rattle.std.specs.Prelude.{length};
 ghost use Rattle.freemap.specs.Places.{IsBytes};
 ghost use Rattle.volume_load.specs.Sectors.{AreZeroFrom};
-ghost use Rattle.layout.specs.Health.{Reads};
+ghost use Rattle.layout.specs.Health.{FailsOrStays};
 
 use crate::fault::ScanFault;
 use disk::SECTOR;
@@ -17,7 +17,7 @@ pub(crate) fn fetch<S: Sectors>(sectors: &mut S, n: u32) -> Result<[u8; SECTOR],
         → IfOk result (λ content. content ≡ S.image (S.kept sectors.old) n) }
     ensures device { OnErr result (result ≡ Err ScanFault.Device) }
     ensures kept { S.kept sectors.new ≡ S.kept sectors.old }
-    ensures health { Reads (S.health sectors.old) (S.health sectors.new)
+    ensures health { FailsOrStays (S.health sectors.old) (S.health sectors.new)
         (IsErrOf result ScanFault.Device) }
 {
     let content = sectors.read(n)?;

@@ -5,9 +5,9 @@ ghost use Rattle.std.specs.Prelude.{replicate, false, IfOk, IsErrOf, None, IsTru
 ghost use Rattle.extents.specs.declared.run.Run.{Run};
 ghost use Rattle.inode.specs.Fields.{fields_of, IsInode};
 ghost use Rattle.layout.specs.CachedNodes as layout;
-ghost use Rattle.layout.specs.Health.{Reads};
+ghost use Rattle.layout.specs.Health.{FailsOrStays};
 ghost use Rattle.layout.specs.Laid.{AreNumbered};
-ghost use Rattle.layout.specs.Marks.{named_by};
+ghost use Rattle.layout.specs.Marks.{namings_of};
 ghost use Rattle.layout.specs.Stands.{version_by};
 ghost use Rattle.model.specs.Sessions.Seats.{no_seats};
 ghost use Rattle.model.specs.Trees.Charge.{divided_up};
@@ -63,7 +63,7 @@ fn read_blocks<S: Sectors>(
         → ¬ CanMark first places.old (uses (fields_of inode.now) blocks) }
     // It only reads
     ensures kept { S.kept sectors.new ≡ S.kept sectors.old }
-    ensures health { Reads (S.health sectors.old) (S.health sectors.new)
+    ensures health { FailsOrStays (S.health sectors.old) (S.health sectors.new)
         (IsErrOf result ScanFault.Device) }
 {
     if !mark_sectors(places, first, &inode.run_sectors) {
@@ -88,19 +88,19 @@ fn read_card<S: Sectors>(
 ) -> Result<CachedNode, ScanFault>
     requires fits { IsInode form (fields_of inode) }
     requires size { first + length places.old ≡ S.size (S.kept sectors.old) }
-    ensures fields { IfOk result (λ card. card.fields ≡ fields_of inode) }
-    ensures form { IfOk result (λ card. card.form ≡ form) }
+    ensures fields { IfOk result (λ cached. cached.fields ≡ fields_of inode) }
+    ensures form { IfOk result (λ cached. cached.form ≡ form) }
     ensures found { IfOk result (FindsRest S.keeps_word (S.image (S.kept sectors.old))) }
-    ensures marked { IfOk result (λ card. AreMarked first places.old places.new
-        (uses card.fields card.blocks)) }
+    ensures marked { IfOk result (λ cached. AreMarked first places.old places.new
+        (uses cached.fields cached.blocks)) }
     // Refused
-    ensures damaged { S.keeps_word → IsErrOf result ScanFault.Damaged → (card : layout.CachedNode)
-        → card.fields ≡ fields_of inode
-        → FindsRest S.keeps_word (S.image (S.kept sectors.old)) card
-        → ¬ CanMark first places.old (uses card.fields card.blocks) }
+    ensures damaged { S.keeps_word → IsErrOf result ScanFault.Damaged → (cached : layout.CachedNode)
+        → cached.fields ≡ fields_of inode
+        → FindsRest S.keeps_word (S.image (S.kept sectors.old)) cached
+        → ¬ CanMark first places.old (uses cached.fields cached.blocks) }
     // It only reads
     ensures kept { S.kept sectors.new ≡ S.kept sectors.old }
-    ensures health { Reads (S.health sectors.old) (S.health sectors.new)
+    ensures health { FailsOrStays (S.health sectors.old) (S.health sectors.new)
         (IsErrOf result ScanFault.Device) }
 {
     let laid = read_blocks(alloc, sectors, places, first, &inode)?;
@@ -128,23 +128,23 @@ fn read_place<S: Sectors>(
     requires size { first + length places.old ≡ S.size (S.kept sectors.old) }
     ensures found { IfOk result
         (FindsPlace S.keeps_word form (S.image (S.kept sectors.old)) place) }
-    ensures marked { IfOk result (λ card. AreMarked first places.old places.new
-        (λ n. named_by n card)) }
+    ensures marked { IfOk result (λ cached. AreMarked first places.old places.new
+        (λ n. namings_of n cached)) }
     // Refused
     ensures damaged { S.keeps_word → IsErrOf result ScanFault.Damaged
-        → (card : Option layout.CachedNode)
-        → FindsPlace S.keeps_word form (S.image (S.kept sectors.old)) place card
-        → ¬ CanMark first places.old (λ n. named_by n card) }
+        → (cached : Option layout.CachedNode)
+        → FindsPlace S.keeps_word form (S.image (S.kept sectors.old)) place cached
+        → ¬ CanMark first places.old (λ n. namings_of n cached) }
     // It only reads
     ensures kept { S.kept sectors.new ≡ S.kept sectors.old }
-    ensures health { Reads (S.health sectors.old) (S.health sectors.new)
+    ensures health { FailsOrStays (S.health sectors.old) (S.health sectors.new)
         (IsErrOf result ScanFault.Device) }
 {
     let Some(inode) = read_node(alloc, sectors, place, form)? else {
         return Ok(None);
     };
-    let card = read_card(alloc, sectors, places, first, form, inode)?;
-    Ok(Some(card))
+    let cached = read_card(alloc, sectors, places, first, form, inode)?;
+    Ok(Some(cached))
 }
 
 /// The cached nodes of so many places, in the forms of the version and its mark, and the marks of
@@ -170,14 +170,14 @@ pub(crate) fn read_table<S: Sectors>(
         (S.image (S.kept sectors.old)) nodes (length places.old) cards }
     // It only reads
     ensures kept { S.kept sectors.new ≡ S.kept sectors.old }
-    ensures health { Reads (S.health sectors.old) (S.health sectors.new)
+    ensures health { FailsOrStays (S.health sectors.old) (S.health sectors.new)
         (IsErrOf result ScanFault.Device) }
 {
     let mut cards = Vec::with_capacity(alloc, nodes as usize)?;
     for place in 0..nodes {
         let form = form_at(number, mark, place);
-        let card = read_place(alloc, sectors, places, NODES + nodes, place, form)?;
-        cards.push(card)?;
+        let cached = read_place(alloc, sectors, places, NODES + nodes, place, form)?;
+        cards.push(cached)?;
     }
     Ok(cards)
 }
@@ -187,9 +187,9 @@ fn numbers_in(alloc: Global, cards: &[Option<CachedNode>]) -> Result<Vec<u64>, A
     ensures { IfOk result (λ numbers. numbers.items ≡ numbers_of cards.now) }
 {
     let mut numbers = Vec::with_capacity(alloc, cards.len())?;
-    for card in cards {
-        if let Some(card) = card {
-            numbers.push(card.inode.number)?;
+    for cached in cards {
+        if let Some(cached) = cached {
+            numbers.push(cached.inode.number)?;
         }
     }
     Ok(numbers)

@@ -2,10 +2,10 @@
 
 ghost use Rattle.std.specs.Prelude.{◌≡◌, ◌≤◌, ◌<◌, ◌+◌, ◌*◌, ℕ, List, Option, IfOk, OnOk, IsErrOf};
 ghost use Rattle.std.specs.Prelude.{IsTrue};
-ghost use Rattle.freemap.specs.Places.{Shows};
+ghost use Rattle.freemap.specs.Places.{ShowsPlaces};
 ghost use Rattle.layout.specs.CachedNodes as layout;
-ghost use Rattle.layout.specs.Health.{Reads};
-ghost use Rattle.layout.specs.Stands.{AreKept, IsLaid, IsMark, MayKeep, version_by};
+ghost use Rattle.layout.specs.Health.{FailsOrStays};
+ghost use Rattle.layout.specs.Stands.{AreKept, IsLaid, IsMark, MayHaveSeats, version_by};
 ghost use Rattle.layout.specs.Superblock.{is_size};
 ghost use Rattle.model.specs.Sessions.Seats as model;
 ghost use Rattle.model.specs.Sessions.SeatViews.{seats_view};
@@ -43,14 +43,15 @@ fn check_marks<S: Sectors>(sectors: &mut S, places: &Bitmap, part: u32) -> Resul
     requires part { part < 2 }
     requires within { BITMAP + part < S.size (S.kept sectors.old) }
     ensures found { OnOk result (S.keeps_word
-        → Shows (S.image (S.kept sectors.old) (BITMAP + part)) places.now (SECTOR_PLACES * part)) }
+        → ShowsPlaces (S.image (S.kept sectors.old) (BITMAP + part)) places.now
+        (SECTOR_PLACES * part)) }
     // Refused
     ensures damaged { S.keeps_word → IsErrOf result ScanFault.Damaged
         → ¬ AreBits (S.image (S.kept sectors.old) (BITMAP + part)) places.now
         (SECTOR_PLACES * part) }
     // It only reads
     ensures kept { S.kept sectors.new ≡ S.kept sectors.old }
-    ensures health { Reads (S.health sectors.old) (S.health sectors.new)
+    ensures health { FailsOrStays (S.health sectors.old) (S.health sectors.new)
         (IsErrOf result ScanFault.Device) }
 {
     let content = fetch(sectors, BITMAP + part)?;
@@ -71,7 +72,7 @@ fn check_spare<S: Sectors>(sectors: &mut S) -> Result<(), ScanFault>
         → ¬ AreSpare (S.image (S.kept sectors.old)) }
     // It only reads
     ensures kept { S.kept sectors.new ≡ S.kept sectors.old }
-    ensures health { Reads (S.health sectors.old) (S.health sectors.new)
+    ensures health { FailsOrStays (S.health sectors.old) (S.health sectors.new)
         (IsErrOf result ScanFault.Device) }
 {
     for n in BEHIND_SEATS..MARK {
@@ -109,12 +110,12 @@ pub fn read_volume<S: Sectors>(
     // Refused
     ensures damaged { S.keeps_word → IsErrOf result ScanFault.Damaged
         → (mark : Option ℕ) (seats : model.Seats) (cards : List (Option layout.CachedNode))
-        → IsMark number nodes mark → MayKeep number mark seats → AreKept run seats
+        → IsMark number nodes mark → MayHaveSeats number mark seats → AreKept run seats
         → IsLaid (version_by number mark seats) size nodes (S.image (S.kept sectors.old)) cards
         → ¬ AreFew cards }
     // It only reads
     ensures kept { S.kept sectors.new ≡ S.kept sectors.old }
-    ensures health { Reads (S.health sectors.old) (S.health sectors.new)
+    ensures health { FailsOrStays (S.health sectors.old) (S.health sectors.new)
         (IsErrOf result ScanFault.Device) }
 {
     let mark = read_mark(sectors, number, nodes)?;

@@ -5,7 +5,7 @@ use Rattle.xdr.specs.Grammar.{◌&◌, void, unsigned_int, unsigned_hyper}
 use Rattle.xdr.specs.Forms.{boolean, bitmap}
 use Rattle.xdr.specs.Laws.{IsBytes, Exact, OneSpelling}
 use Rattle.xdr.specs.declared.refusal.Refusal.{Refusal}
-use Rattle.xdr.specs.Clauses.{Reads, Accepts}
+use Rattle.xdr.specs.Clauses.{ReadsBy, Accepts}
 use Rattle.xdr.proofs.Accepting.{accepts}
 use Rattle.wire.specs.declared.argument.Argument.{Argument as Argument'}
 use Rattle.wire.specs.ArgumentView.{argument_view}
@@ -190,7 +190,7 @@ unfolding arguments_at
 argument_exact = union_exact argument_told arguments_at argument_takes argument_again
 
 -- a reader that gives what is read takes exactly its spellings
-pub argument_accepted : (old new : List ℕ) (result : Result Argument' Refusal) → IsBytes old → Reads argument_view argument.read old new result → Accepts argument_view argument old new result
+pub argument_accepted : (old new : List ℕ) (result : Result Argument' Refusal) → IsBytes old → ReadsBy argument_view argument.read old new result → Accepts argument_view argument old new result
 argument_accepted old new result bytes reads = accepts argument_view argument argument_exact old new result bytes reads
 
 pub one_argument : OneSpelling argument

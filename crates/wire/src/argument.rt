@@ -1,7 +1,7 @@
 //! The operations by their numbers (RFC 8881, section 18).
 
 ghost use Rattle.std.specs.Prelude.{◌≡◌, ◌≢◌, ◌==◌, ℕ, List, Err, IfSome, IfNone, find};
-ghost use Rattle.xdr.specs.Clauses.{Accepts, Reads};
+ghost use Rattle.xdr.specs.Clauses.{Accepts, ReadsBy};
 ghost use Rattle.xdr.specs.Laws.{IsBytes};
 ghost use Rattle.xdr.specs.declared.refusal.Refusal.TheVariants.{Value};
 ghost use Rattle.model.specs.Operations.Operation.{operation_of};
@@ -183,7 +183,7 @@ impl<'a> Argument<'a> {
         operation: Operation,
         r: &mut Reader<'a>,
     ) -> Result<Argument<'a>, Refusal>
-        ensures { Reads argument_view (arguments_at (number_of operation)) r.old r.new result }
+        ensures { ReadsBy argument_view (arguments_at (number_of operation)) r.old r.new result }
     {
         let mut at = r.fork();
         let argument = match operation {
@@ -226,13 +226,13 @@ impl<'a> Argument<'a> {
     #[tactic(auto, using(crate::proofs::ExactArguments::argument_accepted))]
     pub fn read_numbered(alloc: Global, r: &mut Reader<'a>) -> Result<Argument<'a>, Refusal>
         ensures accepts { Accepts argument_view argument r.old r.new result }
-        ensures reads { Reads argument_view (argument.read) r.old r.new result }
+        ensures reads { ReadsBy argument_view (argument.read) r.old r.new result }
     {
         Argument::numbered(alloc, r)
     }
 
     fn numbered(alloc: Global, r: &mut Reader<'a>) -> Result<Argument<'a>, Refusal>
-        ensures reads { Reads argument_view (argument.read) r.old r.new result }
+        ensures reads { ReadsBy argument_view (argument.read) r.old r.new result }
         ensures bytes { IsBytes r.old }
     {
         let mut at = r.fork();

@@ -1,7 +1,7 @@
 //! Arguments of the operations on sessions (RFC 8881, section 18).
 
 ghost use Rattle.std.specs.Prelude.{map};
-ghost use Rattle.xdr.specs.Clauses.{Scans, Reads};
+ghost use Rattle.xdr.specs.Clauses.{Scans, ReadsBy};
 ghost use Rattle.xdr.specs.Forms.{array};
 ghost use Rattle.model.specs.Wire.WireTypes.{callback_security};
 ghost use Rattle.model.specs.Wire.WireArguments.{create_session_arguments, sequence_arguments};
@@ -30,7 +30,7 @@ pub struct CreateSessionArguments<'a> {
 impl<'a> CreateSessionArguments<'a> {
     /// Reads them.
     pub fn read(alloc: Global, r: &mut Reader<'a>) -> Result<CreateSessionArguments<'a>, Refusal>
-        ensures { Reads create_session_view (create_session_arguments.read) r.old r.new result }
+        ensures { ReadsBy create_session_view (create_session_arguments.read) r.old r.new result }
     {
         let mut at = r.fork();
         let client = at.read_u64()?;
@@ -58,7 +58,7 @@ fn read_securities<'a>(
     alloc: Global,
     r: &mut Reader<'a>,
 ) -> Result<Vec<CallbackSecurity<'a>>, Refusal>
-    ensures { Reads (λ list. map security_view list.items)
+    ensures { ReadsBy (λ list. map security_view list.items)
         ((array 4 callback_security).read) r.old r.new result }
 {
     let mut at = r.fork();

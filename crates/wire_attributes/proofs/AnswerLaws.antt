@@ -16,10 +16,10 @@ use Rattle.model.specs.Wire.WireAnswers.{answered_attributes}
 use Rattle.wire_attributes.specs.declared.attribute.Attribute.{Attribute}
 use Rattle.wire_attributes.specs.declared.attribute.Attribute.TheVariants as attribute
 use Rattle.wire_attributes.specs.declared.node.NodeAttributes.{NodeAttributes}
-use Rattle.wire_attributes.specs.NodeValues.{number_of, value_of, value_spelled, spelled_if, asked_text, every_attribute, attributes_answered}
+use Rattle.wire_attributes.specs.NodeValues.{attribute_number, value_of, value_spelled, spelled_if, asked_text, every_attribute, attributes_answered}
 
 -- the number of an attribute is its value's
-same_number : (node : NodeAttributes) (a : Attribute) → attribute_of (value_of node a) ≡ number_of a
+same_number : (node : NodeAttributes) (a : Attribute) → attribute_of (value_of node a) ≡ attribute_number a
 same_number node attribute.SupportedAttrs = refl
 same_number node attribute.Kind = refl
 same_number node attribute.FhExpireType = refl
@@ -71,11 +71,11 @@ module _ (node : NodeAttributes) (bitmap : List ℕ) where
       here true same = ap (λ l. value_spelled node a ++ l) same
       here false same = same
 
-  pub not_asked : (a : Attribute) → is_among (attributes_of bitmap) (number_of a) ≡ false → asked_text node bitmap a ≡ []
+  pub not_asked : (a : Attribute) → is_among (attributes_of bitmap) (attribute_number a) ≡ false → asked_text node bitmap a ≡ []
   unfolding asked_text
   not_asked a is = ap (λ b. spelled_if b (value_spelled node a)) is
 
-  pub is_asked : (a : Attribute) → is_among (attributes_of bitmap) (number_of a) ≡ true → asked_text node bitmap a ≡ value_spelled node a
+  pub is_asked : (a : Attribute) → is_among (attributes_of bitmap) (attribute_number a) ≡ true → asked_text node bitmap a ≡ value_spelled node a
   unfolding asked_text
   is_asked a is = ap (λ b. spelled_if b (value_spelled node a)) is
 

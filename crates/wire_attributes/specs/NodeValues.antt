@@ -14,33 +14,33 @@ use Rattle.wire_attributes.specs.declared.attribute.Attribute.{Attribute}
 use Rattle.wire_attributes.specs.declared.attribute.Attribute.TheVariants as attribute
 use Rattle.wire_attributes.specs.declared.node.NodeAttributes.{NodeAttributes}
 
-abbrev pub number_of : Attribute → ℕ
-number_of attribute.SupportedAttrs = 0
-number_of attribute.Kind = 1
-number_of attribute.FhExpireType = 2
-number_of attribute.Change = 3
-number_of attribute.Size = 4
-number_of attribute.LinkSupport = 5
-number_of attribute.SymlinkSupport = 6
-number_of attribute.NamedAttr = 7
-number_of attribute.Fsid = 8
-number_of attribute.UniqueHandles = 9
-number_of attribute.LeaseTime = 10
-number_of attribute.RdattrError = 11
-number_of attribute.Acl = 12
-number_of attribute.AclSupport = 13
-number_of attribute.FileHandle = 19
-number_of attribute.FileId = 20
-number_of attribute.MaxFileSize = 27
-number_of attribute.MaxName = 29
-number_of attribute.MaxRead = 30
-number_of attribute.MaxWrite = 31
-number_of attribute.Mode = 33
-number_of attribute.NumLinks = 35
-number_of attribute.Owner = 36
-number_of attribute.OwnerGroup = 37
-number_of attribute.TimeModify = 53
-number_of attribute.SuppattrExclcreat = 75
+abbrev pub attribute_number : Attribute → ℕ
+attribute_number attribute.SupportedAttrs = 0
+attribute_number attribute.Kind = 1
+attribute_number attribute.FhExpireType = 2
+attribute_number attribute.Change = 3
+attribute_number attribute.Size = 4
+attribute_number attribute.LinkSupport = 5
+attribute_number attribute.SymlinkSupport = 6
+attribute_number attribute.NamedAttr = 7
+attribute_number attribute.Fsid = 8
+attribute_number attribute.UniqueHandles = 9
+attribute_number attribute.LeaseTime = 10
+attribute_number attribute.RdattrError = 11
+attribute_number attribute.Acl = 12
+attribute_number attribute.AclSupport = 13
+attribute_number attribute.FileHandle = 19
+attribute_number attribute.FileId = 20
+attribute_number attribute.MaxFileSize = 27
+attribute_number attribute.MaxName = 29
+attribute_number attribute.MaxRead = 30
+attribute_number attribute.MaxWrite = 31
+attribute_number attribute.Mode = 33
+attribute_number attribute.NumLinks = 35
+attribute_number attribute.Owner = 36
+attribute_number attribute.OwnerGroup = 37
+attribute_number attribute.TimeModify = 53
+attribute_number attribute.SuppattrExclcreat = 75
 
 abbrev pub every_attribute : List Attribute
 every_attribute =
@@ -110,7 +110,7 @@ spelled_if false text = []
 
 unfoldable pub asked_text : NodeAttributes → (bitmap : List ℕ) → Attribute → List ℕ
 asked_text node bitmap attribute =
-    spelled_if (is_among (attributes_of bitmap) (number_of attribute))
+    spelled_if (is_among (attributes_of bitmap) (attribute_number attribute))
     (value_spelled node attribute)
 
 -- what is answered of these attributes

@@ -5,7 +5,7 @@ ghost use Rattle.std.specs.List.{flat_map};
 ghost use Rattle.model.specs.Attributes.Attribute.{attributes_of, is_among};
 ghost use Rattle.model.specs.Attributes.NodeAttributes.{common, supported_bitmap};
 ghost use Rattle.model.specs.Wire.WireAnswers.{answered_attributes};
-ghost use Rattle.wire_attributes.specs.NodeValues.{HasFewEntries, answer_view, asked_text, every_attribute, number_of};
+ghost use Rattle.wire_attributes.specs.NodeValues.{HasFewEntries, answer_view, asked_text, every_attribute, attribute_number};
 ghost use Rattle.xdr.specs.Clauses.{Wrote};
 
 use crate::attribute::{Attribute, EVERY};
@@ -48,7 +48,8 @@ fn common(asked: &[u32]) -> Bitmap
 impl AttributesAnswer<'_> {
     /// Whether an attribute is asked.
     fn asks(&self, attribute: Attribute) -> bool
-        ensures { result ≡ is_among (attributes_of self.now.asked.now) (number_of attribute) }
+        ensures { result
+            ≡ is_among (attributes_of self.now.asked.now) (attribute_number attribute) }
     {
         is_asked(self.asked, attribute.number())
     }

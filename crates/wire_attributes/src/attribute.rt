@@ -1,7 +1,7 @@
 //! The attributes that this server has.
 
 ghost use Rattle.std.specs.Prelude.{◌≡◌};
-ghost use Rattle.wire_attributes.specs.NodeValues.{number_of};
+ghost use Rattle.wire_attributes.specs.NodeValues.{attribute_number};
 
 /// An attribute (RFC 8881, sections 5.6 to 5.8, and 6), with its number.
 #[derive(Clone, Copy, PartialEq, Eq)]
@@ -67,7 +67,7 @@ pub(crate) const EVERY: [Attribute; 26] = [
 impl Attribute {
     /// Its number: bit n % 32 of word n / 32 of a bitmap asks for it.
     pub fn number(self) -> u32
-        ensures { result ≡ number_of self }
+        ensures { result ≡ attribute_number self }
     {
         self as u32
     }

@@ -2,7 +2,7 @@
 
 ghost use Rattle.std.specs.Prelude.{◌<◌, ◌^◌, length, map, All};
 ghost use Rattle.std.specs.List.{flat_map};
-ghost use Rattle.xdr.specs.Clauses.{Scans, Reads, Wrote};
+ghost use Rattle.xdr.specs.Clauses.{Scans, ReadsBy, Wrote};
 ghost use Rattle.model.specs.Attributes.AttributeValue.{acl_entry, entries};
 ghost use Rattle.wire_attributes.specs.Views.{EntryFits, entry_spelling, entry_view};
 ghost use Rattle.wire_attributes.specs.Clauses.{ReadsEntries};
@@ -56,7 +56,7 @@ pub(crate) fn read_entries<'a>(
     alloc: Global,
     r: &mut Reader<'a>,
 ) -> Result<Vec<AclEntry<'a>>, Refusal>
-    ensures { Reads (λ list. map entry_view list.items) (entries.read) r.old r.new result }
+    ensures { ReadsBy (λ list. map entry_view list.items) (entries.read) r.old r.new result }
 {
     let mut at = r.fork();
     let count = at.read_u32()?;

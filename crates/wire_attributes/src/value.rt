@@ -1,7 +1,7 @@
 //! The values of attributes (RFC 8881, sections 5.6 to 5.8).
 
 ghost use Rattle.std.specs.Prelude.{◌≡◌, ◌<◌};
-ghost use Rattle.xdr.specs.Clauses.{Scans, Reads, Wrote};
+ghost use Rattle.xdr.specs.Clauses.{Scans, ReadsBy, Wrote};
 ghost use Rattle.model.specs.Attributes.AttributeValue.{attribute_of, file_system_id, node_kind, time, value_at};
 ghost use Rattle.wire_attributes.specs.Views.{ValueFits, file_system_view, time_view, value_spelling, value_view};
 
@@ -165,7 +165,7 @@ impl<'a> Value<'a> {
         attribute: u32,
         r: &mut Reader<'a>,
     ) -> Result<Value<'a>, Refusal>
-        ensures { Reads value_view (value_at attribute) r.old r.new result }
+        ensures { ReadsBy value_view (value_at attribute) r.old r.new result }
     {
         let mut at = r.fork();
         let value = match attribute {

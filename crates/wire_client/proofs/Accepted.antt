@@ -4,7 +4,7 @@ use Rattle.std.proofs.lemmas.Bool.{ne_eqb}
 use Rattle.xdr.specs.declared.refusal.Refusal.{Refusal}
 use Rattle.xdr.specs.declared.refusal.Refusal.TheVariants.{Value}
 use Rattle.xdr.specs.Laws.{IsBytes}
-use Rattle.xdr.specs.Clauses.{Reads, Accepts}
+use Rattle.xdr.specs.Clauses.{ReadsBy, Accepts}
 use Rattle.xdr.proofs.Accepting.{accepts}
 use Rattle.model.specs.Wire.WireAnswers.{outcome}
 use Rattle.wire.specs.declared.argument.Operation.{Operation}
@@ -15,7 +15,7 @@ use Rattle.wire.specs.OutcomeView.{outcome_view}
 use Rattle.model.proofs.Wire.ExactAnswers.{outcome_exact}
 use Rattle.wire_client.specs.Reading.{answers_at}
 
-pub outcome_accepted : (old new : List ℕ) (result : Result Outcome Refusal) → IsBytes old → Reads outcome_view outcome.read old new result → Accepts outcome_view outcome old new result
+pub outcome_accepted : (old new : List ℕ) (result : Result Outcome Refusal) → IsBytes old → ReadsBy outcome_view outcome.read old new result → Accepts outcome_view outcome old new result
 outcome_accepted old new result bytes reads = accepts outcome_view outcome outcome_exact old new result bytes reads
 
 pub no_answer : (n : ℕ) (bytes : List ℕ) → ((o : Operation) → number_of o ≢ n) → answers_at n bytes ≡ Err Value

@@ -1,7 +1,7 @@
 //! Results of the operations, where they ended well (RFC 8881, section 18).
 
 ghost use Rattle.std.specs.Prelude.{map};
-ghost use Rattle.xdr.specs.Clauses.{Scans, Reads};
+ghost use Rattle.xdr.specs.Clauses.{Scans, ReadsBy};
 ghost use Rattle.xdr.specs.Forms.{chain};
 ghost use Rattle.model.specs.Wire.WireAnswers.{access_answer, create_answer, open_answer, read_answer, entry, read_dir_answer, rename_answer, write_answer, exchange_id_answer, create_session_answer, sequence_answer};
 ghost use Rattle.wire.specs.AnswerViews.{access_view, create_view, open_view, read_view, entry_view, read_dir_view, rename_view, write_view, exchange_id_view, create_session_view, sequence_view};
@@ -88,7 +88,7 @@ pub(crate) fn read_listing<'a>(
     alloc: Global,
     r: &mut Reader<'a>,
 ) -> Result<ReadDirAnswer<'a>, Refusal>
-    ensures { Reads read_dir_view (read_dir_answer.read) r.old r.new result }
+    ensures { ReadsBy read_dir_view (read_dir_answer.read) r.old r.new result }
 {
     let mut at = r.fork();
     at.read_always_u64(0)?;
@@ -99,7 +99,7 @@ pub(crate) fn read_listing<'a>(
 }
 
 fn read_entries<'a>(alloc: Global, r: &mut Reader<'a>) -> Result<Vec<Entry<'a>>, Refusal>
-    ensures { Reads (λ list. map entry_view list.items) ((chain entry).read) r.old r.new result }
+    ensures { ReadsBy (λ list. map entry_view list.items) ((chain entry).read) r.old r.new result }
 {
     let at = r.fork();
     let (entries, at) = each_entry(alloc, at)?;

@@ -1,6 +1,6 @@
 //! Results of a COMPOUND (RFC 8881, section 18).
 
-ghost use Rattle.xdr.specs.Clauses.{Accepts, Scans, Reads};
+ghost use Rattle.xdr.specs.Clauses.{Accepts, Scans, ReadsBy};
 ghost use Rattle.xdr.specs.Laws.{IsBytes};
 ghost use Rattle.model.specs.Wire.WireAnswers.{outcome, refusal_of, refused_by};
 ghost use Rattle.wire.specs.Numbers.{number_of};
@@ -24,14 +24,14 @@ use xdr::{Reader, Refusal};
 #[tactic(auto, using(crate::proofs::Accepted::outcome_accepted))]
 pub fn read_outcome<'a>(alloc: Global, r: &mut Reader<'a>) -> Result<Outcome<'a>, Refusal>
     ensures accepts { Accepts outcome_view outcome r.old r.new result }
-    ensures reads { Reads outcome_view (outcome.read) r.old r.new result }
+    ensures reads { ReadsBy outcome_view (outcome.read) r.old r.new result }
 {
     read_numbered(alloc, r)
 }
 
 #[tactic(auto, unfolding(model::specs::Wire::WireAnswers::outcome_at, crate::specs::Reading::answers_at))]
 fn read_numbered<'a>(alloc: Global, r: &mut Reader<'a>) -> Result<Outcome<'a>, Refusal>
-    ensures reads { Reads outcome_view (outcome.read) r.old r.new result }
+    ensures reads { ReadsBy outcome_view (outcome.read) r.old r.new result }
     ensures bytes { IsBytes r.old }
 {
     let mut at = r.fork();
@@ -62,7 +62,7 @@ fn read_refused<'a>(operation: u32, code: u32, r: &mut Reader<'a>) -> Result<Out
 
 #[tactic(auto, using(crate::proofs::Accepted::no_answer))]
 fn read_answer<'a>(alloc: Global, number: u32, r: &mut Reader<'a>) -> Result<Answer<'a>, Refusal>
-    ensures { Reads answer_view (answers_at number) r.old r.new result }
+    ensures { ReadsBy answer_view (answers_at number) r.old r.new result }
 {
     let Some(operation) = Operation::from_number(number) else {
         return Err(Refusal::Value);
@@ -77,7 +77,7 @@ fn read_values<'a>(
     operation: Operation,
     r: &mut Reader<'a>,
 ) -> Result<Answer<'a>, Refusal>
-    ensures { Reads answer_view (answers_at (number_of operation)) r.old r.new result }
+    ensures { ReadsBy answer_view (answers_at (number_of operation)) r.old r.new result }
 {
     let mut at = r.fork();
     let answer = match operation {

@@ -12,10 +12,10 @@ Scans view read old new (Ok x) = read old ≡ Ok (view x, new)
 Scans view read old new (Err e) = (read old ≡ Err e) × (new ≡ old)
 
 -- one that may want memory
-abbrev pub Reads : {X V : Type 0} → (X → V) → (List ℕ → Result (V × List ℕ) Refusal) → List ℕ
+abbrev pub ReadsBy : {X V : Type 0} → (X → V) → (List ℕ → Result (V × List ℕ) Refusal) → List ℕ
     → List ℕ → Result X Refusal → Type 0
-Reads view read old new (Ok x) = read old ≡ Ok (view x, new)
-Reads view read old new (Err e) = ((e ≡ Memory) ⊎ (read old ≡ Err e)) × (new ≡ old)
+ReadsBy view read old new (Ok x) = read old ≡ Ok (view x, new)
+ReadsBy view read old new (Err e) = ((e ≡ Memory) ⊎ (read old ≡ Err e)) × (new ≡ old)
 
 -- no front of the bytes is a spelling
 abbrev pub NoFront : {V : Type 0} → Grammar V → List ℕ → Type 0

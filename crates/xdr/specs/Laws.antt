@@ -7,8 +7,8 @@ abbrev pub IsBytes : List ℕ → Type 0
 IsBytes bytes = (i : ℕ) → slice_index bytes i < 256
 
 -- what is read from bytes fits, and is spelled so
-abbrev pub Takes : {V : Type 0} → Grammar V → Type 0
-Takes {V = V} g =
+abbrev pub EncodesBack : {V : Type 0} → Grammar V → Type 0
+EncodesBack {V = V} g =
     (bytes : List ℕ) (v : V) (rest : List ℕ) → IsBytes bytes → g.read bytes ≡ Ok (v, rest)
     → g.Fits v × (bytes ≡ g.spelling v ++ rest)
 
@@ -18,7 +18,7 @@ ReadsAgain {V = V} g =
     (v : V) (rest : List ℕ) → g.Fits v → g.read (g.spelling v ++ rest) ≡ Ok (v, rest)
 
 pub record Exact {V : Type 0} (g : Grammar V) : Type 0 where
-  pub takes : Takes g
+  pub takes : EncodesBack g
   pub again : ReadsAgain g
 
 -- One value has one spelling, one spelling is of one value, and no spelling begins another.

@@ -4,7 +4,7 @@ use Rattle.model.specs.declared.status.Status.TheVariants as status
 use Rattle.model.specs.Operations.Context.{Context}
 use Rattle.model.specs.Sessions.Opens.{Opens, Open, no_opens}
 use Rattle.model.specs.Operations.Operation.{StateId}
-use Rattle.model.specs.Sessions.StateIds.{Anonymous, Refused, Names, found, opened, is_table_full, without_number, without_clients, state_of, new_open, access_refusals, zeros, write_access}
+use Rattle.model.specs.Sessions.StateIds.{Anonymous, Refused, Names, found, opened, is_table_full, without_number, without_clients, open_stateid, new_open, access_refusals, zeros, write_access}
 use Rattle.model.specs.Operations.Refusal.{first_refusal}
 
 abbrev context : (number : ℕ) → (carried : Option StateId) → Context
@@ -34,7 +34,7 @@ opens : opened no_opens one ≡ record { serial = 1; state = one; opens = once }
 unfolding opened
 opens = refl
 
-told : state_of 1 1 1 ≡ given 1
+told : open_stateid 1 1 1 ≡ given 1
 told = refl
 
 opens_again : opened once (new_open 5 (codes "A") 9 2) ≡ record { serial = 1; state = record one { access = 3; seqid = 2 }; opens = twice }

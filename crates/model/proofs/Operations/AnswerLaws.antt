@@ -9,7 +9,7 @@ use Rattle.model.specs.Server.AnswerRuns.{IsPermittedAnswer, EveryAnswerIsPermit
 use Rattle.model.specs.Trees.Keyed.{at}
 use Rattle.model.specs.Operations.Operation.{Argument, SequenceArguments, operation_of}
 use Rattle.model.specs.Wire.Rpc.{CallRead, NoCall, OtherVersion, Calls, Request, Answers, Runs, read_call, request_of}
-use Rattle.model.specs.Server.Runs.{Event, Arrives, Turns, HangsUp, Connects, Takes, executed_of, executed_by, Serving, History, IsRun, Begins, Goes_on, Fails_at, Stays_down, mounted, is_done}
+use Rattle.model.specs.Server.Runs.{Event, Arrives, Turns, HangsUp, Connects, Takes, executed_of, executed_by, Serving, RunHistory, IsRun, Begins, Goes_on, Fails_at, Stays_down, mounted, is_done}
 use Rattle.model.specs.Sessions.Session as sessions
 use Rattle.model.specs.Sessions.Session.{Table, Session}
 use Rattle.model.specs.Operations.Step.{State, does, permitted}
@@ -183,7 +183,7 @@ with_executed : (done : List Entry) (executed : Option Entry) → AllPermitted d
 with_executed done None all permits = subst AllPermitted (sym (append-nil done)) all
 with_executed done (Some entry) all permits = one_more done entry all permits
 
-run_is_permitted : (limits : ServerLimits) (run : ℕ) (start : Tree) (seats : Seats) (serving : Serving) (history : History)
+run_is_permitted : (limits : ServerLimits) (run : ℕ) (start : Tree) (seats : Seats) (serving : Serving) (history : RunHistory)
     → IsRun (mounted limits run start seats) serving history → AllPermitted history.done
 run_is_permitted limits run start seats _ _ Begins = λ i entry is. let never : ⊥ = cc in absurd never
 run_is_permitted limits run start seats _ _ (Goes_on {old} {new} {history} event runs happens) =

@@ -8,7 +8,7 @@ use Rattle.model.specs.Trees.Changes.{IsStamped}
 use Rattle.model.specs.Trees.Keyed.{at}
 use Rattle.model.specs.Operations.Operation.{Argument, SequenceArguments, operation_of}
 use Rattle.model.specs.Wire.Rpc.{CallRead, NoCall, OtherVersion, Calls, Request, Answers, Runs, read_call, request_of}
-use Rattle.model.specs.Server.Runs.{Event, Arrives, Turns, HangsUp, Connects, Takes, executed_of, executed_by, Serving, History, IsRun, Begins, Goes_on, Fails_at, Stays_down, mounted, is_done}
+use Rattle.model.specs.Server.Runs.{Event, Arrives, Turns, HangsUp, Connects, Takes, executed_of, executed_by, Serving, RunHistory, IsRun, Begins, Goes_on, Fails_at, Stays_down, mounted, is_done}
 use Rattle.model.specs.Sessions.Session as sessions
 use Rattle.model.specs.Sessions.Session.{Table, Session}
 use Rattle.model.specs.Server.SoundRuns.{IsStart}
@@ -199,7 +199,7 @@ module _ (limits : ServerLimits) (run : ℕ) (room : limits.volume.aces_set + 5 
   with_executed done (Some entry) all stamps = one_more done entry all stamps
 
   module _ (start : Tree) (seats : Seats) (begins : IsStart limits.volume run start) where
-    run_is_stamped : (serving : Serving) (history : History) → IsRun (mounted limits run start seats) serving history → AllStamped history.done
+    run_is_stamped : (serving : Serving) (history : RunHistory) → IsRun (mounted limits run start seats) serving history → AllStamped history.done
     run_is_stamped _ _ Begins = λ i entry is. let never : ⊥ = cc in absurd never
     run_is_stamped _ _ (Goes_on {old} {new} {history} event runs happens) =
         subst AllStamped (done_behind history old.world event)

@@ -7,7 +7,7 @@ use Rattle.model.specs.Sessions.Seats.{Seats}
 use Rattle.model.specs.Trees.Keyed.{at}
 use Rattle.model.specs.Trees.Tree.{Tree}
 use Rattle.model.specs.Server.World.{World, ServerLimits, Entry, Turned, Turn, Idle, Ran, Answered, one, is_busy, reply_at}
-use Rattle.model.specs.Server.Runs.{Event, Arrives, Turns, HangsUp, Connects, Takes, executed_of, before, IsDurable, is_durable, History, no_history, is_slot, keeping, numbers_of, named_so_far, names_by, naming_by, turned_by, taken_by, history_after, Serving, mounted, executed, executed_by, IsAfter, MayLeave, Happens, Fails, StaysDown, history_failing, IsRun, Begins, Goes_on, Fails_at, Stays_down, tree_after, IsChain, IsGood, ArePermitted, IsGoodPrefix, EveryRun}
+use Rattle.model.specs.Server.Runs.{Event, Arrives, Turns, HangsUp, Connects, Takes, executed_of, before, IsDurable, is_durable, RunHistory, no_history, is_slot, keeping, numbers_of, named_so_far, names_by, naming_by, turned_by, taken_by, history_after, Serving, mounted, executed, executed_by, IsAfter, MayLeave, Happens, DeviceFails, StaysDown, history_failing, IsRun, Begins, Goes_on, Fails_at, Stays_down, tree_after, IsChain, HasAllDurable, ArePermitted, IsGoodPrefix, EveryRun}
 use Rattle.model.proofs.Server.RunLaws.{LawfulEntry, EntryFits, event_fits}
 
 -- Lists of executed operations
@@ -70,7 +70,7 @@ AreBelow : ℕ → List ℕ → Type 0
 AreBelow bound names = AllByRecursion (λ i. i < bound) names
 
 -- what replies name is settled
-record AreNamed (settled : ℕ) (history : History) : Type 0 where
+record AreNamed (settled : ℕ) (history : RunHistory) : Type 0 where
   named : (connection : ℕ) → AreBelow settled (history.named connection)
   kept : (session : List ℕ) (slot : ℕ) → AreBelow settled (history.kept session slot)
   handed_out : AreBelow settled history.handed_out
@@ -84,7 +84,7 @@ record Core (start : Tree) (serving : Serving) (done : List Entry) (settled : �
   lawful : AllLawful done
   recent : (tree : Tree) → IsAmong serving.recent tree → StandsFor start done settled tree
 
-record Holds (start : Tree) (serving : Serving) (history : History) : Type 0 where
+record Holds (start : Tree) (serving : Serving) (history : RunHistory) : Type 0 where
   settled : ℕ
   core : Core start serving history.done settled
   names : AreNamed settled history
@@ -196,7 +196,7 @@ core_goes start old new event done settled core happens =
     settled_whole tree e (inl after) = inl after
     settled_whole tree e (inr stands) = inr (subst (λ (n : ℕ). StandsFor start done n tree) e stands)
 
-core_fails : (start : Tree) (old new : Serving) (event : Event) (done : List Entry) (settled : ℕ) → Core start old done settled → Fails old event new
+core_fails : (start : Tree) (old new : Serving) (event : Event) (done : List Entry) (settled : ℕ) → Core start old done settled → DeviceFails old event new
     → Core start new (Joined done (executed_of old.world event)) settled
 core_fails start old new event done settled core fails =
     let is = executed_up old event fails.up in
@@ -260,18 +260,18 @@ AreBelow-one bound i less = (less, tt)
 more_done : (done : List Entry) (executed : Option Entry) → length done ≤ length (Joined done executed)
 more_done done executed = omega (arith, length-append done (option_to_list executed))
 
-numbers_below : (history : History) (executed : Option Entry) → AreBelow (length (Joined history.done executed)) (numbers_of history executed)
+numbers_below : (history : RunHistory) (executed : Option Entry) → AreBelow (length (Joined history.done executed)) (numbers_of history executed)
 numbers_below history None = AreBelow-none _
 numbers_below history (Some entry) = AreBelow-one _ (length history.done) (omega (arith, length-append history.done (entry ∷ [])))
 
-AreNamed-more : (less most : ℕ) (history : History) → less ≤ most → AreNamed less history → AreNamed most history
+AreNamed-more : (less most : ℕ) (history : RunHistory) → less ≤ most → AreNamed less history → AreNamed most history
 AreNamed-more less most history h names = record {
   named = λ connection. AreBelow-more less most (history.named connection) h (names.named connection);
   kept = λ session slot. AreBelow-more less most (history.kept session slot) h (names.kept session slot);
   handed_out = AreBelow-more less most history.handed_out h names.handed_out;
 }
 
-names_below : (history : History) (world : World) (connection : ℕ) (turned : Turned) (replays : Option (List ℕ × ℕ)) (bound : ℕ)
+names_below : (history : RunHistory) (world : World) (connection : ℕ) (turned : Turned) (replays : Option (List ℕ × ℕ)) (bound : ℕ)
     → AreNamed bound history → AreBelow bound (numbers_of history turned.executed) → AreBelow bound (names_by history world connection turned replays)
 names_below history world connection turned (Some slot) bound names numbers = names.kept slot.0 slot.1
 names_below history world connection turned None bound names numbers =
@@ -290,7 +290,7 @@ keeping_below bound kept None names all below session slot = all session slot
 keeping_below bound kept (Some at) names all below session slot =
     AreBelow-either bound (is_slot at session slot) names (kept session slot) below (all session slot)
 
-turned_names : (history : History) (world : World) (connection : ℕ) (turned : Turned) → AreNamed (length history.done) history
+turned_names : (history : RunHistory) (world : World) (connection : ℕ) (turned : Turned) → AreNamed (length history.done) history
     → AreNamed (length (Joined history.done turned.executed)) (turned_by history world connection turned)
 turned_names history world connection turned names =
     let bound = length (Joined history.done turned.executed) in
@@ -302,7 +302,7 @@ turned_names history world connection turned names =
       handed_out = all.handed_out;
     }
 
-taken_names : (history : History) (connection : ℕ) (reply : Option (List ℕ)) (bound : ℕ) → AreNamed bound history → AreNamed bound (taken_by history connection reply)
+taken_names : (history : RunHistory) (connection : ℕ) (reply : Option (List ℕ)) (bound : ℕ) → AreNamed bound history → AreNamed bound (taken_by history connection reply)
 taken_names history connection None bound names = names
 taken_names history connection (Some reply) bound names = record {
   named = names.named;
@@ -310,21 +310,21 @@ taken_names history connection (Some reply) bound names = record {
   handed_out = AreBelow-append bound history.handed_out (history.named connection) names.handed_out (names.named connection);
 }
 
-pub taken_done : (history : History) (connection : ℕ) (reply : Option (List ℕ)) → (taken_by history connection reply).done ≡ history.done
+pub taken_done : (history : RunHistory) (connection : ℕ) (reply : Option (List ℕ)) → (taken_by history connection reply).done ≡ history.done
 taken_done history connection None = refl
 taken_done history connection (Some reply) = refl
 
-pub done_behind : (history : History) (world : World) (event : Event) → Joined history.done (executed_of world event) ≡ (history_after history world event).done
+pub done_behind : (history : RunHistory) (world : World) (event : Event) → Joined history.done (executed_of world event) ≡ (history_after history world event).done
 done_behind history world (Arrives connection piece) = append-nil history.done
 done_behind history world (Turns connection now) = refl
 done_behind history world (HangsUp connection) = append-nil history.done
 done_behind history world (Connects connection) = append-nil history.done
 done_behind history world (Takes connection) = append-nil history.done ∙ sym (taken_done history connection (reply_at world connection))
 
-none_more : (history : History) (other : History) → AreNamed (length history.done) other → AreNamed (length (history.done ++ [])) other
+none_more : (history : RunHistory) (other : RunHistory) → AreNamed (length history.done) other → AreNamed (length (history.done ++ [])) other
 none_more history other names = subst (λ (done : List Entry). AreNamed (length done) other) (sym (append-nil history.done)) names
 
-names_behind : (history : History) (world : World) (event : Event) → AreNamed (length history.done) history
+names_behind : (history : RunHistory) (world : World) (event : Event) → AreNamed (length history.done) history
     → AreNamed (length (Joined history.done (executed_of world event))) (history_after history world event)
 names_behind history world (Arrives connection piece) names = none_more history history names
 names_behind history world (Turns connection now) names = turned_names history world connection (one world connection now) names
@@ -360,7 +360,7 @@ holds_at_start limits run start seats = record {
   names = record { named = λ connection. AreBelow-none 0; kept = λ session slot. AreBelow-none 0; handed_out = AreBelow-none 0 };
 }
 
-goes : (start : Tree) (old new : Serving) (event : Event) (history : History) → Holds start old history → Happens old event new
+goes : (start : Tree) (old new : Serving) (event : Event) (history : RunHistory) → Holds start old history → Happens old event new
     → Holds start new (history_after history old.world event)
 goes start old new event history held happens =
     let is = done_behind history old.world event in
@@ -372,7 +372,7 @@ goes start old new event history held happens =
       names = names_behind history old.world event names;
     }
 
-fails_at : (start : Tree) (old new : Serving) (event : Event) (history : History) → Holds start old history → Fails old event new
+fails_at : (start : Tree) (old new : Serving) (event : Event) (history : RunHistory) → Holds start old history → DeviceFails old event new
     → Holds start new (history_failing history old.world event)
 fails_at start old new event history held fails = record {
   settled = held.settled;
@@ -380,7 +380,7 @@ fails_at start old new event history held fails = record {
   names = record { named = held.names.named; kept = held.names.kept; handed_out = held.names.handed_out };
 }
 
-stays_down : (start : Tree) (old new : Serving) (connection : ℕ) (history : History) → Holds start old history → StaysDown old connection new
+stays_down : (start : Tree) (old new : Serving) (connection : ℕ) (history : RunHistory) → Holds start old history → StaysDown old connection new
     → Holds start new (history_after history old.world (Takes connection))
 stays_down start old new connection history held stays =
     let is = taken_done history connection (reply_at old.world connection) in
@@ -390,7 +390,7 @@ stays_down start old new connection history held stays =
       names = taken_names history connection (reply_at old.world connection) held.settled held.names;
     }
 
-holds : (start : Tree) (first serving : Serving) (history : History) → Holds start first no_history → IsRun first serving history → Holds start serving history
+holds : (start : Tree) (first serving : Serving) (history : RunHistory) → Holds start first no_history → IsRun first serving history → Holds start serving history
 holds start first serving history begins Begins = begins
 holds start first serving history begins (Goes_on {old = old} {new = new} {history = earlier} event run happens) =
     goes start old new event earlier (holds start first old earlier begins run) happens
@@ -402,7 +402,7 @@ holds start first serving history begins (Stays_down {old = old} {new = new} {hi
 -- A crash
 
 still_good : (start : Tree) (done : List Entry) (handed_out : List ℕ) (settled : ℕ) (tree : Tree) → AllLawful done → AreBelow settled handed_out
-    → (stands : StandsFor start done settled tree) → IsGood done handed_out stands.k
+    → (stands : StandsFor start done settled tree) → HasAllDurable done handed_out stands.k
 unfolding AllLawful
 still_good start done handed_out settled tree lawful below stands i entry among e lasts =
     stands.beyond i entry (AreBelow-at settled handed_out i below among) e (durable_passes entry (lawful i entry e) lasts)
@@ -422,7 +422,7 @@ prefix_of start done handed_out settled tree chain lawful below stands = record 
   chain = chain;
 }
 
-stopped_by : (start : Tree) (serving : Serving) (history : History) (event : Event) (tree : Tree) → Holds start serving history → (down : Bool) → serving.is_down ≡ down
+stopped_by : (start : Tree) (serving : Serving) (history : RunHistory) (event : Event) (tree : Tree) → Holds start serving history → (down : Bool) → serving.is_down ≡ down
     → MayLeave serving event tree → IsGoodPrefix start (Joined history.done (executed_by serving.world event down)) history.handed_out tree
 stopped_by start serving history event tree held true e may =
     let is : executed serving event ≡ None = ap (executed_by serving.world event) e in

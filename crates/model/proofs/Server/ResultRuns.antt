@@ -12,7 +12,7 @@ use Rattle.model.specs.Wire.Record.{framed}
 use Rattle.model.specs.Operations.Refusal.{first_refusal}
 use Rattle.model.specs.Wire.Results.{HasResults, EveryRequestHasResults}
 use Rattle.model.specs.Wire.Rpc.{Success, reply_text}
-use Rattle.model.specs.Server.Runs.{Serving, History, IsRun, mounted, Event, Arrives, Turns, HangsUp, Connects, Takes, effect_of, Begins, Goes_on, Fails_at, Stays_down}
+use Rattle.model.specs.Server.Runs.{Serving, RunHistory, IsRun, mounted, Event, Arrives, Turns, HangsUp, Connects, Takes, effect_of, Begins, Goes_on, Fails_at, Stays_down}
 use Rattle.model.specs.Sessions.Session as sessions
 use Rattle.model.specs.Sessions.Session.{Session, Table, is_session, begin}
 use Rattle.model.specs.Sessions.StateIds.{has_opens}
@@ -219,7 +219,7 @@ mounted_has limits run start seats number request busy = absurd (nothing busy)
     nothing : None ≡ Some (Busy request) → ⊥
     nothing wrong = cc
 
-run_has : (limits : ServerLimits) (run : ℕ) (start : Tree) (seats : Seats) (serving : Serving) (history : History) → IsRun (mounted limits run start seats) serving history
+run_has : (limits : ServerLimits) (run : ℕ) (start : Tree) (seats : Seats) (serving : Serving) (history : RunHistory) → IsRun (mounted limits run start seats) serving history
     → AllHave serving.world
 run_has limits run start seats serving history Begins = mounted_has limits run start seats
 run_has limits run start seats serving history (Goes_on {old = old} {new = new} {history = earlier} event is_run happens) =

@@ -14,7 +14,7 @@ use Rattle.model.specs.Sessions.SessionRuns.{CountsFrom}
 use Rattle.model.specs.Trees.Tree.{Tree}
 use Rattle.model.specs.Sessions.StateIds.{has_opens}
 use Rattle.model.specs.Server.World.{World, ServerLimits, InProgress, Connection, Quiet, Waiting, Busy, Replied, Closed, HasRun, Gives, Replays, exchanged, created_by, tabled, started_in, begun, reclaimed, refuses, in_room, has_room, run, Turned, Entry, executed_entry, behind, ends, goes_on, kept_by, result_of, with_result, is_last, has_run, operates, Next, Refuses, Reads, next_operation, requested, in_progress, called, turned, one, connection_changed, arrives, arrives_at, takes, without_reply, connects, can_connect, hangs_up, is_busy, reply_at, closes, is_to_hold, further}
-use Rattle.model.specs.Server.Runs.{Event, Arrives, Turns, HangsUp, Connects, Takes, effect_of, executed_of, History, Serving, mounted, IsRun, Begins, Goes_on, Fails_at, Stays_down}
+use Rattle.model.specs.Server.Runs.{Event, Arrives, Turns, HangsUp, Connects, Takes, effect_of, executed_of, RunHistory, Serving, mounted, IsRun, Begins, Goes_on, Fails_at, Stays_down}
 use Rattle.model.specs.Server.ServedOnce.{number_begun, number_by, numbers_in, EveryServedSlot}
 use Rattle.model.proofs.Server.Headline.{Joined, done_behind, taken_done}
 use Rattle.model.proofs.Sessions.SlotLaw.{Stands, Goes, Stands-same, exchange_same, destroy_client_same, reclaim_same, destroy_stands, create_stands, finish_stands, begins_go, others_between}
@@ -291,7 +291,7 @@ event_counted id slot old new event done counted up world =
     (counted_by id slot counted.last new (effect_of old.world event).table (numbers_in id slot done) (number_of id slot (executed_of old.world event))
     counted.counts goes (λ still. ap (λ (left : World). left.table) (world still)))
 
-counted_run : (limits : ServerLimits) (run : ℕ) (start : Tree) (seats : Seats) (id : List ℕ) (slot : ℕ) (serving : Serving) (history : History) → IsRun (mounted limits run start seats) serving history
+counted_run : (limits : ServerLimits) (run : ℕ) (start : Tree) (seats : Seats) (id : List ℕ) (slot : ℕ) (serving : Serving) (history : RunHistory) → IsRun (mounted limits run start seats) serving history
     → Counted id slot serving (numbers_in id slot history.done)
 counted_run limits run start seats id slot serving history Begins = record {
   last = 0;

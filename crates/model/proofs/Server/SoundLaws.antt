@@ -23,7 +23,7 @@ use Rattle.model.specs.Operations.StepLaws.{IsSound}
 use Rattle.model.specs.Trees.Tree.{Tree}
 use Rattle.model.specs.Trees.WellFormed.{IsWellFormed, IsBefore}
 use Rattle.model.specs.Server.World.{in_room, refuses, has_room, World, ServerLimits, InProgress, Connection, Quiet, Waiting, Busy, Replied, Closed, HasRun, Gives, Replays, with_connection, with_table, exchanged, created_by, tabled, started_in, begun, reclaimed, stepped, state_of, run as runs_operation, Turned, Entry, executed_entry, replies, behind, ends, goes_on, with_result, is_last, has_run, operates, Next, Refuses, Reads, next_operation, requested, in_progress, called, turned, one, connection_changed, arrived, arrives, arrives_at, takes, without_reply, connects, can_connect, hangs_up, is_busy, without_connection, mounted_world, closes, is_to_hold, further}
-use Rattle.model.specs.Server.Runs.{Event, Arrives, Turns, HangsUp, Connects, Takes, effect_of, executed_of, executed_by, executed, Serving, History, IsRun, Begins, Goes_on, Fails_at, Stays_down, IsAfter, MayLeave, mounted}
+use Rattle.model.specs.Server.Runs.{Event, Arrives, Turns, HangsUp, Connects, Takes, effect_of, executed_of, executed_by, executed, Serving, RunHistory, IsRun, Begins, Goes_on, Fails_at, Stays_down, IsAfter, MayLeave, mounted}
 use Rattle.model.proofs.Trees.FreshTree.{fresh_well_formed, fresh_before}
 use Rattle.model.proofs.Trees.KeyedLaws.{at-with_same, at-with_other, at-without_same, at-without_other, some≢none}
 use Rattle.model.proofs.Rights.LimitLaws.{modes_keep_limits, inheritance_keeps_limits}
@@ -397,7 +397,7 @@ module _ (limits : ServerLimits) (run : ℕ) (room : limits.volume.aces_set + 5 
       opened = no_opens_are limits.volume start;
     }
 
-    pub serving_sound : (serving : Serving) (history : History) → IsRun (mounted limits run start seats) serving history → IsSoundServing serving
+    pub serving_sound : (serving : Serving) (history : RunHistory) → IsRun (mounted limits run start seats) serving history → IsSoundServing serving
     serving_sound _ _ Begins = record {
       world = mounted_sound;
       recent = λ tree among. subst IsLeft (sym (only_start start tree among)) (left_of (mounted_world limits run start seats) mounted_sound);

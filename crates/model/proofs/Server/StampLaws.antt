@@ -9,7 +9,7 @@ use Rattle.model.specs.Trees.Charge.{fits}
 use Rattle.model.specs.Trees.Keyed.{at}
 use Rattle.model.specs.Operations.Operation.{Argument, NewDirectory, RenameArguments, SetAttrArguments, WriteArguments, SequenceArguments, OpenType, ByName, ByHandle, OtherClaim, Opening, Opens as Opening_of, Exclusive, operation_of}
 use Rattle.model.specs.Wire.Rpc.{CallRead, NoCall, OtherVersion, Calls, Request, Answers, Runs, read_call, request_of}
-use Rattle.model.specs.Server.Runs.{before, Event, Arrives, Turns, HangsUp, Connects, Takes, effect_of, executed_of, executed_by, executed, Serving, History, mounted, done_with, IsRun, Begins, Goes_on, Fails_at, Stays_down, EveryStamp}
+use Rattle.model.specs.Server.Runs.{before, Event, Arrives, Turns, HangsUp, Connects, Takes, effect_of, executed_of, executed_by, executed, Serving, RunHistory, mounted, done_with, IsRun, Begins, Goes_on, Fails_at, Stays_down, EveryStamp}
 use Rattle.model.specs.Sessions.Session as sessions
 use Rattle.model.specs.Sessions.Session.{Table, Session}
 use Rattle.model.specs.Trees.Stamp.{is_stamp_left}
@@ -302,7 +302,7 @@ record Stamped (serving : Serving) (done : List Entry) : Type 0 where
 differ : (b : Bool) → b ≡ true → b ≡ false → ⊥
 differ b is other = cc
 
-stamped : (limits : ServerLimits) (run : ℕ) (start : Tree) (seats : Seats) (serving : Serving) (history : History) → IsRun (mounted limits run start seats) serving history → Stamped serving history.done
+stamped : (limits : ServerLimits) (run : ℕ) (start : Tree) (seats : Seats) (serving : Serving) (history : RunHistory) → IsRun (mounted limits run start seats) serving history → Stamped serving history.done
 stamped limits run start seats _ _ Begins = record {
   numbers = record {
     rise = λ i j one other less first second differs. let never : ⊥ = cc in absurd never;
@@ -332,7 +332,7 @@ stamped limits run start seats _ _ (Stays_down {old} {new} {history} connection 
       below = λ up. absurd (differ new.is_down stays.still_down up);
     })
 
-numbers_with : (serving : Serving) (history : History) (event : Event) → Stamped serving history.done → (down : Bool) → serving.is_down ≡ down
+numbers_with : (serving : Serving) (history : RunHistory) (event : Event) → Stamped serving history.done → (down : Bool) → serving.is_down ≡ down
     → Numbers (done_with history (executed_by serving.world event down))
 numbers_with serving history event was true is = subst Numbers (sym (append_none history.done)) was.numbers
 numbers_with serving history event was false is =

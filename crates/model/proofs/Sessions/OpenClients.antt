@@ -17,7 +17,7 @@ use Rattle.model.specs.Sessions.Opens.{Opens, Open}
 use Rattle.model.specs.Operations.Operation.{Argument, SequenceArguments, NewDirectory, OtherType, RenameArguments, operation_of}
 use Rattle.model.specs.Wire.Record.{framed}
 use Rattle.model.specs.Wire.Rpc.{Success, reply_text}
-use Rattle.model.specs.Server.Runs.{Serving, History, IsRun, mounted, Event, Arrives, Turns, HangsUp, Connects, Takes, effect_of, Begins, Goes_on, Fails_at, Stays_down, is_done}
+use Rattle.model.specs.Server.Runs.{Serving, RunHistory, IsRun, mounted, Event, Arrives, Turns, HangsUp, Connects, Takes, effect_of, Begins, Goes_on, Fails_at, Stays_down, is_done}
 use Rattle.model.specs.Sessions.Session as sessions
 use Rattle.model.specs.Sessions.Session.{Session, Table, is_session}
 use Rattle.model.specs.Operations.SetAttr.{sets}
@@ -507,7 +507,7 @@ mounted_living limits run start seats = record {
     nothing : (request : InProgress) → None ≡ Some (Busy request) → ⊥
     nothing request same = cc
 
-run_living : (limits : ServerLimits) (run : ℕ) (start : Tree) (seats : Seats) (serving : Serving) (history : History) → IsRun (mounted limits run start seats) serving history
+run_living : (limits : ServerLimits) (run : ℕ) (start : Tree) (seats : Seats) (serving : Serving) (history : RunHistory) → IsRun (mounted limits run start seats) serving history
     → Living serving.world
 run_living limits run start seats serving history Begins = mounted_living limits run start seats
 run_living limits run start seats serving history (Goes_on {old = old} {new = new} {history = earlier} event is_run happens) =

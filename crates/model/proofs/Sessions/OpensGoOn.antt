@@ -14,7 +14,7 @@ use Rattle.model.specs.Sessions.OpensLaws.{AreOpens}
 use Rattle.model.specs.Operations.Operation.{Argument, OpenArguments, RenameArguments, NewDirectory, OtherType}
 use Rattle.model.specs.Operations.SetAttr.{sets}
 use Rattle.model.specs.Sessions.StateIds.{Found, Anonymous, Refused, Names, found, is_like, open_like, upgraded, opened, opened_by, without_number}
-use Rattle.model.specs.Sessions.StateIdLaws.{IsAnswered, OpenAnswersNewest, GoesOn, EveryOpenGoesOn, is_open, may_end_opens, IsJoined, HasEnded}
+use Rattle.model.specs.Sessions.StateIdLaws.{IsAnswered, OpenAnswersNewest, EachOpenGoesOn, EveryOpenGoesOn, is_open, may_end_opens, IsJoined, HasEnded}
 use Rattle.model.specs.Operations.Step.{State, Stepped, effect, rename, target_number}
 use Rattle.model.proofs.Trees.KeyedLaws.{at-with_same, at-with_other, at-without_same, at-without_other, some≢none}
 use Rattle.model.proofs.Sessions.OpensLaws.{at-filter, find-at}
@@ -41,7 +41,7 @@ module _ (limits : Limits) (state : State) (are : AreOpens limits state.tree sta
       (and_parts (entry.1.client == asked.client) (bytes_eq entry.1.owner asked.owner && entry.1.number == asked.number) is).0
 
   joins_one : (operation : Argument) → is_open operation ≡ true → (joins : Option (ℕ × Open)) → open_like state.opens asked ≡ joins
-      → GoesOn operation state.opens (opened_by state.opens asked joins).opens
+      → EachOpenGoesOn operation state.opens (opened_by state.opens asked joins).opens
   joins_one operation opens (Some entry) like =
       let there = (find-at (is_like asked) known 0 entry are.rising like).0 in
       let now = upgraded asked.access entry.1 in
@@ -77,14 +77,14 @@ module _ (limits : Limits) (state : State) (are : AreOpens limits state.tree sta
 
 -- Those that stay, and those of which some end
 
-goes_same : (operation : Argument) (old new : Opens) → new ≡ old → GoesOn operation old new
+goes_same : (operation : Argument) (old new : Opens) → new ≡ old → EachOpenGoesOn operation old new
 goes_same operation old new same = record {
   each = λ serial of stood. inl (ap (λ (o : Opens). at serial o.known) same ∙ stood);
   ended = λ serial low none. ap (λ (o : Opens). at serial o.known) same ∙ none;
 }
 
 ends_one : (operation : Argument) (opens : Opens) (serial : ℕ) → may_end_opens operation ≡ true
-    → GoesOn operation opens (record opens { known = without opens.known serial })
+    → EachOpenGoesOn operation opens (record opens { known = without opens.known serial })
 ends_one operation opens serial ends = record {
   each = λ other of stood. elim (cases_eq other serial) [
     | inl one ↦ inr (inr (ends, ap (λ k. at k (without opens.known serial)) one ∙ at-without_same opens.known serial))
@@ -96,13 +96,13 @@ ends_one operation opens serial ends = record {
   ];
 }
 
-closes : (operation : Argument) (opens : Opens) (of : Found) → may_end_opens operation ≡ true → GoesOn operation opens (closed_by of opens)
+closes : (operation : Argument) (opens : Opens) (of : Found) → may_end_opens operation ≡ true → EachOpenGoesOn operation opens (closed_by of opens)
 closes operation opens Anonymous ends = goes_same operation opens opens refl
 closes operation opens (Refused reason) ends = goes_same operation opens opens refl
 closes operation opens (Names serial known) ends = ends_one operation opens serial ends
 
 ends_file : (limits : Limits) (state : State) (are : AreOpens limits state.tree state.opens) (operation : Argument) (number : ℕ)
-    → may_end_opens operation ≡ true → GoesOn operation state.opens (without_number number state.opens)
+    → may_end_opens operation ≡ true → EachOpenGoesOn operation state.opens (without_number number state.opens)
 ends_file limits state are operation number ends = record {
   each = λ serial of stood. left serial of stood (at serial (filter keeps known)) refl;
   ended = λ serial low none. gone serial none (at serial (filter keeps known)) refl;
@@ -131,13 +131,13 @@ ends_file limits state are operation number ends = record {
 -- Each operation
 
 renames : (limits : Limits) (state : State) (now : ℕ) (arguments : RenameArguments) (same : Bool) → AreOpens limits state.tree state.opens
-    → GoesOn (Argument.Rename arguments) state.opens (rename same state now arguments).state.opens
+    → EachOpenGoesOn (Argument.Rename arguments) state.opens (rename same state now arguments).state.opens
 renames limits state now arguments true are = goes_same (Argument.Rename arguments) state.opens state.opens refl
 renames limits state now arguments false are =
     ends_file limits state are (Argument.Rename arguments) (target_number state arguments) refl
 
 effect_goes : (limits : Limits) (state : State) (now : ℕ) (operation : Argument) → AreOpens limits state.tree state.opens
-    → GoesOn operation state.opens (effect limits state now operation).state.opens
+    → EachOpenGoesOn operation state.opens (effect limits state now operation).state.opens
 unfolding effect opened
 effect_goes limits state now (Argument.Open arguments) are =
     let asked = asked_open state arguments in
@@ -159,8 +159,8 @@ effect_goes limits state now operation are = goes_same operation state.opens sta
 
 pub every_open_goes : EveryOpenGoesOn
 every_open_goes limits state now operation are = elim (does_cases limits state now operation) [
-  | inl went ↦ subst (λ (s : Stepped). GoesOn operation state.opens s.state.opens) (sym went.1) (effect_goes limits state now operation are)
-  | inr not_gone ↦ subst (λ (s : Stepped). GoesOn operation state.opens s.state.opens) (sym not_gone.1) (goes_same operation state.opens state.opens refl)
+  | inl went ↦ subst (λ (s : Stepped). EachOpenGoesOn operation state.opens s.state.opens) (sym went.1) (effect_goes limits state now operation are)
+  | inr not_gone ↦ subst (λ (s : Stepped). EachOpenGoesOn operation state.opens s.state.opens) (sym not_gone.1) (goes_same operation state.opens state.opens refl)
 ]
 
 effect_answers : (limits : Limits) (state : State) (now : ℕ) (arguments : OpenArguments) (answer : OpenAnswer) → AreOpens limits state.tree state.opens

@@ -18,7 +18,7 @@ use Rattle.model.specs.Sessions.Opens.{Opens, Open}
 use Rattle.model.specs.Operations.Operation.{Argument, OpenArguments, RenameArguments, NewDirectory, OtherType, StateId}
 use Rattle.model.specs.Server.Runs.{is_done}
 use Rattle.model.specs.Operations.SetAttr.{sets}
-use Rattle.model.specs.Sessions.StateIds.{Found, Anonymous, Names, found, is_like, open_like, upgraded, next_seqid, opened, opened_by, Opened, is_table_full, state_of}
+use Rattle.model.specs.Sessions.StateIds.{Found, Anonymous, Names, found, is_like, open_like, upgraded, next_seqid, opened, opened_by, Opened, is_table_full, open_stateid}
 use Rattle.model.specs.Sessions.StateIdLaws.{IsGiven, is_open}
 use Rattle.model.specs.Sessions.StateIdRuns.{IsOpenOf, access_by, joined_by}
 use Rattle.model.specs.Operations.Step.{State, Stepped, effect, rename, does, refused}
@@ -279,7 +279,7 @@ module _ (run : ℕ) (small_run : run < 2 ^ 32) (limits : Limits) (state : State
     given_now : IsGiven run result.serial
     given_now = is_given run result.opens counted_now small_run result.serial result.state there_now
 
-    open_goes : (answer : OpenAnswer) → answer.state ≡ state_of run result.serial result.state.seqid
+    open_goes : (answer : OpenAnswer) → answer.state ≡ open_stateid run result.serial result.state.seqid
         → Goes run state (Argument.Open arguments) (Outcome.Done (Answer.Open answer)) result.opens
     open_goes answer told =
         let joins = open_like state.opens asked in
@@ -351,7 +351,7 @@ module _ (run : ℕ) (small_run : run < 2 ^ 32) (limits : Limits) (state : State
       → StepGoes (Argument.Open arguments) (effect limits state now (Argument.Open arguments))
   unfolding effect opened
   effect_opens now arguments room =
-      open_goes now arguments room _ (ap (λ (r : ℕ). state_of r (result now arguments room).serial (result now arguments room).state.seqid) of_run)
+      open_goes now arguments room _ (ap (λ (r : ℕ). open_stateid r (result now arguments room).serial (result now arguments room).state.seqid) of_run)
 
   pub does_goes : (now : ℕ) (operation : Argument) → StepGoes operation (does limits state now operation)
   does_goes now (Argument.Open arguments) = elim (does_cases limits state now (Argument.Open arguments)) [

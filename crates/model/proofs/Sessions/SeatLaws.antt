@@ -5,7 +5,7 @@ use Rattle.std.proofs.lemmas.Bool.{true≢false, false_from_ne_true}
 use Rattle.std.proofs.lemmas.Slice.Eq.{bytes_eq-Decides}
 use Rattle.model.specs.Server.Runs.{Stored, freed_between}
 use Rattle.model.specs.Sessions.SeatRuns.{HoldsFrom}
-use Rattle.model.specs.Sessions.Seats.{HeldReply, Seat, Seats, this_or, seat_of, has_seat, held_in, held_at, freed_if, freed, seated, with_held, holds_if, holding, AreApart}
+use Rattle.model.specs.Sessions.Seats.{HeldReply, Seat, Seats, this_or, seat_of, has_seat, held_in, held_at, freed_if, freed, seated, with_held, holds_if, holding, SeatsApart}
 
 pub bytes_apart : (a b : List ℕ) → (a ≡ b → ⊥) → bytes_eq a b ≡ false
 bytes_apart a b apart = false_from_ne_true (bytes_eq a b) (λ same. apart ((bytes_eq-Decides a b).0 same))
@@ -46,7 +46,7 @@ seat_found id (Some other ∷ seats) seat e = by_test (seat_found id seats seat)
 -- Freeing
 
 module _ (gone : Seat → Bool) where
-  pub freed_seat : (id : List ℕ) (seats : Seats) → AreApart seats → seat_of id (freed gone seats) ≡ freed_if gone (seat_of id seats)
+  pub freed_seat : (id : List ℕ) (seats : Seats) → SeatsApart seats → seat_of id (freed gone seats) ≡ freed_if gone (seat_of id seats)
   freed_seat id [] apart = refl
   freed_seat id (None ∷ seats) apart = freed_seat id seats apart
   freed_seat id (Some other ∷ seats) apart = by_tests (freed_seat id seats apart.1) (bytes_eq other.session id) (gone other) refl refl
@@ -66,17 +66,17 @@ module _ (gone : Seat → Bool) where
       by_tests later false true is goes = later
       by_tests later false false is stays = ap (λ (b : Bool). cond b (Some other) (seat_of id (freed gone seats))) is ∙ later
 
-  pub has_freed : (id : List ℕ) (seats : Seats) → AreApart seats → has_seat id seats ≡ false → has_seat id (freed gone seats) ≡ false
+  pub has_freed : (id : List ℕ) (seats : Seats) → SeatsApart seats → has_seat id seats ≡ false → has_seat id (freed gone seats) ≡ false
   has_freed id seats apart none =
       ap is_some (freed_seat id seats apart)
       ∙ ap (λ (o : Option Seat). is_some (freed_if gone o)) (none_of_none (seat_of id seats) none)
 
-  pub apart_freed : (seats : Seats) → AreApart seats → AreApart (freed gone seats)
+  pub apart_freed : (seats : Seats) → SeatsApart seats → SeatsApart (freed gone seats)
   apart_freed [] apart = tt
   apart_freed (None ∷ seats) apart = apart_freed seats apart
   apart_freed (Some other ∷ seats) apart = by_test (apart_freed seats apart.1) (gone other)
     where
-      by_test : AreApart (freed gone seats) → (g : Bool) → AreApart (cond g None (Some other) ∷ freed gone seats)
+      by_test : SeatsApart (freed gone seats) → (g : Bool) → SeatsApart (cond g None (Some other) ∷ freed gone seats)
       by_test rest true = rest
       by_test rest false = (has_freed other.session seats apart.1 apart.0, rest)
 
@@ -89,10 +89,10 @@ module _ (gone : Seat → Bool) where
       by_test false e = e
 
   -- a seat that is there was there
-  pub was_there : (id : List ℕ) (seats : Seats) (seat : Seat) → AreApart seats → seat_of id (freed gone seats) ≡ Some seat → seat_of id seats ≡ Some seat
+  pub was_there : (id : List ℕ) (seats : Seats) (seat : Seat) → SeatsApart seats → seat_of id (freed gone seats) ≡ Some seat → seat_of id seats ≡ Some seat
   was_there id seats seat apart e = freed_only (seat_of id seats) seat (sym (freed_seat id seats apart) ∙ e)
 
-  pub had_seat : (id : List ℕ) (seats : Seats) → AreApart seats → has_seat id (freed gone seats) ≡ true → has_seat id seats ≡ true
+  pub had_seat : (id : List ℕ) (seats : Seats) → SeatsApart seats → has_seat id (freed gone seats) ≡ true → has_seat id seats ≡ true
   had_seat id seats apart e = by_option (seat_of id seats) refl
     where
       by_option : (o : Option Seat) → seat_of id seats ≡ o → is_some o ≡ true
@@ -100,7 +100,7 @@ module _ (gone : Seat → Bool) where
       by_option (Some seat) is = refl
 
   -- a seat stays, or it is gone
-  pub stays_or_goes : (id : List ℕ) (seats : Seats) (seat : Seat) → AreApart seats → seat_of id seats ≡ Some seat
+  pub stays_or_goes : (id : List ℕ) (seats : Seats) (seat : Seat) → SeatsApart seats → seat_of id seats ≡ Some seat
       → (seat_of id (freed gone seats) ≡ Some seat) ⊎ (has_seat id (freed gone seats) ≡ false)
   stays_or_goes id seats seat apart is = by_test (gone seat) refl
     where
@@ -130,13 +130,13 @@ module _ (new : Seat) where
       by_test rest true none e = absurd (true≢false none)
       by_test rest false none e = rest none e
 
-  pub apart_seated : (seats : Seats) → AreApart seats → has_seat new.session seats ≡ false → AreApart (seated new seats)
+  pub apart_seated : (seats : Seats) → SeatsApart seats → has_seat new.session seats ≡ false → SeatsApart (seated new seats)
   apart_seated [] apart none = tt
   apart_seated (None ∷ seats) apart none = (none, apart)
   apart_seated (Some other ∷ seats) apart none = by_test (apart_seated seats apart.1) (bytes_eq other.session new.session) refl none
     where
-      by_test : (has_seat new.session seats ≡ false → AreApart (seated new seats)) → (b : Bool) → bytes_eq other.session new.session ≡ b → is_some (cond b (Some other) (seat_of new.session seats)) ≡ false
-          → AreApart (Some other ∷ seated new seats)
+      by_test : (has_seat new.session seats ≡ false → SeatsApart (seated new seats)) → (b : Bool) → bytes_eq other.session new.session ≡ b → is_some (cond b (Some other) (seat_of new.session seats)) ≡ false
+          → SeatsApart (Some other ∷ seated new seats)
       by_test rest true is none = absurd (true≢false none)
       by_test rest false is none = (
         ap is_some (seated_other other.session seats (bytes_apart new.session other.session (λ same. bytes_differ other.session new.session is (sym same)))) ∙ apart.0,
@@ -172,12 +172,12 @@ module _ (name : List ℕ) (place : ℕ) (held : HeldReply) where
   pub has_holding : (id : List ℕ) (seats : Seats) → has_seat id (holding name place held seats) ≡ has_seat id seats
   has_holding id seats = ap is_some (holding_seat id seats) ∙ some_still (seat_of id seats)
 
-  pub apart_holding : (seats : Seats) → AreApart seats → AreApart (holding name place held seats)
+  pub apart_holding : (seats : Seats) → SeatsApart seats → SeatsApart (holding name place held seats)
   apart_holding [] apart = tt
   apart_holding (None ∷ seats) apart = apart_holding seats apart
   apart_holding (Some other ∷ seats) apart = by_test (apart_holding seats apart.1) (bytes_eq other.session name)
     where
-      by_test : AreApart (holding name place held seats) → (n : Bool) → AreApart (Some (cond n (with_held place held other) other) ∷ holding name place held seats)
+      by_test : SeatsApart (holding name place held seats) → (n : Bool) → SeatsApart (Some (cond n (with_held place held other) other) ∷ holding name place held seats)
       by_test rest true = (has_holding other.session seats ∙ apart.0, rest)
       by_test rest false = (has_holding other.session seats ∙ apart.0, rest)
 

@@ -6,9 +6,9 @@ use Rattle.std.proofs.lemmas.Slice.Eq.{bytes_eq-Decides}
 use Rattle.model.specs.declared.status.Status.TheVariants as status
 use Rattle.model.specs.Operations.Answer.{Answer, Outcome, Done, Refused}
 use Rattle.model.specs.Operations.Operation.{Argument, SequenceArguments, operation_of}
-use Rattle.model.specs.Server.Runs.{Event, Arrives, Turns, HangsUp, Connects, Takes, effect_of, executed_of, executed_by, executed, done_with, Stored, freed_between, freed_of, History, history_after, history_failing, taken_by, Serving, mounted, IsSeatedAfter, MayHold, Fails, IsRun, Begins, Goes_on, Fails_at, Stays_down}
+use Rattle.model.specs.Server.Runs.{Event, Arrives, Turns, HangsUp, Connects, Takes, effect_of, executed_of, executed_by, executed, done_with, Stored, freed_between, freed_of, RunHistory, history_after, history_failing, taken_by, Serving, mounted, IsSeatedAfter, MayHoldSeats, DeviceFails, IsRun, Begins, Goes_on, Fails_at, Stays_down}
 use Rattle.model.specs.Sessions.SeatRuns.{AreSeats, Stop, freeing, stored_in, freed_in, executed_in, HoldsFrom, IsFreed, EverySeatStays, EveryRunCanFollow, AreLives, numbers_over, EveryNumberOnce, last_of, WasFreed, EveryReplyStaysHeld}
-use Rattle.model.specs.Sessions.Seats.{Seat, Seats, seat_of, has_seat, held_in, run_of, AreApart}
+use Rattle.model.specs.Sessions.Seats.{Seat, Seats, seat_of, has_seat, held_in, run_of, SeatsApart}
 use Rattle.model.specs.Server.ServedOnce.{number_by, numbers_in}
 use Rattle.model.specs.Sessions.Session as sessions
 use Rattle.model.specs.Sessions.Session.{Table, Session, is_session}
@@ -29,7 +29,7 @@ use Rattle.model.proofs.Server.TurnCases.{IsTurn, Idles, Says, Closes, Unread, T
 -- The seats that a run began with
 
 record SeatsSo (run : ℕ) (first : Seats) (gone : List (List ℕ)) (seats : Seats) : Type 0 where
-  apart : AreApart seats
+  apart : SeatsApart seats
   runs : (id : List ℕ) → has_seat id seats ≡ true → run_of id < run + 1
   stays : (id : List ℕ) (seat : Seat) → seat_of id first ≡ Some seat → (seat_of id seats ≡ Some seat) ⊎ IsFreed seats gone id
 
@@ -44,7 +44,7 @@ so_more run first gone more seats so = record {
 }
 
 so_goes : (run : ℕ) (first : Seats) (gone : List (List ℕ)) (old new : Seats) → ((id : List ℕ) → has_seat id first ≡ true → run_of id < run) → SeatsSo run first gone old
-    → SeatsGo run old new → AreApart new → SeatsSo run first (gone ++ freed_between old new) new
+    → SeatsGo run old new → SeatsApart new → SeatsSo run first (gone ++ freed_between old new) new
 so_goes run first gone old new earlier so go apart = record {
   apart = apart;
   runs = λ id has. elim (go.runs id has) [
@@ -65,7 +65,7 @@ so_goes run first gone old new earlier so go apart = record {
       ];
 }
 
-record RunSo (run : ℕ) (first : Seats) (serving : Serving) (history : History) : Type 0 where
+record RunSo (run : ℕ) (first : Seats) (serving : Serving) (history : RunHistory) : Type 0 where
   up : serving.is_down ≡ false → SeatsSo run first history.freed serving.world.table.seats
   held : (seats : Seats) → IsAmong serving.held seats → SeatsSo run first history.freed seats
 
@@ -73,7 +73,7 @@ differ : (b : Bool) → b ≡ true → b ≡ false → ⊥
 differ b one other = true≢false (sym one ∙ other)
 
 module _ (limits : ServerLimits) (run : ℕ) (start : Tree) (first : Seats) (small : run < 2 ^ 32) (are : AreSeats run first) where
-  module _ (serving : Serving) (history : History) (is_run : IsRun (mounted limits run start first) serving history) (so : RunSo run first serving history) (up : serving.is_down ≡ false)
+  module _ (serving : Serving) (history : RunHistory) (is_run : IsRun (mounted limits run start first) serving history) (so : RunSo run first serving history) (up : serving.is_down ≡ false)
       (event : Event) where
     seated : RunSeated run serving history
     seated = run_seated limits run start first small are serving history is_run
@@ -84,13 +84,13 @@ module _ (limits : ServerLimits) (run : ℕ) (start : Tree) (first : Seats) (sma
     goes : SeatsGo run serving.world.table.seats (effect_of serving.world event).table.seats
     goes = event_go limits serving.world its_held run (seated.up up).1 small history.stored history.freed (seated.up up).0 event
 
-    apart_after : AreApart (effect_of serving.world event).table.seats
+    apart_after : SeatsApart (effect_of serving.world event).table.seats
     apart_after = (event_seated limits run serving.world its_held (seated.up up).1 history.stored history.freed (seated.up up).0 event).0.apart
 
     after_so : SeatsSo run first (history.freed ++ freed_of serving.world event) (effect_of serving.world event).table.seats
     after_so = so_goes run first history.freed serving.world.table.seats (effect_of serving.world event).table.seats are.earlier (so.up up) goes apart_after
 
-    may_so : (seats : Seats) → MayHold serving event seats → SeatsSo run first (history.freed ++ freed_of serving.world event) seats
+    may_so : (seats : Seats) → MayHoldSeats serving event seats → SeatsSo run first (history.freed ++ freed_of serving.world event) seats
     may_so seats (inl among) = so_more run first history.freed (freed_of serving.world event) seats (so.held seats among)
     may_so seats (inr after) = by_down serving.is_down up after
       where
@@ -98,7 +98,7 @@ module _ (limits : ServerLimits) (run : ℕ) (start : Tree) (first : Seats) (sma
         by_down true wrong after = absurd after
         by_down false right after = subst (SeatsSo run first (history.freed ++ freed_of serving.world event)) (sym after) after_so
 
-  module _ (history : History) (world : World) where
+  module _ (history : RunHistory) (world : World) where
     still : (after : World) → after.table ≡ world.table → SeatsSo run first history.freed world.table.seats → SeatsSo run first history.freed after.table.seats
     still after same so = subst (λ (t : Table). SeatsSo run first history.freed t.seats) (sym same) so
 
@@ -114,7 +114,7 @@ module _ (limits : ServerLimits) (run : ℕ) (start : Tree) (first : Seats) (sma
         by_reply None = still (takes world connection) (takes_table world connection) so
         by_reply (Some reply) = still (takes world connection) (takes_table world connection) so
 
-  run_so : (serving : Serving) (history : History) → IsRun (mounted limits run start first) serving history → RunSo run first serving history
+  run_so : (serving : Serving) (history : RunHistory) → IsRun (mounted limits run start first) serving history → RunSo run first serving history
   run_so serving history Begins = record { up = λ up. begins; held = λ seats among. subst (SeatsSo run first []) (sym (only_one first seats among)) begins }
     where
       begins : SeatsSo run first [] first
@@ -147,7 +147,7 @@ left_so limits stop = by_down stop.serving.is_down refl stop.leaves
     so : RunSo stop.run stop.seats stop.serving stop.history
     so = run_so limits stop.run stop.start stop.seats stop.counted stop.begins stop.serving stop.history stop.is_run
 
-    by_down : (down : Bool) → stop.serving.is_down ≡ down → MayHold stop.serving stop.event stop.left
+    by_down : (down : Bool) → stop.serving.is_down ≡ down → MayHoldSeats stop.serving stop.event stop.left
         → SeatsSo stop.run stop.seats (stop.history.freed ++ freeing stop.serving stop.event down) stop.left
     by_down false up may = may_so limits stop.run stop.start stop.seats stop.counted stop.begins stop.serving stop.history stop.is_run so up stop.event stop.left may
     by_down true down (inl among) = so_more stop.run stop.seats stop.history.freed [] stop.left (so.held stop.left among)
@@ -303,12 +303,12 @@ own_more id slot run done (Some entry) (inl none) own = by_number (number_by id 
     by_number (Some number) is = inr (own number is)
 
 module _ (limits : ServerLimits) (run : ℕ) (start : Tree) (first : Seats) (small : run < 2 ^ 32) (are : AreSeats run first) (id : List ℕ) (slot : ℕ) where
-  own_now : (serving : Serving) (history : History) → IsRun (mounted limits run start first) serving history → serving.is_down ≡ false → (event : Event)
+  own_now : (serving : Serving) (history : RunHistory) → IsRun (mounted limits run start first) serving history → serving.is_down ≡ false → (event : Event)
       → IsOwn id slot run (executed_of serving.world event)
   own_now serving history is_run up event =
       event_own id slot run small serving.world ((run_seated limits run start first small are serving history is_run).up up).0.of_run event
 
-  run_own : (serving : Serving) (history : History) → IsRun (mounted limits run start first) serving history → AreOwn id slot run history.done
+  run_own : (serving : Serving) (history : RunHistory) → IsRun (mounted limits run start first) serving history → AreOwn id slot run history.done
   unfolding AreOwn
   run_own serving history Begins = inl refl
   run_own serving history (Goes_on {old = old} {new = new} {history = earlier} event is_run happens) =
@@ -328,7 +328,7 @@ module _ (limits : ServerLimits) (stop : Stop limits) (id : List ℕ) (slot : �
   failed : Serving
   failed = record { world = stop.serving.world; recent = []; held = []; is_down = true }
 
-  fails : stop.serving.is_down ≡ false → Fails stop.serving stop.event failed
+  fails : stop.serving.is_down ≡ false → DeviceFails stop.serving stop.event failed
   unfolding failed
   fails up = record {
     up = up;

@@ -9,7 +9,7 @@ use Rattle.model.specs.Operations.Operation.{Argument, SequenceArguments, operat
 use Rattle.model.specs.Wire.Record.{framed}
 use Rattle.model.specs.Wire.Rpc.{Success, reply_text}
 use Rattle.model.specs.Server.Runs.{Stored, is_done}
-use Rattle.model.specs.Sessions.SeatRuns.{IsHeldReply, GivesHeld, KeepsOrNone, Takes, request_in, EveryReplyIsStored}
+use Rattle.model.specs.Sessions.SeatRuns.{IsHeldReply, GivesHeld, KeepsOrNone, TakesItsSlot, request_in, EveryReplyIsStored}
 use Rattle.model.specs.Sessions.Seats.{has_seat, held_at}
 use Rattle.model.specs.Sessions.Session as sessions
 use Rattle.model.specs.Sessions.Session.{Table, Session, is_session, finish}
@@ -259,7 +259,7 @@ module _ (limits : ServerLimits) (world : World) (held : Held limits world) (its
 
   -- of a SEQUENCE that begins one
 
-  module _ (entry : Entry) (arguments : SequenceArguments) (takes : Takes entry arguments) where
+  module _ (entry : Entry) (arguments : SequenceArguments) (takes : TakesItsSlot entry arguments) where
     -- what the entry of a result says of it
     one_entry : (done : Entry) (given : Option Entry) → given ≡ Some done → given ≡ Some entry → done ≡ entry
     one_entry done given first second = let both : Some done ≡ Some entry = sym first ∙ second in cc

@@ -5,7 +5,7 @@ use Rattle.std.proofs.lemmas.Bool.{true≢false, and_from}
 use Rattle.model.specs.declared.status.Status.TheVariants as status
 use Rattle.model.specs.Trees.Keyed.{at}
 use Rattle.model.specs.Operations.Operation.{SequenceArguments}
-use Rattle.model.specs.Server.Runs.{Event, Arrives, Turns, HangsUp, Connects, Takes, effect_of, Stored, stored_of, freed_between, freed_of, History, history_after, Serving, mounted, IsSeatedAfter, MayHold, taken_by, IsRun, Begins, Goes_on, Fails_at, Stays_down}
+use Rattle.model.specs.Server.Runs.{Event, Arrives, Turns, HangsUp, Connects, Takes, effect_of, Stored, stored_of, freed_between, freed_of, RunHistory, history_after, Serving, mounted, IsSeatedAfter, MayHoldSeats, taken_by, IsRun, Begins, Goes_on, Fails_at, Stays_down}
 use Rattle.model.specs.Sessions.SeatRuns.{AreSeats, IsRetryOf, Stop, storing, freeing, EveryReplyIsHeld, EveryDeadSession}
 use Rattle.model.specs.Sessions.Seats.{HeldReply, Seat, Seats, seat_of, held_in, run_of}
 use Rattle.model.specs.Sessions.Session.{Table, Session, Refuses, Replays, is_session, begin, begin_held, begin_dead, begin_by, loaded_table}
@@ -62,13 +62,13 @@ kept_more seats stored more gone also i one (inr freed) = inr (record { gone = f
 abbrev pub AllKept : Seats → (stored all : List Stored) → List (List ℕ) → Type 0
 AllKept seats stored all gone = (i : ℕ) (one : Stored) → slice_get stored i ≡ Some one → IsKept seats all gone i one
 
-pub record RunSeated (run : ℕ) (serving : Serving) (history : History) : Type 0 where
+pub record RunSeated (run : ℕ) (serving : Serving) (history : RunHistory) : Type 0 where
   pub up : serving.is_down ≡ false → Seated run serving.world.table history.stored history.freed × (serving.world.table.run ≡ run)
   pub same : serving.is_down ≡ false → (seats : Seats) → IsAmong serving.held seats → seats ≡ serving.world.table.seats
   pub kept : (seats : Seats) → IsAmong serving.held seats → AllKept seats history.stored (history.stored ++ option_to_list history.torn) history.freed
 
 -- what an event may leave, of a server that is up
-module _ (limits : ServerLimits) (run : ℕ) (serving : Serving) (history : History) (held : Held limits serving.world) (is : RunSeated run serving history)
+module _ (limits : ServerLimits) (run : ℕ) (serving : Serving) (history : RunHistory) (held : Held limits serving.world) (is : RunSeated run serving history)
     (up : serving.is_down ≡ false) (event : Event) where
   its : EventSeated run serving.world event history.stored history.freed
   its = event_seated limits run serving.world held (is.up up).1 history.stored history.freed (is.up up).0 event
@@ -85,7 +85,7 @@ module _ (limits : ServerLimits) (run : ℕ) (serving : Serving) (history : Hist
       subst (λ (s : Seats). IsKept s (history.stored ++ option_to_list (stored_of serving.world event)) (history.freed ++ freed_of serving.world event) i one) (sym same)
       (its.0.kept i one (slice_get-append history.stored (option_to_list (stored_of serving.world event)) i (slice_get-within history.stored i one at) ∙ at))
 
-  pub may_kept : (seats : Seats) → MayHold serving event seats
+  pub may_kept : (seats : Seats) → MayHoldSeats serving event seats
       → AllKept seats history.stored (history.stored ++ option_to_list (stored_of serving.world event)) (history.freed ++ freed_of serving.world event)
   may_kept seats (inl among) = old_kept seats (is.same up seats among)
   may_kept seats (inr after) = by_down serving.is_down up after
@@ -96,7 +96,7 @@ module _ (limits : ServerLimits) (run : ℕ) (serving : Serving) (history : Hist
       by_down false right after = new_kept seats after
 
 -- the history after an event
-module _ (run : ℕ) (history : History) (world : World) where
+module _ (run : ℕ) (history : RunHistory) (world : World) where
   abbrev Behind : Event → Type 0
   Behind event =
       Seated run (effect_of world event).table (history_after history world event).stored (history_after history world event).freed
@@ -137,7 +137,7 @@ only_one {A} one x among = by_place among.0 among.1.0 among.1.1
     by_place (suc place) less e = absurd (omega arith)
 
 module _ (limits : ServerLimits) (run : ℕ) (start : Tree) (first : Seats) (small : run < 2 ^ 32) (are : AreSeats run first) where
-  pub run_seated : (serving : Serving) (history : History) → IsRun (mounted limits run start first) serving history → RunSeated run serving history
+  pub run_seated : (serving : Serving) (history : RunHistory) → IsRun (mounted limits run start first) serving history → RunSeated run serving history
   run_seated serving history Begins = record {
     up = λ up. (table_seated run limits.persistent first small are, refl);
     same = λ up seats among. only_one first seats among;
@@ -158,7 +158,7 @@ module _ (limits : ServerLimits) (run : ℕ) (start : Tree) (first : Seats) (sma
             kept_torn new.world.table.seats seats (history_after earlier old.world event) (happens.seats seats among) i one (seated.kept i one at);
       }
     where
-      kept_torn : (there seats : Seats) (history : History) → seats ≡ there → (i : ℕ) (one : Stored) → IsKept there history.stored history.freed i one
+      kept_torn : (there seats : Seats) (history : RunHistory) → seats ≡ there → (i : ℕ) (one : Stored) → IsKept there history.stored history.freed i one
           → IsKept seats (history.stored ++ option_to_list history.torn) history.freed i one
       kept_torn there seats history same i one kept =
           subst (λ (s : Seats). IsKept s (history.stored ++ option_to_list history.torn) history.freed i one) (sym same)
@@ -199,7 +199,7 @@ every_reply_is_held limits stop i one at = by_down stop.serving.is_down refl sto
     is : RunSeated stop.run stop.serving stop.history
     is = stop_seated stop
 
-    by_down : (down : Bool) → stop.serving.is_down ≡ down → MayHold stop.serving stop.event stop.left
+    by_down : (down : Bool) → stop.serving.is_down ≡ down → MayHoldSeats stop.serving stop.event stop.left
         → IsKept stop.left (stop.history.stored ++ option_to_list (storing stop.serving stop.history stop.event down))
         (stop.history.freed ++ freeing stop.serving stop.event down) i one
     by_down false up may =

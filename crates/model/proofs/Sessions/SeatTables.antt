@@ -10,9 +10,9 @@ use Rattle.model.specs.declared.status.Status.{Status}
 use Rattle.model.specs.Operations.Answer.{CreateSessionAnswer}
 use Rattle.model.specs.Operations.Operation.{CreateSessionArguments, SequenceArguments}
 use Rattle.model.specs.Operations.Refusal.{first_refusal}
-use Rattle.model.specs.Server.Runs.{Stored, kept_of, kept_in, kept_at, stored_as, stored_by, freed_between}
+use Rattle.model.specs.Server.Runs.{Stored, held_of_session, kept_in, kept_at, stored_as, stored_by, freed_between}
 use Rattle.model.specs.Sessions.SeatRuns.{HoldsFrom, IsFreed}
-use Rattle.model.specs.Sessions.Seats.{HeldReply, Seat, Seats, is_seat_of, seat_of, has_seat, held_in, held_at, freed, seated, holding, run_of, AreApart}
+use Rattle.model.specs.Sessions.Seats.{HeldReply, Seat, Seats, is_seat_of, seat_of, has_seat, held_in, held_at, freed, seated, holding, run_of, SeatsApart}
 use Rattle.model.specs.Sessions.Session.{SessionLimits, Client, Slot, Running, Kept, Session, Table, session_id, is_session, slot_at, no_slot, with_slot, is_client, client_number, is_of_clients, replaced_by, staying, gives_way, seats_staying, persists, limits_for, fore_channel, new_session, new_seat, create_refusals, create_unless, create_again, create_by, create_session, CreateSessionOutcome, next_number, destroy_by, is_running, started, finished_slot, held_reply, held_by, finish}
 use Rattle.model.proofs.Server.Headline.{slice_get-append, slice_get-within}
 use Rattle.model.proofs.Sessions.SeatLaws.{bytes_apart, bytes_differ, has_freed, apart_freed, was_there, had_seat, stays_or_goes, seated_other, seated_new, apart_seated, has_holding, apart_holding, holding_none, held_here, held_other, holding_was, seat_holds, holds_there, among_left, among_right, freed_listed}
@@ -72,7 +72,7 @@ IsKept seats stored gone i one = HoldsFrom seats stored i one ⊎ IsFreed seats 
 
 pub record Seated (run : ℕ) (table : Table) (stored : List Stored) (gone : List (List ℕ)) : Type 0 where
   pub of_run : AllByRecursion (λ (session : Session). in_run session.client ≡ run) table.sessions
-  pub apart : AreApart table.seats
+  pub apart : SeatsApart table.seats
   pub past : (id : List ℕ) → has_seat id table.seats ≡ true → IsPast run table.session_serial id
   pub fits : AllByRecursion (SeatFits table.seats) table.sessions
   pub old : (i : ℕ) (one : Stored) → slice_get stored i ≡ Some one → IsPast run table.session_serial one.session
@@ -136,7 +136,7 @@ seated_more run table stored gone more is = record {
 pub seated_same : (run : ℕ) (old new : Table) (stored : List Stored) (gone : List (List ℕ)) → SameSessions old new → Seated run old stored gone → Seated run new stored gone
 seated_same run old new stored gone same is = record {
   of_run = subst (AllByRecursion (λ (session : Session). in_run session.client ≡ run)) (sym same.sessions) is.of_run;
-  apart = subst AreApart (sym same.seats) is.apart;
+  apart = subst SeatsApart (sym same.seats) is.apart;
   past = λ id has. subst (λ (n : ℕ). IsPast run n id) (sym same.serial) (is.past id (ap (has_seat id) (sym same.seats) ∙ has));
   fits =
       subst (AllByRecursion (SeatFits new.seats)) (sym same.sessions)
@@ -491,7 +491,7 @@ module _ (id : List ℕ) (place : ℕ) (reply : List ℕ) where
       = sym (append-nil stored) ∙ ap (λ (o : Option Stored). stored ++ option_to_list o) (sym (nothing_stored table none)) in
       subst (λ (l : List Stored). Seated run new l gone) all (record {
         of_run = mapped.of_run;
-        apart = subst AreApart seats mapped.apart;
+        apart = subst SeatsApart seats mapped.apart;
         past = λ name has. mapped.past name (ap (has_seat name) seats ∙ has);
         fits = subst (λ (s : Seats). AllByRecursion (SeatFits s) new.sessions) seats mapped.fits;
         old = mapped.old;
@@ -519,8 +519,8 @@ module _ (id : List ℕ) (place : ℕ) (reply : List ℕ) where
         let named : is_session id session ≡ true = found_passes (is_session id) table.sessions session found in
         let there : find (is_session id) (map finishing table.sessions) ≡ Some (finishing session)
         = find-mapped (is_session id) finishing table.sessions session finishing_still found in
-        ap (kept_of place) there
-        ∙ (ap (λ (b : Bool). kept_of place (Some (cond b (finished_slot place reply session) session))) named
+        ap (held_of_session place) there
+        ∙ (ap (λ (b : Bool). held_of_session place (Some (cond b (finished_slot place reply session) session))) named
         ∙ ap (λ (slot : Slot). kept_in slot slot.state)
         (get_or-set_same session.slots place (record (slot_at session place) { state = Kept reply }) no_slot within))
 
@@ -609,7 +609,7 @@ module _ (id : List ℕ) (place : ℕ) (reply : List ℕ) where
           let seats = sym seats_are in
           record {
             of_run = mapped.of_run;
-            apart = subst AreApart seats (apart_holding id place its_held table.seats is.apart);
+            apart = subst SeatsApart seats (apart_holding id place its_held table.seats is.apart);
             past = λ name there. is.past name (sym (has_holding id place its_held name table.seats) ∙ (ap (has_seat name) seats ∙ there));
             fits = subst (λ (s : Seats). AllByRecursion (SeatFits s) new.sessions) seats
                 (all-mono (SeatFits table.seats) (SeatFits its_seats) new.sessions

@@ -9,7 +9,7 @@ use Rattle.model.specs.Operations.Operation.{Argument, SequenceArguments, Create
 use Rattle.model.specs.Operations.Refusal.{first_refusal}
 use Rattle.model.specs.Server.Runs.{Event, Arrives, Turns, HangsUp, Connects, Takes, effect_of, executed_of, is_done}
 use Rattle.model.specs.Sessions.SeatRuns.{GoesBy, Destroyed, GivesWay, IsFreedBy, EveryFreeingIsAsked}
-use Rattle.model.specs.Sessions.Seats.{Seat, Seats, is_seat_of, seat_of, has_seat, freed_if, freed, seated, AreApart}
+use Rattle.model.specs.Sessions.Seats.{Seat, Seats, is_seat_of, seat_of, has_seat, freed_if, freed, seated, SeatsApart}
 use Rattle.model.specs.Sessions.Session as sessions
 use Rattle.model.specs.Sessions.Session.{SessionLimits, Client, Session, Table, is_session, is_client, is_running, slot_at, gives_way, seats_staying, new_seat, persists, create_refusals, create_unless, create_again, create_by, create_session, CreateSessionOutcome, next_number, destroy_by, destroy_session, held_reply, held_by, finish}
 use Rattle.model.specs.Sessions.StateIds.{has_opens}
@@ -23,7 +23,7 @@ use Rattle.model.proofs.Server.TurnCases.{IsTurn, Idles, Says, Closes, Unread, T
 
 -- Of seats alone
 
-freed_tells : (gone : Seat → Bool) (id : List ℕ) (seats : Seats) (seat : Seat) → AreApart seats → seat_of id seats ≡ Some seat → has_seat id (freed gone seats) ≡ false → gone seat ≡ true
+freed_tells : (gone : Seat → Bool) (id : List ℕ) (seats : Seats) (seat : Seat) → SeatsApart seats → seat_of id seats ≡ Some seat → has_seat id (freed gone seats) ≡ false → gone seat ≡ true
 freed_tells gone id seats seat apart there went = by_test (gone seat) refl
   where
     by_test : (b : Bool) → gone seat ≡ b → gone seat ≡ true
@@ -81,7 +81,7 @@ behind_has id number after request (Done answer) executed =
 
 -- What an operation frees
 
-module _ (world : World) (apart : AreApart world.table.seats) where
+module _ (world : World) (apart : SeatsApart world.table.seats) where
   abbrev Frees : Argument → (done : Bool) → Seats → Type 0
   Frees operation done new = (id : List ℕ) (seat : Seat) → seat_of id world.table.seats ≡ Some seat → has_seat id new ≡ false → (done ≡ true) × GoesBy world.table id seat operation
 

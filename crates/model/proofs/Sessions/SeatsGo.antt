@@ -8,7 +8,7 @@ use Rattle.model.specs.Operations.Answer.{Answer, Outcome, Done, Refused, Exchan
 use Rattle.model.specs.Operations.Operation.{Argument, SequenceArguments, CreateSessionArguments, operation_of}
 use Rattle.model.specs.Operations.Refusal.{first_refusal}
 use Rattle.model.specs.Server.Runs.{Stored, Event, Arrives, Turns, HangsUp, Connects, Takes, effect_of}
-use Rattle.model.specs.Sessions.Seats.{HeldReply, Seat, Seats, is_seat_of, seat_of, has_seat, freed_if, freed, seated, with_held, holds_if, holding, run_of, AreApart}
+use Rattle.model.specs.Sessions.Seats.{HeldReply, Seat, Seats, is_seat_of, seat_of, has_seat, freed_if, freed, seated, with_held, holds_if, holding, run_of, SeatsApart}
 use Rattle.model.specs.Sessions.Session as sessions
 use Rattle.model.specs.Sessions.Session.{SessionLimits, Client, Session, Table, is_session, is_client, is_running, slot_at, gives_way, seats_staying, seats_after, new_seat, persists, create_refusals, create_unless, create_again, create_by, create_session, CreateSessionOutcome, next_number, destroy_by, destroy_session, held_reply, held_by, finish}
 use Rattle.model.specs.Sessions.StateIds.{has_opens}
@@ -43,7 +43,7 @@ go_on run a b c first second = record {
   ];
 }
 
-go_freed : (run : ℕ) (gone : Seat → Bool) (seats : Seats) → AreApart seats → SeatsGo run seats (freed gone seats)
+go_freed : (run : ℕ) (gone : Seat → Bool) (seats : Seats) → SeatsApart seats → SeatsGo run seats (freed gone seats)
 go_freed run gone seats apart = record {
   earlier = λ id less. by_option id (seat_of id seats) refl;
   runs = λ id has. inl (had_seat gone id seats apart has);
@@ -83,7 +83,7 @@ go_held run name place held seats of_run = record {
 
 -- The calls
 
-go_destroyed : (run : ℕ) (id : List ℕ) (table : Table) (known : Option Session) → AreApart table.seats → SeatsGo run table.seats (destroy_by id table known).1.seats
+go_destroyed : (run : ℕ) (id : List ℕ) (table : Table) (known : Option Session) → SeatsApart table.seats → SeatsGo run table.seats (destroy_by id table known).1.seats
 go_destroyed run id table None apart =
     either (λ (r : Option Status × Table). SeatsGo run table.seats r.1.seats) (has_seat id table.seats) _ _
     (λ has. go_freed run (is_seat_of id) table.seats apart) (λ none. go_same run table.seats table.seats refl)
@@ -92,7 +92,7 @@ go_destroyed run id table (Some session) apart =
     (λ runs. go_same run table.seats table.seats refl) (λ rests. go_freed run (is_seat_of id) table.seats apart)
 
 module _ (limits : SessionLimits) (run : ℕ) (small : run < 2 ^ 32) (arguments : CreateSessionArguments) (client : Client) (table : Table) (of_run : in_run client.number ≡ run)
-    (apart : AreApart table.seats) where
+    (apart : SeatsApart table.seats) where
   abbrev CreatedGo : CreateSessionOutcome → Type 0
   CreatedGo o = SeatsGo run table.seats o.table.seats
 
@@ -115,7 +115,7 @@ module _ (limits : SessionLimits) (run : ℕ) (small : run < 2 ^ 32) (arguments 
       either CreatedGo (next_number arguments.sequence == client.sequence) _ _
       (λ same. go_same run table.seats table.seats refl) (λ other. go_unless (first_refusal (create_refusals limits arguments client table)))
 
-go_created : (limits : SessionLimits) (uid : ℕ) (arguments : CreateSessionArguments) (table : Table) → Holds limits table → table.run < 2 ^ 32 → AreApart table.seats
+go_created : (limits : SessionLimits) (uid : ℕ) (arguments : CreateSessionArguments) (table : Table) → Holds limits table → table.run < 2 ^ 32 → SeatsApart table.seats
     → SeatsGo table.run table.seats (create_session limits uid arguments table).table.seats
 unfolding create_session
 go_created limits uid arguments table holds small apart = by_client (find (is_client arguments.client) table.clients) refl

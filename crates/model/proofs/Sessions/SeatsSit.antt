@@ -7,7 +7,7 @@ use Rattle.model.specs.Operations.Answer.{Answer, Outcome, Done, Refused, Create
 use Rattle.model.specs.Operations.Operation.{Argument, CreateSessionArguments, operation_of}
 use Rattle.model.specs.Operations.Refusal.{first_refusal}
 use Rattle.model.specs.Server.Runs.{Event, Arrives, Turns, HangsUp, Connects, Takes, Stored, effect_of, executed_of}
-use Rattle.model.specs.Sessions.SeatRuns.{Makes, EverySessionSits}
+use Rattle.model.specs.Sessions.SeatRuns.{MakesSession, EverySessionSits}
 use Rattle.model.specs.Sessions.Seats.{Seat, Seats, is_seat_of, seat_of, has_seat, has_free, seated}
 use Rattle.model.specs.Sessions.Session.{SessionLimits, Client, Table, is_client, gives_way, seats_staying, new_seat, new_session, persists, create_refusals, create_session_answer, with_new_session, create_unless, create_again, create_by, create_session, create_refused, CreateSessionOutcome, next_number, finish}
 use Rattle.model.specs.Server.World.{ServerLimits, World, InProgress, HasRun, Gives, Replays, Entry, created_by, run, executed_entry, Turned, with_result, result_of, kept_by, is_to_hold, closes, behind, is_last, one}
@@ -132,7 +132,7 @@ module _ (limits : ServerLimits) (world : World) (held : Held limits world) (its
       outcome.answer refl
 
   abbrev TurnSits : Turned → Type 0
-  TurnSits t = (answer : CreateSessionAnswer) → Makes world.table t.world.table t.executed answer → SitsIn t.world.table answer
+  TurnSits t = (answer : CreateSessionAnswer) → MakesSession world.table t.world.table t.executed answer → SitsIn t.world.table answer
 
   one_entry : (done entry : Entry) (executed : Option Entry) → executed ≡ Some done → executed ≡ Some entry → done ≡ entry
   one_entry done entry executed first second = let both : Some done ≡ Some entry = sym first ∙ second in cc
@@ -161,7 +161,7 @@ module _ (limits : ServerLimits) (world : World) (held : Held limits world) (its
   no_entry : {T : Type 0} (entry : Entry) → None ≡ Some entry → T
   no_entry entry e = absurd (cc)
 
-  event_sits : (event : Event) (answer : CreateSessionAnswer) → Makes world.table (effect_of world event).table (executed_of world event) answer
+  event_sits : (event : Event) (answer : CreateSessionAnswer) → MakesSession world.table (effect_of world event).table (executed_of world event) answer
       → SitsIn (effect_of world event).table answer
   event_sits (Arrives connection piece) answer makes = no_entry makes.entry makes.is
   event_sits (Turns connection now) answer makes = turned_sits connection now (one world connection now) (turn_is world connection now) answer makes

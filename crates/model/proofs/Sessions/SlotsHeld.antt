@@ -10,7 +10,7 @@ use Rattle.model.specs.Operations.Operation.{Argument, SequenceArguments, operat
 use Rattle.model.specs.Wire.Record.{Front, Partial, Whole}
 use Rattle.model.specs.Wire.Record as marks
 use Rattle.model.specs.Wire.Rpc.{CallRead, NoCall, OtherVersion, Calls, VersionRefused, read_call, is_call_read, Request, Answers, Runs, request_of, Success, reply_text}
-use Rattle.model.specs.Server.Runs.{Serving, History, IsRun, mounted, Event, Arrives, Turns, HangsUp, Connects, Takes, effect_of, Begins, Goes_on, Fails_at, Stays_down}
+use Rattle.model.specs.Server.Runs.{Serving, RunHistory, IsRun, mounted, Event, Arrives, Turns, HangsUp, Connects, Takes, effect_of, Begins, Goes_on, Fails_at, Stays_down}
 use Rattle.model.specs.Sessions.Session as sessions
 use Rattle.model.specs.Sessions.Session.{Session, Table, is_session}
 use Rattle.model.specs.Sessions.SessionRuns as calls
@@ -606,7 +606,7 @@ mounted_held limits run start seats = record {
     nothing : (request : InProgress) → None ≡ Some (Busy request) → ⊥
     nothing request same = cc
 
-pub run_held : (limits : ServerLimits) (run : ℕ) (start : Tree) (seats : Seats) (serving : Serving) (history : History) → IsRun (mounted limits run start seats) serving history
+pub run_held : (limits : ServerLimits) (run : ℕ) (start : Tree) (seats : Seats) (serving : Serving) (history : RunHistory) → IsRun (mounted limits run start seats) serving history
     → Held limits serving.world
 run_held limits run start seats serving history Begins = mounted_held limits run start seats
 run_held limits run start seats serving history (Goes_on {old = old} {new = new} {history = earlier} event is_run happens) =

@@ -9,8 +9,8 @@ use Rattle.model.specs.declared.status.Status.TheVariants as status
 use Rattle.model.specs.Operations.Context.{Context, current_number}
 use Rattle.model.specs.Trees.Keyed.{at}
 use Rattle.model.specs.Sessions.Opens.{Opens, Open}
-use Rattle.model.specs.Sessions.StateIds.{Anonymous, Refused, Names, found, by_meaning, by_open, by_seqid, carried, is_anonymous, is_current, upgraded, next_seqid, open_named, state_of, zeros}
-use Rattle.model.specs.Sessions.StateIdLaws.{IsOwn, IsGiven, Stands, NewestIsFound, LowerIsOld, JoinedIsOld, NotOwnIsBad, OtherRunIsBad, EndedIsBad}
+use Rattle.model.specs.Sessions.StateIds.{Anonymous, Refused, Names, found, by_meaning, by_open, by_seqid, carried, is_anonymous, is_current, upgraded, next_seqid, open_named, open_stateid, zeros}
+use Rattle.model.specs.Sessions.StateIdLaws.{IsOwn, IsGiven, OpenStands, NewestIsFound, LowerIsOld, JoinedIsOld, NotOwnIsBad, OtherRunIsBad, EndedIsBad}
 use Rattle.model.proofs.Facts.BooleanLaws.{and_false}
 
 -- The bytes of a stateid
@@ -27,11 +27,11 @@ not_zeros run serial given = false_from_ne_true (bytes_eq (other_of run serial) 
 
 -- it is neither the current stateid nor the anonymous one
 is_meant : (opens : Opens) (context : Context) (run serial seqid : ℕ) → IsGiven run serial
-    → found opens context (state_of run serial seqid) ≡ by_open context (state_of run serial seqid) (open_named opens context.run (other_of run serial))
+    → found opens context (open_stateid run serial seqid) ≡ by_open context (open_stateid run serial seqid) (open_named opens context.run (other_of run serial))
 unfolding found
 is_meant opens context run serial seqid given =
     let special : bytes_eq (other_of run serial) zeros ≡ false = not_zeros run serial given in
-    let state = state_of run serial seqid in
+    let state = open_stateid run serial seqid in
     let current : is_current state ≡ false = ap (λ b. (seqid == 1) && b) special ∙ and_false (seqid == 1) in
     let anonymous : is_anonymous state ≡ false = ap (λ b. (seqid == 0) && b) special ∙ and_false (seqid == 0) in
     ap (λ b. by_meaning opens context (if b then carried context.current else Some state)) current
@@ -48,22 +48,22 @@ named opens run serial given =
     let mine : bytes_eq (take 4 (other_of run serial)) (to_be_bytes w32 run) ≡ true = same_run run in
     rw mine (ap (λ key. at key opens.known) (serial_is run serial given))
 
-standing : (opens : Opens) (context : Context) (serial seqid : ℕ) (known : Open) → Stands opens context serial known
-    → found opens context (state_of context.run serial seqid) ≡ by_open context (state_of context.run serial seqid) (Some known)
+standing : (opens : Opens) (context : Context) (serial seqid : ℕ) (known : Open) → OpenStands opens context serial known
+    → found opens context (open_stateid context.run serial seqid) ≡ by_open context (open_stateid context.run serial seqid) (Some known)
 standing opens context serial seqid known stands =
     is_meant opens context context.run serial seqid stands.given
-    ∙ ap (by_open context (state_of context.run serial seqid)) (named opens context.run serial stands.given ∙ stands.there)
+    ∙ ap (by_open context (open_stateid context.run serial seqid)) (named opens context.run serial stands.given ∙ stands.there)
 
 own_test : (context : Context) (known : Open) → IsOwn context known
     → (known.client == context.client && known.number == current_number context) ≡ true
 own_test context known own =
     rw (eq-eqb known.client context.client own.client, eq-eqb known.number (current_number context) own.file) refl
 
-pub own : (opens : Opens) (context : Context) (serial seqid : ℕ) (known : Open) → Stands opens context serial known → IsOwn context known
-    → found opens context (state_of context.run serial seqid) ≡ by_seqid (state_of context.run serial seqid) known
+pub own : (opens : Opens) (context : Context) (serial seqid : ℕ) (known : Open) → OpenStands opens context serial known → IsOwn context known
+    → found opens context (open_stateid context.run serial seqid) ≡ by_seqid (open_stateid context.run serial seqid) known
 own opens context serial seqid known stands mine =
     standing opens context serial seqid known stands
-    ∙ ap (λ b. if b then by_seqid (state_of context.run serial seqid) known else Refused status.BadStateId) (own_test context known mine)
+    ∙ ap (λ b. if b then by_seqid (open_stateid context.run serial seqid) known else Refused status.BadStateId) (own_test context known mine)
 
 -- The verdicts
 
@@ -101,7 +101,7 @@ not_own_test a b (inr second) = rw second (and_false a)
 pub not_own : NotOwnIsBad
 not_own opens context serial known stands other seqid =
     standing opens context serial seqid known stands
-    ∙ ap (λ b. if b then by_seqid (state_of context.run serial seqid) known else Refused status.BadStateId)
+    ∙ ap (λ b. if b then by_seqid (open_stateid context.run serial seqid) known else Refused status.BadStateId)
     (not_own_test (known.client == context.client) (known.number == current_number context) (tests other))
   where
     tests : (known.client ≢ context.client) ⊎ (known.number ≢ current_number context)
@@ -117,9 +117,9 @@ other_run opens context run serial seqid given small apart =
     = (bytes_eq-Decides (to_be_bytes w32 run) (to_be_bytes w32 context.run)).0 same in
     apart (sym (from_be_bytes-to_be_bytes_4 run given.counted) ∙ (ap (from_be_bytes w32) bytes ∙ from_be_bytes-to_be_bytes_4 context.run small))) in
     let none : open_named opens context.run (other_of run serial) ≡ None = rw foreign refl in
-    is_meant opens context run serial seqid given ∙ ap (by_open context (state_of run serial seqid)) none
+    is_meant opens context run serial seqid given ∙ ap (by_open context (open_stateid run serial seqid)) none
 
 pub ended : EndedIsBad
 ended opens context serial seqid given none =
     is_meant opens context context.run serial seqid given
-    ∙ ap (by_open context (state_of context.run serial seqid)) (named opens context.run serial given ∙ none)
+    ∙ ap (by_open context (open_stateid context.run serial seqid)) (named opens context.run serial given ∙ none)

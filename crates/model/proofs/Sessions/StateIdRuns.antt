@@ -15,13 +15,13 @@ use Rattle.model.specs.Sessions.Opens.{Opens, Open}
 use Rattle.model.specs.Operations.Operation.{Argument, OpenArguments, SequenceArguments, StateId, operation_of}
 use Rattle.model.specs.Wire.Record.{framed}
 use Rattle.model.specs.Wire.Rpc.{Success, reply_text}
-use Rattle.model.specs.Server.Runs.{Serving, History, IsRun, mounted, Event, Arrives, Turns, HangsUp, Connects, Takes, effect_of, executed_of, executed_by, executed, Begins, Goes_on, Fails_at, Stays_down, history_after}
+use Rattle.model.specs.Server.Runs.{Serving, RunHistory, IsRun, mounted, Event, Arrives, Turns, HangsUp, Connects, Takes, effect_of, executed_of, executed_by, executed, Begins, Goes_on, Fails_at, Stays_down, history_after}
 use Rattle.model.specs.Sessions.Session as sessions
 use Rattle.model.specs.Sessions.Session.{Session, Table, is_session}
-use Rattle.model.specs.Sessions.StateIds.{by_seqid, Names, found, upgraded, next_seqid, opened, without_clients, state_of}
+use Rattle.model.specs.Sessions.StateIds.{by_seqid, Names, found, upgraded, next_seqid, opened, without_clients, open_stateid}
 use Rattle.model.specs.Sessions.StateIds as stateids
-use Rattle.model.specs.Sessions.StateIdLaws.{IsOwn, IsGiven, Stands as StandsIn, is_open}
-use Rattle.model.specs.Sessions.StateIdRuns.{WasAnswered, IsOpenOf, access_by, accesses_in, joined_by, Stands, HasEnded, Verdicts, EveryStateIdGoesOn, JoinsAreCounted, EveryOtherRunRefuses}
+use Rattle.model.specs.Sessions.StateIdLaws.{IsOwn, IsGiven, OpenStands as StandsIn, is_open}
+use Rattle.model.specs.Sessions.StateIdRuns.{WasAnswered, IsOpenOf, access_by, accesses_in, joined_by, OpenStandsIn, HasEnded, Verdicts, EveryStateIdGoesOn, JoinsAreCounted, EveryOtherRunRefuses}
 use Rattle.model.specs.Operations.Step.{State, does}
 use Rattle.model.specs.Trees.Tree.{Tree}
 use Rattle.model.specs.Server.World.{ServerLimits, InProgress, Connection, Quiet, Busy, Replied, World, HasRun, Gives, Replays, Entry, executed_entry, exchanged, created_by, tabled, started_in, begun, reclaimed, stepped, state_of as state_in, run as runs_operation, Turned, with_connection, with_result, result_of, behind, ends, goes_on, is_last, one, mounted_world, arrives, takes, connects, hangs_up, can_connect, connection_changed, arrives_at, without_reply, is_busy, without_connection, closes, is_to_hold}
@@ -289,7 +289,7 @@ module _ (run : ℕ) (small_run : run < 2 ^ 32) where
       nothing : (request : InProgress) → None ≡ Some (Busy request) → ⊥
       nothing request same = cc
 
-  run_numbered : (begin : Serving) → Numbered run begin.world → (serving : Serving) (history : History) → IsRun begin serving history → Numbered run serving.world
+  run_numbered : (begin : Serving) → Numbered run begin.world → (serving : Serving) (history : RunHistory) → IsRun begin serving history → Numbered run serving.world
   run_numbered begin first serving history Begins = first
   run_numbered begin first serving history (Goes_on {old = old} {new = new} {history = earlier} event is_run happens) =
       subst (Numbered run) (sym happens.world) (event_goes old.world event (run_numbered begin first old earlier is_run)).0
@@ -316,7 +316,7 @@ module _ (run : ℕ) (small_run : run < 2 ^ 32) where
   event_gone world event numbered serial gone =
       gone_by world (executed_of world event) (effect_of world event).opens serial (event_goes world event numbered).1 gone
 
-  run_gone : (begin : Serving) → Numbered run begin.world → (serial : ℕ) → IsGone serial begin.world → (serving : Serving) (history : History)
+  run_gone : (begin : Serving) → Numbered run begin.world → (serial : ℕ) → IsGone serial begin.world → (serving : Serving) (history : RunHistory)
       → IsRun begin serving history → IsGone serial serving.world
   run_gone begin first serial gone serving history Begins = gone
   run_gone begin first serial gone serving history (Goes_on {old = old} {new = new} {history = earlier} event is_run happens) =
@@ -368,7 +368,7 @@ module _ (run : ℕ) (small_run : run < 2 ^ 32) where
       ]
 
   run_still : (begin : Serving) → Numbered run begin.world → (serial : ℕ) (known : Open) → at serial begin.world.opens.known ≡ Some known
-      → (serving : Serving) (history : History) → IsRun begin serving history → serving.is_down ≡ false
+      → (serving : Serving) (history : RunHistory) → IsRun begin serving history → serving.is_down ≡ false
       → (serial ≤ serving.world.opens.given) × IsStill serial known history.done serving.world.opens
   run_still begin first serial known there serving history Begins up = (first.counted.given serial known there, inl there)
   run_still begin first serial known there serving history (Goes_on {old = old} {new = new} {history = earlier} event is_run happens) up =
@@ -428,23 +428,23 @@ joins_counted (access ∷ accesses) known =
 
 module _ (run : ℕ) (asked : Open) (state : StateId) (serial : ℕ) (known : Open) (is : IsOpenOf run asked state serial known) (later : Serving) (used : State)
     (same : used.opens ≡ later.world.opens) (of_run : used.context.run ≡ run) (accesses : List ℕ)
-    (now : Stands later serial (joined_by accesses known) ⊎ HasEnded later serial) where
+    (now : OpenStandsIn later serial (joined_by accesses known) ⊎ HasEnded later serial) where
   abbrev last : Open
   last = joined_by accesses known
 
-  state_here : found used.opens used.context state ≡ found used.opens used.context (state_of used.context.run serial known.seqid)
-  state_here = ap (found used.opens used.context) (is.is ∙ ap (λ (r : ℕ). state_of r serial known.seqid) (sym of_run))
+  state_here : found used.opens used.context state ≡ found used.opens used.context (open_stateid used.context.run serial known.seqid)
+  state_here = ap (found used.opens used.context) (is.is ∙ ap (λ (r : ℕ). open_stateid r serial known.seqid) (sym of_run))
 
   given_here : IsGiven used.context.run serial
   given_here = subst (λ (r : ℕ). IsGiven r serial) (sym of_run) is.given
 
-  stands_here : (of : Open) → Stands later serial of → StandsIn used.opens used.context serial of
+  stands_here : (of : Open) → OpenStandsIn later serial of → StandsIn used.opens used.context serial of
   stands_here of there = record { given = given_here; there = ap (λ (o : Opens). at serial o.known) same ∙ there }
 
-  is_newest : IsOwn used.context known → accesses ≡ [] → Stands later serial known → found used.opens used.context state ≡ Names serial known
+  is_newest : IsOwn used.context known → accesses ≡ [] → OpenStandsIn later serial known → found used.opens used.context state ≡ Names serial known
   is_newest own none there = state_here ∙ newest used.opens used.context serial known (stands_here known there) own
 
-  is_old : IsOwn used.context known → 0 < length accesses → known.seqid + length accesses < 2 ^ 32 → Stands later serial last
+  is_old : IsOwn used.context known → 0 < length accesses → known.seqid + length accesses < 2 ^ 32 → OpenStandsIn later serial last
       → found used.opens used.context state ≡ stateids.Refused status.OldStateId
   is_old own some room there =
       let joins = joins_counted accesses known in
@@ -453,9 +453,9 @@ module _ (run : ℕ) (asked : Open) (state : StateId) (serial : ℕ) (known : Op
       ∙ lower used.opens used.context serial last (stands_here last there)
       (record { client = joins.client ∙ own.client; file = joins.number ∙ own.file }) known.seqid is.counted (omega (arith, seqid, some))
 
-  by_its_seqid : IsOwn used.context known → Stands later serial last → found used.opens used.context state ≡ by_seqid state last
+  by_its_seqid : IsOwn used.context known → OpenStandsIn later serial last → found used.opens used.context state ≡ by_seqid state last
   by_its_seqid mine there =
-      let here : state ≡ state_of used.context.run serial known.seqid = is.is ∙ ap (λ (r : ℕ). state_of r serial known.seqid) (sym of_run) in
+      let here : state ≡ open_stateid used.context.run serial known.seqid = is.is ∙ ap (λ (r : ℕ). open_stateid r serial known.seqid) (sym of_run) in
       let joins = joins_counted accesses known in
       state_here
       ∙ (own used.opens used.context serial known.seqid last (stands_here last there)
@@ -489,8 +489,8 @@ every_state_id_goes_on run entry arguments answer new later since small was is_r
     let later_numbered = run_numbered run small new numbered later since is_run in
     let still = run_still run small new numbered opened.serial opened.known opened.there later since is_run up in
     let other : answer.state.other ≡ other_of run opened.serial = ap (λ (s : StateId). s.other) opened.is.is in
-    let now : Stands later opened.serial (joined_by (accesses_in answer.state.other since.done) opened.known) ⊎ HasEnded later opened.serial
-    = subst (λ (o : List ℕ). Stands later opened.serial (joined_by (accesses_in o since.done) opened.known) ⊎ HasEnded later opened.serial)
+    let now : OpenStandsIn later opened.serial (joined_by (accesses_in answer.state.other since.done) opened.known) ⊎ HasEnded later opened.serial
+    = subst (λ (o : List ℕ). OpenStandsIn later opened.serial (joined_by (accesses_in o since.done) opened.known) ⊎ HasEnded later opened.serial)
     (sym other) still.1 in
     record {
       serial = opened.serial;

@@ -17,15 +17,15 @@ pub record Context : Type 0 where
   pub saved : Option Place
 
 -- the number of a place, 0 where there is none: no node has that
-abbrev pub number_at : Option Place → ℕ
-number_at None = 0
-number_at (Some place) = place.number
+abbrev pub place_number : Option Place → ℕ
+place_number None = 0
+place_number (Some place) = place.number
 
 abbrev pub has_current : Context → Bool
 has_current context = is_some context.current
 
 abbrev pub current_number : Context → ℕ
-current_number context = number_at context.current
+current_number context = place_number context.current
 
 -- the context with this node as the current one: that clears the current stateid
 abbrev pub at_node : Context → ℕ → Context
@@ -48,7 +48,7 @@ abbrev pub has_saved : Context → Bool
 has_saved context = is_some context.saved
 
 abbrev pub saved_number : Context → ℕ
-saved_number context = number_at context.saved
+saved_number context = place_number context.saved
 
 -- whether RENAME gives a name to itself: that is no change, and asks for no rights
 abbrev pub is_same_name : Context → RenameArguments → Bool

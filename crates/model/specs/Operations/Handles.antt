@@ -7,15 +7,15 @@ use Rattle.model.specs.Operations.Context.{has_saved, saving, restored}
 use Rattle.model.specs.Operations.Definition.{Definition, only, on_current, needs_nothing}
 use Rattle.model.specs.Operations.State.{current, answered, moved_to}
 use Rattle.model.specs.Trees.Keyed.{is_key}
-use Rattle.model.specs.Trees.Stamp.{filehandle_of, is_filehandle, number_of}
+use Rattle.model.specs.Trees.Stamp.{filehandle_of, is_filehandle, handle_number}
 use Rattle.model.specs.Trees.Tree.{root}
 
 -- PUTFH (section 18.19)
 abbrev pub PUTFH : (handle : List ℕ) → Definition
 PUTFH handle = record (only needs_nothing (λ limits state now.
-    answered (moved_to state (number_of handle)) Answer.PutFh)) {
+    answered (moved_to state (handle_number handle)) Answer.PutFh)) {
       early = λ limits state. (not (is_filehandle handle), status.BadHandle)
-          ∷ (not (is_key (number_of handle) state.tree), status.Stale) ∷ [];
+          ∷ (not (is_key (handle_number handle) state.tree), status.Stale) ∷ [];
     }
 
 -- PUTROOTFH (section 18.21)

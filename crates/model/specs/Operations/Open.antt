@@ -21,7 +21,7 @@ use Rattle.model.specs.Sessions.Opens.{Open, Opens}
 use Rattle.model.specs.Operations.Operation.{Attributes, ChangeInfo, OpenArguments, OpenType, NoCreate, Unchecked, Guarded, ByName, ByHandle, OtherClaim, Opening, Opens as Opening_of, Exclusive, StateId, CloseArguments}
 use Rattle.model.specs.Operations.Refusal.{Refusals}
 use Rattle.model.specs.Operations.State.{State, Stepped, current, stamp_of, current_refusals, named_refusals, is_name_there, answered, changed, change_to}
-use Rattle.model.specs.Sessions.StateIds.{read_access, write_access, Found, Anonymous, Refused, Names, found, close_refusals, new_open, opened, Opened, is_table_full, without_open, state_of, closed_state}
+use Rattle.model.specs.Sessions.StateIds.{read_access, write_access, Found, Anonymous, Refused, Names, found, close_refusals, new_open, opened, Opened, is_table_full, without_open, open_stateid, closed_state}
 use Rattle.model.specs.Trees.Tree.{Tree, Node, File, is_directory_at}
 
 -- What an opening asks
@@ -229,7 +229,7 @@ set_at_open state (Opening_of how (ByName name)) =
 set_at_open state (Opening_of how ByHandle) = []
 
 abbrev pub opened_state : State → Opened → StateId
-opened_state state now = state_of state.context.run now.serial now.state.seqid
+opened_state state now = open_stateid state.context.run now.serial now.state.seqid
 
 -- the file is the current filehandle, with what was answered as its stateid
 abbrev pub at_opened : Context → (number : ℕ) → StateId → Context

@@ -4,7 +4,7 @@
 use Rattle.std.specs.Prelude.{ℕ, ◌≡◌, Some, slice_get, IsTrue}
 use Rattle.model.specs.Sessions.Seats.{Seats}
 use Rattle.model.specs.Operations.Step.{permitted}
-use Rattle.model.specs.Server.Runs.{Event, Serving, History, IsRun, mounted, executed, done_with, is_done}
+use Rattle.model.specs.Server.Runs.{Event, Serving, RunHistory, IsRun, mounted, executed, done_with, is_done}
 use Rattle.model.specs.Trees.Tree.{Tree}
 use Rattle.model.specs.Server.World.{ServerLimits, Entry}
 
@@ -16,7 +16,8 @@ IsPermittedAnswer entry =
 -- the operation that is under way included
 abbrev pub EveryAnswerIsPermitted : Type 0
 EveryAnswerIsPermitted =
-    (limits : ServerLimits) (run : ℕ) (start : Tree) (seats : Seats) (serving : Serving) (history : History)
+    (limits : ServerLimits) (run : ℕ) (start : Tree) (seats : Seats) (serving : Serving)
+    (history : RunHistory)
     → IsRun (mounted limits run start seats) serving history → (event : Event) → (i : ℕ) (entry : Entry)
     → slice_get (done_with history (executed serving event)) i ≡ Some entry
     → IsPermittedAnswer entry

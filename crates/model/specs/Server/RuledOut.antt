@@ -12,7 +12,7 @@ use Rattle.model.specs.Sessions.Session.{Table, Session, Kept, Runs, Replays, be
 use Rattle.model.specs.Trees.Tree.{Tree}
 use Rattle.model.specs.declared.status.Status.{Status}
 use Rattle.model.specs.Server.World.{World, ServerLimits, Entry, InProgress, in_progress, Connection, Waiting, Busy, Replied, Next, Refuses, Reads, next_operation, state_of, outcome_text, status_of, Turned, one, ends, reply_with, hangs_up, hung_up, is_busy}
-use Rattle.model.specs.Server.Runs.{Event, Turns, HangsUp, effect_of, before, IsDurable, is_durable, is_done, History, Serving, mounted, executed, MayLeave, Happens, IsRun, IsGoodPrefix, done_with, tree_after}
+use Rattle.model.specs.Server.Runs.{Event, Turns, HangsUp, effect_of, before, IsDurable, is_durable, is_done, RunHistory, Serving, mounted, executed, MayLeave, Happens, IsRun, IsGoodPrefix, done_with, tree_after}
 
 -- One that keeps a later change and skips an unstable write before it: the tree left is the one
 -- after both.
@@ -32,7 +32,8 @@ NoEarlyReply =
 -- handed out as the i-th operation is in each tree that may be left at any later moment.
 abbrev pub NoTakingBack : Type 0
 NoTakingBack =
-    (limits : ServerLimits) (run : ℕ) (start : Tree) (seats : Seats) (serving : Serving) (history : History) (i : ℕ)
+    (limits : ServerLimits) (run : ℕ) (start : Tree) (seats : Seats) (serving : Serving)
+    (history : RunHistory) (i : ℕ)
     (change : Entry)
     → IsRun (mounted limits run start seats) serving history → IsAmong history.handed_out i
     → slice_get history.done i ≡ Some change → IsDurable change

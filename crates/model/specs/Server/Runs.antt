@@ -85,12 +85,12 @@ kept_in slot Free = None
 kept_in slot Running = None
 kept_in slot (Kept reply) = Some (held_reply reply slot)
 
-abbrev pub kept_of : ℕ → Option Session → Option HeldReply
-kept_of place None = None
-kept_of place (Some session) = kept_in (slot_at session place) (slot_at session place).state
+abbrev pub held_of_session : ℕ → Option Session → Option HeldReply
+held_of_session place None = None
+held_of_session place (Some session) = kept_in (slot_at session place) (slot_at session place).state
 
 abbrev pub kept_at : List ℕ → ℕ → Table → Option HeldReply
-kept_at id place table = kept_of place (find (is_session id) table.sessions)
+kept_at id place table = held_of_session place (find (is_session id) table.sessions)
 
 -- a turn stores the reply that its slot keeps from then on, where the session has a seat then
 abbrev pub stored_as : List ℕ → ℕ → Option HeldReply → Option Stored
@@ -127,7 +127,7 @@ freed_of world event = freed_between world.table.seats (effect_of world event).t
 -- `done` are the executed operations of the run. A reply names those whose results it holds:
 -- `named` by connection, also of a request that has begun, `kept` by session and slot; `handed_out`
 -- are those of all replies that were taken.
-pub record History : Type 0 where
+pub record RunHistory : Type 0 where
   pub done : List Entry
   pub named : ℕ → List ℕ
   pub kept : List ℕ → ℕ → List ℕ
@@ -138,7 +138,7 @@ pub record History : Type 0 where
   pub torn : Option Stored
   pub freed : List (List ℕ)
 
-abbrev pub no_history : History
+abbrev pub no_history : RunHistory
 no_history = record {
   done = [];
   named = λ connection. [];
@@ -161,22 +161,22 @@ keeping kept (Some slot) names session place =
     if is_slot slot session place then names else kept session place
 
 -- the number that an operation gets which is executed now
-abbrev pub numbers_of : History → Option Entry → List ℕ
+abbrev pub numbers_of : RunHistory → Option Entry → List ℕ
 numbers_of history None = []
 numbers_of history (Some entry) = length history.done ∷ []
 
 -- of a request that has begun, what it has named so far
-abbrev pub named_so_far : History → World → (connection : ℕ) → List ℕ
+abbrev pub named_so_far : RunHistory → World → (connection : ℕ) → List ℕ
 named_so_far history world connection =
     if is_busy (at connection world.connections) then history.named connection else []
 
 -- a reply that is sent again names what it named at first
-abbrev pub names_by : History → World → (connection : ℕ) → Turned → Option (List ℕ × ℕ) → List ℕ
+abbrev pub names_by : RunHistory → World → (connection : ℕ) → Turned → Option (List ℕ × ℕ) → List ℕ
 names_by history world connection turned (Some slot) = history.kept slot.0 slot.1
 names_by history world connection turned None =
     named_so_far history world connection ++ numbers_of history turned.executed
 
-abbrev pub names_after : History → World → (connection : ℕ) → Turned → List ℕ
+abbrev pub names_after : RunHistory → World → (connection : ℕ) → Turned → List ℕ
 names_after history world connection turned =
     names_by history world connection turned turned.replays
 
@@ -186,7 +186,7 @@ naming_by Idle named connection names = named
 naming_by Ran named connection names = naming named connection names
 naming_by Answered named connection names = naming named connection names
 
-abbrev pub turned_by : History → World → (connection : ℕ) → Turned → History
+abbrev pub turned_by : RunHistory → World → (connection : ℕ) → Turned → RunHistory
 turned_by history world connection turned = record {
   done = history.done ++ option_to_list turned.executed;
   named =
@@ -198,12 +198,12 @@ turned_by history world connection turned = record {
   freed = history.freed ++ freed_between world.table.seats turned.world.table.seats;
 }
 
-abbrev pub taken_by : History → (connection : ℕ) → Option (List ℕ) → History
+abbrev pub taken_by : RunHistory → (connection : ℕ) → Option (List ℕ) → RunHistory
 taken_by history connection None = history
 taken_by history connection (Some reply) =
     record history { handed_out = history.handed_out ++ history.named connection }
 
-abbrev pub history_after : History → World → Event → History
+abbrev pub history_after : RunHistory → World → Event → RunHistory
 history_after history world (Arrives connection piece) = history
 history_after history world (Turns connection now) =
     turned_by history world connection (one world connection now)
@@ -213,7 +213,7 @@ history_after history world (Takes connection) =
     taken_by history connection (reply_at world connection)
 
 -- the operations that were executed, with one more that is under way
-abbrev pub done_with : History → Option Entry → List Entry
+abbrev pub done_with : RunHistory → Option Entry → List Entry
 done_with history executed = history.done ++ option_to_list executed
 
 -- The machine
@@ -256,8 +256,8 @@ abbrev pub IsSeatedAfter : World → Event → (is_down : Bool) → Seats → Ty
 IsSeatedAfter world event true seats = ⊥
 IsSeatedAfter world event false seats = seats ≡ (effect_of world event).table.seats
 
-abbrev pub MayHold : Serving → Event → Seats → Type 0
-MayHold serving event seats =
+abbrev pub MayHoldSeats : Serving → Event → Seats → Type 0
+MayHoldSeats serving event seats =
     IsAmong serving.held seats ⊎ IsSeatedAfter serving.world event serving.is_down seats
 
 -- an event happens; then, of a durable operation only the tree after it may be left, and the seats
@@ -273,12 +273,12 @@ pub record Happens (old : Serving) (event : Event) (new : Serving) : Type 0 wher
 
 -- the device fails in it: the server is down from now on, and no reply tells of the operation under
 -- way
-pub record Fails (old : Serving) (event : Event) (new : Serving) : Type 0 where
+pub record DeviceFails (old : Serving) (event : Event) (new : Serving) : Type 0 where
   pub up : old.is_down ≡ false
   pub world : new.world ≡ old.world
   pub down : new.is_down ≡ true
   pub no_others : (tree : Tree) → IsAmong new.recent tree → MayLeave old event tree
-  pub seats : (seats : Seats) → IsAmong new.held seats → MayHold old event seats
+  pub seats : (seats : Seats) → IsAmong new.held seats → MayHoldSeats old event seats
 
 -- a server that is down gives the replies that it has, and does nothing else
 pub record StaysDown (old : Serving) (connection : ℕ) (new : Serving) : Type 0 where
@@ -290,22 +290,22 @@ pub record StaysDown (old : Serving) (connection : ℕ) (new : Serving) : Type 0
 
 -- of an operation under way at a failure it isn't known whether it was done: it is the last of
 -- `done`, and no reply names it
-abbrev pub history_failing : History → World → Event → History
+abbrev pub history_failing : RunHistory → World → Event → RunHistory
 history_failing history world event = record history {
   done = done_with history (executed_of world event);
   torn = stored_of world event;
   freed = history.freed ++ freed_of world event;
 }
 
-pub data IsRun (start : Serving) : Serving → History → Type 0 where
+pub data IsRun (start : Serving) : Serving → RunHistory → Type 0 where
   Begins : IsRun start start no_history
-  Goes_on : {old new : Serving} {history : History} (event : Event) → IsRun start old history
+  Goes_on : {old new : Serving} {history : RunHistory} (event : Event) → IsRun start old history
       → Happens old event new
       → IsRun start new (history_after history old.world event)
-  Fails_at : {old new : Serving} {history : History} (event : Event) → IsRun start old history
-      → Fails old event new
+  Fails_at : {old new : Serving} {history : RunHistory} (event : Event) → IsRun start old history
+      → DeviceFails old event new
       → IsRun start new (history_failing history old.world event)
-  Stays_down : {old new : Serving} {history : History} (connection : ℕ) → IsRun start old history
+  Stays_down : {old new : Serving} {history : RunHistory} (connection : ℕ) → IsRun start old history
       → StaysDown old connection new
       → IsRun start new (history_after history old.world (Takes connection))
 
@@ -321,8 +321,8 @@ IsChain start [] = Unit {0}
 IsChain start (entry ∷ done) = (before entry ≡ start) × IsChain entry.after done
 
 -- each operation whose result was handed out and has to last is among the first k
-abbrev pub IsGood : List Entry → List ℕ → ℕ → Type 0
-IsGood done handed_out k =
+abbrev pub HasAllDurable : List Entry → List ℕ → ℕ → Type 0
+HasAllDurable done handed_out k =
     (i : ℕ) (entry : Entry) → IsAmong handed_out i → slice_get done i ≡ Some entry → IsDurable entry
     → i < k
 
@@ -338,7 +338,7 @@ pub record IsGoodPrefix (start : Tree) (done : List Entry) (handed_out : List �
   pub k : ℕ
   pub within : k ≤ length done
   pub holds : tree ≡ tree_after start (take k done)
-  pub good : IsGood done handed_out k
+  pub good : HasAllDurable done handed_out k
   pub permitted : ArePermitted done k
   pub chain : IsChain start done
 
@@ -346,7 +346,7 @@ pub record IsGoodPrefix (start : Tree) (done : List Entry) (handed_out : List �
 -- may leave is the tree of a good prefix of the operations that were executed.
 abbrev pub EveryRun : Type 0
 EveryRun = (limits : ServerLimits) (run : ℕ) (start : Tree) (seats : Seats) (serving : Serving)
-    (history : History)
+    (history : RunHistory)
     → IsRun (mounted limits run start seats) serving history → (event : Event) (tree : Tree)
     → MayLeave serving event tree
     → IsGoodPrefix start (done_with history (executed serving event)) history.handed_out tree
@@ -369,6 +369,6 @@ pub record AreStamped (run : ℕ) (done : List Entry) : Type 0 where
 abbrev pub EveryStamp : Type 0
 EveryStamp =
     (limits : ServerLimits) (run : ℕ) (start : Tree) (seats : Seats) (serving : Serving)
-    (history : History)
+    (history : RunHistory)
     → IsRun (mounted limits run start seats) serving history → (event : Event)
     → AreStamped run (done_with history (executed serving event))

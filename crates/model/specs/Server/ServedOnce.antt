@@ -7,7 +7,7 @@ use Rattle.model.specs.Operations.Operation.{Argument, SequenceArguments}
 use Rattle.model.specs.Sessions.SessionRuns.{CountsFrom, OthersBetween}
 use Rattle.model.specs.Trees.Tree.{Tree}
 use Rattle.model.specs.Server.World.{ServerLimits, Entry}
-use Rattle.model.specs.Server.Runs.{History, Serving, mounted, IsRun}
+use Rattle.model.specs.Server.Runs.{RunHistory, Serving, mounted, IsRun}
 
 abbrev pub number_begun : List ℕ → ℕ → SequenceArguments → Option ℕ
 number_begun id slot arguments =
@@ -30,7 +30,8 @@ numbers_in id slot (entry ∷ done) =
 -- 2^32 - 1 others.
 abbrev pub EveryServedSlot : Type 0
 EveryServedSlot =
-    (limits : ServerLimits) (run : ℕ) (start : Tree) (seats : Seats) (serving : Serving) (history : History)
+    (limits : ServerLimits) (run : ℕ) (start : Tree) (seats : Seats) (serving : Serving)
+    (history : RunHistory)
     → IsRun (mounted limits run start seats) serving history → (id : List ℕ) (slot : ℕ)
     → CountsFrom 0 (numbers_in id slot history.done)
     × OthersBetween (numbers_in id slot history.done)

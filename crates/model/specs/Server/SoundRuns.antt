@@ -8,7 +8,7 @@ use Rattle.model.specs.Trees.Stamp.{next_stamp}
 use Rattle.model.specs.Trees.Tree.{Tree}
 use Rattle.model.specs.Trees.WellFormed.{IsWellFormed, IsBefore}
 use Rattle.model.specs.Server.World.{ServerLimits}
-use Rattle.model.specs.Server.Runs.{Event, Serving, History, IsRun, MayLeave, mounted}
+use Rattle.model.specs.Server.Runs.{Event, Serving, RunHistory, IsRun, MayLeave, mounted}
 
 -- a run may begin with a tree that is well formed and has no stamp of that run
 pub record IsStart (limits : Limits) (run : ℕ) (tree : Tree) : Type 0 where
@@ -21,7 +21,7 @@ pub record EveryTreeIsSound (limits : ServerLimits) : Type 0 where
   pub first : (run : ℕ) → 0 < run → 1 ≤ limits.volume.nodes
       → limits.volume.aces_set + 5 ≤ limits.volume.aces
       → IsStart limits.volume run fresh_tree
-  pub later : (run : ℕ) (start : Tree) (seats : Seats) (serving : Serving) (history : History)
+  pub later : (run : ℕ) (start : Tree) (seats : Seats) (serving : Serving) (history : RunHistory)
       → limits.volume.aces_set + 5 ≤ limits.volume.aces → IsStart limits.volume run start
       → IsRun (mounted limits run start seats) serving history → (event : Event) (tree : Tree)
       → MayLeave serving event tree

@@ -2,7 +2,7 @@
 -- whether a crash takes it away or not (RFC 8881, section 5.8.1.4).
 use Rattle.std.specs.Prelude.{ℕ, ◌≡◌, ◌≢◌, ◌≤◌, ◌+◌, List, Some, slice_get}
 use Rattle.model.specs.Trees.Changes.{IsStamped}
-use Rattle.model.specs.Server.Runs.{Event, Serving, History, IsRun, mounted, executed, done_with, before, stamp_in}
+use Rattle.model.specs.Server.Runs.{Event, Serving, RunHistory, IsRun, mounted, executed, done_with, before, stamp_in}
 use Rattle.model.specs.Server.SoundRuns.{IsStart}
 use Rattle.model.specs.Sessions.Seats.{Seats}
 use Rattle.model.specs.Trees.Tree.{Tree}
@@ -22,6 +22,7 @@ AreGiven run done = (i : ℕ) (entry : Entry) → slice_get done i ≡ Some entr
 abbrev pub EveryStampIsGiven : Type 0
 EveryStampIsGiven =
     (limits : ServerLimits) (run : ℕ) (start : Tree) (seats : Seats) (serving : Serving)
-    (history : History) → limits.volume.aces_set + 5 ≤ limits.volume.aces → IsStart limits.volume run start
+    (history : RunHistory) → limits.volume.aces_set + 5 ≤ limits.volume.aces
+    → IsStart limits.volume run start
     → IsRun (mounted limits run start seats) serving history → (event : Event)
     → AreGiven run (done_with history (executed serving event))

@@ -4,7 +4,7 @@ use Rattle.std.specs.List.{list_all, list_any}
 use Rattle.model.specs.Sessions.Seats.{Seats}
 use Rattle.model.specs.Trees.Keyed.{at}
 use Rattle.model.specs.Sessions.Opens.{Open}
-use Rattle.model.specs.Server.Runs.{Serving, History, IsRun, mounted}
+use Rattle.model.specs.Server.Runs.{Serving, RunHistory, IsRun, mounted}
 use Rattle.model.specs.Sessions.Session.{Client, Session, Table, is_client, is_session}
 use Rattle.model.specs.Trees.Tree.{Tree}
 use Rattle.model.specs.Server.World.{ServerLimits, World, InProgress, Busy}
@@ -38,5 +38,5 @@ pub record HaveClients (world : World) : Type 0 where
 -- at each moment of every run of the server
 abbrev pub EveryOpenHasClient : Type 0
 EveryOpenHasClient = (limits : ServerLimits) (run : ℕ) (start : Tree) (seats : Seats)
-    (serving : Serving) (history : History)
+    (serving : Serving) (history : RunHistory)
     → IsRun (mounted limits run start seats) serving history → HaveClients serving.world

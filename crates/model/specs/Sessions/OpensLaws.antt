@@ -7,7 +7,7 @@ use Rattle.model.specs.Trees.Limits.{Limits}
 use Rattle.model.specs.Sessions.Opens.{Opens, Open}
 use Rattle.model.specs.Operations.Operation.{Argument}
 use Rattle.model.specs.Operations.Step.{State, does}
-use Rattle.model.specs.Server.Runs.{Serving, History, IsRun, mounted}
+use Rattle.model.specs.Server.Runs.{Serving, RunHistory, IsRun, mounted}
 use Rattle.model.specs.Server.SoundRuns.{IsStart}
 use Rattle.model.specs.Operations.StepLaws.{IsSound}
 use Rattle.model.specs.Trees.Tree.{Tree, is_directory_at}
@@ -41,7 +41,8 @@ EveryStepKeepsOpens =
 -- and so they are at each moment of every run of the server
 abbrev pub EveryRunKeepsOpens : Type 0
 EveryRunKeepsOpens =
-    (limits : ServerLimits) (run : ℕ) (start : Tree) (seats : Seats) (serving : Serving) (history : History)
+    (limits : ServerLimits) (run : ℕ) (start : Tree) (seats : Seats) (serving : Serving)
+    (history : RunHistory)
     → limits.volume.aces_set + 5 ≤ limits.volume.aces → IsStart limits.volume run start
     → IsRun (mounted limits run start seats) serving history
     → AreOpens limits.volume serving.world.tree serving.world.opens

@@ -14,17 +14,17 @@ pub data SeatEdit : Type 0 where
   Takes : Seat → SeatEdit
   Holds : (slot : ℕ) → HeldReply → SeatEdit
 
-abbrev pub edited : SeatEdit → Option Seat → Option Seat
-edited Stays place = place
-edited Frees place = None
-edited (Takes seat) place = Some seat
-edited (Holds slot held) place = option_map (with_held slot held) place
+abbrev pub edited_seat : SeatEdit → Option Seat → Option Seat
+edited_seat Stays place = place
+edited_seat Frees place = None
+edited_seat (Takes seat) place = Some seat
+edited_seat (Holds slot held) place = option_map (with_held slot held) place
 
 -- of each place
 abbrev pub edited_all : List SeatEdit → Seats → Seats
 edited_all [] seats = seats
 edited_all (edit ∷ edits) [] = []
-edited_all (edit ∷ edits) (place ∷ seats) = edited edit place ∷ edited_all edits seats
+edited_all (edit ∷ edits) (place ∷ seats) = edited_seat edit place ∷ edited_all edits seats
 
 -- a reply is held of a slot that the seat has
 abbrev pub HasSlot : (slot : ℕ) → Option Seat → Type 0

@@ -9,8 +9,8 @@ use Rattle.model.specs.Trees.Keyed.{at}
 use Rattle.model.specs.Operations.Operation.{Argument, CreateSessionArguments, SequenceArguments}
 use Rattle.model.specs.Wire.Record.{framed}
 use Rattle.model.specs.Wire.Rpc.{Success, reply_text}
-use Rattle.model.specs.Server.Runs.{Event, effect_of, executed_of, is_done, Stored, History, Serving, mounted, executed, done_with, stored_by, stored_of, freed_of, MayHold, IsRun}
-use Rattle.model.specs.Sessions.Seats.{HeldReply, Seat, Seats, AreApart, run_of, seat_of, has_seat, held_at}
+use Rattle.model.specs.Server.Runs.{Event, effect_of, executed_of, is_done, Stored, RunHistory, Serving, mounted, executed, done_with, stored_by, stored_of, freed_of, MayHoldSeats, IsRun}
+use Rattle.model.specs.Sessions.Seats.{HeldReply, Seat, Seats, SeatsApart, run_of, seat_of, has_seat, held_at}
 use Rattle.model.specs.Server.ServedOnce.{numbers_in}
 use Rattle.model.specs.Sessions.Session.{Client, Table, is_client, gives_way, begin, Refuses, Replays, Runs}
 use Rattle.model.specs.Sessions.SessionRuns.{CountsFrom, OthersBetween}
@@ -19,7 +19,7 @@ use Rattle.model.specs.Server.World.{ServerLimits, InProgress, Entry, Connection
 
 -- seats that a run may begin with: of sessions of earlier runs
 pub record AreSeats (run : ℕ) (seats : Seats) : Type 0 where
-  pub apart : AreApart seats
+  pub apart : SeatsApart seats
   pub earlier : (id : List ℕ) → has_seat id seats ≡ true → run_of id < run
 
 -- A run that ended in a crash, and the seats that the crash left
@@ -29,16 +29,16 @@ pub record Stop (limits : ServerLimits) : Type 0 where
   pub start : Tree
   pub seats : Seats
   pub serving : Serving
-  pub history : History
+  pub history : RunHistory
   pub event : Event
   pub left : Seats
   pub counted : run < 2 ^ 32
   pub begins : AreSeats run seats
   pub is_run : IsRun (mounted limits run start seats) serving history
-  pub leaves : MayHold serving event left
+  pub leaves : MayHoldSeats serving event left
 
 -- what was under way, of a server that is up or that failed
-abbrev pub storing : Serving → History → Event → (is_down : Bool) → Option Stored
+abbrev pub storing : Serving → RunHistory → Event → (is_down : Bool) → Option Stored
 storing serving history event true = history.torn
 storing serving history event false = stored_of serving.world event
 
@@ -127,7 +127,7 @@ EveryDeadSession =
 -- A session has a seat exactly where its CREATE_SESSION was answered with flag 1. One that is
 -- answered again makes no session.
 
-pub record Makes (old new : Table) (executed : Option Entry) (answer : CreateSessionAnswer)
+pub record MakesSession (old new : Table) (executed : Option Entry) (answer : CreateSessionAnswer)
     : Type 0 where
   pub entry : Entry
   pub arguments : CreateSessionArguments
@@ -140,7 +140,7 @@ abbrev pub EverySessionSits : Type 0
 EverySessionSits =
     (limits : ServerLimits) (stop : Stop limits) → stop.serving.is_down ≡ false → (event : Event)
     → (answer : CreateSessionAnswer)
-    → Makes stop.serving.world.table (effect_of stop.serving.world event).table
+    → MakesSession stop.serving.world.table (effect_of stop.serving.world event).table
     (executed_of stop.serving.world event) answer
     → (answer.flags ≡ 1)
     ↔ (has_seat answer.session (effect_of stop.serving.world event).table.seats ≡ true)
@@ -182,8 +182,8 @@ pub record IsHeldReply (turned : Turned) (connection : ℕ) (id : List ℕ) (slo
   pub alone : turned.executed ≡ None
 
 -- a SEQUENCE that is done: from here on the request is its slot's
-abbrev pub Takes : Entry → SequenceArguments → Type 0
-Takes entry arguments =
+abbrev pub TakesItsSlot : Entry → SequenceArguments → Type 0
+TakesItsSlot entry arguments =
     (entry.operation ≡ Argument.Sequence arguments) × (is_done entry.outcome ≡ true)
 
 -- the slot keeps the reply, where there is one
@@ -199,7 +199,7 @@ pub record GivesHeld (turned : Turned) (connection : ℕ) (before : Option InPro
   pub kept : (request : InProgress) → before ≡ Some request → request.slot ≢ None
       → KeepsOrNone turned connection request.slot
   pub begun : (entry : Entry) (arguments : SequenceArguments) → turned.executed ≡ Some entry
-      → Takes entry arguments
+      → TakesItsSlot entry arguments
       → KeepsOrNone turned connection (Some (arguments.session, arguments.slot))
 
 abbrev pub request_in : Option Connection → Option InProgress

@@ -49,14 +49,14 @@ abbrev pub run_of : List ℕ → ℕ
 run_of id = from_be_bytes w64 (take 8 id) / 2 ^ 32
 
 -- no two seats are of one session
-abbrev pub AreApart : Seats → Type 0
-AreApart [] = Unit {0}
-AreApart (None ∷ seats) = AreApart seats
-AreApart (Some seat ∷ seats) = (has_seat seat.session seats ≡ false) × AreApart seats
+abbrev pub SeatsApart : Seats → Type 0
+SeatsApart [] = Unit {0}
+SeatsApart (None ∷ seats) = SeatsApart seats
+SeatsApart (Some seat ∷ seats) = (has_seat seat.session seats ≡ false) × SeatsApart seats
 
 -- and each is of a session that was made in one of so many runs
 pub record AreOfRuns (count : ℕ) (seats : Seats) : Type 0 where
-  pub apart : AreApart seats
+  pub apart : SeatsApart seats
   pub made : (id : List ℕ) → has_seat id seats ≡ true → (1 ≤ run_of id) × (run_of id ≤ count)
 
 -- What is held of a slot of it

@@ -3,7 +3,7 @@ use Rattle.std.specs.Prelude.{ℕ, ◌≡◌, Bool, true, false, ◌&&◌, List,
 use Rattle.std.specs.List.{list_any}
 use Rattle.model.specs.Sessions.Seats.{Seats}
 use Rattle.model.specs.Trees.Keyed.{at}
-use Rattle.model.specs.Server.Runs.{Serving, History, IsRun, mounted, is_slot}
+use Rattle.model.specs.Server.Runs.{Serving, RunHistory, IsRun, mounted, is_slot}
 use Rattle.model.specs.Sessions.Session.{Session, Table, is_session, is_running_state, slot_at}
 use Rattle.model.specs.Trees.Tree.{Tree}
 use Rattle.model.specs.Server.World.{ServerLimits, World, Connection, Busy}
@@ -38,5 +38,6 @@ pub record RunsWhereBusy (world : World) : Type 0 where
 -- at each moment of every run of the server
 abbrev pub EveryRunningSlot : Type 0
 EveryRunningSlot =
-    (limits : ServerLimits) (run : ℕ) (start : Tree) (seats : Seats) (serving : Serving) (history : History)
+    (limits : ServerLimits) (run : ℕ) (start : Tree) (seats : Seats) (serving : Serving)
+    (history : RunHistory)
     → IsRun (mounted limits run start seats) serving history → RunsWhereBusy serving.world

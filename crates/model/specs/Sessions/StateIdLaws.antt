@@ -9,7 +9,7 @@ use Rattle.model.specs.Trees.Limits.{Limits}
 use Rattle.model.specs.Sessions.Opens.{Opens, Open}
 use Rattle.model.specs.Sessions.OpensLaws.{AreOpens}
 use Rattle.model.specs.Operations.Operation.{Argument, OpenArguments}
-use Rattle.model.specs.Sessions.StateIds.{Refused, Names, found, upgraded, state_of}
+use Rattle.model.specs.Sessions.StateIds.{Refused, Names, found, upgraded, open_stateid}
 use Rattle.model.specs.Operations.Step.{State, does}
 
 -- Where it is used
@@ -26,7 +26,7 @@ pub record IsGiven (run serial : ℕ) : Type 0 where
   pub small : serial < 2 ^ 64
 
 -- the open of this serial stands
-pub record Stands (opens : Opens) (context : Context) (serial : ℕ) (known : Open) : Type 0 where
+pub record OpenStands (opens : Opens) (context : Context) (serial : ℕ) (known : Open) : Type 0 where
   pub given : IsGiven context.run serial
   pub there : at serial opens.known ≡ Some known
 
@@ -34,46 +34,46 @@ pub record Stands (opens : Opens) (context : Context) (serial : ℕ) (known : Op
 abbrev pub NewestIsFound : Type 0
 NewestIsFound =
     (opens : Opens) (context : Context) (serial : ℕ) (known : Open)
-    → Stands opens context serial known
-    → IsOwn context known → found opens context (state_of context.run serial known.seqid)
+    → OpenStands opens context serial known
+    → IsOwn context known → found opens context (open_stateid context.run serial known.seqid)
     ≡ Names serial known
 
 -- with a lower seqid it is old
 abbrev pub LowerIsOld : Type 0
 LowerIsOld =
     (opens : Opens) (context : Context) (serial : ℕ) (known : Open)
-    → Stands opens context serial known
+    → OpenStands opens context serial known
     → IsOwn context known → (seqid : ℕ) → 0 < seqid → seqid < known.seqid
-    → found opens context (state_of context.run serial seqid) ≡ Refused status.OldStateId
+    → found opens context (open_stateid context.run serial seqid) ≡ Refused status.OldStateId
 
 -- and so is what was the newest once the open is joined, unless seqids begin again at 1
 abbrev pub JoinedIsOld : Type 0
 JoinedIsOld = (opens : Opens) (context : Context) (serial access : ℕ) (known : Open)
-    → Stands opens context serial (upgraded access known) → IsOwn context known
+    → OpenStands opens context serial (upgraded access known) → IsOwn context known
     → 0 < known.seqid → known.seqid < 2 ^ 32 - 1
-    → found opens context (state_of context.run serial known.seqid) ≡ Refused status.OldStateId
+    → found opens context (open_stateid context.run serial known.seqid) ≡ Refused status.OldStateId
 
 -- for another client, or on another file, it is BAD_STATEID
 abbrev pub NotOwnIsBad : Type 0
 NotOwnIsBad =
     (opens : Opens) (context : Context) (serial : ℕ) (known : Open)
-    → Stands opens context serial known
+    → OpenStands opens context serial known
     → ((known.client ≢ context.client) ⊎ (known.number ≢ current_number context)) → (seqid : ℕ)
-    → found opens context (state_of context.run serial seqid) ≡ Refused status.BadStateId
+    → found opens context (open_stateid context.run serial seqid) ≡ Refused status.BadStateId
 
 -- in another run
 abbrev pub OtherRunIsBad : Type 0
 OtherRunIsBad =
     (opens : Opens) (context : Context) (run serial seqid : ℕ) → IsGiven run serial
     → context.run < 2 ^ 32
-    → run ≢ context.run → found opens context (state_of run serial seqid)
+    → run ≢ context.run → found opens context (open_stateid run serial seqid)
     ≡ Refused status.BadStateId
 
 -- and where no open of its serial stands
 abbrev pub EndedIsBad : Type 0
 EndedIsBad = (opens : Opens) (context : Context) (serial seqid : ℕ) → IsGiven context.run serial
     → at serial opens.known ≡ None
-    → found opens context (state_of context.run serial seqid) ≡ Refused status.BadStateId
+    → found opens context (open_stateid context.run serial seqid) ≡ Refused status.BadStateId
 
 -- What operations make of opens
 
@@ -82,7 +82,7 @@ EndedIsBad = (opens : Opens) (context : Context) (serial seqid : ℕ) → IsGive
 pub record IsAnswered (answer : OpenAnswer) (after : State) : Type 0 where
   pub serial : ℕ
   pub known : Open
-  pub state : answer.state ≡ state_of after.context.run serial known.seqid
+  pub state : answer.state ≡ open_stateid after.context.run serial known.seqid
   pub there : at serial after.opens.known ≡ Some known
   pub own : IsOwn after.context known
 
@@ -112,7 +112,7 @@ HasEnded operation left = (may_end_opens operation ≡ true) × (left ≡ None)
 
 -- an open stays as it is, or is joined by an OPEN, or is ended by a CLOSE, a REMOVE or a RENAME;
 -- one that ended stays so
-pub record GoesOn (operation : Argument) (old new : Opens) : Type 0 where
+pub record EachOpenGoesOn (operation : Argument) (old new : Opens) : Type 0 where
   pub each : (serial : ℕ) (known : Open) → at serial old.known ≡ Some known
       → (at serial new.known ≡ Some known)
       ⊎ (IsJoined operation known (at serial new.known) ⊎ HasEnded operation (at serial new.known))
@@ -123,4 +123,4 @@ abbrev pub EveryOpenGoesOn : Type 0
 EveryOpenGoesOn =
     (limits : Limits) (state : State) (now : ℕ) (operation : Argument)
     → AreOpens limits state.tree state.opens
-    → GoesOn operation state.opens (does limits state now operation).state.opens
+    → EachOpenGoesOn operation state.opens (does limits state now operation).state.opens

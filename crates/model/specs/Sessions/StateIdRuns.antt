@@ -9,9 +9,9 @@ use Rattle.model.specs.Trees.Keyed.{at}
 use Rattle.model.specs.Operations.Open.{asked_open}
 use Rattle.model.specs.Sessions.Opens.{Open}
 use Rattle.model.specs.Operations.Operation.{Argument, OpenArguments, StateId}
-use Rattle.model.specs.Server.Runs.{Event, Serving, History, IsRun, Happens, executed, mounted}
+use Rattle.model.specs.Server.Runs.{Event, Serving, RunHistory, IsRun, Happens, executed, mounted}
 use Rattle.model.specs.Sessions.StateIdLaws.{IsOwn, IsGiven}
-use Rattle.model.specs.Sessions.StateIds.{Refused, Names, by_seqid, found, is_like, upgraded, state_of}
+use Rattle.model.specs.Sessions.StateIds.{Refused, Names, by_seqid, found, is_like, upgraded, open_stateid}
 use Rattle.model.specs.Operations.Step.{State}
 use Rattle.model.specs.Trees.Tree.{Tree}
 use Rattle.model.specs.Server.World.{ServerLimits, Entry}
@@ -25,7 +25,7 @@ pub record WasAnswered (run : ℕ) (entry : Entry) (arguments : OpenArguments)
   pub start : Tree
   pub seats : Seats
   pub old : Serving
-  pub history : History
+  pub history : RunHistory
   pub event : Event
   pub begun : IsRun (mounted limits run start seats) old history
   pub happens : Happens old event new
@@ -38,7 +38,7 @@ pub record IsOpenOf (run : ℕ) (asked : Open) (state : StateId)
     (serial : ℕ) (known : Open) : Type 0 where
   pub given : IsGiven run serial
   pub counted : 0 < known.seqid
-  pub is : state ≡ state_of run serial known.seqid
+  pub is : state ≡ open_stateid run serial known.seqid
   pub like : is_like asked (serial, known) ≡ true
 
 -- What is executed from then on
@@ -59,8 +59,8 @@ abbrev pub joined_by : (accesses : List ℕ) → Open → Open
 joined_by [] known = known
 joined_by (access ∷ accesses) known = joined_by accesses (upgraded access known)
 
-abbrev pub Stands : Serving → (serial : ℕ) → Open → Type 0
-Stands serving serial known = at serial serving.world.opens.known ≡ Some known
+abbrev pub OpenStandsIn : Serving → (serial : ℕ) → Open → Type 0
+OpenStandsIn serving serial known = at serial serving.world.opens.known ≡ Some known
 
 abbrev pub HasEnded : Serving → (serial : ℕ) → Type 0
 HasEnded serving serial = at serial serving.world.opens.known ≡ None
@@ -69,14 +69,15 @@ HasEnded serving serial = at serial serving.world.opens.known ≡ None
 pub record Verdicts (later : Serving) (state : StateId) (serial : ℕ) (known : Open)
     (accesses : List ℕ) (used : State) : Type 0 where
   -- where none joined it, its open
-  pub newest : IsOwn used.context known → accesses ≡ [] → Stands later serial known
+  pub newest : IsOwn used.context known → accesses ≡ [] → OpenStandsIn later serial known
       → found used.opens used.context state ≡ Names serial known
   -- where some did, it is old, as long as seqids did not begin again at 1
   pub old : IsOwn used.context known → 0 < length accesses
-      → known.seqid + length accesses < 2 ^ 32 → Stands later serial (joined_by accesses known)
+      → known.seqid + length accesses < 2 ^ 32
+      → OpenStandsIn later serial (joined_by accesses known)
       → found used.opens used.context state ≡ Refused status.OldStateId
   -- in any case its seqid decides, beside that of the open
-  pub own : IsOwn used.context known → Stands later serial (joined_by accesses known)
+  pub own : IsOwn used.context known → OpenStandsIn later serial (joined_by accesses known)
       → found used.opens used.context state ≡ by_seqid state (joined_by accesses known)
   -- for another client or on another file, and once the open has ended, it is bad
   pub other : (known.client ≢ used.context.client) ⊎ (known.number ≢ current_number used.context)
@@ -91,10 +92,10 @@ pub record GoesOnAs (run : ℕ) (asked : Open) (state : StateId) (new later : Se
   pub serial : ℕ
   pub known : Open
   pub is : IsOpenOf run asked state serial known
-  pub stood : Stands new serial known
-  pub now : Stands later serial (joined_by (accesses_in state.other since) known)
+  pub stood : OpenStandsIn new serial known
+  pub now : OpenStandsIn later serial (joined_by (accesses_in state.other since) known)
       ⊎ HasEnded later serial
-  pub stays : HasEnded later serial → (last : Serving) (more : History) → IsRun later last more
+  pub stays : HasEnded later serial → (last : Serving) (more : RunHistory) → IsRun later last more
       → HasEnded last serial
   pub verdicts : (event : Event) (used : Entry) → executed later event ≡ Some used
       → Verdicts later state serial known (accesses_in state.other since) used.state
@@ -102,7 +103,7 @@ pub record GoesOnAs (run : ℕ) (asked : Open) (state : StateId) (new later : Se
 -- at each later moment of the run at which the server is up: what is down executes nothing
 abbrev pub EveryStateIdGoesOn : Type 0
 EveryStateIdGoesOn = (run : ℕ) (entry : Entry) (arguments : OpenArguments) (answer : OpenAnswer)
-    (new later : Serving) (since : History) → run < 2 ^ 32
+    (new later : Serving) (since : RunHistory) → run < 2 ^ 32
     → WasAnswered run entry arguments answer new → IsRun new later since → later.is_down ≡ false
     → GoesOnAs run (asked_open entry.state arguments) answer.state new later since.done
 
@@ -122,7 +123,7 @@ JoinsAreCounted = (accesses : List ℕ) (known : Open) → IsJoinedBy accesses k
 abbrev pub EveryOtherRunRefuses : Type 0
 EveryOtherRunRefuses = (run other : ℕ) (entry : Entry) (arguments : OpenArguments)
     (answer : OpenAnswer) (new : Serving) (limits : ServerLimits) (start : Tree)
-    (seats : Seats) (serving : Serving) (history : History) (event : Event) (used : Entry)
+    (seats : Seats) (serving : Serving) (history : RunHistory) (event : Event) (used : Entry)
     → run < 2 ^ 32 → other < 2 ^ 32 → other ≢ run → WasAnswered run entry arguments answer new
     → IsRun (mounted limits other start seats) serving history → executed serving event ≡ Some used
     → found used.state.opens used.state.context answer.state ≡ Refused status.BadStateId

@@ -37,8 +37,8 @@ abbrev pub closed_state : StateId
 closed_state = record { seqid = 2 ^ 32 - 1; other = zeros }
 
 -- An open's stateid: 4 bytes of the run, 8 of the open's serial
-abbrev pub state_of : (run serial seqid : ℕ) → StateId
-state_of run serial seqid = record {
+abbrev pub open_stateid : (run serial seqid : ℕ) → StateId
+open_stateid run serial seqid = record {
   seqid = seqid;
   other = to_be_bytes w32 run ++ to_be_bytes w64 serial;
 }

@@ -23,8 +23,8 @@ filehandle_of number = to_be_bytes w64 number
 abbrev pub is_filehandle : List ℕ → Bool
 is_filehandle bytes = length bytes == 8
 
-abbrev pub number_of : List ℕ → ℕ
-number_of bytes = from_be_bytes w64 bytes
+abbrev pub handle_number : List ℕ → ℕ
+handle_number bytes = from_be_bytes w64 bytes
 
 -- Laws
 
@@ -40,4 +40,4 @@ StampsRise = (run n run' n' : ℕ) → n < 2 ^ 32 → run < run' → stamp run n
 
 -- a filehandle tells its number
 abbrev pub ReadsHandle : Type 0
-ReadsHandle = (number : ℕ) → number < 2 ^ 64 → number_of (filehandle_of number) ≡ number
+ReadsHandle = (number : ℕ) → number < 2 ^ 64 → handle_number (filehandle_of number) ≡ number

@@ -9,7 +9,7 @@ use Rattle.model.specs.declared.status.Status.{Status}
 use Rattle.model.specs.Operations.Answer.{Outcome}
 use Rattle.model.specs.Trees.Keyed.{at}
 use Rattle.model.specs.Wire.Rpc.{Compound, tag_limit}
-use Rattle.model.specs.Server.Runs.{Serving, History, IsRun, mounted}
+use Rattle.model.specs.Server.Runs.{Serving, RunHistory, IsRun, mounted}
 use Rattle.model.specs.Operations.Status.{code_of}
 use Rattle.model.specs.Trees.Tree.{Tree}
 use Rattle.model.specs.Wire.WireAnswers.{outcome}
@@ -44,7 +44,8 @@ HasResults request = (results : List Outcome) × AreResults request results
 
 abbrev pub EveryRequestHasResults : Type 0
 EveryRequestHasResults =
-    (limits : ServerLimits) (run : ℕ) (start : Tree) (seats : Seats) (serving : Serving) (history : History)
+    (limits : ServerLimits) (run : ℕ) (start : Tree) (seats : Seats) (serving : Serving)
+    (history : RunHistory)
     → IsRun (mounted limits run start seats) serving history
     → (number : ℕ) (request : InProgress)
     → at number serving.world.connections ≡ Some (Busy request) → HasResults request

@@ -3,14 +3,14 @@ use Rattle.std.specs.Prelude.{map}
 use Rattle.std.proofs.lemmas.List.{drop_all}
 use Rattle.wire.specs.declared.outcome.Outcome.{Outcome}
 use Rattle.wire.specs.OutcomeView.{outcome_view}
-use Rattle.client.specs.Replies.{ending, number_of, is_ok}
+use Rattle.client.specs.Replies.{ending, outcome_number, is_ok}
 use Rattle.client.proofs.Ending.{none_left, step_on, step_stops}
 use Rattle.client.proofs.results.ending.Goals as goal
 
 pub returns-then-not-is_ok : goal.returns-then-not-is_ok
 returns-then-not-is_ok c =
     let i = c.loop-i.i in
-    let same : number_of (outcome_view c.index-results-i.result) ≡ get_or c.args.operations.now i 0 = cc in
+    let same : outcome_number (outcome_view c.index-results-i.result) ≡ get_or c.args.operations.now i 0 = cc in
     let not_ok : is_ok (outcome_view c.index-results-i.result) ≡ false = cc in
     let more : i + 1 < length c.args.results.now = omega arith in
     let asked : i < length c.args.operations.now = omega arith in
@@ -20,7 +20,7 @@ returns-then-not-is_ok c =
 pub loop-i-preserved : goal.loop-i-preserved
 loop-i-preserved c =
     let i = c.loop-i.i in
-    let same : number_of (outcome_view c.index-results-i.result) ≡ get_or c.args.operations.now i 0 = cc in
+    let same : outcome_number (outcome_view c.index-results-i.result) ≡ get_or c.args.operations.now i 0 = cc in
     let ok : is_ok (outcome_view c.index-results-i.result) ≡ true = cc in
     let more : i + 1 < length c.args.results.now = omega arith in
     let asked : i < length c.args.operations.now = omega arith in

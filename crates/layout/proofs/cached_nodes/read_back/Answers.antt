@@ -1,8 +1,8 @@
-use Rattle.layout.proofs.CachedNodeLaws.{card-back, cards-back, only_card, only_cards}
+use Rattle.layout.proofs.CachedNodeLaws.{cached-back, cards-back, only_card, only_cards}
 use Rattle.layout.proofs.cached_nodes.read_back.Goals as goal
 
-pub returns-clause-card : goal.returns-clause-card
-returns-clause-card c = card-back
+pub returns-clause-cached : goal.returns-clause-cached
+returns-clause-cached c = cached-back
 
 pub returns-clause-cards : goal.returns-clause-cards
 returns-clause-cards c = cards-back

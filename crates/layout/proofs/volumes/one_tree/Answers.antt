@@ -1,4 +1,4 @@
-use Rattle.layout.specs.LaidProps.{Stands-prop}
+use Rattle.layout.specs.LaidProps.{TreeStands-prop}
 use Rattle.layout.proofs.FirstLaws.{one_tree}
 use Rattle.layout.proofs.KeptLaws.{one_kept}
 use Rattle.layout.proofs.volumes.one_tree.Goals as goal
@@ -10,4 +10,4 @@ pub returns-clause-kept : goal.returns-clause-kept
 returns-clause-kept c = one_kept
 
 pub returns-clause-proof : goal.returns-clause-proof
-returns-clause-proof c = λ version size nodes image run tree a b. Stands-prop version size nodes image run tree a b
+returns-clause-proof c = λ version size nodes image run tree a b. TreeStands-prop version size nodes image run tree a b

@@ -1,5 +1,5 @@
 use Rattle.std.proofs.Common.{◌≡◌, map}
-use Rattle.journal.specs.Journal.{log_of, failures_of}
+use Rattle.journal.specs.Journal.{log_of, journal_failures}
 use Rattle.migration.specs.Commits.{AreTransactions}
 use Rattle.migration.specs.Migrations.{Rests}
 use Rattle.migration.proofs.Committing.{Going}
@@ -11,5 +11,5 @@ invariant-loop-updates g l = record {
   takes : AreTransactions (log_of l.journal).size (map (λ updates. updates.items) l.updates-iterator.rest.items);
   going : Going g.D.Device.keeps_word (map (λ updates. updates.items) l.fn.transactions.items) (map (λ updates. updates.items) l.updates-iterator.rest.items)
       (log_of l.fn.journal) (log_of l.journal);
-  failures : failures_of l.journal ≡ failures_of l.fn.journal;
+  failures : journal_failures l.journal ≡ journal_failures l.fn.journal;
 }

@@ -8,7 +8,7 @@ use Rattle.migration.proofs.plan.transaction.Goals as goal
 use Rattle.migration.proofs.plan.transaction.Goals.{in-Some+in_ok-push, in_default}
 
 pub moved_node-requires-clause-fit : goal.moved_node-requires-clause-fit
-moved_node-requires-clause-fit c = c.requires.fit c.loop-place.place c.in-Some.card.now c.in-Some.ensures.some
+moved_node-requires-clause-fit c = c.requires.fit c.loop-place.place c.in-Some.cached.now c.in-Some.ensures.some
 
 -- one place more, which holds this
 more : (cards : List (Option CachedNode)) (from place : ℕ) (card : Option CachedNode) (updates : List Update) → from ≤ place → get_or cards place None ≡ card
@@ -23,11 +23,11 @@ more cards from place card updates low there are =
 pub loop-place-preserved : goal.loop-place-preserved
 loop-place-preserved c =
     let nodes = nodes_of c.args.table.now c.args.from (c.loop-place.place - c.args.from) in
-    elim c.match-card.branch [
-      | in-Some+in_ok-push w ↦ more c.args.table.now c.args.from c.loop-place.place (Some w.in-Some.card.now) c.match-card.updates.items c.loop-place.auto.place w.in-Some.ensures.some
+    elim c.match-cached.branch [
+      | in-Some+in_ok-push w ↦ more c.args.table.now c.args.from c.loop-place.place (Some w.in-Some.cached.now) c.match-cached.updates.items c.loop-place.auto.place w.in-Some.ensures.some
           (ap (λ (v : Vec Update Global). v.items) w.updates-is ∙ w.in_ok-push.ensures.items
           ∙ ap (λ (l : List Update). l ++ w.moved_node.result ∷ []) c.loop-place.invariant
           ∙ ap (λ (l : List Update). nodes ++ l) (sym w.moved_node.ensures))
-      | in_default w ↦ more c.args.table.now c.args.from c.loop-place.place None c.match-card.updates.items c.loop-place.auto.place w.in_default.ensures.none
+      | in_default w ↦ more c.args.table.now c.args.from c.loop-place.place None c.match-cached.updates.items c.loop-place.auto.place w.in_default.ensures.none
           (ap (λ (v : Vec Update Global). v.items) w.updates-is ∙ c.loop-place.invariant ∙ sym (append-nil nodes))
     ]

@@ -13,10 +13,10 @@ pub loop-place-preserved : goal.loop-place-preserved
 loop-place-preserved c =
     let inv = c.loop-place.invariant in
     let step = entries-step c.args.cards.now c.loop-place.place c.index-cards-place.result c.loop-place-test.true c.index-cards-place.is c.loop-place.index.items inv.entries in
-    elim c.match-card.branch [
+    elim c.match-cached.branch [
       | in-Some w ↦
-          let added : (w.card.inside.inode.number, c.loop-place.place) ∷ [] ≡ entry_from c.loop-place.place c.index-cards-place.result =
-          ap (λ (card : CachedNode). (card.fields.number, c.loop-place.place) ∷ []) w.card.view_is ∙ ap (entry_from c.loop-place.place) (sym w.in-Some.is) in
+          let added : (w.cached.inside.inode.number, c.loop-place.place) ∷ [] ≡ entry_from c.loop-place.place c.index-cards-place.result =
+          ap (λ (card : CachedNode). (card.fields.number, c.loop-place.place) ∷ []) w.cached.view_is ∙ ap (entry_from c.loop-place.place) (sym w.in-Some.is) in
           rw w.index-is (record {
             entries = w.push_reserved.ensures.items ∙ ap (λ (l : Keyed ℕ). c.loop-place.index.items ++ l) added ∙ step;
             few = omega (arith, w.push_reserved.ensures.len, inv.few);

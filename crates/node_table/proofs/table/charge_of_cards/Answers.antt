@@ -21,26 +21,26 @@ few-more cards done before here place card low is = elim (cases_eq place done) [
   | inr off ↦ before place card (omega arith) is
 ]
 
-pub loop-card-preserved : goal.loop-card-preserved
-loop-card-preserved c =
-    let inv = c.loop-card.invariant in
+pub loop-cached-preserved : goal.loop-cached-preserved
+loop-cached-preserved c =
+    let inv = c.loop-cached.invariant in
     let cards = c.args.cards.now in
-    let sum = sum-step cards c.loop-card.card-index c.card-item.result c.loop-card-test.true c.card-item.is charge_of in
-    let there : get_or cards c.loop-card.card-index None ≡ c.card-item.result = sym (c.card-item.is ∙ get_or_default cards c.loop-card.card-index c.card-item.result None c.loop-card-test.true) in
-    elim c.match-card.branch [
+    let sum = sum-step cards c.loop-cached.cached-index c.cached-item.result c.loop-cached-test.true c.cached-item.is charge_of in
+    let there : get_or cards c.loop-cached.cached-index None ≡ c.cached-item.result = sym (c.cached-item.is ∙ get_or_default cards c.loop-cached.cached-index c.cached-item.result None c.loop-cached-test.true) in
+    elim c.match-cached.branch [
       | in-Some w ↦
-          let one : CachedNode = w.in-Some.card in
-          let few : length one.blocks ≤ 4096 = subst (λ (card : CachedNode). length card.blocks ≤ 4096) w.card.view_is w.blocks_charge-charge.ensures.few in
-          let charge : w.blocks_charge-charge.result ≡ charge_of one = w.blocks_charge-charge.ensures.charge ∙ ap charge_of w.card.view_is in
+          let one : CachedNode = w.in-Some.cached in
+          let few : length one.blocks ≤ 4096 = subst (λ (card : CachedNode). length card.blocks ≤ 4096) w.cached.view_is w.blocks_charge-charge.ensures.few in
+          let charge : w.blocks_charge-charge.result ≡ charge_of one = w.blocks_charge-charge.ensures.charge ∙ ap charge_of w.cached.view_is in
           rw w.charge-is (record {
             charge = omega (arith, inv.charge, charge, sum, ap (worth_of charge_of) w.in-Some.is);
             most = omega (arith, inv.most, charge, charge-most one few);
-            few = few-more cards c.loop-card.card-index inv.few (λ card is. subst (λ (card : CachedNode). length card.blocks ≤ 4096) (some_is one card (sym w.in-Some.is ∙ sym there ∙ is)) few);
+            few = few-more cards c.loop-cached.cached-index inv.few (λ card is. subst (λ (card : CachedNode). length card.blocks ≤ 4096) (some_is one card (sym w.in-Some.is ∙ sym there ∙ is)) few);
           })
       | in_default w ↦
           rw w.charge-is (record {
             charge = omega (arith, inv.charge, sum, ap (worth_of charge_of) w.in_default.is);
             most = omega (arith, inv.most);
-            few = few-more cards c.loop-card.card-index inv.few (λ card is. absurd (some_none card (sym is ∙ there ∙ w.in_default.is)));
+            few = few-more cards c.loop-cached.cached-index inv.few (λ card is. absurd (some_none card (sym is ∙ there ∙ w.in_default.is)));
           })
     ]

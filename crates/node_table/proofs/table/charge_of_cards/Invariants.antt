@@ -4,9 +4,9 @@ use Rattle.node_table.specs.Tables.{charge_of_all}
 use Rattle.node_table.proofs.table.charge_of_cards.Given as goal
 
 -- so many places are looked at
-abbrev pub invariant-loop-card : goal.invariant-loop-card
-invariant-loop-card l = record {
-  charge : l.charge ≡ charge_of_all (take l.card-index l.cards);
-  most : l.charge ≤ 4105 * l.card-index;
-  few : (place : ℕ) (card : CachedNode) → place < l.card-index → get_or l.cards place None ≡ Some card → length card.blocks ≤ 4096;
+abbrev pub invariant-loop-cached : goal.invariant-loop-cached
+invariant-loop-cached l = record {
+  charge : l.charge ≡ charge_of_all (take l.cached-index l.cards);
+  most : l.charge ≤ 4105 * l.cached-index;
+  few : (place : ℕ) (card : CachedNode) → place < l.cached-index → get_or l.cards place None ≡ Some card → length card.blocks ≤ 4096;
 }

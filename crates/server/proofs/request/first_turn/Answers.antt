@@ -1,7 +1,7 @@
 use Rattle.std.proofs.Common.{◌≡◌, ◌∙◌, ℕ, Some, refl, sym, ap, subst, arith}
 use Rattle.compound.specs.States.{shared_of}
 use Rattle.compound.specs.Steps.{stepped_on}
-use Rattle.compound.specs.Volumes.{ending_of}
+use Rattle.compound.specs.Volumes.{fault_ending}
 use Rattle.compound.specs.declared.fault.Fault.TheVariants as fault
 use Rattle.volume.specs.Changes.{Done}
 use Rattle.fs.specs.Views.{fs_of, fs_failures}
@@ -9,7 +9,7 @@ use Rattle.volume.proofs.ServeLaws.{told_err}
 use Rattle.compound.proofs.QuietLaws.{leaves_all}
 use Rattle.model.specs.Wire.Rpc.{read_call}
 use Rattle.model.specs.Server.World.{Turned, called}
-use Rattle.server.specs.Stages.{CanGoOn, in_progress_at, turn_by, left_by}
+use Rattle.server.specs.Stages.{CanGoOn, in_progress_at, turn_of_end, left_by_turn}
 use Rattle.server.proofs.Turning.{same_changes, idle_changes, leads_as}
 use Rattle.server.proofs.request.first_turn.Goals as goal
 
@@ -31,7 +31,7 @@ returns-in-Ok-clause-turn g c = λ keeps.
     leads_as (λ world number. stepped_on world number c.args.now (in_progress_at c.args.request.now c.in-Begins.begun)) (λ world number. called world number c.args.now (read_call c.args.request.now))
     (shared_of c.args.fs.now c.args.table.now c.args.opens.now) (shared_of c.step.new.fs c.step.new.table c.step.new.opens)
     (λ world number served. opens.1 world number c.args.now (served.run ∙ sym c.restart_count.ensures))
-    (left_by (Some c.args.request.now) c.in-Ok.done) (left_by (Some c.args.request.now) c.in-Ok.done) (turn_by c.in-Ok.done) (turn_by c.in-Ok.done) refl refl (c.in-Ok.ensures.step keeps)
+    (left_by_turn (Some c.args.request.now) c.in-Ok.done) (left_by_turn (Some c.args.request.now) c.in-Ok.done) (turn_of_end c.in-Ok.done) (turn_of_end c.in-Ok.done) refl refl (c.in-Ok.ensures.step keeps)
 
 pub returns-in-Answers-clause-volume : goal.returns-in-Answers-clause-volume
 returns-in-Answers-clause-volume g c =
@@ -52,4 +52,4 @@ returns-in-Err-clause-volume g c =
     let opens = rw c.in-Begins.is at c.in_ok-reply.ensures.ok in
     same_changes g.D.Device.keeps_word (shared_of c.args.fs.now c.args.table.now c.args.opens.now) (fs_of c.args.fs.now) (fs_of c.step.new.fs) _ _
     (λ world number. stepped_on world number c.args.now (in_progress_at c.args.request.now c.in-Begins.begun)) (λ world number. called world number c.args.now (read_call c.args.request.now))
-    (λ world number served. opens.1 world number c.args.now (served.run ∙ sym c.restart_count.ensures)) (ending_of c.in-Err.undone.fault) c.in-Err.ensures.volume
+    (λ world number served. opens.1 world number c.args.now (served.run ∙ sym c.restart_count.ensures)) (fault_ending c.in-Err.undone.fault) c.in-Err.ensures.volume

@@ -6,7 +6,7 @@ use Rattle.std.proofs.lemmas.List.FromFn.{length-enumerate_from}
 use Rattle.std.proofs.lemmas.Iterator.Adapters.{YieldsList-from_vec}
 use Rattle.std.proofs.lemmas.Iterator.Consumers.{YieldsList-from_enumerate, YieldsList-turn, YieldsList-end}
 use Rattle.model.specs.Sessions.Seats.{Seats}
-use Rattle.model.specs.Sessions.SeatEdits.{edited, edited_all, edit_view}
+use Rattle.model.specs.Sessions.SeatEdits.{edited_seat, edited_all, edit_view}
 use Rattle.model.specs.Sessions.SeatViews.{place_view, seats_view}
 use Rattle.session.proofs.Editing.{told, told_all, place_told, edited_more}
 use Rattle.session.proofs.Lists.{mapped_set}
@@ -26,9 +26,9 @@ loop-place-preserved c =
     let edit = edit_view c.in-Some.edit in
     let start = seats_view c.args.seats.now in
     let old = c.loop-place.seats.places.items in
-    mapped_set place_view (edited edit) old c.in-Some.place c.index_mut.result.now c.edit_place.new.place None (omega (arith, place, inside, length-map yielded (λ p. edit_view p.1), c.args.edits.five, c.loop-place.seats.five)) c.index_mut.ensures.value c.edit_place.ensures
-    ∙ ap (λ (n : ℕ). set (map place_view old) n (edited edit (get_or (map place_view old) n None))) place
-    ∙ ap (λ (seats : Seats). set seats (length (told yielded)) (edited edit (get_or seats (length (told yielded)) None))) c.loop-place.invariant
+    mapped_set place_view (edited_seat edit) old c.in-Some.place c.index_mut.result.now c.edit_place.new.place None (omega (arith, place, inside, length-map yielded (λ p. edit_view p.1), c.args.edits.five, c.loop-place.seats.five)) c.index_mut.ensures.value c.edit_place.ensures
+    ∙ ap (λ (n : ℕ). set (map place_view old) n (edited_seat edit (get_or (map place_view old) n None))) place
+    ∙ ap (λ (seats : Seats). set seats (length (told yielded)) (edited_seat edit (get_or seats (length (told yielded)) None))) c.loop-place.invariant
     ∙ sym (edited_more (told yielded) edit start None (omega (arith, inside, length-map yielded (λ p. edit_view p.1), c.args.edits.five, c.args.seats.now.five, length-map c.args.seats.now.places.items place_view)))
     ∙ ap (λ edits. edited_all edits start) (sym (map_push (λ p. edit_view p.1) yielded (c.in-Some.place, c.in-Some.edit)))
 

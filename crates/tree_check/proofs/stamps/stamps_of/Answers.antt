@@ -13,13 +13,13 @@ loop-place-preserved c =
     let more : entry_stamps (take (place + 1) table) ≡ entry_stamps (take place table) ++ stamped_by (get_or table place None) =
     (let e : place + 1 ≡ suc place = omega arith in ap (λ n. entry_stamps (take n table)) e)
     ∙ stamps-take table place (omega (arith, c.loop-place-test.true, c.places-place-end.ensures.places)) in
-    elim c.match-card.branch [
+    elim c.match-cached.branch [
       | in-Some+in_ok-push_stamps w ↦
           ap (λ (v : Vec ℕ Global). v.items) w.stamps-is
           ∙ (w.in_ok-push_stamps.ensures
-          ∙ (ap (λ l. l ++ stamps_of w.card-in-Some.inside.names) c.loop-place.invariant
+          ∙ (ap (λ l. l ++ stamps_of w.cached-in-Some.inside.names) c.loop-place.invariant
           ∙ (ap (λ l. entry_stamps (take place table) ++ l)
-          (ap (λ (card : CachedNode). stamps_of card.names) w.card-in-Some.view_is ∙ sym (ap stamped_by w.in-Some.ensures.some))
+          (ap (λ (card : CachedNode). stamps_of card.names) w.cached-in-Some.view_is ∙ sym (ap stamped_by w.in-Some.ensures.some))
           ∙ sym more)))
       | in_default w ↦
           ap (λ (v : Vec ℕ Global). v.items) w.stamps-is

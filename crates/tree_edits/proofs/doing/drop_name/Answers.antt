@@ -34,10 +34,10 @@ returns-clause-done c =
     all_ok c.drop_name.result c.drop_name.ensures.known c.drop_name.ensures.cards c.drop_name.ensures.dropped
     (λ known turns drops base size. record {
       known = known;
-      outline = turned old new c.requires.known place c.args.directory it (without_name name) (turns it.card it.there) refl (name_dropped c.args.stamp) (node_unnamed name c.args.stamp it.card is names);
-      forms = turned_forms old new c.requires.known place c.args.directory it (without_name name) (turns it.card it.there) refl refl;
-      made = turned_made old new c.requires.known place c.args.directory it (without_name name) (turns it.card it.there) refl [];
+      outline = turned old new c.requires.known place c.args.directory it (without_name name) (turns it.cached it.there) refl (name_dropped c.args.stamp) (node_unnamed name c.args.stamp it.cached is names);
+      forms = turned_forms old new c.requires.known place c.args.directory it (without_name name) (turns it.cached it.there) refl refl;
+      made = turned_made old new c.requires.known place c.args.directory it (without_name name) (turns it.cached it.there) refl [];
       tree = λ word laid. subst (λ (n : ℕ). MakesOver base size old new (DropName n c.args.stamp)) it.number_is
-          (drops it.card (record_from c.args.stamp name c.requires.can.number) it.there entry base size) laid;
+          (drops it.cached (record_from c.args.stamp name c.requires.can.number) it.there entry base size) laid;
       count = omega (arith, c.drop_name.ensures.count);
     })

@@ -11,7 +11,7 @@ use Rattle.tree_edits.proofs.doing.drop_node.Goals as goal
 pub free-requires-clause-node : goal.free-requires-clause-node
 free-requires-clause-node c =
     let it = there_at (cards_of c.args.transaction.now) c.place_of-place.result c.args.number c.place_of-place.ensures in
-    record { card = it.card; there = it.there }
+    record { cached = it.cached; there = it.there }
 
 pub returns-clause-done : goal.returns-clause-done
 returns-clause-done c =

@@ -7,7 +7,7 @@ use Rattle.tree_transaction.proofs.FaultLaws.{told}
 use Rattle.tree_transaction.specs.declared.fault.TransactionFault.{TransactionFault}
 use Rattle.tree_transaction.specs.declared.fault.TransactionFault.TheVariants as fault
 use Rattle.tree_edits.specs.declared.edit.Edit.{Edit}
-use Rattle.tree_edits.specs.Doing.{Does, Overfills}
+use Rattle.tree_edits.specs.Doing.{DoesEdits, Overfills}
 use Rattle.tree_edits.specs.Edits.{AreDoable, StayFew}
 use Rattle.tree_edits.specs.Outlines.{tree_without_data}
 use Rattle.tree_edits.specs.Parts.{PartsAreBytes}
@@ -24,15 +24,15 @@ loop-edit-preserved g c =
     let rest : List Edit = drop (c.loop-edit.edit-index + 1) c.args.edits.now in
     let next : drop c.loop-edit.edit-index c.args.edits.now ≡ edit ∷ rest = next_edit c.args.edits.now c.loop-edit.edit-index edit c.loop-edit-test.true c.edit-item.is in
     let so_far = c.loop-edit.invariant in
-    let first : Does S.keeps_word (S.image kept) (S.size kept) old mid (edit ∷ []) =
-    subst (λ k. Does S.keeps_word (S.image k) (S.size k) old mid (edit ∷ [])) so_far.kept c.in_ok-edit_one.ensures.done in
+    let first : DoesEdits S.keeps_word (S.image kept) (S.size kept) old mid (edit ∷ []) =
+    subst (λ k. DoesEdits S.keeps_word (S.image k) (S.size k) old mid (edit ∷ [])) so_far.kept c.in_ok-edit_one.ensures.done in
     record {
       known = first.known.known;
       within = omega (arith, first.known.nodes, first.known.places, so_far.within);
       forms = first.forms so_far.forms;
       can = still_doable S.keeps_word (S.image kept) (S.size kept) old mid edit first rest (subst (AreDoable (tree_without_data (cards_of old))) next so_far.can);
       few = still_few S.keeps_word (S.image kept) (S.size kept) old mid edit first rest (subst (StayFew (tree_without_data (cards_of old))) next so_far.few);
-      does = λ new does. so_far.does new (subst (λ (l : List Edit). Does S.keeps_word (S.image kept) (S.size kept) old new l) (sym next)
+      does = λ new does. so_far.does new (subst (λ (l : List Edit). DoesEdits S.keeps_word (S.image kept) (S.size kept) old new l) (sym next)
           (goes_on S.keeps_word (S.image kept) (S.size kept) old mid edit first new rest does));
       full = λ over. so_far.full (subst (Overfills old) (sym next) (overfills_later S.keeps_word (S.image kept) (S.size kept) old mid edit first rest over));
       kept = c.edit_one.ensures.kept.0 ∙ so_far.kept;
@@ -57,7 +57,7 @@ returns-clause-done g c =
     let so_far = c.loop-edit.invariant in
     let none_left : drop c.loop-edit.edit-index c.args.edits.now ≡ [] = drop_of_length-le c.args.edits.now (omega (arith, c.loop-edit-test.false)) in
     record {
-      does = so_far.does c.loop-edit.transaction (subst (λ (l : List Edit). Does S.keeps_word (S.image kept) (S.size kept) c.loop-edit.transaction c.loop-edit.transaction l)
+      does = so_far.does c.loop-edit.transaction (subst (λ (l : List Edit). DoesEdits S.keeps_word (S.image kept) (S.size kept) c.loop-edit.transaction c.loop-edit.transaction l)
           (sym none_left) (does_nothing S.keeps_word (S.image kept) (S.size kept) c.loop-edit.transaction so_far.known));
       parts = so_far.parts (subst PartsAreBytes (sym none_left) tt);
     }

@@ -2,7 +2,7 @@ use Rattle.std.proofs.Common.{◌≡◌, ◌≤◌, drop}
 use Rattle.tree_transaction.specs.declared.transaction.Transaction.{Transaction}
 use Rattle.tree_transaction.specs.Transactions.{cards_of, end_of, IsKnown}
 use Rattle.layout.specs.Stands.{HaveCurrentForms}
-use Rattle.tree_edits.specs.Doing.{Does, Overfills}
+use Rattle.tree_edits.specs.Doing.{DoesEdits, Overfills}
 use Rattle.tree_edits.specs.Edits.{AreDoable, StayFew}
 use Rattle.tree_edits.specs.Outlines.{tree_without_data}
 use Rattle.tree_edits.specs.Parts.{PartsAreBytes}
@@ -15,8 +15,8 @@ invariant-loop-edit g l = record {
   forms : HaveCurrentForms (cards_of l.transaction);
   can : AreDoable (tree_without_data (cards_of l.transaction)) (drop l.edit-index l.edits);
   few : StayFew (tree_without_data (cards_of l.transaction)) (drop l.edit-index l.edits);
-  does : (new : Transaction) → Does g.S.Sectors.keeps_word (g.S.Sectors.image (g.S.Sectors.kept l.fn.base)) (g.S.Sectors.size (g.S.Sectors.kept l.fn.base)) l.transaction new (drop l.edit-index l.edits)
-      → Does g.S.Sectors.keeps_word (g.S.Sectors.image (g.S.Sectors.kept l.fn.base)) (g.S.Sectors.size (g.S.Sectors.kept l.fn.base)) l.fn.transaction new l.edits;
+  does : (new : Transaction) → DoesEdits g.S.Sectors.keeps_word (g.S.Sectors.image (g.S.Sectors.kept l.fn.base)) (g.S.Sectors.size (g.S.Sectors.kept l.fn.base)) l.transaction new (drop l.edit-index l.edits)
+      → DoesEdits g.S.Sectors.keeps_word (g.S.Sectors.image (g.S.Sectors.kept l.fn.base)) (g.S.Sectors.size (g.S.Sectors.kept l.fn.base)) l.fn.transaction new l.edits;
   full : Overfills l.transaction (drop l.edit-index l.edits)
       → Overfills l.fn.transaction l.edits;
   kept : g.S.Sectors.kept l.base ≡ g.S.Sectors.kept l.fn.base;

@@ -32,9 +32,9 @@ returns-clause-done g c =
     all_four c.write.result c.write.ensures.known c.write.ensures.cards c.write.ensures.count (under _ c.write.result c.write.ensures.tree)
     (λ stays turns count writes. record {
       known = stays;
-      outline = turned old new known place c.args.file it (reaching end) (turns it.card it.there) refl (λ (node : Node). with_content node (File (overwritten (bytes_of node.content) c.args.offset bytes))) (node_written c.args.offset bytes it.card is);
-      forms = turned_forms old new known place c.args.file it (reaching end) (turns it.card it.there) refl refl;
-      made = turned_made old new known place c.args.file it (reaching end) (turns it.card it.there) refl [];
+      outline = turned old new known place c.args.file it (reaching end) (turns it.cached it.there) refl (λ (node : Node). with_content node (File (overwritten (bytes_of node.content) c.args.offset bytes))) (node_written c.args.offset bytes it.cached is);
+      forms = turned_forms old new known place c.args.file it (reaching end) (turns it.cached it.there) refl refl;
+      made = turned_made old new known place c.args.file it (reaching end) (turns it.cached it.there) refl [];
       tree = λ word. over_number old new known place c.args.file it _ _ (λ number. PutBytes number c.args.offset bytes) (writes word);
       count = omega (arith, count);
     })
@@ -51,5 +51,5 @@ returns-clause-full g c = λ full.
       count = 1;
       within = omega arith;
       full = no_room old c.requires.known.0 place c.args.file it (λ (node : Node). with_content node (File (overwritten (bytes_of node.content) c.args.offset bytes))) (blocks_to end) (c.write.ensures.full full)
-          (written_charge it.card c.args.offset bytes is);
+          (written_charge it.cached c.args.offset bytes is);
     }

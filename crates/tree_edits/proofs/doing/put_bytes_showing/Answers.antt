@@ -29,10 +29,10 @@ write_showing-requires-clause-node g c =
     let place = c.place_of-place.result in
     let it : IsThere (cards_of old) place c.args.file = there_at (cards_of old) place c.args.file c.place_of-place.ensures in
     record {
-      card = it.card;
+      cached = it.cached;
       there = it.there;
-      fits = shown_fits it.card c.args.shown.now
-          (card_at old.nodes (mark_by (148 + old.nodes) old.places) (cards_of old) place it.card c.requires.known.0.cards it.there) (c.requires.forms place it.card it.there) c.requires.can.1.0.entries;
+      fits = shown_fits it.cached c.args.shown.now
+          (card_at old.nodes (mark_by (148 + old.nodes) old.places) (cards_of old) place it.cached c.requires.known.0.cards it.there) (c.requires.forms place it.cached it.there) c.requires.can.1.0.entries;
     }
 
 pub returns-clause-done : goal.returns-clause-done
@@ -52,20 +52,20 @@ returns-clause-done g c =
     both_ok c.write_showing.result c.write_showing.ensures.done c.write_showing.ensures.count
     (λ writes count.
     let mid = writes.mid in
-    let turns = writes.cards_mid it.card it.there in
+    let turns = writes.cards_mid it.cached it.there in
     let first : Leads S.keeps_word base size old mid (edit.PutBytes c.args.file c.args.offset c.args.bytes ∷ []) = record {
       known = writes.known_mid;
-      outline = turned old mid known place c.args.file it (reaching end) turns refl (λ (node : Node). with_content node (File (overwritten (bytes_of node.content) c.args.offset bytes))) (node_written c.args.offset bytes it.card is);
+      outline = turned old mid known place c.args.file it (reaching end) turns refl (λ (node : Node). with_content node (File (overwritten (bytes_of node.content) c.args.offset bytes))) (node_written c.args.offset bytes it.cached is);
       forms = turned_forms old mid known place c.args.file it (reaching end) turns refl refl;
       made = turned_made old mid known place c.args.file it (reaching end) turns refl [];
       tree = λ word. over_number old mid known place c.args.file it base size (λ number. PutBytes number c.args.offset bytes) (writes.written word);
     } in
     let then : IsThere (cards_of mid) place c.args.file = turned_there old mid known place c.args.file it (reaching end) turns refl in
-    let turns_then = writes.cards then.card then.there in
+    let turns_then = writes.cards then.cached then.there in
     let known_mid = writes.known_mid.known in
     let second : Leads S.keeps_word base size mid new (edit.Show c.args.file c.args.shown.now ∷ []) = record {
       known = writes.known;
-      outline = turned mid new known_mid place c.args.file then (showing_card shown) turns_then refl (showing shown) (node_showing shown then.card);
+      outline = turned mid new known_mid place c.args.file then (showing_card shown) turns_then refl (showing shown) (node_showing shown then.cached);
       forms = turned_forms mid new known_mid place c.args.file then (showing_card shown) turns_then refl refl;
       made = turned_made mid new known_mid place c.args.file then (showing_card shown) turns_then refl [];
       tree = λ word laid. over_number mid new known_mid place c.args.file then base size (λ number. Show number shown) (λ card there. writes.shows card there base size) laid;
@@ -85,5 +85,5 @@ returns-clause-full g c = λ full.
       count = 1;
       within = omega arith;
       full = no_room old c.requires.known.0 place c.args.file it (λ (node : Node). with_content node (File (overwritten (bytes_of node.content) c.args.offset bytes))) (blocks_to end) (c.write_showing.ensures.full full)
-          (written_charge it.card c.args.offset bytes is);
+          (written_charge it.cached c.args.offset bytes is);
     }

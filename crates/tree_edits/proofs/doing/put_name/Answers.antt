@@ -34,9 +34,9 @@ returns-clause-done c =
     all_ok c.put_name.result c.put_name.ensures.known c.put_name.ensures.cards c.put_name.ensures.put
     (λ known turns puts base size. record {
       known = known;
-      outline = turned old new c.requires.known place c.args.directory it (with_name entry) (turns it.card it.there) refl (name_put entry.0 entry.1) (node_named entry it.card is names);
-      forms = turned_forms old new c.requires.known place c.args.directory it (with_name entry) (turns it.card it.there) refl refl;
-      made = turned_made old new c.requires.known place c.args.directory it (with_name entry) (turns it.card it.there) refl [];
+      outline = turned old new c.requires.known place c.args.directory it (with_name entry) (turns it.cached it.there) refl (name_put entry.0 entry.1) (node_named entry it.cached is names);
+      forms = turned_forms old new c.requires.known place c.args.directory it (with_name entry) (turns it.cached it.there) refl refl;
+      made = turned_made old new c.requires.known place c.args.directory it (with_name entry) (turns it.cached it.there) refl [];
       tree = λ word is. over_number old new c.requires.known place c.args.directory it base size (λ to. PutName to entry.0 entry.1) (λ card there. puts card there base size) is;
       count = omega (arith, c.put_name.ensures.count);
     })

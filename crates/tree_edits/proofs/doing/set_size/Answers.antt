@@ -18,14 +18,14 @@ cut-requires-clause-file g c =
     let old = c.args.transaction.now in
     let it : IsThere (cards_of old) c.place_of-place.result c.args.file = there_at (cards_of old) c.place_of-place.result c.args.file c.place_of-place.ensures in
     can_cut (cards_of old) old.nodes (mark_by (148 + old.nodes) old.places) c.requires.known.0.cards c.place_of-place.result c.args.file c.args.size it c.requires.can
-    (let same = c.size_at.ensures it.card it.there in omega (arith, same))
+    (let same = c.size_at.ensures it.cached it.there in omega (arith, same))
 
 pub grow-requires-clause-file : goal.grow-requires-clause-file
 grow-requires-clause-file g c =
     let old = c.args.transaction.now in
     let it : IsThere (cards_of old) c.place_of-place.result c.args.file = there_at (cards_of old) c.place_of-place.result c.args.file c.place_of-place.ensures in
     can_grow (cards_of old) old.nodes (mark_by (148 + old.nodes) old.places) c.requires.known.0.cards c.place_of-place.result c.args.file c.args.size it c.requires.can
-    (let same = c.size_at.ensures it.card it.there in omega (arith, same))
+    (let same = c.size_at.ensures it.cached it.there in omega (arith, same))
 
 pub returns-then-size-size_at-clause-done : goal.returns-then-size-size_at-clause-done
 returns-then-size-size_at-clause-done g c =
@@ -40,9 +40,9 @@ returns-then-size-size_at-clause-done g c =
     all_four c.cut.result c.cut.ensures.known c.cut.ensures.cards c.cut.ensures.count (under _ c.cut.result c.cut.ensures.tree)
     (λ stays turns count cuts. record {
       known = stays;
-      outline = turned old new known place c.args.file it turn (turns it.card it.there) refl (λ (node : Node). with_content node (File (resized (bytes_of node.content) size))) (node_sized size it.card is);
-      forms = turned_forms old new known place c.args.file it turn (turns it.card it.there) refl refl;
-      made = turned_made old new known place c.args.file it turn (turns it.card it.there) refl [];
+      outline = turned old new known place c.args.file it turn (turns it.cached it.there) refl (λ (node : Node). with_content node (File (resized (bytes_of node.content) size))) (node_sized size it.cached is);
+      forms = turned_forms old new known place c.args.file it turn (turns it.cached it.there) refl refl;
+      made = turned_made old new known place c.args.file it turn (turns it.cached it.there) refl [];
       tree = λ word. over_number old new known place c.args.file it _ _ (λ number. SetSize number size) (cuts word);
       count = omega (arith, count);
     })
@@ -59,9 +59,9 @@ returns-clause-done g c =
     let turn : CachedNode → CachedNode = λ card. sized card size in
     record {
       known = c.in_ok-grow.ensures.known;
-      outline = turned old new known place c.args.file it turn (c.in_ok-grow.ensures.cards it.card it.there) refl (λ (node : Node). with_content node (File (resized (bytes_of node.content) size))) (node_sized size it.card is);
-      forms = turned_forms old new known place c.args.file it turn (c.in_ok-grow.ensures.cards it.card it.there) refl refl;
-      made = turned_made old new known place c.args.file it turn (c.in_ok-grow.ensures.cards it.card it.there) refl [];
+      outline = turned old new known place c.args.file it turn (c.in_ok-grow.ensures.cards it.cached it.there) refl (λ (node : Node). with_content node (File (resized (bytes_of node.content) size))) (node_sized size it.cached is);
+      forms = turned_forms old new known place c.args.file it turn (c.in_ok-grow.ensures.cards it.cached it.there) refl refl;
+      made = turned_made old new known place c.args.file it turn (c.in_ok-grow.ensures.cards it.cached it.there) refl [];
       tree = λ word. over_number old new known place c.args.file it _ _ (λ number. SetSize number size) (λ card there. c.in_ok-grow.ensures.grown card there _ _);
       count = omega (arith, c.grow.ensures.count);
     }

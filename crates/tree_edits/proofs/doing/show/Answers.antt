@@ -13,10 +13,10 @@ show-requires-clause-node c =
     let old = c.args.transaction.now in
     let it = there_at (cards_of old) c.place_of-place.result c.args.number c.place_of-place.ensures in
     record {
-      card = it.card;
+      cached = it.cached;
       there = it.there;
-      fits = shown_fits it.card c.args.shown.now
-          (card_at old.nodes (mark_by (148 + old.nodes) old.places) (cards_of old) c.place_of-place.result it.card c.requires.known.cards it.there) (c.requires.forms c.place_of-place.result it.card it.there) c.requires.can.entries;
+      fits = shown_fits it.cached c.args.shown.now
+          (card_at old.nodes (mark_by (148 + old.nodes) old.places) (cards_of old) c.place_of-place.result it.cached c.requires.known.cards it.there) (c.requires.forms c.place_of-place.result it.cached it.there) c.requires.can.entries;
     }
 
 pub returns-clause-done : goal.returns-clause-done
@@ -29,9 +29,9 @@ returns-clause-done c =
     all_ok c.show.result c.show.ensures.known c.show.ensures.cards c.show.ensures.shown
     (λ known turns shows base size. record {
       known = known;
-      outline = turned old new c.requires.known place c.args.number it (showing_card shown) (turns it.card it.there) refl (showing shown) (node_showing shown it.card);
-      forms = turned_forms old new c.requires.known place c.args.number it (showing_card shown) (turns it.card it.there) refl refl;
-      made = turned_made old new c.requires.known place c.args.number it (showing_card shown) (turns it.card it.there) refl [];
+      outline = turned old new c.requires.known place c.args.number it (showing_card shown) (turns it.cached it.there) refl (showing shown) (node_showing shown it.cached);
+      forms = turned_forms old new c.requires.known place c.args.number it (showing_card shown) (turns it.cached it.there) refl refl;
+      made = turned_made old new c.requires.known place c.args.number it (showing_card shown) (turns it.cached it.there) refl [];
       tree = λ word is. over_number old new c.requires.known place c.args.number it base size (λ number. Show number shown) (λ card there. shows card there base size) is;
       count = omega (arith, c.show.ensures.count);
     })

@@ -1,5 +1,5 @@
 use Rattle.std.proofs.Common.{◌∙◌, List, Option, ap, sym}
-use Rattle.node_table.specs.Overlays.{Overlaid, changed}
+use Rattle.node_table.specs.Overlays.{Overlaid, overlaid}
 use Rattle.tree_edits.proofs.OutcomeLaws.{IsBegun, comes_to}
 use Rattle.tree_edits.proofs.outcome.outcome_of.Goals as goal
 use Rattle.layout.specs.CachedNodes.{CachedNode}
@@ -22,6 +22,6 @@ returns-clause-done g c =
     let table_is = ap (λ (over : Overlaid). over.table) c.finish.ensures.cards ∙ c.edit_all.ensures.kept.1 ∙ c.in_ok-transaction.ensures.table in
     comes_to (S.size kept) table c.args.places.now c.requires.whole transaction begun S.keeps_word (S.image kept) c.args.edits.now mid last outcome
     c.in_ok-edit_all.ensures.done.does c.in_ok-finish.ensures.laid (ap (λ (over : Overlaid). over.cards) c.finish.ensures.cards)
-    (ap (λ (cards : List (Option CachedNode)). changed cards outcome.changes) (sym table_is) ∙ c.into_prepared.ensures.changes)
+    (ap (λ (cards : List (Option CachedNode)). overlaid cards outcome.changes) (sym table_is) ∙ c.into_prepared.ensures.changes)
     c.into_prepared.ensures.updates (c.into_prepared.ensures.places ∙ c.finish.ensures.places)
     c.in_ok-finish.ensures.targets c.in_ok-finish.ensures.count c.in_ok-edit_all.ensures.done.parts

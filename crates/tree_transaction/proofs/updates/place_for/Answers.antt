@@ -1,6 +1,6 @@
 use Rattle.std.proofs.Common.{◌≡◌, ◌∙◌, ◌++◌, ◌∷◌, [], ap, sym, subst, List, ℕ, length, replicate, set, arith}
 use Rattle.disk.specs.declared.update.Update.{Update}
-use Rattle.tree_transaction.specs.Updates.{HasNot, IsFirst, target_of}
+use Rattle.tree_transaction.specs.Updates.{HasNoUpdate, IsFirst, target_of}
 use Rattle.tree_transaction.proofs.UpdateLaws.{set-last, target_of-last, updated-first, updated-none}
 use Rattle.tree_transaction.proofs.updates.place_for.Goals as goal
 
@@ -27,4 +27,4 @@ returns-clause-put c = λ content.
     let update : Update = record { target = c.args.target; content = content } in
     ap (λ (us : List Update). set us c.len-last.result update) (items c) ∙ ap (λ (n : ℕ). set (c.args.list.now.items ++ zeros c.args.target ∷ []) n update) (last c)
     ∙ set-last c.args.list.now.items (zeros c.args.target) update
-    ∙ sym (updated-none c.args.list.now.items update (subst (λ (us : List Update). HasNot c.args.target us) c.deref.ensures.value c.in_default.ensures.none))
+    ∙ sym (updated-none c.args.list.now.items update (subst (λ (us : List Update). HasNoUpdate c.args.target us) c.deref.ensures.value c.in_default.ensures.none))

@@ -2,5 +2,5 @@ use Rattle.std.proofs.Common.{◌≡◌, ◌++◌}
 use Rattle.layout.specs.Rewriting.{all_second}
 use Rattle.volume.proofs.load.all_second.Given as goal
 
-abbrev pub invariant-loop-card : goal.invariant-loop-card
-invariant-loop-card l = l.second.items ++ all_second l.card-iterator.rest.items ≡ all_second l.fn.cards.items
+abbrev pub invariant-loop-cached : goal.invariant-loop-cached
+invariant-loop-cached l = l.second.items ++ all_second l.cached-iterator.rest.items ≡ all_second l.fn.cards.items

@@ -1,7 +1,7 @@
 use Rattle.std.proofs.Common.{drop, map}
-use Rattle.model.specs.Sessions.Seats.{AreApart}
+use Rattle.model.specs.Sessions.Seats.{SeatsApart}
 use Rattle.model.specs.Sessions.SeatViews.{place_view}
 use Rattle.volume_load.proofs.seating.are_apart.Given as goal
 
 abbrev pub invariant-loop-i : goal.invariant-loop-i
-invariant-loop-i l = AreApart (drop l.i (map place_view l.places)) → AreApart (map place_view l.places)
+invariant-loop-i l = SeatsApart (drop l.i (map place_view l.places)) → SeatsApart (map place_view l.places)

@@ -6,20 +6,20 @@ use Rattle.volume_load.proofs.TableLaws.{numbers-take}
 use Rattle.volume_load.proofs.table.numbers_in.Goals as goal
 use Rattle.volume_load.proofs.table.numbers_in.Goals.{in-Some+in_ok-push, in_default}
 
-pub loop-card-preserved : goal.loop-card-preserved
-loop-card-preserved c =
+pub loop-cached-preserved : goal.loop-cached-preserved
+loop-cached-preserved c =
     let cards : List (Option CachedNode) = c.args.cards.now in
-    let i = c.loop-card.card-index in
-    let more = numbers-take cards i c.loop-card-test.true in
-    let there : c.card-item.result ≡ get_or cards i None = c.card-item.is ∙ get_or_default cards i c.card-item.result None c.loop-card-test.true in
-    let grown : (card : Option CachedNode) → c.card-item.result ≡ card → numbers_of (take i cards) ++ numbers_of (card ∷ []) ≡ numbers_of (take (i + 1) cards) =
+    let i = c.loop-cached.cached-index in
+    let more = numbers-take cards i c.loop-cached-test.true in
+    let there : c.cached-item.result ≡ get_or cards i None = c.cached-item.is ∙ get_or_default cards i c.cached-item.result None c.loop-cached-test.true in
+    let grown : (card : Option CachedNode) → c.cached-item.result ≡ card → numbers_of (take i cards) ++ numbers_of (card ∷ []) ≡ numbers_of (take (i + 1) cards) =
     (λ card is. ap (λ (one : Option CachedNode). numbers_of (take i cards) ++ numbers_of (one ∷ [])) (sym is ∙ there) ∙ sym more) in
-    elim c.match-card.branch [
+    elim c.match-cached.branch [
       | in-Some+in_ok-push w ↦
           ap (λ (v : Vec ℕ Global). v.items) w.numbers-is ∙ w.in_ok-push.ensures.items
-          ∙ ap (λ (l : List ℕ). l ++ w.card.inside.inode.number ∷ []) c.loop-card.invariant
-          ∙ ap (λ (number : ℕ). numbers_of (take i cards) ++ number ∷ []) (ap (λ (card : CachedNode). card.fields.number) w.card.view_is)
-          ∙ grown (Some w.in-Some.card) w.in-Some.is
+          ∙ ap (λ (l : List ℕ). l ++ w.cached.inside.inode.number ∷ []) c.loop-cached.invariant
+          ∙ ap (λ (number : ℕ). numbers_of (take i cards) ++ number ∷ []) (ap (λ (card : CachedNode). card.fields.number) w.cached.view_is)
+          ∙ grown (Some w.in-Some.cached) w.in-Some.is
       | in_default w ↦
-          ap (λ (v : Vec ℕ Global). v.items) w.numbers-is ∙ c.loop-card.invariant ∙ sym (append-nil (numbers_of (take i cards))) ∙ grown None w.in_default.is
+          ap (λ (v : Vec ℕ Global). v.items) w.numbers-is ∙ c.loop-cached.invariant ∙ sym (append-nil (numbers_of (take i cards))) ∙ grown None w.in_default.is
     ]

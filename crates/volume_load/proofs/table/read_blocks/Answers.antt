@@ -7,7 +7,7 @@ use Rattle.layout.specs.Marks.{times}
 use Rattle.volume_load.specs.declared.fault.ScanFault.{ScanFault}
 use Rattle.volume_load.specs.CachedNodes.{uses, FindsBlocks}
 use Rattle.volume_load.specs.Marking.{AreMarked, CanMark}
-use Rattle.volume_load.specs.Runs.{AreWithin}
+use Rattle.volume_load.specs.Runs.{SectorsWithin}
 use Rattle.volume_load.proofs.CachedNodeLaws.{sectors_within, blocks_within, one_runs, can_blocks, same_find, same_blocks}
 use Rattle.volume_load.proofs.SectorLaws.{same_fault}
 use Rattle.volume_load.proofs.table.read_blocks.Goals as goal
@@ -16,7 +16,7 @@ pub read_runs-requires-clause-within : goal.read_runs-requires-clause-within
 read_runs-requires-clause-within g c =
     let size = g.S.Sectors.size (g.S.Sectors.kept c.args.sectors.now) in
     let marked = subst (λ (l : List ℕ). AreMarked c.args.first c.args.places.now c.mark_sectors.new.places (λ n. times n l)) c.deref.ensures.value (c.mark_sectors.ensures.marked c.if-not-mark_sectors.false) in
-    subst (λ (l : List ℕ). AreWithin size l) (sym c.deref-2.ensures.value) (sectors_within c.args.first c.args.places.now c.mark_sectors.new.places c.args.inode.now.run_sectors.items size marked c.requires.size)
+    subst (λ (l : List ℕ). SectorsWithin size l) (sym c.deref-2.ensures.value) (sectors_within c.args.first c.args.places.now c.mark_sectors.new.places c.args.inode.now.run_sectors.items size marked c.requires.size)
 
 pub returns-in_err-blocks-clause-damaged : goal.returns-in_err-blocks-clause-damaged
 returns-in_err-blocks-clause-damaged g c = λ word is runs blocks found can.

@@ -20,14 +20,14 @@ returns-in_err-inode-clause-damaged g c = λ word is card found can.
 pub returns-in_default-clause-marked : goal.returns-in_default-clause-marked
 returns-in_default-clause-marked g c = marked_free c.args.first c.args.places.now
 
-pub returns-in_err-card-clause-damaged : goal.returns-in_err-card-clause-damaged
-returns-in_err-card-clause-damaged g c = λ word is card found can.
+pub returns-in_err-cached-clause-damaged : goal.returns-in_err-cached-clause-damaged
+returns-in_err-cached-clause-damaged g c = λ word is card found can.
     let image = g.S.Sectors.image (g.S.Sectors.kept c.args.sectors.now) in
     let inode = c.in-Some.inode in
     let node = subst (λ (o : Option Inode). FindsFields g.S.Sectors.keeps_word c.args.form (image (node_sector c.args.place)) (option_map fields_of o)) c.in-Some.is c.in_ok-inode.ensures.found in
     none_there g.S.Sectors.keeps_word c.args.form image c.args.place c.args.first c.args.places.now (fields_of inode) word node (λ one same rest marks.
-    c.in_err-card.ensures.damaged word (ap (λ (e : ScanFault). Err e) (same_fault c.from_residual-in_err-card.result c.in_err-card.field-0.0 c.from_residual-in_err-card.ensures.1 is)) one same
+    c.in_err-cached.ensures.damaged word (ap (λ (e : ScanFault). Err e) (same_fault c.from_residual-in_err-cached.result c.in_err-cached.field-0.0 c.from_residual-in_err-cached.ensures.1 is)) one same
     (subst (λ kept. FindsRest g.S.Sectors.keeps_word (g.S.Sectors.image kept) one) (sym c.in_ok-inode.ensures.kept) rest) marks) card found can
 
 pub returns-clause-marked : goal.returns-clause-marked
-returns-clause-marked g c = marked_card c.args.first c.args.places.now c.read_card.new.places c.in_ok-card.card c.in_ok-card.ensures.marked
+returns-clause-marked g c = marked_card c.args.first c.args.places.now c.read_card.new.places c.in_ok-cached.cached c.in_ok-cached.ensures.marked

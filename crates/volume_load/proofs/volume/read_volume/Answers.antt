@@ -2,7 +2,7 @@ use Rattle.std.proofs.Common.{◌≡◌, ◌-◌, ◌∙◌, ℕ, Bool, List, le
 use Rattle.std.specs.Prelude.{Err}
 use Rattle.std.proofs.lemmas.Bool.{false≢true}
 use Rattle.std.proofs.lemmas.List.{length-replicate}
-use Rattle.freemap.specs.Places.{Shows}
+use Rattle.freemap.specs.Places.{ShowsPlaces}
 use Rattle.inode.specs.declared.node.Form.{Form}
 use Rattle.layout.specs.Laid.{AreNumbered}
 use Rattle.layout.specs.Stands.{HoldSeats, IsLaid, mark_held, version_by}
@@ -115,8 +115,8 @@ returns-clause-found g c =
     let first = c.in_ok-cards.ensures.kept in
     let second = c.in_ok-check_marks.ensures.kept ∙ first in
     let third = c.in_ok-check_marks-2.ensures.kept ∙ second in
-    let low = subst (λ kept. keeps → Shows (g.S.Sectors.image kept 98) places 0) first c.in_ok-check_marks.ensures.found in
-    let high = subst (λ kept. keeps → Shows (g.S.Sectors.image kept 99) places 32768) second c.in_ok-check_marks-2.ensures.found in
+    let low = subst (λ kept. keeps → ShowsPlaces (g.S.Sectors.image kept 98) places 0) first c.in_ok-check_marks.ensures.found in
+    let high = subst (λ kept. keeps → ShowsPlaces (g.S.Sectors.image kept 99) places 32768) second c.in_ok-check_marks-2.ensures.found in
     let fourth = c.in_ok-check_spare.ensures.kept ∙ third in
     let seats = seats_view c.in_ok-seats.seats in
     let stands = c.in_ok-seats.ensures.stands in

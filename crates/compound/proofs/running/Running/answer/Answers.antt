@@ -7,7 +7,7 @@ use Rattle.model.specs.Server.World.{InProgress, is_last, is_to_hold, kept_by, r
 use Rattle.model.specs.declared.status.Status.{Status}
 use Rattle.session.specs.Views.{table_of}
 use Rattle.compound.specs.EncodedResult.{is_ok, told_text, told_status}
-use Rattle.compound.specs.Views.{Asked, in_progress_of, asked_of, resumed, fits}
+use Rattle.compound.specs.Views.{Asked, in_progress_of, asked_of, resumed, fits_operations}
 use Rattle.compound.proofs.Resuming.{fits_by, fits_ended}
 use Rattle.compound.proofs.Tellings.{ends_told, holds_told, goes_on_told, ok_room}
 use Rattle.compound.proofs.running.Running.answer.Goals.{else-is_ok-via-then-is_ok+else-not-is_last, else-is_ok-via-else-is_ok}
@@ -83,7 +83,7 @@ returns-then-is_to_hold-clause-goes_on c =
     record {
       stays = ap (λ (r : InProgress). r.context.run) pushed;
       further = (c.requires.more, ap (λ (r : InProgress). r.answered) pushed);
-      fits = subst (λ (one : Asked). fits one after.progress ≡ true) c.with_last-running.ensures.asked
+      fits = subst (λ (one : Asked). fits_operations one after.progress ≡ true) c.with_last-running.ensures.asked
           (fits_ended (asked_of after) after.progress (told_status c.args.encoded) ended after.within after.brief);
     }
 

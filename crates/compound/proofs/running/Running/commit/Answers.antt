@@ -1,6 +1,6 @@
 use Rattle.std.proofs.Common.{◌≡◌, true, Result, refl, sym, subst, ◌∙◌, arith, IfOk}
 use Rattle.fs.proofs.ChangeLaws.{changes_by}
-use Rattle.fs.specs.Changes.{Changes}
+use Rattle.fs.specs.Changes.{FsChanges}
 use Rattle.fs.specs.Views.{fs_of, fs_failures}
 use Rattle.model.specs.Operations.Answer.{Outcome, Refused}
 use Rattle.model.specs.Operations.Operation.{Argument, CommitArguments}
@@ -8,7 +8,7 @@ use Rattle.model.specs.Sessions.Opens.{no_opens}
 use Rattle.model.specs.Operations.Step.{State}
 use Rattle.model.specs.declared.status.Status.{Status}
 use Rattle.compound.specs.Files.{committed_answer}
-use Rattle.compound.specs.Operates.{GivesIn, HasRoom, ChangesTreeAndOpens, IsAnswered, IsKept}
+use Rattle.compound.specs.Operates.{GivesIn, HasRoom, ChangesTreeAndOpens, IsAnswered, IsReplyKept}
 use Rattle.compound.specs.States.{shared}
 use Rattle.compound.specs.Trees.{IsHere}
 use Rattle.compound.specs.Volumes.{OperationGives, ending}
@@ -113,7 +113,7 @@ returns-in-Err-commit-clause-answered g c =
 
 pub returns-in-Err-commit-clause-kept : goal.returns-in-Err-commit-clause-kept
 returns-in-Err-commit-clause-kept g c = λ table.
-    subst (λ (r : Result Executed Fault). IfOk r (IsKept table)) (sym c.tell_fault.ensures) (told_kept table 5 c.in-Err-commit.fault)
+    subst (λ (r : Result Executed Fault). IfOk r (IsReplyKept table)) (sym c.tell_fault.ensures) (told_kept table 5 c.in-Err-commit.fault)
 
 pub returns-in-Err-commit-clause-volume : goal.returns-in-Err-commit-clause-volume
 unfolding in_progress_of
@@ -123,7 +123,7 @@ returns-in-Err-commit-clause-volume g c = λ arguments now table opens.
     let request = in_progress_of c.args.self.now in
     let kind = Argument.Commit arguments in
     let step = λ (state : State) (there : IsHere fs request state) (known : state.opens ≡ opens). commit_not_done g.D.Device.keeps_word fs (fs_of c.commit.new.self) state now arguments c.in-Err-commit.fault (c.in-Err-commit.ensures.step state now arguments (is_on fs request _ state c.requires.run c.in-Ok.ensures.ok.0 c.in-Ok.ensures.ok.1 there)) in
-    subst (λ (r : Result Executed Fault). Changes g.D.Device.keeps_word (OperationGives (shared fs table opens) request now kind) fs new (fs_failures c.args.fs.now) (fs_failures c.commit.new.self) (ending r))
+    subst (λ (r : Result Executed Fault). FsChanges g.D.Device.keeps_word (OperationGives (shared fs table opens) request now kind) fs new (fs_failures c.args.fs.now) (fs_failures c.commit.new.self) (ending r))
     (sym c.tell_fault.ensures)
     (told_changes now fs request kind (commit_on_tree now fs request arguments) _ (commit_sized now fs request arguments _ c.has_committed_room-has_room.ensures)
     g.D.Device.keeps_word _ new _ _ c.requires.up _ table opens c.in-Err-commit.fault

@@ -14,7 +14,7 @@ use Rattle.volume.proofs.ServeLaws.{told_err}
 use Rattle.volume.specs.Changes as ends
 use Rattle.wire.specs.AnswerViews as answers
 use Rattle.wire.specs.ArgumentViews.{create_session_view}
-use Rattle.compound.specs.Operates.{GivesIn, IsKept, Operates, RunsTo}
+use Rattle.compound.specs.Operates.{GivesIn, IsReplyKept, Operates, RunsTo}
 use Rattle.compound.specs.States.{shared}
 use Rattle.compound.specs.Views.{in_progress_of}
 use Rattle.compound.proofs.Storing.{seated_as, seated_still, seats_change}
@@ -45,7 +45,7 @@ returns-in_ok-put_seats-in-Ok-New-clause-gives g c = λ now keeps.
     (sym (c.remove_clients.ensures ∙ ap (λ clients. without_clients clients before) c.deref.ensures.value)) runs)
 
 pub returns-in_ok-put_seats-in-Ok-New-clause-kept : goal.returns-in_ok-put_seats-in-Ok-New-clause-kept
-returns-in_ok-put_seats-in-Ok-New-clause-kept g c = subst (IsKept (table_of c.add_session-created.new.self)) (sym c.answer_first-done.ensures.is) tt
+returns-in_ok-put_seats-in-Ok-New-clause-kept g c = subst (IsReplyKept (table_of c.add_session-created.new.self)) (sym c.answer_first-done.ensures.is) tt
 
 pub returns-in_ok-put_seats-in-Ok-New-clause-volume : goal.returns-in_ok-put_seats-in-Ok-New-clause-volume
 unfolding in_progress_of
@@ -110,7 +110,7 @@ returns-in-Ok-Again-clause-gives g c = λ now keeps.
     (subst (λ (opens : Opens). RunsTo now (shared fs old before) (shared fs old opens) request request kind (Done (Answer.CreateSession known))) (none_ended before) runs))
 
 pub returns-in-Ok-Again-clause-kept : goal.returns-in-Ok-Again-clause-kept
-returns-in-Ok-Again-clause-kept g c = subst (IsKept (table_of c.plan_session.new.self)) (sym c.answer_first.ensures.is) tt
+returns-in-Ok-Again-clause-kept g c = subst (IsReplyKept (table_of c.plan_session.new.self)) (sym c.answer_first.ensures.is) tt
 
 pub returns-in-Ok-Again-clause-volume : goal.returns-in-Ok-Again-clause-volume
 unfolding in_progress_of

@@ -7,7 +7,7 @@ use Rattle.model.specs.Sessions.Session.{destroy_session}
 use Rattle.session.specs.Views.{table_of}
 use Rattle.volume.proofs.ServeLaws.{told_err}
 use Rattle.volume.specs.Changes as ends
-use Rattle.compound.specs.Operates.{GivesIn, IsKept, Operates}
+use Rattle.compound.specs.Operates.{GivesIn, IsReplyKept, Operates}
 use Rattle.compound.specs.States.{shared}
 use Rattle.compound.specs.Views.{in_progress_of}
 use Rattle.compound.proofs.Storing.{seated_as, seated_still, seats_change}
@@ -28,7 +28,7 @@ returns-in_ok-put_seats-in-Ok-clause-gives g c = λ now opens keeps.
     (destroy_runs now fs new old table opens request id (destroy_done id old table planned.done (c.end_session.ensures planned.done)) (c.in_ok-put_seats-in-Ok.ensures.same keeps))
 
 pub returns-in_ok-put_seats-in-Ok-clause-kept : goal.returns-in_ok-put_seats-in-Ok-clause-kept
-returns-in_ok-put_seats-in-Ok-clause-kept g c = subst (IsKept (table_of c.end_session.new.self)) (sym c.answer_first-done.ensures.is) tt
+returns-in_ok-put_seats-in-Ok-clause-kept g c = subst (IsReplyKept (table_of c.end_session.new.self)) (sym c.answer_first-done.ensures.is) tt
 
 pub returns-in_ok-put_seats-in-Ok-clause-volume : goal.returns-in_ok-put_seats-in-Ok-clause-volume
 unfolding in_progress_of

@@ -5,7 +5,7 @@ use Rattle.model.specs.Sessions.Opens.{Opens}
 use Rattle.model.specs.Operations.Operation.{StateId}
 use Rattle.model.specs.Sessions.StateIds.{opened}
 use Rattle.model.specs.Server.World.{reply_with}
-use Rattle.opens.specs.Views.{named_by, open_of, opens_of}
+use Rattle.opens.specs.Views.{opened_stateid, open_of, opens_of}
 use Rattle.wire.specs.SmallViews.{change_view, state_view}
 use Rattle.compound.specs.Beside.{opened_answer}
 use Rattle.compound.specs.Operates.{GivesIn, HasRoom, RunsTo}
@@ -26,11 +26,11 @@ returns-clause-gives c = λ now old new operation same runs.
     (sym c.opened.ensures.is)
     (subst (λ (state : StateId). GivesIn now old new request (record request { context = at_opened request.context asked.number state }) operation (Done (opened_answer state change c.args.was_set)))
     (sym c.open-state.ensures.state)
-    (gives_in_room now old new request (record request { context = at_opened request.context asked.number (named_by request.context.run made) }) operation
-    (opened_answer (named_by request.context.run made) change c.args.was_set)
+    (gives_in_room now old new request (record request { context = at_opened request.context asked.number (opened_stateid request.context.run made) }) operation
+    (opened_answer (opened_stateid request.context.run made) change c.args.was_set)
     (opened_room request request.context.run made.serial made.state.seqid change c.args.was_set true c.requires.short)
-    (subst (λ (opens : Opens). let state = opened opens asked in RunsTo now old new request (record request { context = at_opened request.context asked.number (named_by request.context.run state) }) operation
-    (Done (opened_answer (named_by request.context.run state) change c.args.was_set))) same runs)))
+    (subst (λ (opens : Opens). let state = opened opens asked in RunsTo now old new request (record request { context = at_opened request.context asked.number (opened_stateid request.context.run state) }) operation
+    (Done (opened_answer (opened_stateid request.context.run state) change c.args.was_set))) same runs)))
 
 pub returns-clause-answered : goal.returns-clause-answered
 unfolding in_progress_of

@@ -12,10 +12,10 @@ use Rattle.model.specs.Operations.Operation.{Argument, ChangeInfo, NoCreate}
 use Rattle.model.specs.Sessions.StateIds.{is_table_full, new_open, opened}
 use Rattle.model.specs.declared.status.Status.{Status}
 use Rattle.model.specs.declared.status.Status.TheVariants as status
-use Rattle.opens.specs.Views.{named_by, open_of, opens_of}
+use Rattle.opens.specs.Views.{opened_stateid, open_of, opens_of}
 use Rattle.wire.specs.ArgumentViews.{open_type_view, open_view}
 use Rattle.wire.specs.SmallViews.{change_view}
-use Rattle.compound.specs.Beside.{has_opened_room, opened_answer, OpensTo}
+use Rattle.compound.specs.Beside.{has_opened_room, opened_answer, ComesToOpen}
 use Rattle.compound.specs.Operates.{GivesIn, Operates}
 use Rattle.compound.specs.States.{shared}
 use Rattle.compound.specs.Views.{in_progress_of}
@@ -106,8 +106,8 @@ returns-then-not-has_opened_room-clause-gives g c = λ now table.
     c.refuse-then-not-has_opened_room.ensures.gives now (shared fs table opens) (shared fs table left) kind
     (subst (λ (after : Opens). GivesIn now (shared fs table opens) (shared fs table after) request request kind (Refused 18 status.RepTooBig)) (sym c.in_ok-reserve.ensures.same)
     (refused_in_room now (shared fs table opens) (shared fs table made.opens) request
-    (record request { context = at_opened request.context c.in-Ok.number (named_by request.context.run made) }) kind
-    (opened_answer (named_by request.context.run made) (info_of (current_opened c.in-Ok.number).directory) [])
+    (record request { context = at_opened request.context c.in-Ok.number (opened_stateid request.context.run made) }) kind
+    (opened_answer (opened_stateid request.context.run made) (info_of (current_opened c.in-Ok.number).directory) [])
     (opened_room request request.context.run made.serial made.state.seqid (info_of (current_opened c.in-Ok.number).directory) [] false (c.if-not-has_opened_room.ensures ∙ ap (has_opened_room request) c.new.ensures))
     (opens_to now fs request arguments fs table opens NoCreate c.in-Ok.number (current_opened c.in-Ok.number) refl
     (λ state there known. (c.in-Ok-open_current.ensures.step state now arguments (is_on fs request c.in-Ok.number state c.requires.run c.in-Ok.ensures.ok.0 c.in-Ok.ensures.ok.1 there)
@@ -139,7 +139,7 @@ returns-else-not-has_opened_room-clause-gives g c = λ now table.
     let given = ap (λ (held : Opens). (opened held one).opens) same ∙ ap (λ (it : Open). (opened opens it).opens) c.in_ok-asked.ensures.ok in
     subst (λ (after : Opens). Operates now (shared fs table opens) (shared fs table after) request kind c.give_open.result) (sym (c.give_open.ensures.opens ∙ given))
     (c.give_open.ensures.gives now (shared fs table opens) (shared fs table (opened opens asked).opens) kind (sym same)
-    (subst (λ (words : List ℕ). OpensTo now (shared fs table opens) (shared fs table (opened opens asked).opens) request one (change_view c.change_info.result) words kind) (sym c.new-in-Ok-open_current.ensures)
-    (subst (λ (it : Open). OpensTo now (shared fs table opens) (shared fs table (opened opens asked).opens) request it (change_view c.change_info.result) [] kind) (sym c.in_ok-asked.ensures.ok)
-    (subst (λ (change : ChangeInfo). OpensTo now (shared fs table opens) (shared fs table (opened opens asked).opens) request asked change [] kind) (sym c.change_info.ensures)
+    (subst (λ (words : List ℕ). ComesToOpen now (shared fs table opens) (shared fs table (opened opens asked).opens) request one (change_view c.change_info.result) words kind) (sym c.new-in-Ok-open_current.ensures)
+    (subst (λ (it : Open). ComesToOpen now (shared fs table opens) (shared fs table (opened opens asked).opens) request it (change_view c.change_info.result) [] kind) (sym c.in_ok-asked.ensures.ok)
+    (subst (λ (change : ChangeInfo). ComesToOpen now (shared fs table opens) (shared fs table (opened opens asked).opens) request asked change [] kind) (sym c.change_info.ensures)
     to))))

@@ -1,8 +1,8 @@
 use Rattle.std.proofs.Common.{◌≡◌, ℕ, List, Result, refl, sym, ap, subst, ◌∙◌, arith, IfOk}
 use Rattle.fs.proofs.ChangeLaws.{changes_by}
-use Rattle.fs.specs.Changes.{Changes}
+use Rattle.fs.specs.Changes.{FsChanges}
 use Rattle.fs.specs.Views.{fs_of, fs_failures}
-use Rattle.fs.specs.Opening.{after_open, effect_of, has_room, set_by, type_of}
+use Rattle.fs.specs.Opening.{after_open, open_effect, has_open_room, set_by, type_of}
 use Rattle.fs.specs.Operations.{does_on}
 use Rattle.fs.specs.Renaming.{info_of}
 use Rattle.model.specs.declared.limits.Limits.{Limits}
@@ -14,7 +14,7 @@ use Rattle.model.specs.declared.status.Status.{Status}
 use Rattle.opens.specs.Views.{open_of, opens_of}
 use Rattle.wire.specs.ArgumentViews.{open_type_view, open_view}
 use Rattle.wire.specs.SmallViews.{change_view}
-use Rattle.compound.specs.Beside.{has_opened_room, OpensTo}
+use Rattle.compound.specs.Beside.{has_opened_room, ComesToOpen}
 use Rattle.compound.specs.Operates.{GivesIn, Operates, ChangesTreeAndOpens, IsAnswered}
 use Rattle.compound.specs.States.{shared}
 use Rattle.compound.specs.Volumes.{OperationGives, ending}
@@ -96,9 +96,9 @@ returns-in-Ok-open_file-clause-gives g c = λ keeps table.
     c.in-Some.ensures) state there known) keeps)) in
     subst (λ (after : Opens). Operates c.args.now (shared fs table opens) (shared new table after) request kind c.give_open.result) (sym (c.give_open.ensures.opens ∙ given))
     (c.give_open.ensures.gives c.args.now (shared fs table opens) (shared new table (opened opens asked).opens) kind (sym same)
-    (subst (λ (it : Open). OpensTo c.args.now (shared fs table opens) (shared new table (opened opens asked).opens) request it (change_view c.change_info-change.result) c.set_by.result kind) (sym c.in_ok-asked.ensures.ok)
-    (subst (λ (change : ChangeInfo). OpensTo c.args.now (shared fs table opens) (shared new table (opened opens asked).opens) request asked change c.set_by.result kind) (sym c.change_info-change.ensures)
-    (subst (λ (words : List ℕ). OpensTo c.args.now (shared fs table opens) (shared new table (opened opens asked).opens) request asked (info_of made.directory) words kind) (sym c.set_by.ensures.is)
+    (subst (λ (it : Open). ComesToOpen c.args.now (shared fs table opens) (shared new table (opened opens asked).opens) request it (change_view c.change_info-change.result) c.set_by.result kind) (sym c.in_ok-asked.ensures.ok)
+    (subst (λ (change : ChangeInfo). ComesToOpen c.args.now (shared fs table opens) (shared new table (opened opens asked).opens) request asked change c.set_by.result kind) (sym c.change_info-change.ensures)
+    (subst (λ (words : List ℕ). ComesToOpen c.args.now (shared fs table opens) (shared new table (opened opens asked).opens) request asked (info_of made.directory) words kind) (sym c.set_by.ensures.is)
     to))))
 
 pub returns-in-Ok-open_file-clause-volume : goal.returns-in-Ok-open_file-clause-volume
@@ -118,9 +118,9 @@ returns-in-Ok-open_file-clause-volume g c = λ table.
     (record { directory = c.in-Ok.number; name = c.args.name; share = c.share_of.result; how = c.how_of.result }) c.in-Ok.ensures.ok.1 (sym c.share_of.ensures.access) (sym c.share_of.ensures.deny)
     (c.requires.opening ∙ ap (λ (of : OpenType). Opens_as of (ByName c.args.name.now)) (sym c.how_of.ensures.is))
     c.in-Some.ensures)
-    (has_room fs (record { directory = c.in-Ok.number; name = c.args.name; share = c.share_of.result; how = c.how_of.result }) c.open_room-room.result) (sized c.args.now fs request arguments how c.args.name.now c.in-Ok.number c.requires.opening c.in-Ok.ensures.ok.1 (has_room fs (record { directory = c.in-Ok.number; name = c.args.name; share = c.share_of.result; how = c.how_of.result }) c.open_room-room.result)
-    (c.open_room-room.ensures (effect_of fs.volume.tree c.in-Ok.number c.args.name.now (type_of c.how_of.result))
-    ∙ ap (λ (of : OpenType). has_opened_room request (set_by (effect_of fs.volume.tree c.in-Ok.number c.args.name.now of) how)) c.how_of.ensures.is)) c.in-Ok-open_file.ensures.room.done)
+    (has_open_room fs (record { directory = c.in-Ok.number; name = c.args.name; share = c.share_of.result; how = c.how_of.result }) c.open_room-room.result) (sized c.args.now fs request arguments how c.args.name.now c.in-Ok.number c.requires.opening c.in-Ok.ensures.ok.1 (has_open_room fs (record { directory = c.in-Ok.number; name = c.args.name; share = c.share_of.result; how = c.how_of.result }) c.open_room-room.result)
+    (c.open_room-room.ensures (open_effect fs.volume.tree c.in-Ok.number c.args.name.now (type_of c.how_of.result))
+    ∙ ap (λ (of : OpenType). has_opened_room request (set_by (open_effect fs.volume.tree c.in-Ok.number c.args.name.now of) how)) c.how_of.ensures.is)) c.in-Ok-open_file.ensures.room.done)
     _ _ _ _ _ c.in-Ok-open_file.ensures.volume
 
 -- Where it is not
@@ -154,9 +154,9 @@ returns-in-Err-open_file-clause-gives g c = λ keeps.
     let how = open_type_view c.args.how.now in
     let left = opens_of c.reserve.new.self in
     subst (λ (r : Result Executed Fault). IfOk r (ChangesTreeAndOpens fs new opens left c.args.now request kind)) (sym c.tell_fault.ensures)
-    (told_gives c.args.now fs request kind (on_tree c.args.now request arguments) _ (sized c.args.now fs request arguments how c.args.name.now c.in-Ok.number c.requires.opening c.in-Ok.ensures.ok.1 (has_room fs (record { directory = c.in-Ok.number; name = c.args.name; share = c.share_of.result; how = c.how_of.result }) c.open_room-room.result)
-    (c.open_room-room.ensures (effect_of fs.volume.tree c.in-Ok.number c.args.name.now (type_of c.how_of.result))
-    ∙ ap (λ (of : OpenType). has_opened_room request (set_by (effect_of fs.volume.tree c.in-Ok.number c.args.name.now of) how)) c.how_of.ensures.is))
+    (told_gives c.args.now fs request kind (on_tree c.args.now request arguments) _ (sized c.args.now fs request arguments how c.args.name.now c.in-Ok.number c.requires.opening c.in-Ok.ensures.ok.1 (has_open_room fs (record { directory = c.in-Ok.number; name = c.args.name; share = c.share_of.result; how = c.how_of.result }) c.open_room-room.result)
+    (c.open_room-room.ensures (open_effect fs.volume.tree c.in-Ok.number c.args.name.now (type_of c.how_of.result))
+    ∙ ap (λ (of : OpenType). has_opened_room request (set_by (open_effect fs.volume.tree c.in-Ok.number c.args.name.now of) how)) c.how_of.ensures.is))
     g.D.Device.keeps_word _ new _ _ c.requires.up _ opens left c.in-Err-open_file.fault c.in_ok-reserve.ensures.same
     (λ state there known. c.in-Err-open_file.ensures.step state arguments (is_on fs request c.in-Ok.number state c.requires.run c.in-Ok.ensures.ok.0 c.in-Ok.ensures.ok.1 there)
     ((is_opening c.args.now fs request arguments opens c.requires.run c.in-Ok.ensures.ok.0 c.in-Some.number c.limits.result.now.opens c.is_full-is_full.result (open_of c.in_ok-asked.asked)
@@ -195,10 +195,10 @@ returns-in-Err-open_file-clause-volume g c = λ table.
     let kind = Argument.Open arguments in
     let new = fs_of c.open_file.new.self in
     let how = open_type_view c.args.how.now in
-    subst (λ (r : Result Executed Fault). Changes g.D.Device.keeps_word (OperationGives (shared fs table opens) request c.args.now kind) fs new (fs_failures c.args.fs.now) (fs_failures c.open_file.new.self) (ending r)) (sym c.tell_fault.ensures)
-    (told_changes c.args.now fs request kind (on_tree c.args.now request arguments) _ (sized c.args.now fs request arguments how c.args.name.now c.in-Ok.number c.requires.opening c.in-Ok.ensures.ok.1 (has_room fs (record { directory = c.in-Ok.number; name = c.args.name; share = c.share_of.result; how = c.how_of.result }) c.open_room-room.result)
-    (c.open_room-room.ensures (effect_of fs.volume.tree c.in-Ok.number c.args.name.now (type_of c.how_of.result))
-    ∙ ap (λ (of : OpenType). has_opened_room request (set_by (effect_of fs.volume.tree c.in-Ok.number c.args.name.now of) how)) c.how_of.ensures.is))
+    subst (λ (r : Result Executed Fault). FsChanges g.D.Device.keeps_word (OperationGives (shared fs table opens) request c.args.now kind) fs new (fs_failures c.args.fs.now) (fs_failures c.open_file.new.self) (ending r)) (sym c.tell_fault.ensures)
+    (told_changes c.args.now fs request kind (on_tree c.args.now request arguments) _ (sized c.args.now fs request arguments how c.args.name.now c.in-Ok.number c.requires.opening c.in-Ok.ensures.ok.1 (has_open_room fs (record { directory = c.in-Ok.number; name = c.args.name; share = c.share_of.result; how = c.how_of.result }) c.open_room-room.result)
+    (c.open_room-room.ensures (open_effect fs.volume.tree c.in-Ok.number c.args.name.now (type_of c.how_of.result))
+    ∙ ap (λ (of : OpenType). has_opened_room request (set_by (open_effect fs.volume.tree c.in-Ok.number c.args.name.now of) how)) c.how_of.ensures.is))
     g.D.Device.keeps_word _ new _ _ c.requires.up _ table opens c.in-Err-open_file.fault
     (λ state there known. c.in-Err-open_file.ensures.step state arguments (is_on fs request c.in-Ok.number state c.requires.run c.in-Ok.ensures.ok.0 c.in-Ok.ensures.ok.1 there)
     ((is_opening c.args.now fs request arguments opens c.requires.run c.in-Ok.ensures.ok.0 c.in-Some.number c.limits.result.now.opens c.is_full-is_full.result (open_of c.in_ok-asked.asked)
@@ -223,7 +223,7 @@ returns-in-Err-open_file-clause-volume g c = λ table.
     (record { directory = c.in-Ok.number; name = c.args.name; share = c.share_of.result; how = c.how_of.result }) c.in-Ok.ensures.ok.1 (sym c.share_of.ensures.access) (sym c.share_of.ensures.deny)
     (c.requires.opening ∙ ap (λ (of : OpenType). Opens_as of (ByName c.args.name.now)) (sym c.how_of.ensures.is))
     c.in-Some.ensures)
-    (has_room fs (record { directory = c.in-Ok.number; name = c.args.name; share = c.share_of.result; how = c.how_of.result }) c.open_room-room.result) (sized c.args.now fs request arguments how c.args.name.now c.in-Ok.number c.requires.opening c.in-Ok.ensures.ok.1 (has_room fs (record { directory = c.in-Ok.number; name = c.args.name; share = c.share_of.result; how = c.how_of.result }) c.open_room-room.result)
-    (c.open_room-room.ensures (effect_of fs.volume.tree c.in-Ok.number c.args.name.now (type_of c.how_of.result))
-    ∙ ap (λ (of : OpenType). has_opened_room request (set_by (effect_of fs.volume.tree c.in-Ok.number c.args.name.now of) how)) c.how_of.ensures.is)))
+    (has_open_room fs (record { directory = c.in-Ok.number; name = c.args.name; share = c.share_of.result; how = c.how_of.result }) c.open_room-room.result) (sized c.args.now fs request arguments how c.args.name.now c.in-Ok.number c.requires.opening c.in-Ok.ensures.ok.1 (has_open_room fs (record { directory = c.in-Ok.number; name = c.args.name; share = c.share_of.result; how = c.how_of.result }) c.open_room-room.result)
+    (c.open_room-room.ensures (open_effect fs.volume.tree c.in-Ok.number c.args.name.now (type_of c.how_of.result))
+    ∙ ap (λ (of : OpenType). has_opened_room request (set_by (open_effect fs.volume.tree c.in-Ok.number c.args.name.now of) how)) c.how_of.ensures.is)))
     c.in-Err-open_file.ensures.volume)

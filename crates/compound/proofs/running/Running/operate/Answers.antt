@@ -8,7 +8,7 @@ use Rattle.opens.specs.Views.{opens_of}
 use Rattle.session.specs.Views.{table_of, reply_kept}
 use Rattle.wire.specs.ArgumentView.{argument_view}
 use Rattle.fs.specs.FileSystem.{FileSystem}
-use Rattle.compound.specs.Operates.{Operates, OnlyReads, ChangesTableAndOpens, ChangesTreeAndOpens, IsKept}
+use Rattle.compound.specs.Operates.{Operates, OnlyReads, ChangesTableAndOpens, ChangesTreeAndOpens, IsReplyKept}
 use Rattle.compound.specs.States.{SharedState, shared, shared_of}
 use Rattle.compound.specs.declared.fault.Fault.{Fault}
 use Rattle.compound.specs.declared.executed.Executed.{Executed}
@@ -178,7 +178,7 @@ returns-in-CreateSession-clause-volume g c = rw c.in-CreateSession.is (c.create_
 
 -- A reply that is sent again is there
 
-kept_of : (now : ℕ) (old new : SharedState) (request : InProgress) (operation : Argument) (done : Executed) → Operates now old new request operation done → IsKept new.table done
+kept_of : (now : ℕ) (old new : SharedState) (request : InProgress) (operation : Argument) (done : Executed) → Operates now old new request operation done → IsReplyKept new.table done
 kept_of now old new request operation (execution.Gives outcome left) runs = tt
 kept_of now old new request operation (execution.GivesSpelled kind values) runs = tt
 kept_of now old new request operation (execution.Replays slot) runs = (runs.0, ap (λ (s : SharedState). reply_kept slot.session slot.slot s.table) runs.1 ∙ runs.2)
@@ -191,7 +191,7 @@ told_if now files table opens request operation (Ok done) reads = reads now tabl
 told_if now files table opens request operation (Err fault) reads = tt
 
 told_kept : (now : ℕ) (files : FileSystem) (table : Table) (opens : Opens) (request : InProgress) (operation : Argument) (result : Result Executed Fault)
-    → IfOk result (OnlyReads files request operation) → IfOk result (IsKept table)
+    → IfOk result (OnlyReads files request operation) → IfOk result (IsReplyKept table)
 told_kept now files table opens request operation (Ok done) reads = kept_of now (shared files table opens) (shared files table opens) request operation done (reads now table opens)
 told_kept now files table opens request operation (Err fault) reads = tt
 
@@ -266,7 +266,7 @@ returns-in-ReclaimComplete-clause-gives g c = λ keeps. rw c.in-ReclaimComplete.
 -- A reply that is sent again is there
 
 kept_if : (now : ℕ) (files : FileSystem) (old new : Table) (before after : Opens) (request : InProgress) (operation : Argument) (result : Result Executed Fault)
-    → IfOk result (ChangesTableAndOpens old new before after request operation) → IfOk result (IsKept new)
+    → IfOk result (ChangesTableAndOpens old new before after request operation) → IfOk result (IsReplyKept new)
 kept_if now files old new before after request operation (Ok done) runs = kept_of now (shared files old before) (shared files new after) request operation done (runs now files)
 kept_if now files old new before after request operation (Err fault) runs = tt
 

@@ -1,5 +1,5 @@
 use Rattle.std.proofs.Common.{◌≡◌, ◌<◌, ◌^◌, Bool, length, min, drop, Result, IfOk, refl, sym, subst, arith, length-take}
-use Rattle.fs.specs.Changes.{Changes}
+use Rattle.fs.specs.Changes.{FsChanges}
 use Rattle.fs.specs.FileSystem.{FileSystem}
 use Rattle.fs.specs.Views.{fs_of, fs_failures}
 use Rattle.fs.specs.Reading.{part_at}
@@ -129,7 +129,7 @@ returns-in-Err-read-clause-volume g c = λ now table.
     let opens = opens_of c.args.opens.now in
     let request = in_progress_of c.args.self.now in
     let arguments = read_view c.args.arguments.now in
-    subst (λ (r : Result Executed Fault). Changes g.D.Device.keeps_word (OperationGives (shared fs table opens) request now (Argument.Read arguments)) fs new (fs_failures c.args.fs.now) (fs_failures c.read.new.self) (ending r))
+    subst (λ (r : Result Executed Fault). FsChanges g.D.Device.keeps_word (OperationGives (shared fs table opens) request now (Argument.Read arguments)) fs new (fs_failures c.args.fs.now) (fs_failures c.read.new.self) (ending r))
     (sym c.tell_fault.ensures)
     (told_changes now fs opens request arguments g.D.Device.keeps_word new _ _ Bool table c.in-Err-read.fault c.requires.up
     (λ state there known. c.in-Err-read.ensures.step state now arguments.state (is_on fs request c.in-Ok.number state c.requires.run c.in-Ok.ensures.ok.0 c.in-Ok.ensures.ok.1 there)

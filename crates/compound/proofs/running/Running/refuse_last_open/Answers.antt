@@ -1,8 +1,8 @@
 use Rattle.std.proofs.Common.{◌≡◌, ◌≤◌, ◌<◌, ◌^◌, ℕ, Bool, Result, refl, sym, ap, subst, ◌∙◌, arith, IfOk}
-use Rattle.fs.specs.Changes.{Changes}
+use Rattle.fs.specs.Changes.{FsChanges}
 use Rattle.fs.specs.FileSystem.{FileSystem}
 use Rattle.fs.specs.Views.{fs_of, fs_failures}
-use Rattle.fs.specs.Opening.{IsFileToOpen, IsOpening, effect_of, has_room, set_by, type_of}
+use Rattle.fs.specs.Opening.{IsFileToOpen, IsOpening, open_effect, has_open_room, set_by, type_of}
 use Rattle.fs.specs.declared.opening.Opening.{Opening as Asked}
 use Rattle.model.specs.declared.limits.Limits.{Limits}
 use Rattle.model.specs.Sessions.Opens.{Open, Opens}
@@ -92,12 +92,12 @@ returns-clause-gives g c = λ keeps.
     let how = open_type_view c.args.how.now in
     let number = c.requires.high.0 in
     let asked = new_open request.context.client arguments.owner number arguments.access in
-    let room = has_room fs c.args.opening c.open_room-room.result in
+    let room = has_open_room fs c.args.opening c.open_room-room.result in
     subst (λ (r : Result Executed Fault). IfOk r (ChangesTreeAndOpens fs new opens opens c.args.now request kind)) (sym c.tell_fault.ensures)
     (told_gives c.args.now fs request kind (on_tree c.args.now request arguments) room
     (sized c.args.now fs request arguments (type_of c.args.opening.how) c.args.opening.name.now c.args.opening.directory c.requires.asked.opening c.requires.asked.at room
-    (c.open_room-room.ensures (effect_of fs.volume.tree c.args.opening.directory c.args.opening.name.now (type_of c.args.opening.how))
-    ∙ ap (λ (of : OpenType). has_opened_room request (set_by (effect_of fs.volume.tree c.args.opening.directory c.args.opening.name.now (type_of c.args.opening.how)) of)) (sym c.requires.asked.how)))
+    (c.open_room-room.ensures (open_effect fs.volume.tree c.args.opening.directory c.args.opening.name.now (type_of c.args.opening.how))
+    ∙ ap (λ (of : OpenType). has_opened_room request (set_by (open_effect fs.volume.tree c.args.opening.directory c.args.opening.name.now (type_of c.args.opening.how)) of)) (sym c.requires.asked.how)))
     g.D.Device.keeps_word _ new _ _ c.requires.up _ opens opens c.in-Err.fault refl
     (λ state there known. c.in-Err.ensures.step state arguments (is_on fs request c.args.opening.directory state c.requires.run c.requires.asked.has c.requires.asked.at there)
     (opening_by c.args.now fs request arguments opens how c.args.opening c.requires.run c.requires.asked number c.limits.result.now.opens c.has_no_room-is_full.result
@@ -116,16 +116,16 @@ returns-clause-volume g c = λ table.
     let how = open_type_view c.args.how.now in
     let number = c.requires.high.0 in
     let asked = new_open request.context.client arguments.owner number arguments.access in
-    let room = has_room fs c.args.opening c.open_room-room.result in
+    let room = has_open_room fs c.args.opening c.open_room-room.result in
     let opening : (state : State) → IsHere fs request state → state.opens ≡ opens → IsOpening fs state c.args.opening c.has_no_room-is_full.result arguments =
     opening_by c.args.now fs request arguments opens how c.args.opening c.requires.run c.requires.asked number c.limits.result.now.opens c.has_no_room-is_full.result
     c.requires.high.2 (ap (λ (limits : Limits). limits.opens) c.limits.ensures) (c.has_no_room-is_full.ensures.high asked c.requires.high.1) in
     let step = λ (state : State) (there : IsHere fs request state) (known : state.opens ≡ opens).
     c.in-Err.ensures.step state arguments (is_on fs request c.args.opening.directory state c.requires.run c.requires.asked.has c.requires.asked.at there) (opening state there known) in
     let fits = sized c.args.now fs request arguments (type_of c.args.opening.how) c.args.opening.name.now c.args.opening.directory c.requires.asked.opening c.requires.asked.at room
-    (c.open_room-room.ensures (effect_of fs.volume.tree c.args.opening.directory c.args.opening.name.now (type_of c.args.opening.how))
-    ∙ ap (λ (of : OpenType). has_opened_room request (set_by (effect_of fs.volume.tree c.args.opening.directory c.args.opening.name.now (type_of c.args.opening.how)) of)) (sym c.requires.asked.how)) in
-    subst (λ (r : Result Executed Fault). Changes g.D.Device.keeps_word (OperationGives (shared fs table opens) request c.args.now kind) fs new (fs_failures c.args.fs.now) (fs_failures c.open_file.new.self) (ending r)) (sym c.tell_fault.ensures)
+    (c.open_room-room.ensures (open_effect fs.volume.tree c.args.opening.directory c.args.opening.name.now (type_of c.args.opening.how))
+    ∙ ap (λ (of : OpenType). has_opened_room request (set_by (open_effect fs.volume.tree c.args.opening.directory c.args.opening.name.now (type_of c.args.opening.how)) of)) (sym c.requires.asked.how)) in
+    subst (λ (r : Result Executed Fault). FsChanges g.D.Device.keeps_word (OperationGives (shared fs table opens) request c.args.now kind) fs new (fs_failures c.args.fs.now) (fs_failures c.open_file.new.self) (ending r)) (sym c.tell_fault.ensures)
     (told_changes c.args.now fs request kind (on_tree c.args.now request arguments) room fits
     g.D.Device.keeps_word _ new _ _ c.requires.up _ table opens c.in-Err.fault step (open_up c.args.now fs request arguments opens c.in-Err.fault c.requires.up step)
     c.in-Err.ensures.room.refused c.in-Err.ensures.room.device

@@ -8,13 +8,13 @@ use Rattle.model.specs.Sessions.StateIds.{without_number}
 use Rattle.wire.specs.OutcomeView.{outcome_view}
 use Rattle.model.specs.declared.status.Status.{Status}
 use Rattle.opens.specs.Views.{opens_of}
-use Rattle.compound.specs.Operates.{GivesIn, HasRoom, ChangesTreeAndOpens, IsAnswered, IsKept}
+use Rattle.compound.specs.Operates.{GivesIn, HasRoom, ChangesTreeAndOpens, IsAnswered, IsReplyKept}
 use Rattle.compound.specs.States.{shared}
 use Rattle.compound.specs.Volumes.{OperationGives, ending}
 use Rattle.compound.specs.Views.{in_progress_of}
 use Rattle.compound.specs.declared.fault.Fault.{Fault}
 use Rattle.compound.specs.declared.executed.Executed.{Executed}
-use Rattle.fs.specs.Changes.{Changes}
+use Rattle.fs.specs.Changes.{FsChanges}
 use Rattle.compound.proofs.Changing.{done_runs, told_gives, told_changes, told_spelled, told_kept, is_short}
 use Rattle.compound.proofs.Rooms.{gives_in_room, gives_refusal}
 use Rattle.compound.specs.Trees.{removed_answer}
@@ -118,7 +118,7 @@ returns-in-Err-remove-clause-answered g c =
 
 pub returns-in-Err-remove-clause-kept : goal.returns-in-Err-remove-clause-kept
 returns-in-Err-remove-clause-kept g c = λ table.
-    subst (λ (r : Result Executed Fault). IfOk r (IsKept table)) (sym c.tell_fault.ensures) (told_kept table 28 c.in-Err-remove.fault)
+    subst (λ (r : Result Executed Fault). IfOk r (IsReplyKept table)) (sym c.tell_fault.ensures) (told_kept table 28 c.in-Err-remove.fault)
 
 pub returns-in-Err-remove-clause-volume : goal.returns-in-Err-remove-clause-volume
 unfolding in_progress_of
@@ -128,7 +128,7 @@ returns-in-Err-remove-clause-volume g c = λ table.
     let new = fs_of c.remove.new.self in
     let request = in_progress_of c.args.self.now in
     let name = c.args.name.now in
-    subst (λ (r : Result Executed Fault). Changes g.D.Device.keeps_word (OperationGives (shared fs table opens) request c.args.now (Argument.Remove name)) fs new (fs_failures c.args.fs.now) (fs_failures c.remove.new.self) (ending r))
+    subst (λ (r : Result Executed Fault). FsChanges g.D.Device.keeps_word (OperationGives (shared fs table opens) request c.args.now (Argument.Remove name)) fs new (fs_failures c.args.fs.now) (fs_failures c.remove.new.self) (ending r))
     (sym c.tell_fault.ensures)
     (told_changes c.args.now fs request (Argument.Remove name) (on_tree c.args.now fs request name) _ (sized c.args.now fs request name _ c.has_removed_room-has_room.ensures)
     g.D.Device.keeps_word _ new _ _ c.requires.up _ table opens c.in-Err-remove.fault

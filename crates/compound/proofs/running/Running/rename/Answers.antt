@@ -4,13 +4,13 @@ use Rattle.fs.proofs.ChangeLaws.{changes_by}
 use Rattle.model.specs.Operations.Answer.{Outcome}
 use Rattle.model.specs.Operations.Operation.{Argument}
 use Rattle.opens.specs.Views.{opens_of}
-use Rattle.compound.specs.Operates.{GivesIn, HasRoom, ChangesTreeAndOpens, IsAnswered, IsKept}
+use Rattle.compound.specs.Operates.{GivesIn, HasRoom, ChangesTreeAndOpens, IsAnswered, IsReplyKept}
 use Rattle.compound.specs.States.{shared}
 use Rattle.compound.specs.Volumes.{OperationGives, ending}
 use Rattle.compound.specs.Views.{in_progress_of}
 use Rattle.compound.specs.declared.fault.Fault.{Fault}
 use Rattle.compound.specs.declared.executed.Executed.{Executed}
-use Rattle.fs.specs.Changes.{Changes}
+use Rattle.fs.specs.Changes.{FsChanges}
 use Rattle.compound.proofs.Changing.{done_runs, told_gives, told_changes, told_spelled, told_kept, is_short, refused_gives}
 use Rattle.compound.proofs.Rooms.{gives_in_room}
 use Rattle.wire.specs.ArgumentViews.{rename_view}
@@ -118,7 +118,7 @@ returns-in-Err-rename-clause-answered g c =
 
 pub returns-in-Err-rename-clause-kept : goal.returns-in-Err-rename-clause-kept
 returns-in-Err-rename-clause-kept g c = λ table.
-    subst (λ (r : Result Executed Fault). IfOk r (IsKept table)) (sym c.tell_fault.ensures) (told_kept table 29 c.in-Err-rename.fault)
+    subst (λ (r : Result Executed Fault). IfOk r (IsReplyKept table)) (sym c.tell_fault.ensures) (told_kept table 29 c.in-Err-rename.fault)
 
 pub returns-in-Err-rename-clause-volume : goal.returns-in-Err-rename-clause-volume
 unfolding in_progress_of
@@ -128,7 +128,7 @@ returns-in-Err-rename-clause-volume g c = λ table.
     let new = fs_of c.rename.new.self in
     let request = in_progress_of c.args.self.now in
     let arguments = rename_view c.args.arguments.now in
-    subst (λ (r : Result Executed Fault). Changes g.D.Device.keeps_word (OperationGives (shared fs table opens) request c.args.now (Argument.Rename arguments)) fs new (fs_failures c.args.fs.now) (fs_failures c.rename.new.self) (ending r))
+    subst (λ (r : Result Executed Fault). FsChanges g.D.Device.keeps_word (OperationGives (shared fs table opens) request c.args.now (Argument.Rename arguments)) fs new (fs_failures c.args.fs.now) (fs_failures c.rename.new.self) (ending r))
     (sym c.tell_fault.ensures)
     (told_changes c.args.now fs request (Argument.Rename arguments) (on_tree c.args.now fs request arguments) _ (sized c.args.now fs request arguments _ c.has_renamed_room-has_room.ensures)
     g.D.Device.keeps_word _ new _ _ c.requires.up _ table opens c.in-Err-rename.fault

@@ -7,7 +7,7 @@ use Rattle.model.specs.Server.World.{InProgress}
 use Rattle.session.specs.Views.{table_of, reply_kept}
 use Rattle.wire.specs.Numbers.{number_of}
 use Rattle.wire.specs.OutcomeView.{outcome_view}
-use Rattle.compound.specs.Operates.{Spells, left_by}
+use Rattle.compound.specs.Operates.{Spells, left_by_effect}
 use Rattle.compound.specs.Runs.{with_rest}
 use Rattle.compound.specs.States.{SharedState, shared_of}
 use Rattle.compound.specs.Views.{asked_of, in_progress_of}
@@ -20,9 +20,9 @@ returns-in-Gives-clause-step g c = λ keeps.
     let rest = drop c.in-Ok.ran.position c.args.self.compound.operations.now in
     let turns = rw c.in-Gives.is at c.in-Ok.ensures.turns keeps in
     steps_to c.args.now (shared_of c.args.fs.now c.args.table.now c.args.opens.now) (shared_of c.run_next.new.fs c.run_next.new.table c.run_next.new.opens) (table_of c.answer-in-Gives.new.table)
-    (asked_of c.args.self) (asked_of c.leave.new.self) request (with_rest (left_by c.in-Gives.effect request) rest) (in_progress_of c.leave.new.self)
+    (asked_of c.args.self) (asked_of c.leave.new.self) request (with_rest (left_by_effect c.in-Gives.effect request) rest) (in_progress_of c.leave.new.self)
     (outcome_view c.in-Gives.outcome) c.answer-in-Gives.result turns (c.leave.ensures.asked ∙ c.advance.ensures.asked)
-    (c.leave.ensures.request ∙ (ap (left_by c.in-Gives.effect) c.advance.ensures.request ∙ left_rest c.in-Gives.effect request rest)) (c.answer-in-Gives.ensures.stands (outcome_view c.in-Gives.outcome) refl)
+    (c.leave.ensures.request ∙ (ap (left_by_effect c.in-Gives.effect) c.advance.ensures.request ∙ left_rest c.in-Gives.effect request rest)) (c.answer-in-Gives.ensures.stands (outcome_view c.in-Gives.outcome) refl)
 
 pub returns-in-GivesSpelled-clause-step : goal.returns-in-GivesSpelled-clause-step
 returns-in-GivesSpelled-clause-step g c = λ keeps.

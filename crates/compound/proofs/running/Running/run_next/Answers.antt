@@ -2,9 +2,9 @@ use Rattle.std.proofs.Common.{◌≡◌, refl, sym, subst}
 use Rattle.std.specs.Prelude.{drop}
 use Rattle.session.specs.Views.{table_of}
 use Rattle.wire.specs.ArgumentView.{argument_view}
-use Rattle.compound.specs.Operates.{IsAnswered, IsKept}
+use Rattle.compound.specs.Operates.{IsAnswered, IsReplyKept}
 use Rattle.compound.specs.States.{shared_of}
-use Rattle.compound.specs.Turns.{Turns}
+use Rattle.compound.specs.Turns.{TurnsExecuted}
 use Rattle.compound.specs.Views.{in_progress_of}
 use Rattle.compound.proofs.Firsts.{first_alone}
 use Rattle.compound.proofs.Refusals.{refused_spelled}
@@ -30,7 +30,7 @@ returns-in-Refuses-clause-turns g c = λ keeps.
     let rest = drop c.args.self.now.progress.position c.args.self.now.compound.operations.now in
     let state = shared_of c.args.fs.now c.args.table.now c.args.opens.now in
     let next = rw c.in-Refuses.is at c.in_ok-operation.ensures.ok in
-    subst (Turns c.args.now state state request rest) (sym c.refused.ensures.gives)
+    subst (TurnsExecuted c.args.now state state request rest) (sym c.refused.ensures.gives)
     (turns_refused c.args.now state request rest c.in-Refuses.operation c.in-Refuses.status c.requires.ready.more next refl)
 
 pub returns-in-Refuses-clause-answered : goal.returns-in-Refuses-clause-answered
@@ -79,4 +79,4 @@ returns-in-Refuses-clause-volume g c =
     (refused_turn (shared_of c.args.fs.now c.args.table.now c.args.opens.now) (in_progress_of c.args.self.now) c.args.now c.in-Refuses.operation c.in-Refuses.status c.requires.ready.more next)
 
 pub returns-in-Refuses-clause-kept : goal.returns-in-Refuses-clause-kept
-returns-in-Refuses-clause-kept g c = subst (IsKept (table_of c.args.table.now)) (sym c.refused.ensures.gives) tt
+returns-in-Refuses-clause-kept g c = subst (IsReplyKept (table_of c.args.table.now)) (sym c.refused.ensures.gives) tt

@@ -1,5 +1,5 @@
 use Rattle.std.proofs.Common.{◌≡◌, ℕ, List, Result, refl, sym, ap, subst, ◌∙◌, arith, IfOk}
-use Rattle.fs.specs.Changes.{Changes}
+use Rattle.fs.specs.Changes.{FsChanges}
 use Rattle.fs.specs.Views.{fs_of, fs_failures}
 use Rattle.fs.specs.Setting.{IsSetting}
 use Rattle.fs.proofs.ChangeLaws.{changes_by}
@@ -10,7 +10,7 @@ use Rattle.model.specs.Operations.Step.{State}
 use Rattle.model.specs.declared.status.Status.{Status}
 use Rattle.opens.specs.Views.{opens_of}
 use Rattle.wire.specs.ArgumentViews.{set_attr_view}
-use Rattle.compound.specs.Operates.{GivesIn, HasRoom, ChangesTreeAndOpens, IsAnswered, IsKept}
+use Rattle.compound.specs.Operates.{GivesIn, HasRoom, ChangesTreeAndOpens, IsAnswered, IsReplyKept}
 use Rattle.compound.specs.States.{shared}
 use Rattle.compound.specs.Trees.{IsHere}
 use Rattle.compound.specs.Volumes.{OperationGives, ending}
@@ -133,7 +133,7 @@ returns-in-Err-set_attributes-clause-answered g c =
 
 pub returns-in-Err-set_attributes-clause-kept : goal.returns-in-Err-set_attributes-clause-kept
 returns-in-Err-set_attributes-clause-kept g c = λ table.
-    subst (λ (r : Result Executed Fault). IfOk r (IsKept table)) (sym c.tell_fault.ensures) (told_kept table 34 c.in-Err-set_attributes.fault)
+    subst (λ (r : Result Executed Fault). IfOk r (IsReplyKept table)) (sym c.tell_fault.ensures) (told_kept table 34 c.in-Err-set_attributes.fault)
 
 pub returns-in-Err-set_attributes-clause-volume : goal.returns-in-Err-set_attributes-clause-volume
 unfolding in_progress_of
@@ -146,7 +146,7 @@ returns-in-Err-set_attributes-clause-volume g c = λ table.
     let kind = Argument.SetAttr arguments in
     let setting = λ (state : State) (there : IsHere fs request state) (known : state.opens ≡ opens). let is : IsSetting state _ arguments = record { verdict_is = c.verdict-verdict.ensures.is state known there.context_is; attributes_are = given_is _ _ (sym c.as_slice.ensures.numbers) } in is in
     let step = λ (state : State) (there : IsHere fs request state) (known : state.opens ≡ opens). c.in-Err-set_attributes.ensures.step state arguments (is_on fs request _ state c.requires.run c.in-Ok.ensures.ok.0 c.in-Ok.ensures.ok.1 there) (setting state there known) in
-    subst (λ (r : Result Executed Fault). Changes g.D.Device.keeps_word (OperationGives (shared fs table opens) request c.args.now kind) fs new (fs_failures c.args.fs.now) (fs_failures c.set_attributes.new.self) (ending r))
+    subst (λ (r : Result Executed Fault). FsChanges g.D.Device.keeps_word (OperationGives (shared fs table opens) request c.args.now kind) fs new (fs_failures c.args.fs.now) (fs_failures c.set_attributes.new.self) (ending r))
     (sym c.tell_fault.ensures)
     (told_changes c.args.now fs request kind (on_tree c.args.now fs request arguments) _ (sized c.args.now fs request arguments _ c.has_set_room-has_room.ensures)
     g.D.Device.keeps_word _ new _ _ c.requires.up _ table opens c.in-Err-set_attributes.fault

@@ -1,6 +1,6 @@
 use Rattle.std.proofs.Common.{◌≤◌, ◌<◌, length, ap, subst, sym, ◌∙◌, arith}
 use Rattle.model.specs.Trees.Tree.{entry_of}
-use Rattle.directory.specs.Records.{AreApart}
+use Rattle.directory.specs.Records.{NamesApart}
 use Rattle.directory.proofs.Changes.{none_found, some_found}
 use Rattle.directory.proofs.NamedByStamp.{entry_of-by_stamp}
 use Rattle.directory.proofs.names.Names.get.Goals as goal
@@ -22,9 +22,9 @@ returns-clause-found c =
 pub returns-then-place-len-clause-by_stamp : goal.returns-then-place-len-clause-by_stamp
 returns-then-place-len-clause-by_stamp c = λ stamped.
     returns-then-place-len-clause-found c
-    ∙ sym (entry_of-by_stamp c.args.name.now c.args.self.now (subst AreApart c.self.view_is c.self.invariant.directory.apart) stamped.apart)
+    ∙ sym (entry_of-by_stamp c.args.name.now c.args.self.now (subst NamesApart c.self.view_is c.self.invariant.directory.apart) stamped.apart)
 
 pub returns-clause-by_stamp : goal.returns-clause-by_stamp
 returns-clause-by_stamp c = λ stamped.
     returns-clause-found c
-    ∙ sym (entry_of-by_stamp c.args.name.now c.args.self.now (subst AreApart c.self.view_is c.self.invariant.directory.apart) stamped.apart)
+    ∙ sym (entry_of-by_stamp c.args.name.now c.args.self.now (subst NamesApart c.self.view_is c.self.invariant.directory.apart) stamped.apart)

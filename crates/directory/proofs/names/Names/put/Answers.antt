@@ -1,7 +1,7 @@
 use Rattle.std.proofs.Common.{◌≡◌, ◌<◌, ◌≤◌, ◌++◌, ◌∷◌, [], length, set, ap, subst, sym, ◌∙◌, arith}
 use Rattle.model.specs.Trees.Tree.{entry_of}
 use Rattle.directory.specs.Listing.{PutsByStamp}
-use Rattle.directory.specs.Records.{Record, record_from, place_of, AreApart}
+use Rattle.directory.specs.Records.{Record, record_from, place_of, NamesApart}
 use Rattle.directory.proofs.Changes.{has_name}
 use Rattle.directory.proofs.Places.{with_record-set, with_record-push, absent}
 use Rattle.directory.proofs.RecordMaps.{put_found, put_others, puts_by_stamp}
@@ -46,29 +46,29 @@ returns-clause-ok c =
 pub returns-then-place-len-clause-found : goal.returns-then-place-len-clause-found
 returns-then-place-len-clause-found c =
     ap (entry_of c.args.name.now) (returns-then-place-len-clause-ok c)
-    ∙ put_found c.args.self.now (record_from c.args.stamp c.args.name.now c.args.number) (subst AreApart c.self.view_is c.self.invariant.directory.apart)
+    ∙ put_found c.args.self.now (record_from c.args.stamp c.args.name.now c.args.number) (subst NamesApart c.self.view_is c.self.invariant.directory.apart)
 
 pub returns-then-place-len-clause-others : goal.returns-then-place-len-clause-others
 returns-then-place-len-clause-others c = λ other differs.
     ap (entry_of other) (returns-then-place-len-clause-ok c)
-    ∙ put_others c.args.self.now (record_from c.args.stamp c.args.name.now c.args.number) (subst AreApart c.self.view_is c.self.invariant.directory.apart) other differs
+    ∙ put_others c.args.self.now (record_from c.args.stamp c.args.name.now c.args.number) (subst NamesApart c.self.view_is c.self.invariant.directory.apart) other differs
 
 pub returns-then-place-len-clause-by_stamp : goal.returns-then-place-len-clause-by_stamp
 returns-then-place-len-clause-by_stamp c = λ stamped high fresh.
     subst (λ names. PutsByStamp c.args.self.now names (record_from c.args.stamp c.args.name.now c.args.number)) (sym (returns-then-place-len-clause-ok c))
-    (puts_by_stamp c.args.self.now (record_from c.args.stamp c.args.name.now c.args.number) (subst AreApart c.self.view_is c.self.invariant.directory.apart) stamped high fresh)
+    (puts_by_stamp c.args.self.now (record_from c.args.stamp c.args.name.now c.args.number) (subst NamesApart c.self.view_is c.self.invariant.directory.apart) stamped high fresh)
 
 pub returns-clause-found : goal.returns-clause-found
 returns-clause-found c =
     ap (entry_of c.args.name.now) (returns-clause-ok c)
-    ∙ put_found c.args.self.now (record_from c.args.stamp c.args.name.now c.args.number) (subst AreApart c.self.view_is c.self.invariant.directory.apart)
+    ∙ put_found c.args.self.now (record_from c.args.stamp c.args.name.now c.args.number) (subst NamesApart c.self.view_is c.self.invariant.directory.apart)
 
 pub returns-clause-others : goal.returns-clause-others
 returns-clause-others c = λ other differs.
     ap (entry_of other) (returns-clause-ok c)
-    ∙ put_others c.args.self.now (record_from c.args.stamp c.args.name.now c.args.number) (subst AreApart c.self.view_is c.self.invariant.directory.apart) other differs
+    ∙ put_others c.args.self.now (record_from c.args.stamp c.args.name.now c.args.number) (subst NamesApart c.self.view_is c.self.invariant.directory.apart) other differs
 
 pub returns-clause-by_stamp : goal.returns-clause-by_stamp
 returns-clause-by_stamp c = λ stamped high fresh.
     subst (λ names. PutsByStamp c.args.self.now names (record_from c.args.stamp c.args.name.now c.args.number)) (sym (returns-clause-ok c))
-    (puts_by_stamp c.args.self.now (record_from c.args.stamp c.args.name.now c.args.number) (subst AreApart c.self.view_is c.self.invariant.directory.apart) stamped high fresh)
+    (puts_by_stamp c.args.self.now (record_from c.args.stamp c.args.name.now c.args.number) (subst NamesApart c.self.view_is c.self.invariant.directory.apart) stamped high fresh)

@@ -1,7 +1,7 @@
 use Rattle.std.proofs.Common.{◌≡◌, ◌<◌, length, ap, subst, sym, ◌∙◌, arith}
 use Rattle.model.specs.Trees.Tree.{entry_of}
 use Rattle.directory.specs.Listing.{by_stamp, without_entry, RemovesByStamp}
-use Rattle.directory.specs.Records.{record_of, place_of, without_place, AreApart}
+use Rattle.directory.specs.Records.{record_of, place_of, without_place, NamesApart}
 use Rattle.directory.proofs.Changes.{found_entry}
 use Rattle.directory.proofs.RecordMaps.{absent_name, removed_gone, removed_others, removes_by_stamp}
 use Rattle.directory.proofs.names.Names.remove.Goals as goal
@@ -31,7 +31,7 @@ returns-clause-gone c =
     let names = c.args.self.now in
     let is : c.place_in-place.result ≡ place_of name names = c.place_in-place.ensures.place ∙ ap (place_of name) c.self.view_is in
     let within : place_of name names < length names = omega (arith, is, ap length c.self.view_is, c.len.ensures, c.if-place-len.false) in
-    let apart : AreApart names = subst AreApart c.self.view_is c.self.invariant.directory.apart in
+    let apart : NamesApart names = subst NamesApart c.self.view_is c.self.invariant.directory.apart in
     ap (entry_of name) (c.in_ok-entry.ensures.ok ∙ ap (without_place names) is) ∙ removed_gone name names within apart
 
 pub returns-clause-others : goal.returns-clause-others
@@ -40,7 +40,7 @@ returns-clause-others c = λ other differs.
     let names = c.args.self.now in
     let is : c.place_in-place.result ≡ place_of name names = c.place_in-place.ensures.place ∙ ap (place_of name) c.self.view_is in
     let within : place_of name names < length names = omega (arith, is, ap length c.self.view_is, c.len.ensures, c.if-place-len.false) in
-    let apart : AreApart names = subst AreApart c.self.view_is c.self.invariant.directory.apart in
+    let apart : NamesApart names = subst NamesApart c.self.view_is c.self.invariant.directory.apart in
     ap (entry_of other) (c.in_ok-entry.ensures.ok ∙ ap (without_place names) is) ∙ removed_others name names within apart other differs
 
 pub returns-clause-by_stamp : goal.returns-clause-by_stamp

@@ -1,7 +1,7 @@
 use Rattle.std.proofs.Common.{◌≡◌, ◌+◌, min, length, List, ℕ, Bool, false, get_or, set, ap, sym, subst, ◌∙◌, arith}
 use Rattle.std.proofs.lemmas.List.{with_items_is}
 use Rattle.freemap.specs.Places.{places_in}
-use Rattle.freemap.specs.Kept.{IsKept, BitBecomes}
+use Rattle.freemap.specs.Kept.{IsBitmap, BitBecomes}
 use Rattle.freemap.proofs.Bits.{place_used, free_places-le}
 use Rattle.freemap.proofs.KeptLemmas.{IsKept-give, places_in-set}
 use Rattle.freemap.proofs.bitmap.Bitmap.give.Goals as goal
@@ -22,7 +22,7 @@ invariant_of-self c =
     let becomes = subst (λ (bytes : List ℕ). BitBecomes bytes new c.args.place 0) c.deref_mut.ensures.value c.clear_bit.ensures in
     let len : length new ≡ 8192 = omega (arith, ap length c.deref_mut.ensures.value, c.self.invariant.len) in
     let whole : length new ≡ old.bits.len = omega (arith, old.bits.ok.0, c.self.invariant.len) in
-    rw c.min-self-inside.ensures (subst (λ (bytes : List ℕ). IsKept bytes old.count (min old.lowest c.args.place) (old.free + 1)) (sym (with_items_is old.bits new whole))
+    rw c.min-self-inside.ensures (subst (λ (bytes : List ℕ). IsBitmap bytes old.count (min old.lowest c.args.place) (old.free + 1)) (sym (with_items_is old.bits new whole))
     (IsKept-give old.bits.items new old.count c.args.place old.lowest old.free c.self.invariant len used.0 becomes used.1))
 
 pub returns : goal.returns

@@ -2,7 +2,7 @@ use Rattle.std.proofs.Common.{◌≡◌, ◌-◌, length, List, ℕ, Bool, true,
 use Rattle.std.specs.Prelude.{slice_get}
 use Rattle.std.proofs.lemmas.List.{with_items_is}
 use Rattle.freemap.specs.Places.{places_in}
-use Rattle.freemap.specs.Kept.{IsKept, BitBecomes}
+use Rattle.freemap.specs.Kept.{IsBitmap, BitBecomes}
 use Rattle.freemap.proofs.Bits.{place_free}
 use Rattle.freemap.proofs.KeptLemmas.{IsKept-take, free_above, below-set, places_in-set}
 use Rattle.freemap.proofs.bitmap.Bitmap.mark.Goals as goal
@@ -27,7 +27,7 @@ invariant_of-self c =
     let len : length new ≡ 8192 = omega (arith, ap length c.deref_mut.ensures.value, c.self.invariant.len) in
     let whole : length new ≡ old.bits.len = omega (arith, old.bits.ok.0, c.self.invariant.len) in
     let below = below-set old.bits.items new old.count c.args.place old.lowest old.free c.self.invariant len free.0 becomes in
-    subst (λ (bytes : List ℕ). IsKept bytes old.count old.lowest (old.free - 1)) (sym (with_items_is old.bits new whole))
+    subst (λ (bytes : List ℕ). IsBitmap bytes old.count old.lowest (old.free - 1)) (sym (with_items_is old.bits new whole))
     (IsKept-take old.bits.items new old.count c.args.place old.lowest old.free c.self.invariant len free.0 becomes free.1 old.lowest c.self.invariant.lowest_in below)
 
 pub returns : goal.returns

@@ -3,7 +3,7 @@ use Rattle.std.specs.Prelude.{slice_get}
 use Rattle.std.proofs.lemmas.List.{with_items_is}
 use Rattle.std.proofs.lemmas.Option.{slice_get-get_or}
 use Rattle.freemap.specs.Places.{is_one, places_in}
-use Rattle.freemap.specs.Kept.{IsKept, IsSetBelow, BitBecomes}
+use Rattle.freemap.specs.Kept.{IsBitmap, IsSetBelow, BitBecomes}
 use Rattle.freemap.proofs.Bits.{all_used, length-places_in, places_in-at}
 use Rattle.freemap.proofs.KeptLemmas.{IsKept-take, free_above, below-more, places_in-set}
 use Rattle.freemap.proofs.bitmap.Bitmap.take.Goals as goal
@@ -31,7 +31,7 @@ invariant_of-self-2 c =
     let len : length new ≡ 8192 = omega (arith, ap length c.deref_mut.ensures.value, c.self.invariant.len) in
     let whole : length new ≡ old.bits.len = omega (arith, old.bits.ok.0, c.self.invariant.len) in
     let within : place + 1 ≤ old.count = omega (arith, found.0) in
-    subst (λ (bytes : List ℕ). IsKept bytes old.count (place + 1) (old.free - 1)) (sym (with_items_is old.bits new whole))
+    subst (λ (bytes : List ℕ). IsBitmap bytes old.count (place + 1) (old.free - 1)) (sym (with_items_is old.bits new whole))
     (IsKept-take old.bits.items new old.count place old.lowest old.free c.self.invariant len found.0 becomes found.1 (place + 1) within (below-more old.bits.items new place becomes first))
 
 pub returns-clause-free : goal.returns-clause-free

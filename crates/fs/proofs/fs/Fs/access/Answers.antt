@@ -19,4 +19,4 @@ returns-clause-step g c state now on =
     let node = c.in-Some.ensures.some in
     access_told held.limits held.tree c.args.cred.now c.args.number state now on.is_state c.args.asked node.node node.there
     ∙ ap (λ (told : AccessAnswer). answered state (Answer.Access told))
-    (access_is held.tree c.args.number c.in-Some.card.now node c.args.cred.now c.args.asked ∙ sym c.access_on.ensures)
+    (access_is held.tree c.args.number c.in-Some.cached.now node c.args.cred.now c.args.asked ∙ sym c.access_on.ensures)

@@ -27,13 +27,13 @@ returns-then-not-grants-clause-attributes g c state now is =
     let bitmap = c.args.asked.now in
     attributes_denied held.limits held.tree c.args.cred.now c.args.number state now is bitmap node.node node.there
     (sym (c.is_asked.ensures ∙ ap (is_among (attributes_of bitmap)) c.number.ensures) ∙ c.if-is_asked.true)
-    (sym (granted_by held.tree c.args.number c.in-Some.card.now node c.args.cred.now read_acl) ∙ (sym c.grants.ensures ∙ c.if-not-grants.true))
+    (sym (granted_by held.tree c.args.number c.in-Some.cached.now node c.args.cred.now read_acl) ∙ (sym c.grants.ensures ∙ c.if-not-grants.true))
 
 pub returns-clause-attributes : goal.returns-clause-attributes
 unfolding fs_of
 returns-clause-attributes g c state now is =
     let held = (fs_of c.args.self.now).volume in
-    let card = c.in-Some.card.now in
+    let card = c.in-Some.cached.now in
     let node = c.in-Some.ensures.some in
     let bitmap = c.args.asked.now in
     let listed : c.is_asked.result ≡ asks_lists bitmap = c.is_asked.ensures ∙ ap (is_among (attributes_of bitmap)) c.number.ensures in

@@ -25,7 +25,7 @@ returns-then-not-is_directory g c state now is =
     let held = (fs_of c.args.self.now).volume in
     let node = c.in-Some.ensures.some in
     stages.no_directory held.limits held.tree c.args.cred.now c.args.directory c.args.name.now state now is node.node node.there
-    (no_directory held.tree c.args.directory c.in-Some.card.now node (λ e. true≢false (sym (c.is_directory.ensures.1 e) ∙ c.if-not-is_directory.true)))
+    (no_directory held.tree c.args.directory c.in-Some.cached.now node (λ e. true≢false (sym (c.is_directory.ensures.1 e) ∙ c.if-not-is_directory.true)))
 
 pub returns-in_err-check_name : goal.returns-in_err-check_name
 unfolding fs_of
@@ -34,7 +34,7 @@ returns-in_err-check_name g c state now is =
     let node = c.in-Some.ensures.some in
     let p = err_from_is_err_and c.from_residual.result c.from_residual.ensures.1 in
     rw (p.1, p.2) (stages.bad_name held.limits held.tree c.args.cred.now c.args.directory c.args.name.now state now is node.node node.there
-    (ap is_directory (names_are held.tree c.args.directory c.in-Some.card.now node (c.is_directory.ensures.0 c.if-not-is_directory.false)))
+    (ap is_directory (names_are held.tree c.args.directory c.in-Some.cached.now node (c.is_directory.ensures.0 c.if-not-is_directory.false)))
     c.in_err-check_name.field-0.0
     (ap (λ (l : Limits). first_refusal (name_refusals l c.args.name.now)) (sym c.limits.ensures.limits) ∙ c.in_err-check_name.ensures.refused))
 
@@ -44,29 +44,29 @@ returns-then-not-grants g c state now is =
     let held = (fs_of c.args.self.now).volume in
     let node = c.in-Some.ensures.some in
     stages.not_granted held.limits held.tree c.args.cred.now c.args.directory c.args.name.now state now is node.node node.there
-    (ap is_directory (names_are held.tree c.args.directory c.in-Some.card.now node (c.is_directory.ensures.0 c.if-not-is_directory.false)))
+    (ap is_directory (names_are held.tree c.args.directory c.in-Some.cached.now node (c.is_directory.ensures.0 c.if-not-is_directory.false)))
     (ap (λ (l : Limits). first_refusal (name_refusals l c.args.name.now)) (sym c.limits.ensures.limits) ∙ c.in_ok-check_name.ensures.allowed)
-    (sym (granted_by held.tree c.args.directory c.in-Some.card.now node c.args.cred.now execute) ∙ (sym c.grants.ensures ∙ c.if-not-grants.true))
+    (sym (granted_by held.tree c.args.directory c.in-Some.cached.now node c.args.cred.now execute) ∙ (sym c.grants.ensures ∙ c.if-not-grants.true))
 
 pub returns-in_default-get : goal.returns-in_default-get
 unfolding fs_of
 returns-in_default-get g c state now is =
     let held = (fs_of c.args.self.now).volume in
     let node = c.in-Some.ensures.some in
-    let card = c.in-Some.card.now in
+    let card = c.in-Some.cached.now in
     let directory = c.is_directory.ensures.0 c.if-not-is_directory.false in
     stages.no_entry held.limits held.tree c.args.cred.now c.args.directory c.args.name.now state now is node.node node.there
     (ap is_directory (names_are held.tree c.args.directory card node directory))
     (ap (λ (l : Limits). first_refusal (name_refusals l c.args.name.now)) (sym c.limits.ensures.limits) ∙ c.in_ok-check_name.ensures.allowed)
     (sym (granted_by held.tree c.args.directory card node c.args.cred.now execute) ∙ (sym c.grants.ensures ∙ c.if-not-grants.false))
-    (entry_is held.tree c.args.directory card node c.in-Some.ensures.fit directory c.args.name.now c.card.inside.names (ap (λ (it : CachedNode). it.names) c.card.view_is) None c.in_default-get.ensures.by_stamp)
+    (entry_is held.tree c.args.directory card node c.in-Some.ensures.fit directory c.args.name.now c.cached.inside.names (ap (λ (it : CachedNode). it.names) c.cached.view_is) None c.in_default-get.ensures.by_stamp)
 
 pub returns : goal.returns
 unfolding fs_of
 returns g c state now is =
     let held = (fs_of c.args.self.now).volume in
     let node = c.in-Some.ensures.some in
-    let card = c.in-Some.card.now in
+    let card = c.in-Some.cached.now in
     let directory = c.is_directory.ensures.0 c.if-not-is_directory.false in
     let found = record_from c.in-Some-get.field-0-0 c.args.name.now c.in-Some-get.number in
     stages.found held.limits held.tree c.args.cred.now c.args.directory c.args.name.now state now is node.node node.there
@@ -74,4 +74,4 @@ returns g c state now is =
     (ap (λ (l : Limits). first_refusal (name_refusals l c.args.name.now)) (sym c.limits.ensures.limits) ∙ c.in_ok-check_name.ensures.allowed)
     (sym (granted_by held.tree c.args.directory card node c.args.cred.now execute) ∙ (sym c.grants.ensures ∙ c.if-not-grants.false))
     found
-    (entry_is held.tree c.args.directory card node c.in-Some.ensures.fit directory c.args.name.now c.card.inside.names (ap (λ (it : CachedNode). it.names) c.card.view_is) (Some found) c.in-Some-get.ensures.by_stamp)
+    (entry_is held.tree c.args.directory card node c.in-Some.ensures.fit directory c.args.name.now c.cached.inside.names (ap (λ (it : CachedNode). it.names) c.cached.view_is) (Some found) c.in-Some-get.ensures.by_stamp)

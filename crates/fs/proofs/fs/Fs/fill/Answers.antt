@@ -11,7 +11,7 @@ use Rattle.fs.proofs.fs.Fs.fill.Goals as goal
 pub loop-name-preserved : goal.loop-name-preserved
 loop-name-preserved g c =
     let held = (fs_of c.args.self.now).volume in
-    let listed = shown_entry held.limits held.tree c.args.cred.now c.args.hides c.args.asked.now in
+    let listed = shown_entry held.limits held.tree c.args.cred.now c.args.hides_unreadable c.args.asked.now in
     let all = map listed (rest_of c.args.names) in
     let rest = map listed (rest_of c.next.new.self) in
     let shown = c.loop-name.entries.items in
@@ -28,7 +28,7 @@ loop-name-preserved g c =
 pub returns-clause-page : goal.returns-clause-page
 returns-clause-page g c =
     let held = (fs_of c.args.self.now).volume in
-    let listed = shown_entry held.limits held.tree c.args.cred.now c.args.hides c.args.asked.now in
+    let listed = shown_entry held.limits held.tree c.args.cred.now c.args.hides_unreadable c.args.asked.now in
     let all = map listed (rest_of c.args.names) in
     laws.ended c.args.room c.loop-name.room all c.loop-name.entries.items
     (subst (λ (l : List Record). laws.IsFilled c.args.room c.loop-name.room all (map listed l) c.loop-name.entries.items) c.in-None.ensures.steps.0 c.loop-name.invariant.3)
@@ -36,7 +36,7 @@ returns-clause-page g c =
 pub returns-then-room-size-clause-page : goal.returns-then-room-size-clause-page
 returns-then-room-size-clause-page g c =
     let held = (fs_of c.args.self.now).volume in
-    let listed = shown_entry held.limits held.tree c.args.cred.now c.args.hides c.args.asked.now in
+    let listed = shown_entry held.limits held.tree c.args.cred.now c.args.hides_unreadable c.args.asked.now in
     let all = map listed (rest_of c.args.names) in
     let rest = map listed (rest_of c.next.new.self) in
     let shown = c.loop-name.entries.items in

@@ -10,7 +10,7 @@ use Rattle.fs.proofs.fs.Fs.fill.Given as goal
 abbrev pub invariant-loop-name : goal.invariant-loop-name
 invariant-loop-name g l =
     let held = (fs_of l.self).volume in
-    let listed = shown_entry held.limits held.tree l.cred l.hides l.asked in
+    let listed = shown_entry held.limits held.tree l.cred l.hides_unreadable l.asked in
     (goal.iterator-loop-name g).can_next l.name-iterator ×
     (goal.iterator-loop-name g).is_finite l.name-iterator ×
     AllByRecursion IsRecord (rest_of l.name-iterator) ×

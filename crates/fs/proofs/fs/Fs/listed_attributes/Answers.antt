@@ -6,7 +6,7 @@ use Rattle.fs.specs.Views.{fs_of}
 use Rattle.fs.proofs.AttributeLaws.{attributes_are}
 use Rattle.fs.proofs.ListLaws.{attributes_shown}
 use Rattle.fs.proofs.fs.Fs.listed_attributes.Goals as goal
-use Rattle.fs.proofs.fs.Fs.listed_attributes.Goals.{else-hides-via-then-hides+else-not-may_read_list, else-hides-via-else-hides}
+use Rattle.fs.proofs.fs.Fs.listed_attributes.Goals.{else-hides_unreadable-via-then-hides_unreadable+else-not-may_read_list, else-hides_unreadable-via-else-hides_unreadable}
 
 pub returns-in-Some-clause-view : goal.returns-in-Some-clause-view
 unfolding fs_of
@@ -15,12 +15,12 @@ returns-in-Some-clause-view g c =
     let bitmap = c.args.asked.now in
     let number = c.args.number in
     let is = c.in-Some.ensures.some in
-    let may : (c.args.hides ≡ false) ⊎ (may_read_list c.args.cred.now (at number held.tree) ≡ true) =
-    elim c.else-hides.branch [
-      | else-hides-via-then-hides+else-not-may_read_list w ↦ inr (sym w.may_read_list.ensures ∙ w.if-not-may_read_list.false)
-      | else-hides-via-else-hides w ↦ inl w.if-hides.false
+    let may : (c.args.hides_unreadable ≡ false) ⊎ (may_read_list c.args.cred.now (at number held.tree) ≡ true) =
+    elim c.else-hides_unreadable.branch [
+      | else-hides_unreadable-via-then-hides_unreadable+else-not-may_read_list w ↦ inr (sym w.may_read_list.ensures ∙ w.if-not-may_read_list.false)
+      | else-hides_unreadable-via-else-hides_unreadable w ↦ inl w.if-hides_unreadable.false
     ] in
     c.shown.ensures.shows bitmap
-    ∙ sym (attributes_are c.in-Some.card.now c.in-Some.ensures.fit held.limits held.tree number is bitmap)
+    ∙ sym (attributes_are c.in-Some.cached.now c.in-Some.ensures.fit held.limits held.tree number is bitmap)
     ∙ sym (ap (attributes_at held.limits bitmap number) is.there)
-    ∙ sym (attributes_shown held.limits c.args.cred.now c.args.hides bitmap number (at number held.tree) may)
+    ∙ sym (attributes_shown held.limits c.args.cred.now c.args.hides_unreadable bitmap number (at number held.tree) may)

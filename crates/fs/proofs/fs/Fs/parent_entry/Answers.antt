@@ -21,7 +21,7 @@ returns-then-not-is_directory g c state now is =
     let held = (fs_of c.args.self.now).volume in
     let node = c.in-Some.ensures.some in
     parent_of_file held.limits held.tree c.args.cred.now c.args.directory state now is node.node node.there
-    (no_directory held.tree c.args.directory c.in-Some.card.now node (λ e. true≢false (sym (c.is_directory.ensures.1 e) ∙ c.if-not-is_directory.true)))
+    (no_directory held.tree c.args.directory c.in-Some.cached.now node (λ e. true≢false (sym (c.is_directory.ensures.1 e) ∙ c.if-not-is_directory.true)))
 
 pub returns-then-not-grants : goal.returns-then-not-grants
 unfolding fs_of
@@ -29,8 +29,8 @@ returns-then-not-grants g c state now is =
     let held = (fs_of c.args.self.now).volume in
     let node = c.in-Some.ensures.some in
     parent_denied held.limits held.tree c.args.cred.now c.args.directory state now is node.node node.there
-    (ap is_directory (names_are held.tree c.args.directory c.in-Some.card.now node (c.is_directory.ensures.0 c.if-not-is_directory.false)))
-    (sym (granted_by held.tree c.args.directory c.in-Some.card.now node c.args.cred.now execute) ∙ (sym c.grants.ensures ∙ c.if-not-grants.true))
+    (ap is_directory (names_are held.tree c.args.directory c.in-Some.cached.now node (c.is_directory.ensures.0 c.if-not-is_directory.false)))
+    (sym (granted_by held.tree c.args.directory c.in-Some.cached.now node c.args.cred.now execute) ∙ (sym c.grants.ensures ∙ c.if-not-grants.true))
 
 pub returns-then-directory-eq-ROOT : goal.returns-then-directory-eq-ROOT
 unfolding fs_of
@@ -38,8 +38,8 @@ returns-then-directory-eq-ROOT g c state now is =
     let held = (fs_of c.args.self.now).volume in
     let node = c.in-Some.ensures.some in
     parent_of_root held.limits held.tree c.args.cred.now c.args.directory state now is node.node node.there
-    (ap is_directory (names_are held.tree c.args.directory c.in-Some.card.now node (c.is_directory.ensures.0 c.if-not-is_directory.false)))
-    (sym (granted_by held.tree c.args.directory c.in-Some.card.now node c.args.cred.now execute) ∙ (sym c.grants.ensures ∙ c.if-not-grants.false))
+    (ap is_directory (names_are held.tree c.args.directory c.in-Some.cached.now node (c.is_directory.ensures.0 c.if-not-is_directory.false)))
+    (sym (granted_by held.tree c.args.directory c.in-Some.cached.now node c.args.cred.now execute) ∙ (sym c.grants.ensures ∙ c.if-not-grants.false))
     (eq-eqb c.args.directory root c.if-directory-eq-ROOT.true)
 
 pub returns : goal.returns
@@ -48,7 +48,7 @@ returns g c state now is =
     let held = (fs_of c.args.self.now).volume in
     let node = c.in-Some.ensures.some in
     parent_found held.limits held.tree c.args.cred.now c.args.directory state now is node.node node.there
-    (ap is_directory (names_are held.tree c.args.directory c.in-Some.card.now node (c.is_directory.ensures.0 c.if-not-is_directory.false)))
-    (sym (granted_by held.tree c.args.directory c.in-Some.card.now node c.args.cred.now execute) ∙ (sym c.grants.ensures ∙ c.if-not-grants.false))
+    (ap is_directory (names_are held.tree c.args.directory c.in-Some.cached.now node (c.is_directory.ensures.0 c.if-not-is_directory.false)))
+    (sym (granted_by held.tree c.args.directory c.in-Some.cached.now node c.args.cred.now execute) ∙ (sym c.grants.ensures ∙ c.if-not-grants.false))
     (ne_eqb c.args.directory root c.if-directory-eq-ROOT.false)
     ∙ ap (λ (n : ℕ). answered (moved_to state n) Answer.LookupParent) (sym c.parent.ensures)

@@ -27,7 +27,7 @@ unfolding fs_of
 returns-in_err-is_cut-clause-tests g c state is =
     let held = (fs_of c.args.self.now).volume in
     let asked = c.args.asked in
-    let there = subst (λ (t : Tree). IsNodeOf t c.args.number c.in-Some.card.now) (sym is.tree_is) c.in-Some.ensures.some in
+    let there = subst (λ (t : Tree). IsNodeOf t c.args.number c.in-Some.cached.now) (sym is.tree_is) c.in-Some.ensures.some in
     let p = err_from_is_err_and c.from_residual.result c.from_residual.ensures.1 in
     rw (p.1, p.2) (carried (known_refusals held.limits state c.args.number (type_of asked.how)) (file_tests held.limits state asked.share.access (type_of asked.how) asked.name.now)
     (λ reason bad. tests.bad_known held.limits held.tree c.args.cred.now asked.directory asked.name.now state is asked.share.access (type_of asked.how) c.args.number c.requires.leads reason bad)
@@ -38,7 +38,7 @@ unfolding fs_of
 returns-then-not-may_open-clause-tests g c state is =
     let held = (fs_of c.args.self.now).volume in
     let asked = c.args.asked in
-    let card = c.in-Some.card.now in
+    let card = c.in-Some.cached.now in
     let there = subst (λ (t : Tree). IsNodeOf t c.args.number card) (sym is.tree_is) c.in-Some.ensures.some in
     tests.by_use held.limits held.tree c.args.cred.now asked.directory asked.name.now state is asked.share.access (type_of asked.how) c.args.number c.requires.leads
     card c.in-Some.ensures.some (c.in_ok-is_cut.ensures.tests state c.args.number is.tree_is there)
@@ -49,7 +49,7 @@ unfolding fs_of
 returns-clause-tests g c state is =
     let held = (fs_of c.args.self.now).volume in
     let asked = c.args.asked in
-    let card = c.in-Some.card.now in
+    let card = c.in-Some.cached.now in
     let there = subst (λ (t : Tree). IsNodeOf t c.args.number card) (sym is.tree_is) c.in-Some.ensures.some in
     tests.by_use held.limits held.tree c.args.cred.now asked.directory asked.name.now state is asked.share.access (type_of asked.how) c.args.number c.requires.leads
     card c.in-Some.ensures.some (c.in_ok-is_cut.ensures.tests state c.args.number is.tree_is there)

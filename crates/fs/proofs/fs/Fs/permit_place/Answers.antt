@@ -32,7 +32,7 @@ returns-in_err-check_name-clause-tests g c state arguments is access deny =
     let directory = c.is_directory.ensures.0 c.if-not-is_directory.false in
     let p = err_from_is_err_and c.from_residual-in_err-check_name.result c.from_residual-in_err-check_name.ensures.1 in
     rw (p.1, p.2) (tests.bad_name held.limits held.tree c.args.cred.now asked.directory asked.name.now state is arguments node.node node.there
-    (c.in_ok-check_share.ensures arguments access deny) (ap is_directory (names_are held.tree asked.directory c.in-Some.card.now node directory)) c.in_err-check_name.field-0.0
+    (c.in_ok-check_share.ensures arguments access deny) (ap is_directory (names_are held.tree asked.directory c.in-Some.cached.now node directory)) c.in_err-check_name.field-0.0
     (ap (λ (l : Limits). first_refusal (name_refusals l asked.name.now)) (sym c.limits.ensures.limits) ∙ c.in_err-check_name.ensures.refused))
 
 pub returns-then-not-grants-clause-tests : goal.returns-then-not-grants-clause-tests
@@ -43,9 +43,9 @@ returns-then-not-grants-clause-tests g c state arguments is access deny =
     let node = c.in-Some.ensures.some in
     let directory = c.is_directory.ensures.0 c.if-not-is_directory.false in
     tests.by_right held.limits held.tree c.args.cred.now asked.directory asked.name.now state is arguments node.node node.there
-    (c.in_ok-check_share.ensures arguments access deny) (ap is_directory (names_are held.tree asked.directory c.in-Some.card.now node directory))
+    (c.in_ok-check_share.ensures arguments access deny) (ap is_directory (names_are held.tree asked.directory c.in-Some.cached.now node directory))
     (ap (λ (l : Limits). first_refusal (name_refusals l asked.name.now)) (sym c.limits.ensures.limits) ∙ c.in_ok-check_name.ensures.allowed)
-    false (sym (granted_by held.tree asked.directory c.in-Some.card.now node c.args.cred.now execute) ∙ (sym c.grants.ensures ∙ c.if-not-grants.true))
+    false (sym (granted_by held.tree asked.directory c.in-Some.cached.now node c.args.cred.now execute) ∙ (sym c.grants.ensures ∙ c.if-not-grants.true))
 
 pub returns-clause-tests : goal.returns-clause-tests
 unfolding fs_of
@@ -55,6 +55,6 @@ returns-clause-tests g c state arguments is access deny =
     let node = c.in-Some.ensures.some in
     let directory = c.is_directory.ensures.0 c.if-not-is_directory.false in
     tests.by_right held.limits held.tree c.args.cred.now asked.directory asked.name.now state is arguments node.node node.there
-    (c.in_ok-check_share.ensures arguments access deny) (ap is_directory (names_are held.tree asked.directory c.in-Some.card.now node directory))
+    (c.in_ok-check_share.ensures arguments access deny) (ap is_directory (names_are held.tree asked.directory c.in-Some.cached.now node directory))
     (ap (λ (l : Limits). first_refusal (name_refusals l asked.name.now)) (sym c.limits.ensures.limits) ∙ c.in_ok-check_name.ensures.allowed)
-    true (sym (granted_by held.tree asked.directory c.in-Some.card.now node c.args.cred.now execute) ∙ (sym c.grants.ensures ∙ c.if-not-grants.false))
+    true (sym (granted_by held.tree asked.directory c.in-Some.cached.now node c.args.cred.now execute) ∙ (sym c.grants.ensures ∙ c.if-not-grants.false))

@@ -32,7 +32,7 @@ returns-in_err-check_name-clause-tests g c =
     let directory = c.is_directory.ensures.0 c.if-not-is_directory.false in
     let p = err_from_is_err_and c.from_residual.result c.from_residual.ensures.1 in
     rw (p.1, p.2) (tests.bad_name held.limits held.tree c.args.cred.now c.args.directory c.args.name.now node.node node.there
-    (ap is_directory (names_are held.tree c.args.directory c.in-Some.card.now node directory)) c.in_err-check_name.field-0.0
+    (ap is_directory (names_are held.tree c.args.directory c.in-Some.cached.now node directory)) c.in_err-check_name.field-0.0
     (ap (λ (l : Limits). first_refusal (name_refusals l c.args.name.now)) (sym c.limits.ensures.limits) ∙ c.in_err-check_name.ensures.refused))
 
 pub returns-in_default-get-clause-tests : goal.returns-in_default-get-clause-tests
@@ -40,10 +40,10 @@ unfolding fs_of
 returns-in_default-get-clause-tests g c =
     let held = (fs_of c.args.self.now).volume in
     let node = c.in-Some.ensures.some in
-    let card = c.in-Some.card.now in
+    let card = c.in-Some.cached.now in
     let directory = c.is_directory.ensures.0 c.if-not-is_directory.false in
     let none : entry_of c.args.name.now (names_at held.tree c.args.directory) ≡ None = entry_at held.tree c.args.directory card node c.in-Some.ensures.fit directory c.args.name.now
-    c.card.inside.names (ap (λ (it : CachedNode). it.names) c.card.view_is) None c.in_default-get.ensures.by_stamp in
+    c.cached.inside.names (ap (λ (it : CachedNode). it.names) c.cached.view_is) None c.in_default-get.ensures.by_stamp in
     tests.no_entry held.limits held.tree c.args.cred.now c.args.directory c.args.name.now node.node node.there
     (ap is_directory (names_are held.tree c.args.directory card node directory))
     (ap (λ (l : Limits). first_refusal (name_refusals l c.args.name.now)) (sym c.limits.ensures.limits) ∙ c.in_ok-check_name.ensures.allowed)
@@ -54,11 +54,11 @@ unfolding fs_of
 returns-then-not-may_remove-clause-tests g c =
     let held = (fs_of c.args.self.now).volume in
     let node = c.in-Some.ensures.some in
-    let card = c.in-Some.card.now in
+    let card = c.in-Some.cached.now in
     let directory = c.is_directory.ensures.0 c.if-not-is_directory.false in
     let one = record_from c.in-Some-get.stamp c.args.name.now c.in-Some-get.number in
     let found : entry_of c.args.name.now (names_at held.tree c.args.directory) ≡ Some one = entry_at held.tree c.args.directory card node c.in-Some.ensures.fit directory c.args.name.now
-    c.card.inside.names (ap (λ (it : CachedNode). it.names) c.card.view_is) (Some one) c.in-Some-get.ensures.by_stamp in
+    c.cached.inside.names (ap (λ (it : CachedNode). it.names) c.cached.view_is) (Some one) c.in-Some-get.ensures.by_stamp in
     tests.denied held.limits held.tree c.args.cred.now c.args.directory c.args.name.now node.node node.there
     (ap is_directory (names_are held.tree c.args.directory card node directory))
     (ap (λ (l : Limits). first_refusal (name_refusals l c.args.name.now)) (sym c.limits.ensures.limits) ∙ c.in_ok-check_name.ensures.allowed)
@@ -71,11 +71,11 @@ unfolding fs_of
 returns-then-has_names-clause-tests g c =
     let held = (fs_of c.args.self.now).volume in
     let node = c.in-Some.ensures.some in
-    let card = c.in-Some.card.now in
+    let card = c.in-Some.cached.now in
     let directory = c.is_directory.ensures.0 c.if-not-is_directory.false in
     let one = record_from c.in-Some-get.stamp c.args.name.now c.in-Some-get.number in
     let found : entry_of c.args.name.now (names_at held.tree c.args.directory) ≡ Some one = entry_at held.tree c.args.directory card node c.in-Some.ensures.fit directory c.args.name.now
-    c.card.inside.names (ap (λ (it : CachedNode). it.names) c.card.view_is) (Some one) c.in-Some-get.ensures.by_stamp in
+    c.cached.inside.names (ap (λ (it : CachedNode). it.names) c.cached.view_is) (Some one) c.in-Some-get.ensures.by_stamp in
     tests.not_empty held.limits held.tree c.args.cred.now c.args.directory c.args.name.now node.node node.there
     (ap is_directory (names_are held.tree c.args.directory card node directory))
     (ap (λ (l : Limits). first_refusal (name_refusals l c.args.name.now)) (sym c.limits.ensures.limits) ∙ c.in_ok-check_name.ensures.allowed)
@@ -89,11 +89,11 @@ unfolding fs_of
 returns-clause-tests g c =
     let held = (fs_of c.args.self.now).volume in
     let node = c.in-Some.ensures.some in
-    let card = c.in-Some.card.now in
+    let card = c.in-Some.cached.now in
     let directory = c.is_directory.ensures.0 c.if-not-is_directory.false in
     let one = record_from c.in-Some-get.stamp c.args.name.now c.in-Some-get.number in
     let found : entry_of c.args.name.now (names_at held.tree c.args.directory) ≡ Some one = entry_at held.tree c.args.directory card node c.in-Some.ensures.fit directory c.args.name.now
-    c.card.inside.names (ap (λ (it : CachedNode). it.names) c.card.view_is) (Some one) c.in-Some-get.ensures.by_stamp in
+    c.cached.inside.names (ap (λ (it : CachedNode). it.names) c.cached.view_is) (Some one) c.in-Some-get.ensures.by_stamp in
     tests.may_go held.limits held.tree c.args.cred.now c.args.directory c.args.name.now node.node node.there
     (ap is_directory (names_are held.tree c.args.directory card node directory))
     (ap (λ (l : Limits). first_refusal (name_refusals l c.args.name.now)) (sym c.limits.ensures.limits) ∙ c.in_ok-check_name.ensures.allowed)

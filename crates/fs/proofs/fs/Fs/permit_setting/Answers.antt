@@ -69,8 +69,8 @@ returns-in_err-settings-clause-tests g c =
     let node = c.in-Some.ensures.some in
     let tests = λ (l : Limits) (of : NodeKind). attribute_refusals l of settable_at_setattr given in
     let p = err_from_is_err_and c.from_residual.result c.from_residual.ensures.1 in
-    let kind_same : c.card.inside.inode.kind ≡ kind_at held.tree asked.number = ap (λ (it : CachedNode). it.fields.kind) c.card.view_is ∙ kind_is held.tree asked.number c.in-Some.card.now node in
-    rw (p.1, p.2) (carried (tests c.limits.result.now c.card.inside.inode.kind) (setting_tests held.limits held.tree c.args.cred.now asked.number asked.verdict given)
+    let kind_same : c.cached.inside.inode.kind ≡ kind_at held.tree asked.number = ap (λ (it : CachedNode). it.fields.kind) c.cached.view_is ∙ kind_is held.tree asked.number c.in-Some.cached.now node in
+    rw (p.1, p.2) (carried (tests c.limits.result.now c.cached.inside.inode.kind) (setting_tests held.limits held.tree c.args.cred.now asked.number asked.verdict given)
     (λ reason refused. tests_are held.limits held.tree c.args.cred.now asked.number asked.verdict given false (Some reason) _ _ (ap (λ (o : Option Node). not (is_some o)) node.there)
     (ap₂ (λ (l : Limits) (of : NodeKind). first_refusal (tests l of)) (sym c.limits.ensures.limits) (sym kind_same) ∙ refused) refl refl)
     c.in_err-settings.field-0.0 c.in_err-settings.ensures.tests)
@@ -83,10 +83,10 @@ returns-in_err-check_sized-clause-tests g c =
     let given = given_of asked.attributes in
     let node = c.in-Some.ensures.some in
     let p = err_from_is_err_and c.from_residual-in_err-check_sized.result c.from_residual-in_err-check_sized.ensures.1 in
-    let kind_same : c.card.inside.inode.kind ≡ kind_at held.tree asked.number = ap (λ (it : CachedNode). it.fields.kind) c.card.view_is ∙ kind_is held.tree asked.number c.in-Some.card.now node in
+    let kind_same : c.cached.inside.inode.kind ≡ kind_at held.tree asked.number = ap (λ (it : CachedNode). it.fields.kind) c.cached.view_is ∙ kind_is held.tree asked.number c.in-Some.cached.now node in
     let sized : c.is_some.result ≡ sets_size given = c.is_some.ensures ∙ ap (λ (o : Option ℕ). is_some o) c.in_ok-settings.ensures.settings.size in
     let directory : c.is_directory.result ≡ is_directory_at held.tree asked.number =
-    is_directory_told held.tree asked.number c.in-Some.card.now node c.is_directory.result c.is_directory.ensures.0 c.is_directory.ensures.1 in
+    is_directory_told held.tree asked.number c.in-Some.cached.now node c.is_directory.result c.is_directory.ensures.0 c.is_directory.ensures.1 in
     rw (p.1, p.2) (tests_are held.limits held.tree c.args.cred.now asked.number asked.verdict given false None (Some c.in_err-check_sized.field-0.0) _ (ap (λ (o : Option Node). not (is_some o)) node.there)
     (ap₂ (λ (l : Limits) (of : NodeKind). first_refusal (attribute_refusals l of settable_at_setattr given)) (sym c.limits.ensures.limits) (sym kind_same) ∙ c.in_ok-settings.ensures.tests)
     (ap₂ (λ (b d : Bool). first_refusal (sized_refusals b d asked.verdict)) (sym sized) (sym directory) ∙ c.in_err-check_sized.ensures) refl)
@@ -98,8 +98,8 @@ returns-then-not-may_set-clause-tests g c =
     let asked = c.args.asked in
     let given = given_of asked.attributes in
     let node = c.in-Some.ensures.some in
-    let card = c.in-Some.card.now in
-    let kind_same : c.card.inside.inode.kind ≡ kind_at held.tree asked.number = ap (λ (it : CachedNode). it.fields.kind) c.card.view_is ∙ kind_is held.tree asked.number card node in
+    let card = c.in-Some.cached.now in
+    let kind_same : c.cached.inside.inode.kind ≡ kind_at held.tree asked.number = ap (λ (it : CachedNode). it.fields.kind) c.cached.view_is ∙ kind_is held.tree asked.number card node in
     let sized : c.is_some.result ≡ sets_size given = c.is_some.ensures ∙ ap (λ (o : Option ℕ). is_some o) c.in_ok-settings.ensures.settings.size in
     let directory : c.is_directory.result ≡ is_directory_at held.tree asked.number =
     is_directory_told held.tree asked.number card node c.is_directory.result c.is_directory.ensures.0 c.is_directory.ensures.1 in
@@ -119,8 +119,8 @@ returns-clause-tests g c =
     let asked = c.args.asked in
     let given = given_of asked.attributes in
     let node = c.in-Some.ensures.some in
-    let card = c.in-Some.card.now in
-    let kind_same : c.card.inside.inode.kind ≡ kind_at held.tree asked.number = ap (λ (it : CachedNode). it.fields.kind) c.card.view_is ∙ kind_is held.tree asked.number card node in
+    let card = c.in-Some.cached.now in
+    let kind_same : c.cached.inside.inode.kind ≡ kind_at held.tree asked.number = ap (λ (it : CachedNode). it.fields.kind) c.cached.view_is ∙ kind_is held.tree asked.number card node in
     let sized : c.is_some.result ≡ sets_size given = c.is_some.ensures ∙ ap (λ (o : Option ℕ). is_some o) c.in_ok-settings.ensures.settings.size in
     let directory : c.is_directory.result ≡ is_directory_at held.tree asked.number =
     is_directory_told held.tree asked.number card node c.is_directory.result c.is_directory.ensures.0 c.is_directory.ensures.1 in

@@ -43,7 +43,7 @@ unfolding fs_of volume_state
 refuse_last_size-requires g c =
     let fs = fs_of c.args.self.now in
     let node = c.requires.node in
-    (file_to fs (c.args.self.now.ready c.requires.up) c.args.self.now.volume.limited c.args.number node.node node.there 0 (file_of fs.volume.tree c.args.number c.args.card.now node c.requires.file) (omega arith), tt)
+    (file_to fs (c.args.self.now.ready c.requires.up) c.args.self.now.volume.limited c.args.number node.node node.there 0 (file_of fs.volume.tree c.args.number c.args.cached.now node c.requires.file) (omega arith), tt)
 
 pub returns-in_default-clause-tests : goal.returns-in_default-clause-tests
 unfolding fs_of volume_state
@@ -59,7 +59,7 @@ unfolding fs_of volume_state
 fits-requires g c =
     let fs = fs_of c.args.self.now in
     subst (AreDoable fs.volume.tree) (sym c.deref.ensures.value)
-    (plans.doable fs (c.args.self.now.ready c.requires.up) c.args.self.now.counted c.args.self.now.volume.limited c.args.now c.args.number c.args.card.now
+    (plans.doable fs (c.args.self.now.ready c.requires.up) c.args.self.now.counted c.args.self.now.volume.limited c.args.now c.args.number c.args.cached.now
     c.requires.node c.requires.file c.requires.fit 0 (omega arith) c.in-Some.stamp c.in_ok-shown.shown c.in_ok-edits.edits.items
     c.in-Some.ensures.0 c.in_ok-shown.ensures c.in_ok-edits.ensures)
 
@@ -68,7 +68,7 @@ unfolding fs_of volume_state
 returns-then-not-fits-clause-tests g c =
     let fs = fs_of c.args.self.now in
     let told : c.fits.result ≡ fits fs.volume.limits (edited_by fs.volume c.in_ok-edits.edits.items) = rw (← c.deref.ensures.value) c.fits.ensures in
-    let after = plans.after fs (c.args.self.now.ready c.requires.up) c.args.self.now.counted c.args.self.now.volume.limited c.args.now c.args.number c.args.card.now
+    let after = plans.after fs (c.args.self.now.ready c.requires.up) c.args.self.now.counted c.args.self.now.volume.limited c.args.now c.args.number c.args.cached.now
     c.requires.node c.requires.file c.requires.fit 0 (omega arith) c.in-Some.stamp c.in_ok-shown.shown c.in_ok-edits.edits.items
     c.in-Some.ensures.0 c.in_ok-shown.ensures c.in_ok-edits.ensures in
     no_room fs (tree_cut fs c.args.number c.args.now) (ap (fits fs.volume.limits) (sym after) ∙ (sym told ∙ c.if-not-fits.true))
@@ -78,7 +78,7 @@ unfolding fs_of volume_state
 returns-clause-tests g c =
     let fs = fs_of c.args.self.now in
     let told : c.fits.result ≡ fits fs.volume.limits (edited_by fs.volume c.in_ok-edits.edits.items) = rw (← c.deref.ensures.value) c.fits.ensures in
-    let after = plans.after fs (c.args.self.now.ready c.requires.up) c.args.self.now.counted c.args.self.now.volume.limited c.args.now c.args.number c.args.card.now
+    let after = plans.after fs (c.args.self.now.ready c.requires.up) c.args.self.now.counted c.args.self.now.volume.limited c.args.now c.args.number c.args.cached.now
     c.requires.node c.requires.file c.requires.fit 0 (omega arith) c.in-Some.stamp c.in_ok-shown.shown c.in_ok-edits.edits.items
     c.in-Some.ensures.0 c.in_ok-shown.ensures c.in_ok-edits.ensures in
     has_room fs (tree_cut fs c.args.number c.args.now) (ap (fits fs.volume.limits) (sym after) ∙ (sym told ∙ c.if-not-fits.false))
@@ -89,7 +89,7 @@ unfolding fs_of volume_state
 returns-clause-planned g c =
     let fs = fs_of c.args.self.now in
     let told : c.fits.result ≡ fits fs.volume.limits (edited_by fs.volume c.in_ok-edits.edits.items) = rw (← c.deref.ensures.value) c.fits.ensures in
-    plans.planned fs (c.args.self.now.ready c.requires.up) c.args.self.now.counted c.args.self.now.volume.limited c.args.now c.args.number c.args.card.now
+    plans.planned fs (c.args.self.now.ready c.requires.up) c.args.self.now.counted c.args.self.now.volume.limited c.args.now c.args.number c.args.cached.now
     c.requires.node c.requires.file c.requires.fit 0 (omega arith) c.in-Some.stamp c.in_ok-shown.shown c.in_ok-edits.edits.items
     c.in-Some.ensures.0 c.in_ok-shown.ensures c.in_ok-edits.ensures
     (sym told ∙ c.if-not-fits.false) c.in-Some.ensures.1
@@ -98,6 +98,6 @@ pub returns-clause-after : goal.returns-clause-after
 unfolding fs_of volume_state
 returns-clause-after g c =
     let fs = fs_of c.args.self.now in
-    plans.after fs (c.args.self.now.ready c.requires.up) c.args.self.now.counted c.args.self.now.volume.limited c.args.now c.args.number c.args.card.now
+    plans.after fs (c.args.self.now.ready c.requires.up) c.args.self.now.counted c.args.self.now.volume.limited c.args.now c.args.number c.args.cached.now
     c.requires.node c.requires.file c.requires.fit 0 (omega arith) c.in-Some.stamp c.in_ok-shown.shown c.in_ok-edits.edits.items
     c.in-Some.ensures.0 c.in_ok-shown.ensures c.in_ok-edits.ensures

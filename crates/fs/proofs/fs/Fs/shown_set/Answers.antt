@@ -11,7 +11,7 @@ pub returns-clause-entries : goal.returns-clause-entries
 unfolding fs_of volume_state
 returns-clause-entries g c =
     let held = (fs_of c.args.self.now).volume in
-    let fields = c.args.card.now.fields in
+    let fields = c.args.cached.now.fields in
     let is : c.in_ok-acl.acl ≡ list_set fields.kind fields.acl c.args.settings.mode c.args.settings.acl = search rules in
     let list : IsList held.limits fields.kind c.in_ok-acl.acl = subst (IsList held.limits fields.kind) (sym is)
     (set_list held.limits held.sectors held.limits.nodes c.args.self.now.volume.limited fields.kind fields.acl c.requires.listed c.args.settings c.requires.within) in

@@ -4,7 +4,7 @@ use Rattle.std.proofs.lemmas.Bool.{eqb-true}
 use Rattle.model.specs.Server.Runs.{is_done}
 use Rattle.model.specs.Operations.Step.{Stepped}
 use Rattle.fs.specs.Views.{fs_of, fs_failures}
-use Rattle.fs.specs.Writing.{IsPut, WritesTree}
+use Rattle.fs.specs.Writing.{IsWrittenTree, WritesTree}
 use Rattle.fs.specs.declared.fault.FsFault.TheVariants as fault
 use Rattle.fs.proofs.BytesLaws.{none_bytes}
 use Rattle.fs.proofs.ChangeLaws.{changes_by, left, left_by, down_no_memory, told_memory, down_room, planned_room, full_room, done_room}
@@ -68,14 +68,14 @@ pub returns-in_err-apply_plan-clause-volume : goal.returns-in_err-apply_plan-cla
 returns-in_err-apply_plan-clause-volume g c =
     let fs = fs_of c.args.self.now in
     let told = told_err c.from_residual-in_err-apply_plan.result c.in_err-apply_plan.field-0.0 c.from_residual-in_err-apply_plan.ensures.1 in
-    rw told (changes_by g.D.Device.keeps_word (IsPut fs.volume c.in_ok-edits.edits c.args.asked.is_stable) (WritesTree fs c.args.cred.now c.args.number c.args.now c.args.verdict c.args.asked)
+    rw told (changes_by g.D.Device.keeps_word (IsWrittenTree fs.volume c.in_ok-edits.edits c.args.asked.is_stable) (WritesTree fs c.args.cred.now c.args.number c.args.now c.args.verdict c.args.asked)
     (λ after lasts made. puts_tree fs c.args.cred.now c.args.now c.args.number c.args.verdict c.args.asked c.in_ok-edits.edits c.in_ok-edits.ensures.step after lasts made)
     _ _ _ _ _ (rw c.in_err-apply_plan.was at c.apply_plan.ensures.volume))
 
 pub returns-clause-volume : goal.returns-clause-volume
 returns-clause-volume g c =
     let fs = fs_of c.args.self.now in
-    changes_by g.D.Device.keeps_word (IsPut fs.volume c.in_ok-edits.edits c.args.asked.is_stable) (WritesTree fs c.args.cred.now c.args.number c.args.now c.args.verdict c.args.asked)
+    changes_by g.D.Device.keeps_word (IsWrittenTree fs.volume c.in_ok-edits.edits c.args.asked.is_stable) (WritesTree fs c.args.cred.now c.args.number c.args.now c.args.verdict c.args.asked)
     (λ after lasts made. puts_tree fs c.args.cred.now c.args.now c.args.number c.args.verdict c.args.asked c.in_ok-edits.edits c.in_ok-edits.ensures.step after lasts made)
     _ _ _ _ _ (rw c.in_ok-apply_plan.was at c.apply_plan.ensures.volume)
 

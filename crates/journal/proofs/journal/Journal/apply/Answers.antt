@@ -2,9 +2,9 @@ use Rattle.std.proofs.Common.{◌≡◌, ◌≤◌, ◌<◌, ◌∙◌, ◌++◌
 use Rattle.std.proofs.lemmas.Bool.{cases_lt}
 use Rattle.disk.specs.declared.update.Update.{Update}
 use Rattle.disk.specs.Moments.{Image, seen, applied}
-use Rattle.journal.specs.Journal.{failures_of, log_of, listed}
+use Rattle.journal.specs.Journal.{journal_failures, log_of, listed}
 use Rattle.journal.specs.Layout.{targets, through}
-use Rattle.journal.specs.Log.{Log, IsJoined, Moved, Takes}
+use Rattle.journal.specs.Log.{Log, IsJoined, Moved, ListTakes}
 use Rattle.journal.specs.Transactions.{FitTogether, gathered, sectors_of}
 use Rattle.journal.proofs.Answerings.{answers_down, answers_up, is_fault}
 use Rattle.journal.proofs.Parts.{part_failed, part_is_safe, stays_safe}
@@ -43,7 +43,7 @@ after g c = record {
 }
 
 taken : (g : Over) (c : After-merge_into g) → FitTogether ((log_of c.args.self.now).list ++ c.args.updates.items ∷ [])
-    → Takes c.args.updates.items (log_of c.args.self.now) (after g c)
+    → ListTakes c.args.updates.items (log_of c.args.self.now) (after g c)
 unfolding log_of after
 taken g c fit =
     let was = c.args.self.now.pending.items in
@@ -136,14 +136,14 @@ pub returns-then-self-clause-safe : goal.returns-then-self-clause-safe
 returns-then-self-clause-safe g c = stays_safe c.args.self.now
 
 pub returns-then-self-clause-answers : goal.returns-then-self-clause-answers
-unfolding log_of failures_of
+unfolding log_of journal_failures
 returns-then-self-clause-answers g c = answers_down _ _ c.if-self.true
 
 pub returns-then-len-gt-MAX_UPDATES-clause-safe : goal.returns-then-len-gt-MAX_UPDATES-clause-safe
 returns-then-len-gt-MAX_UPDATES-clause-safe g c = stays_safe c.args.self.now
 
 pub returns-then-len-gt-MAX_UPDATES-clause-answers : goal.returns-then-len-gt-MAX_UPDATES-clause-answers
-unfolding log_of failures_of
+unfolding log_of journal_failures
 returns-then-len-gt-MAX_UPDATES-clause-answers g c = answers_up _ _ _ _ _ (λ e. cc) (λ e. cc) c.if-self.false c.if-self.false refl
 
 pub returns-in_err-flush_if_full-clause-safe : goal.returns-in_err-flush_if_full-clause-safe
@@ -151,7 +151,7 @@ returns-in_err-flush_if_full-clause-safe g c =
     part_is_safe _ _ _ _ _ c.in_err-flush_if_full.ensures.part
 
 pub returns-in_err-flush_if_full-clause-answers : goal.returns-in_err-flush_if_full-clause-answers
-unfolding log_of failures_of
+unfolding log_of journal_failures
 returns-in_err-flush_if_full-clause-answers g c = rw (is_fault _ c.from_residual.ensures.1) (part_failed _ _ _ _ _ c.if-self.false c.in_err-flush_if_full.ensures.part)
 
 pub returns-clause-safe : goal.returns-clause-safe
@@ -161,7 +161,7 @@ returns-clause-safe g c =
     record { size = safe.size; moments = safe.moments; settled = safe.settled }
 
 pub returns-clause-answers : goal.returns-clause-answers
-unfolding log_of failures_of
+unfolding log_of journal_failures
 returns-clause-answers g c =
     let part = c.in_ok-flush_if_full.ensures.part in
     answers_up _ _ _ _ _ (λ e. cc) (λ e. cc) c.if-self.false part.is_down part.failures.ok

@@ -4,7 +4,7 @@ use Rattle.disk.specs.Moments.{AddsOnly, seen, moment}
 use Rattle.journal.specs.Commit.{IsCopiedHome}
 use Rattle.journal.specs.Layout.{copies, targets, through}
 use Rattle.journal.specs.Recorded.{IsStored}
-use Rattle.journal.specs.Journal.{log_of, shown_of, listed}
+use Rattle.journal.specs.Journal.{log_of, recorded_sectors, listed}
 use Rattle.journal.specs.Log.{StandsForFront}
 use Rattle.journal.specs.Settled.{AreSame}
 use Rattle.journal.proofs.Cachings.{copies_home}
@@ -60,7 +60,7 @@ invariant_of-self-2-clause-cached g c = λ k up.
     was.cache.sectors.entries c.close.ensures.size (base g at c.if-is_err.false (none_shown g at c.if-is_err.false) k) (was.cached k c.if-self.false)
 
 pub returns-clause-ok : goal.returns-clause-ok
-unfolding log_of shown_of
+unfolding log_of recorded_sectors
 returns-clause-ok g c =
     let at = (goal.at.returns-clause-ok g c).After-is_err in
     let was = c.args.self.now in

@@ -4,7 +4,7 @@ use Rattle.std.specs.Global.{Vec}
 use Rattle.disk.specs.Moments.{AddsOnly, applied, seen, moment}
 use Rattle.journal.specs.Behind.{way_for}
 use Rattle.journal.specs.Commit.{IsCommitted}
-use Rattle.journal.specs.Journal.{log_of, failures_of, shown_of, listed}
+use Rattle.journal.specs.Journal.{log_of, journal_failures, recorded_sectors, listed}
 use Rattle.journal.specs.Layout.{copies, targets, through}
 use Rattle.journal.specs.Log.{StandsForFront}
 use Rattle.journal.specs.Recorded.{IsStored}
@@ -63,7 +63,7 @@ moments g c k =
     (c.commit.ensures.moments k (stored g c k)))
 
 pub returns-then-is_err-clause-part : goal.returns-then-is_err-clause-part
-unfolding log_of failures_of
+unfolding log_of journal_failures
 returns-then-is_err-clause-part g c = record {
   moments = λ k. moments g (goal.at.returns-then-is_err-clause-part g c).After-is_err k;
   size = search rules;
@@ -72,7 +72,7 @@ returns-then-is_err-clause-part g c = record {
 }
 
 pub returns-clause-part : goal.returns-clause-part
-unfolding log_of failures_of
+unfolding log_of journal_failures
 returns-clause-part g c = record {
   moments = λ k. moments g (goal.at.returns-clause-part g c).After-is_err k;
   size = search rules;
@@ -81,7 +81,7 @@ returns-clause-part g c = record {
 }
 
 pub returns-clause-gate : goal.returns-clause-gate
-unfolding log_of shown_of
+unfolding log_of recorded_sectors
 returns-clause-gate g c =
     let at = (goal.at.returns-clause-gate g c).After-is_err in
     let was = c.args.self.now in

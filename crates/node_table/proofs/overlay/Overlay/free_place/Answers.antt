@@ -16,5 +16,5 @@ returns-in-Some-clause-some c =
           (sym (changed-length c.self.inside.table.now c.self.inside.changes.items)
           ∙ ap (λ (overlay : Overlaid). length overlay.cards) c.self.view_is)
           free.within;
-      free = if_none c.card.result (c.is_none.ensures ∙ ap not c.if-is_none.true) c.card.ensures.none;
+      free = if_none c.cached.result (c.is_none.ensures ∙ ap not c.if-is_none.true) c.cached.ensures.none;
     }

@@ -1,15 +1,15 @@
 use Rattle.std.proofs.Common.{◌≡◌, ◌<◌, ℕ, Option, None, length, get_or, set, ap, subst, ◌∙◌, arith}
 use Rattle.model.specs.Trees.Keyed.{Keyed}
 use Rattle.layout.specs.CachedNodes.{CachedNode}
-use Rattle.node_table.specs.Overlays.{Overlaid, changed, change_at}
+use Rattle.node_table.specs.Overlays.{Overlaid, overlaid, change_at}
 use Rattle.node_table.proofs.OverlayLaws.{unchanged, changed-length, changed-exchange, own-exchange, within-exchange, changed-push, own-push, within-push}
 use Rattle.node_table.proofs.overlay.Overlay.put.Goals as goal
 
 pub invariant_of-self : goal.invariant_of-self
 invariant_of-self c =
     rw c.put_into.ensures (
-      own-exchange c.self.inside.changes.items c.in-Some.i c.args.card c.self.invariant.0,
-      within-exchange (length c.self.inside.table.now) c.self.inside.changes.items c.in-Some.i c.args.card c.self.invariant.1,
+      own-exchange c.self.inside.changes.items c.in-Some.i c.args.cached c.self.invariant.0,
+      within-exchange (length c.self.inside.table.now) c.self.inside.changes.items c.in-Some.i c.args.cached c.self.invariant.1,
     )
 
 pub returns-in-Some-clause-cards : goal.returns-in-Some-clause-cards
@@ -17,8 +17,8 @@ returns-in-Some-clause-cards c =
     let changes : Keyed (Option CachedNode) = c.self.inside.changes.items in
     let within : c.in-Some.i < length changes = subst (λ (l : Keyed (Option CachedNode)). c.in-Some.i < length l) c.deref.ensures.value c.in-Some.ensures.within in
     let key : (change_at changes c.in-Some.i).0 ≡ c.args.place = subst (λ (l : Keyed (Option CachedNode)). (change_at l c.in-Some.i).0 ≡ c.args.place) c.deref.ensures.value c.in-Some.ensures.some in
-    ap (changed c.self.inside.table.now) c.put_into.ensures ∙ changed-exchange c.self.inside.table.now changes c.in-Some.i c.args.card c.self.invariant.0 within
-    ∙ ap (λ (k : ℕ). set (changed c.self.inside.table.now changes) k c.args.card) key ∙ ap (λ (overlay : Overlaid). set overlay.cards c.args.place c.args.card) c.self.view_is
+    ap (overlaid c.self.inside.table.now) c.put_into.ensures ∙ changed-exchange c.self.inside.table.now changes c.in-Some.i c.args.cached c.self.invariant.0 within
+    ∙ ap (λ (k : ℕ). set (overlaid c.self.inside.table.now changes) k c.args.cached) key ∙ ap (λ (overlay : Overlaid). set overlay.cards c.args.place c.args.cached) c.self.view_is
 
 pub invariant_of-self-in-Continue-1 : goal.invariant_of-self-in-Continue-1
 invariant_of-self-in-Continue-1 c =
@@ -26,8 +26,8 @@ invariant_of-self-in-Continue-1 c =
     let within : c.args.place < length c.self.inside.table.now =
     omega (arith, c.requires, ap (λ (overlay : Overlaid). length overlay.cards) c.self.view_is, changed-length c.self.inside.table.now c.self.inside.changes.items) in
     rw c.in_ok-push-in-None.ensures.items (
-      own-push c.self.inside.changes.items c.args.place c.args.card c.self.invariant.0 there.none,
-      within-push (length c.self.inside.table.now) c.self.inside.changes.items c.args.place c.args.card c.self.invariant.1 within,
+      own-push c.self.inside.changes.items c.args.place c.args.cached c.self.invariant.0 there.none,
+      within-push (length c.self.inside.table.now) c.self.inside.changes.items c.args.place c.args.cached c.self.invariant.1 within,
     )
 
 pub returns-in_err-push-in-None-clause-again : goal.returns-in_err-push-in-None-clause-again
@@ -38,5 +38,5 @@ returns-in_err-push-in-None-clause-again c other =
 pub returns-in_ok-push-in-None-clause-cards : goal.returns-in_ok-push-in-None-clause-cards
 returns-in_ok-push-in-None-clause-cards c =
     let there = unchanged c.self.inside.table.now c.self.inside.changes.items c.deref.result.now c.args.self.now c.args.place c.deref.ensures.value c.self.view_is c.in-None.ensures.none in
-    ap (changed c.self.inside.table.now) c.in_ok-push-in-None.ensures.items ∙ changed-push c.self.inside.table.now c.self.inside.changes.items c.args.place c.args.card there.none
-    ∙ ap (λ (overlay : Overlaid). set overlay.cards c.args.place c.args.card) c.self.view_is
+    ap (overlaid c.self.inside.table.now) c.in_ok-push-in-None.ensures.items ∙ changed-push c.self.inside.table.now c.self.inside.changes.items c.args.place c.args.cached there.none
+    ∙ ap (λ (overlay : Overlaid). set overlay.cards c.args.place c.args.cached) c.self.view_is

@@ -3,7 +3,7 @@ use Rattle.std.proofs.lemmas.List.{get_or_default}
 use Rattle.layout.specs.CachedNodes.{CachedNode}
 use Rattle.model.specs.Trees.Keyed.{Keyed, at}
 use Rattle.node_table.specs.Index.{IsAt}
-use Rattle.node_table.specs.Tables.{number_at}
+use Rattle.node_table.specs.Tables.{node_number_at}
 use Rattle.node_table.proofs.IndexLaws.{at-entry}
 use Rattle.node_table.proofs.TableLaws.{own-places}
 use Rattle.node_table.proofs.table.Table.find.Goals as goal
@@ -18,7 +18,7 @@ returns-clause-some c =
     let key : (get_or index i read).0 ≡ c.args.number = ap (λ (e : ℕ × ℕ). e.0) (get_or_default index i read (0, 0) is.within) ∙ is.is in
     let there : at c.args.number index ≡ Some read.1 =
     ap (λ (n : ℕ). at n index) (sym key) ∙ at-entry 0 index kept.rising i read is.within ∙ ap (λ (e : ℕ × ℕ). Some e.1) (sym c.index.ensures) in
-    subst (λ (cards : List (Option CachedNode)). number_at cards read.1 ≡ Some c.args.number) c.self.view_is (kept.found c.args.number read.1 there)
+    subst (λ (cards : List (Option CachedNode)). node_number_at cards read.1 ≡ Some c.args.number) c.self.view_is (kept.found c.args.number read.1 there)
 
 pub returns-in_err-i-clause-only : goal.returns-in_err-i-clause-only
 returns-in_err-i-clause-only c = own-places c.self.inside.cards.items c.self.inside.index.items c.self.inside.free.items c.self.inside.charge c.args.self.now c.self.invariant.0 c.self.view_is

@@ -4,7 +4,7 @@ use Rattle.model.specs.Trees.Keyed.{Keyed}
 use Rattle.layout.specs.CachedNodes.{CachedNode}
 use Rattle.layout.specs.Marks.{times}
 use Rattle.node_table.specs.Index.{entries_from, AreDifferent}
-use Rattle.node_table.specs.Tables.{AreFew, charge_of_all, count_of_all, vacant, IsKept}
+use Rattle.node_table.specs.Tables.{AreFew, charge_of_all, count_of_all, vacant, IsIndexed}
 use Rattle.node_table.proofs.FillingLaws.{filled, own-different}
 use Rattle.node_table.proofs.TableLaws.{own-places}
 use Rattle.node_table.proofs.table.Table.from_cards.Goals as goal
@@ -19,7 +19,7 @@ returns-then-not-are_different-clause-same c same own =
     let told = c.are_different.ensures.1 (subst AreDifferent (sym c.deref-2.ensures.value) differ) in
     true≢false (sym told ∙ c.if-not-are_different.true)
 
-kept : (c : goal.After-charge_of_cards-charge) → IsKept c.args.cards.items c.sort.new.index.items c.in_ok-free.free.items c.charge_of_cards-charge.result
+kept : (c : goal.After-charge_of_cards-charge) → IsIndexed c.args.cards.items c.sort.new.index.items c.in_ok-free.free.items c.charge_of_cards-charge.result
 kept c =
     let cards : List (Option CachedNode) = c.args.cards.items in
     let order = moved cards c.deref.result.now c.in_ok-index.index.items c.sort.new.index.items c.in_ok-index.ensures.entries c.deref.ensures.value c.sort.ensures.permutation in

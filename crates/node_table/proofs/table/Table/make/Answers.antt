@@ -14,7 +14,7 @@ take_free-requires c =
 pub overflow_add-self : goal.overflow_add-self
 overflow_add-self c =
     let kept = c.self.invariant.0 in
-    let few = ap (λ (card : CachedNode). length card.blocks) c.card.view_is in
+    let few = ap (λ (card : CachedNode). length card.blocks) c.cached.view_is in
     omega (arith, kept.charge_is, kept.few, charges-most c.self.inside.cards.items kept.each, c.blocks_charge.ensures.charge, few, c.blocks_charge.ensures.few)
 
 pub invariant_of-self : goal.invariant_of-self
@@ -22,15 +22,15 @@ invariant_of-self c =
     let kept = c.self.invariant.0 in
     let cards : List (Option CachedNode) = c.self.inside.cards.items in
     let is_free : IsFree cards c.args.place = subst (λ (l : List (Option CachedNode)). IsFree l c.args.place) (sym c.self.view_is) c.requires.free in
-    let below : AreBelow cards c.args.card.fields.number = subst (λ (l : List (Option CachedNode)). AreBelow l c.args.card.fields.number) (sym c.self.view_is) c.requires.above in
-    let number : c.card.inside.inode.number ≡ c.args.card.fields.number = ap (λ (card : CachedNode). card.fields.number) c.card.view_is in
-    let is : c.blocks_charge.result ≡ charge_of c.args.card = c.blocks_charge.ensures.charge ∙ ap charge_of c.card.view_is in
-    let sum : c.self.inside.charge + c.blocks_charge.result ≡ c.self.inside.charge + charge_of c.args.card = omega (arith, is) in
-    let few : length c.args.card.blocks ≤ 4096 = subst (λ (card : CachedNode). length card.blocks ≤ 4096) c.card.view_is c.blocks_charge.ensures.few in
-    let long = length-set cards c.args.place (Some c.args.card) in
+    let below : AreBelow cards c.args.cached.fields.number = subst (λ (l : List (Option CachedNode)). AreBelow l c.args.cached.fields.number) (sym c.self.view_is) c.requires.above in
+    let number : c.cached.inside.inode.number ≡ c.args.cached.fields.number = ap (λ (card : CachedNode). card.fields.number) c.cached.view_is in
+    let is : c.blocks_charge.result ≡ charge_of c.args.cached = c.blocks_charge.ensures.charge ∙ ap charge_of c.cached.view_is in
+    let sum : c.self.inside.charge + c.blocks_charge.result ≡ c.self.inside.charge + charge_of c.args.cached = omega (arith, is) in
+    let few : length c.args.cached.blocks ≤ 4096 = subst (λ (card : CachedNode). length card.blocks ≤ 4096) c.cached.view_is c.blocks_charge.ensures.few in
+    let long = length-set cards c.args.place (Some c.args.cached) in
     let room = c.self.invariant.1 in
     rw (c.put_card.ensures, c.push_reserved.ensures.items, number) (
-      made cards c.self.inside.index.items c.self.inside.free.items c.self.inside.charge c.args.place c.args.card kept is_free c.requires.some below c.take_free.new.free.items (c.self.inside.charge + c.blocks_charge.result)
+      made cards c.self.inside.index.items c.self.inside.free.items c.self.inside.charge c.args.place c.args.cached kept is_free c.requires.some below c.take_free.new.free.items (c.self.inside.charge + c.blocks_charge.result)
           few c.take_free.ensures.times c.take_free.ensures.len sum,
       record { index = omega (arith, long, room.index, c.push_reserved.ensures.capacity); free = omega (arith, long, room.free, c.take_free.ensures.room) },
     )

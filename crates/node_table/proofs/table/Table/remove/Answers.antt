@@ -3,7 +3,7 @@ use Rattle.std.proofs.lemmas.List.{length-set}
 use Rattle.layout.specs.CachedNodes.{CachedNode}
 use Rattle.model.specs.Trees.Keyed.{Keyed}
 use Rattle.node_table.specs.Index.{IsAt}
-use Rattle.node_table.specs.Tables.{number_at, charge_there}
+use Rattle.node_table.specs.Tables.{node_number_at, charge_there}
 use Rattle.node_table.proofs.TableLaws.{charge-within, removed}
 use Rattle.node_table.proofs.table.Table.remove.Goals as goal
 
@@ -17,8 +17,8 @@ pub invariant_of-self : goal.invariant_of-self
 invariant_of-self c =
     let kept = c.self.invariant.0 in
     let cards : List (Option CachedNode) = c.self.inside.cards.items in
-    let there : number_at cards c.args.place ≡ Some c.args.number =
-    subst (λ (l : List (Option CachedNode)). number_at l c.args.place ≡ Some c.args.number) (sym c.self.view_is) c.requires.there in
+    let there : node_number_at cards c.args.place ≡ Some c.args.number =
+    subst (λ (l : List (Option CachedNode)). node_number_at l c.args.place ≡ Some c.args.number) (sym c.self.view_is) c.requires.there in
     let is : IsAt c.self.inside.index.items c.args.number c.in-Some.i = subst (λ (l : Keyed ℕ). IsAt l c.args.number c.in-Some.i) c.deref.ensures.value c.in-Some.ensures.some in
     let was : c.charge_at.result ≡ charge_there (get_or cards c.args.place None) = c.charge_at.ensures ∙ ap (λ (l : List (Option CachedNode)). charge_there (get_or l c.args.place None)) c.deref-2.ensures.value in
     let sum : c.self.inside.charge - c.charge_at.result + charge_there (get_or cards c.args.place None) ≡ c.self.inside.charge = omega (arith, was, charge-within cards c.args.place, kept.charge_is) in

@@ -3,14 +3,14 @@ use Rattle.compound.specs.States.{shared_of}
 use Rattle.compound.specs.Steps as compound
 use Rattle.compound.specs.Steps.{stepped_on}
 use Rattle.compound.specs.Views.{Asked, asked_of, in_progress_of}
-use Rattle.compound.specs.Volumes.{ending_of}
+use Rattle.compound.specs.Volumes.{fault_ending}
 use Rattle.compound.specs.declared.progress.Progress.{Progress}
 use Rattle.volume.specs.Changes.{Done}
 use Rattle.fs.specs.Views.{fs_of}
 use Rattle.model.specs.Server.World.{InProgress}
 use Rattle.server.specs.declared.begun.Begun.{Begun}
 use Rattle.server.specs.declared.begun.TurnEnd.{TurnEnd}
-use Rattle.server.specs.Connections.{GoesOn, Steps}
+use Rattle.server.specs.Connections.{RecordGoesOn, RecordSteps}
 use Rattle.server.specs.Stages.{in_progress_at}
 use Rattle.server.proofs.Resumptions.{stands_within, steps_on}
 use Rattle.server.proofs.Turning.{same_changes, step_leads}
@@ -24,19 +24,19 @@ returns-in-Ok-clause-step g c = λ keeps.
     let request = c.args.request.now in
     let old = shared_of c.args.fs.now c.args.table.now c.args.opens.now in
     let new = shared_of c.step.new.fs c.step.new.table c.step.new.opens in
-    subst (λ (left : TurnEnd). Steps c.args.now old new request c.args.self left) (sym c.left.ensures)
+    subst (λ (left : TurnEnd). RecordSteps c.args.now old new request c.args.self left) (sym c.left.ensures)
     (step_leads c.args.now request c.args.self c.in-Ok.done old new
-    (subst (λ (asked : Asked). compound.Steps c.args.now old new asked (in_progress_at request c.args.self) c.in-Ok.done) c.resume.ensures.asked
-    (subst (λ (r : InProgress). compound.Steps c.args.now old new (asked_of c.resume.result) r c.in-Ok.done) c.resume.ensures.request (c.in-Ok.ensures.step keeps))))
+    (subst (λ (asked : Asked). compound.RequestSteps c.args.now old new asked (in_progress_at request c.args.self) c.in-Ok.done) c.resume.ensures.asked
+    (subst (λ (r : InProgress). compound.RequestSteps c.args.now old new (asked_of c.resume.result) r c.in-Ok.done) c.resume.ensures.request (c.in-Ok.ensures.step keeps))))
 
 pub returns-in-Ok-clause-goes_on : goal.returns-in-Ok-clause-goes_on
 returns-in-Ok-clause-goes_on g c =
     let request = c.args.request.now in
     let run = (fs_of c.args.fs.now).volume.run in
-    subst (λ (left : TurnEnd). GoesOn run request c.args.self left) (sym c.left.ensures)
+    subst (λ (left : TurnEnd). RecordGoesOn run request c.args.self left) (sym c.left.ensures)
     (steps_on run request c.args.self c.in-Ok.done (stands_within request c.args.self c.requires.goes_on.can)
-    (subst (λ (asked : Asked). compound.GoesOn run asked (in_progress_at request c.args.self) c.in-Ok.done) c.resume.ensures.asked
-    (subst (λ (r : InProgress). compound.GoesOn run (asked_of c.resume.result) r c.in-Ok.done) c.resume.ensures.request c.in-Ok.ensures.goes_on)))
+    (subst (λ (asked : Asked). compound.RequestGoesOn run asked (in_progress_at request c.args.self) c.in-Ok.done) c.resume.ensures.asked
+    (subst (λ (r : InProgress). compound.RequestGoesOn run (asked_of c.resume.result) r c.in-Ok.done) c.resume.ensures.request c.in-Ok.ensures.goes_on)))
 
 pub returns-in-Ok-clause-volume : goal.returns-in-Ok-clause-volume
 returns-in-Ok-clause-volume g c =
@@ -52,4 +52,4 @@ pub returns-in-Err-clause-volume : goal.returns-in-Err-clause-volume
 returns-in-Err-clause-volume g c =
     same_changes g.D.Device.keeps_word (shared_of c.args.fs.now c.args.table.now c.args.opens.now) (fs_of c.args.fs.now) (fs_of c.step.new.fs) _ _
     (λ world number. stepped_on world number c.args.now (in_progress_of c.resume.result)) (λ world number. stepped_on world number c.args.now (in_progress_at c.args.request.now c.args.self))
-    (λ world number served. ap (stepped_on world number c.args.now) (sym c.resume.ensures.request)) (ending_of c.in-Err.undone.fault) c.in-Err.ensures.volume
+    (λ world number served. ap (stepped_on world number c.args.now) (sym c.resume.ensures.request)) (fault_ending c.in-Err.undone.fault) c.in-Err.ensures.volume

@@ -1,13 +1,13 @@
 use Rattle.std.proofs.Common.{Some, ap, sym, subst, ◌∙◌}
 use Rattle.compound.specs.States.{shared_of}
 use Rattle.compound.specs.Steps.{stepped_on}
-use Rattle.compound.specs.Volumes.{ending_of}
+use Rattle.compound.specs.Volumes.{fault_ending}
 use Rattle.volume.specs.Changes.{Done}
 use Rattle.fs.specs.Views.{fs_of}
 use Rattle.model.specs.Server.World.{Connection, Busy, turned}
 use Rattle.rpc.specs.Assembly.{Assembly}
 use Rattle.server.specs.Connections.{HasGoneOn, connection_view, turn_view}
-use Rattle.server.specs.Stages.{in_progress_at, held_by, busy_with, turn_by, left_by}
+use Rattle.server.specs.Stages.{in_progress_at, held_record, busy_with, turn_of_end, left_by_turn}
 use Rattle.server.proofs.Resumptions.{goes_on_as}
 use Rattle.server.proofs.Turning.{same_changes, held_comes, leads_as}
 use Rattle.server.proofs.connection.Connection.next_turn.Goals as goal
@@ -20,11 +20,11 @@ pub returns-in-Ok-clause-turn : goal.returns-in-Ok-clause-turn
 returns-in-Ok-clause-turn g c = λ keeps.
     let assembly = c.args.self.now.assembler in
     let request = c.in-Some.record.now in
-    leads_as (λ world number. stepped_on world number c.args.now (in_progress_at request c.args.begun)) (λ world number. turned world number c.args.now (Some (busy_with (held_by assembly) c.args.begun)))
+    leads_as (λ world number. stepped_on world number c.args.now (in_progress_at request c.args.begun)) (λ world number. turned world number c.args.now (Some (busy_with (held_record assembly) c.args.begun)))
     (shared_of c.args.fs.now c.args.table.now c.args.opens.now) (shared_of c.step.new.fs c.step.new.table c.step.new.opens)
     (λ world number served. held_comes c.args.now assembly request c.args.begun c.in-Some.ensures.waits world number)
-    (connection_view c.settle.new.self) (left_by (Some request) c.in-Ok.done) (turn_view c.settle.result) (turn_by c.in-Ok.done)
-    (c.settle.ensures.state ∙ ap (λ (a : Assembly). left_by (held_by a) c.in-Ok.done) c.in-Some.ensures.waits) c.settle.ensures.turn (c.in-Ok.ensures.step keeps)
+    (connection_view c.settle.new.self) (left_by_turn (Some request) c.in-Ok.done) (turn_view c.settle.result) (turn_of_end c.in-Ok.done)
+    (c.settle.ensures.state ∙ ap (λ (a : Assembly). left_by_turn (held_record a) c.in-Ok.done) c.in-Some.ensures.waits) c.settle.ensures.turn (c.in-Ok.ensures.step keeps)
 
 pub returns-in-Ok-clause-volume : goal.returns-in-Ok-clause-volume
 returns-in-Ok-clause-volume g c =
@@ -32,7 +32,7 @@ returns-in-Ok-clause-volume g c =
     let request = c.in-Some.record.now in
     same_changes g.D.Device.keeps_word (shared_of c.args.fs.now c.args.table.now c.args.opens.now) (fs_of c.args.fs.now) (fs_of c.step.new.fs) _ _
     (λ world number. stepped_on world number c.args.now (in_progress_at request c.args.begun))
-    (λ world number. turned world number c.args.now (Some (busy_with (held_by assembly) c.args.begun)))
+    (λ world number. turned world number c.args.now (Some (busy_with (held_record assembly) c.args.begun)))
     (λ world number served. held_comes c.args.now assembly request c.args.begun c.in-Some.ensures.waits world number) Done c.in-Ok.ensures.volume
 
 pub returns-in-Err-clause-volume : goal.returns-in-Err-clause-volume
@@ -41,13 +41,13 @@ returns-in-Err-clause-volume g c =
     let request = c.in-Some.record.now in
     same_changes g.D.Device.keeps_word (shared_of c.args.fs.now c.args.table.now c.args.opens.now) (fs_of c.args.fs.now) (fs_of c.step.new.fs) _ _
     (λ world number. stepped_on world number c.args.now (in_progress_at request c.args.begun))
-    (λ world number. turned world number c.args.now (Some (busy_with (held_by assembly) c.args.begun)))
-    (λ world number served. held_comes c.args.now assembly request c.args.begun c.in-Some.ensures.waits world number) (ending_of c.in-Err.undone.fault) c.in-Err.ensures.volume
+    (λ world number. turned world number c.args.now (Some (busy_with (held_record assembly) c.args.begun)))
+    (λ world number served. held_comes c.args.now assembly request c.args.begun c.in-Some.ensures.waits world number) (fault_ending c.in-Err.undone.fault) c.in-Err.ensures.volume
 
 pub returns-in-Ok-clause-further : goal.returns-in-Ok-clause-further
 returns-in-Ok-clause-further g c =
     let request = c.in-Some.record.now in
-    let before = ap (λ (a : Assembly). busy_with (held_by a) c.args.begun) c.in-Some.ensures.waits in
-    let after = c.settle.ensures.state ∙ ap (λ (a : Assembly). left_by (held_by a) c.in-Ok.done) c.in-Some.ensures.waits in
+    let before = ap (λ (a : Assembly). busy_with (held_record a) c.args.begun) c.in-Some.ensures.waits in
+    let after = c.settle.ensures.state ∙ ap (λ (a : Assembly). left_by_turn (held_record a) c.in-Ok.done) c.in-Some.ensures.waits in
     subst (λ (was : Connection). HasGoneOn (Some was) (Some (connection_view c.settle.new.self))) (sym before)
     (subst (λ (is : Connection). HasGoneOn (Some (Busy (in_progress_at request c.args.begun))) (Some is)) (sym after) c.in-Ok.ensures.goes_on.further)

@@ -1,13 +1,13 @@
 use Rattle.std.proofs.Common.{◌≡◌, ℕ, true, false, List, Some, OnOk, refl, ap, sym, subst, ◌∙◌}
 use Rattle.compound.specs.States.{shared_of}
-use Rattle.compound.specs.Volumes.{ending, ending_of}
+use Rattle.compound.specs.Volumes.{ending, fault_ending}
 use Rattle.volume.specs.Changes.{Done}
 use Rattle.fs.specs.Views.{fs_of, fs_failures}
 use Rattle.model.specs.Wire.Rpc.{read_call}
 use Rattle.model.specs.Server.World.{World, Connection, is_busy, Waiting, Replied, Turned, called, idle, turned}
 use Rattle.rpc.specs.Assembly.{Assembly, Gathers, Holds, Refuses, connection_of}
 use Rattle.server.specs.Connections.{connection_view, HasGoneOn, IsOfRun}
-use Rattle.server.specs.Stages.{stage_view, held_by, busy_with, turn_by, left_by, is_ready}
+use Rattle.server.specs.Stages.{stage_view, held_record, busy_with, turn_of_end, left_by_turn, is_ready}
 use Rattle.server.specs.declared.stage.Stage.{Stage}
 use Rattle.server.specs.declared.stage.Stage.TheVariants as stages
 use Rattle.server.proofs.Turning.{not_begun, turns_by, turns_if, same_changes, idle_changes, idle_turn_to, replied_comes, no_record_comes, waiting_comes}
@@ -37,8 +37,8 @@ returns-in-Ok-clause-turn g c = λ keeps.
     (waiting_comes c.args.now (connection_view c.args.self.now) c.in-Some.record.now
     (waits c.args.self.now.assembler c.args.self.now.stage c.in-Some.record.now c.in-Receiving.ensures.value c.in-Some.ensures.waits))
     (shared_of c.args.fs.now c.args.table.now c.args.opens.now) (shared_of c.first_turn.new.fs c.first_turn.new.table c.first_turn.new.opens)
-    (connection_view c.settle.new.self) (left_by (Some c.in-Some.record.now) c.in-Ok.done) c.settle.result (turn_by c.in-Ok.done)
-    c.settle.ensures.turn (c.settle.ensures.state ∙ ap (λ (a : Assembly). left_by (held_by a) c.in-Ok.done) c.in-Some.ensures.waits) (c.in-Ok.ensures.turn keeps)
+    (connection_view c.settle.new.self) (left_by_turn (Some c.in-Some.record.now) c.in-Ok.done) c.settle.result (turn_of_end c.in-Ok.done)
+    c.settle.ensures.turn (c.settle.ensures.state ∙ ap (λ (a : Assembly). left_by_turn (held_record a) c.in-Ok.done) c.in-Some.ensures.waits) (c.in-Ok.ensures.turn keeps)
 
 pub returns-in-None-clause-turn : goal.returns-in-None-clause-turn
 unfolding connection_view
@@ -54,7 +54,7 @@ unfolding connection_view
 returns-in-Running-clause-turn g c = λ keeps.
     let assembly = c.args.self.now.assembler in
     let before = ap (stage_view assembly) (sym c.in-Running.ensures.value) in
-    turns_if c.args.now (connection_view c.args.self.now) (λ world number. turned world number c.args.now (Some (busy_with (held_by assembly) c.in-Running.begun)))
+    turns_if c.args.now (connection_view c.args.self.now) (λ world number. turned world number c.args.now (Some (busy_with (held_record assembly) c.in-Running.begun)))
     (λ world number. ap (λ (b : Connection). turned world number c.args.now (Some b)) before)
     (shared_of c.args.fs.now c.args.table.now c.args.opens.now) (shared_of c.next_turn.new.fs c.next_turn.new.table c.next_turn.new.opens)
     (connection_view c.next_turn.new.self) c.next_turn.result (c.next_turn.ensures.turn keeps)
@@ -84,7 +84,7 @@ returns-in-Err-clause-volume g c =
     (λ world number. called world number c.args.now (read_call c.in-Some.record.now)) (λ world number. turned world number c.args.now (Some before))
     (λ world number served. waiting_comes c.args.now before c.in-Some.record.now
     (waits c.args.self.now.assembler c.args.self.now.stage c.in-Some.record.now c.in-Receiving.ensures.value c.in-Some.ensures.waits) world number)
-    (ending_of c.in-Err.fault) c.in-Err.ensures.volume
+    (fault_ending c.in-Err.fault) c.in-Err.ensures.volume
 
 pub returns-in-None-clause-volume : goal.returns-in-None-clause-volume
 unfolding connection_view
@@ -102,7 +102,7 @@ returns-in-Running-clause-volume g c =
     let assembly = c.args.self.now.assembler in
     let before = ap (stage_view assembly) (sym c.in-Running.ensures.value) in
     same_changes g.D.Device.keeps_word (shared_of c.args.fs.now c.args.table.now c.args.opens.now) (fs_of c.args.fs.now) (fs_of c.next_turn.new.fs) _ _
-    (λ world number. turned world number c.args.now (Some (busy_with (held_by assembly) c.in-Running.begun)))
+    (λ world number. turned world number c.args.now (Some (busy_with (held_record assembly) c.in-Running.begun)))
     (λ world number. turned world number c.args.now (Some (connection_view c.args.self.now)))
     (λ world number served. ap (λ (b : Connection). turned world number c.args.now (Some b)) before) (ending c.next_turn.result) c.next_turn.ensures.volume
 

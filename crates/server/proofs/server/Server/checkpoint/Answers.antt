@@ -4,14 +4,14 @@ use Rattle.fs.specs.declared.fault.FsFault.TheVariants as fault
 use Rattle.opens.specs.Views.{opens_of}
 use Rattle.session.specs.Views.{table_of}
 use Rattle.server.specs.Connections.{connections_of}
-use Rattle.server.specs.Views.{world_of, volume_of, failures_of}
+use Rattle.server.specs.Views.{world_of, volume_of, server_failures}
 use Rattle.volume.specs.VolumeState.{kept_of}
 use Rattle.server.proofs.Checkpoints.{agrees_still, checkpointed, checkpoint_fails, keeps_world, only_device}
 use Rattle.server.proofs.Worlds.{AllOfRun}
 use Rattle.server.proofs.server.Server.checkpoint.Goals as goal
 
 pub returns-then-is_down-clause-refused : goal.returns-then-is_down-clause-refused
-unfolding world_of volume_of failures_of
+unfolding world_of volume_of server_failures
 returns-then-is_down-clause-refused g c = record {
   told = refl;
   world = refl;
@@ -38,7 +38,7 @@ returns-in-Ok-clause-ok g c = λ keeps.
     (did.shows.tree_is keeps) (volume.ends.seats keeps (kept_of (fs_of s.fs).volume) false (refl, refl)) (sym c.if-is_down.ensures) volume.ends.still_up (did.recent keeps) (volume.moments keeps (kept_of (fs_of s.fs).volume) false (refl, refl))
 
 pub returns-in-Ok-clause-kept : goal.returns-in-Ok-clause-kept
-unfolding world_of volume_of failures_of
+unfolding world_of volume_of server_failures
 returns-in-Ok-clause-kept g c =
     let s = c.args.self.now in
     let did = c.in-Ok.ensures in
@@ -65,7 +65,7 @@ returns-in-Err-clause-fails g c = λ keeps up.
     up failed.volume_changes.ends.down (volume.moments keeps (kept_of (fs_of s.fs).volume) false (refl, refl))
 
 pub returns-in-Err-clause-refused : goal.returns-in-Err-clause-refused
-unfolding world_of volume_of failures_of
+unfolding world_of volume_of server_failures
 returns-in-Err-clause-refused g c =
     let s = c.args.self.now in
     let did = c.in-Err.ensures in

@@ -8,7 +8,7 @@ use Rattle.server.specs.declared.fault.ServerFault.TheVariants as faults
 use Rattle.server.specs.Refused.{view, IsUntouched, RefusesTurn}
 use Rattle.server.specs.Seen.{Stays}
 use Rattle.server.proofs.Refusals.{told_by, begins_on, runs_on, hang_up_refused}
-use Rattle.server.specs.Views.{world_of, volume_of, failures_of, seen_with}
+use Rattle.server.specs.Views.{world_of, volume_of, server_failures, seen_with}
 use Rattle.server.proofs.HangUps.{turned_on, fewer_left}
 use Rattle.server.proofs.Moves.{does_quietly, same_seen}
 use Rattle.server.proofs.SlabLaws.{stands_none, without_slot, absent, present, removed_count}
@@ -20,7 +20,7 @@ unfolding volume_of
 returns-then-is_down-clause-refused g c = (inl (sym c.if-is_down.ensures), sym c.if-is_down.ensures)
 
 pub returns-then-not-contains-clause-refused : goal.returns-then-not-contains-clause-refused
-unfolding world_of volume_of failures_of
+unfolding world_of volume_of server_failures
 returns-then-not-contains-clause-refused g c =
     (absent c.args.self.now.connections c.args.conn c.contains.result c.contains.ensures.1 c.if-not-contains.true, (refl, refl, refl))
 

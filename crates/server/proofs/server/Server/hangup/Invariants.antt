@@ -4,7 +4,7 @@ use Rattle.model.specs.Trees.Keyed.{at}
 use Rattle.model.specs.Trees.Tree.{Tree}
 use Rattle.server.specs.Refused.{view, HasRunOn}
 use Rattle.server.specs.Seen.{IsTurned}
-use Rattle.server.specs.Views.{world_of, volume_of, failures_of, seen_with}
+use Rattle.server.specs.Views.{world_of, volume_of, server_failures, seen_with}
 use Rattle.server.proofs.HangUps.{turns_left}
 use Rattle.server.proofs.server.Server.hangup.Given as goal
 
@@ -14,7 +14,7 @@ invariant-loop-self g l = record {
   on : HasRunOn (view l.fn.self) (view l.self) l.conn;
   turned : g.D.Device.keeps_word → (recent : List Tree) → IsRecent (volume_of l.fn.self) recent
       → (now : List Tree) × IsTurned l.conn l.now (seen_with l.fn.self recent) (seen_with l.self now) × IsRecent (volume_of l.self) now;
-  later : failures_of l.fn.self ≤ failures_of l.self;
+  later : server_failures l.fn.self ≤ server_failures l.self;
 }
 
 abbrev pub decreases-loop-self : goal.decreases-loop-self

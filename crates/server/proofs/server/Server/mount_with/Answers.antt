@@ -6,7 +6,7 @@ use Rattle.volume.proofs.ServeLaws.{told_err}
 use Rattle.model.specs.Sessions.SeatViews.{seats_view}
 use Rattle.session.specs.Views.{table_of}
 use Rattle.server.specs.Connections.{connections_of}
-use Rattle.server.specs.Views.{world_of, volume_of, failures_of}
+use Rattle.server.specs.Views.{world_of, volume_of, server_failures}
 use Rattle.opens.specs.Views.{opens_of}
 use Rattle.server.proofs.Moves.{loaded, few_runs, mounted_by, world_mounted, found_start, limits_room}
 use Rattle.server.proofs.server.Server.mount_with.Goals as goal
@@ -33,7 +33,7 @@ returns-clause-world g c =
     c.new-opens.ensures (rw c.in-Ok.ensures.empty refl) c.in_ok-fs.ensures.no_change
 
 pub returns-clause-serves : goal.returns-clause-serves
-unfolding volume_of failures_of
+unfolding volume_of server_failures
 returns-clause-serves g c = c.in_ok-fs.ensures.serves
 
 -- no memory for the connections: the device was not asked

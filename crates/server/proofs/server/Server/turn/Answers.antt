@@ -2,7 +2,7 @@ use Rattle.std.proofs.Common.{◌≡◌, ℕ, Some, Result, Ok, Err, OnErr, true
 use Rattle.compound.specs.declared.fault.Fault.TheVariants as turns
 use Rattle.slab.specs.Slab.{with_value}
 use Rattle.compound.specs.States.{shared, shared_of}
-use Rattle.compound.specs.Volumes.{kept_in}
+use Rattle.compound.specs.Volumes.{kept_of_world}
 use Rattle.fs.specs.FileSystem.{FileSystem}
 use Rattle.fs.specs.Views.{fs_of}
 use Rattle.model.specs.Server.Runs as runs
@@ -12,7 +12,7 @@ use Rattle.server.specs.Connections.{connections_of, connection_view}
 use Rattle.server.specs.Faults.{turn_fault}
 use Rattle.server.specs.declared.fault.ServerFault.TheVariants as faults
 use Rattle.server.specs.Seen.{Turned}
-use Rattle.server.specs.Views.{world_of, volume_of, failures_of, world_by}
+use Rattle.server.specs.Views.{world_of, volume_of, server_failures, world_by}
 use Rattle.compound.proofs.QuietLaws.{left_all, broken≢done}
 use Rattle.model.proofs.Trees.KeyedLaws.{at-with_other}
 use Rattle.model.specs.Trees.Keyed.{at}
@@ -24,7 +24,7 @@ use Rattle.server.proofs.Worlds.{AllOfRun, all_of_run_with, happened_leaving, fa
 use Rattle.server.proofs.server.Server.turn.Goals as goal
 
 pub returns-in_default-clause-refused : goal.returns-in_default-clause-refused
-unfolding world_of volume_of failures_of
+unfolding world_of volume_of server_failures
 returns-in_default-clause-refused g c = (stands_none c.args.self.now.connections c.args.conn c.in_default.ensures.value, (refl, refl, refl))
 
 pub returns-then-is_down-clause-refused : goal.returns-then-is_down-clause-refused
@@ -54,7 +54,7 @@ returns-then-is_closed-clause-is_none g c =
     λ up free. let never : ⊥ = cc in absurd never
 
 pub returns-then-is_closed-clause-refused : goal.returns-then-is_closed-clause-refused
-unfolding world_of volume_of failures_of
+unfolding world_of volume_of server_failures
 returns-then-is_closed-clause-refused g c =
     let s = c.args.self.now in
     let before = c.in-Some.connection.now in (
@@ -104,7 +104,7 @@ returns-in_err-turn-clause-fails g c =
     let device : refusal ≡ turns.Device = device_told refusal (let told_is : turn_fault refusal ≡ faults.Device = cc in told_is) in
     let volume = c.turn.ensures.volume.volume_changes in
     let failed = rw (c.in_err-turn.was, device) at c.turn.ensures.volume in
-    let left = kept_in (turn_of (shared_of s.fs s.table s.opens) (connections_of s.connections) c.args.conn c.args.now).world in
+    let left = kept_of_world (turn_of (shared_of s.fs s.table s.opens) (connections_of s.connections) c.args.conn c.args.now).world in
     let adds = volume.moments keeps _ _ (gives_one (shared_of s.fs s.table s.opens) (connections_of s.connections) c.args.conn c.args.now (connection_view before)
     (stands s.connections c.args.conn before c.in-Some.ensures.value)) in
     λ recent ready. (
@@ -138,7 +138,7 @@ returns-in_err-turn-clause-is_closed g c =
     let never : ⊥ = cc in absurd never
 
 pub returns-in_err-turn-clause-refused : goal.returns-in_err-turn-clause-refused
-unfolding world_of volume_of failures_of
+unfolding world_of volume_of server_failures
 returns-in_err-turn-clause-refused g c =
     let s = c.args.self.now in
     let before = c.in-Some.connection.now in
@@ -207,7 +207,7 @@ returns-clause-is_closed g c =
     let never : ⊥ = cc in absurd never
 
 pub returns-clause-turned : goal.returns-clause-turned
-unfolding world_of volume_of failures_of
+unfolding world_of volume_of server_failures
 returns-clause-turned g c =
     let s = c.args.self.now in
     let before = c.in-Some.connection.now in

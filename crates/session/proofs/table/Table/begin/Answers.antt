@@ -6,7 +6,7 @@ use Rattle.model.specs.Sessions.Seats.{seat_of}
 use Rattle.model.specs.Sessions.SeatViews.{seats_view}
 use Rattle.model.specs.Sessions.Session.{begin, begin_by, started, Session as Known}
 use Rattle.wire.specs.ArgumentViews.{sequence_view}
-use Rattle.session.specs.Views.{table_of, table_by, roll_of, seating_of, session_of, reply_kept, reply_in}
+use Rattle.session.specs.Views.{table_of, table_by, roll_of, seating_of, session_of, reply_kept, kept_reply_in}
 use Rattle.session.proofs.Beginning.{refuses, replays, runs, replays_kept, dead_refuses, dead_replays}
 use Rattle.session.proofs.table.Table.begin.Goals as goal
 
@@ -29,7 +29,7 @@ returns-in_default-clause-answered c =
     let replays = dead_replays c.args.uid arguments (seat_of arguments.session seats) (sym c.check_dead.ensures.answered ∙ ap result_err c.in_ok-check_dead.was) in (
       replays.0,
       ap (begin_by c.args.uid c.args.count arguments seats) found ∙ replays.1,
-      ap (reply_in arguments.session arguments.slot seats) found ∙ replays.2,
+      ap (kept_reply_in arguments.session arguments.slot seats) found ∙ replays.2,
       refl,
     )
 
@@ -55,7 +55,7 @@ returns-in-Replays-clause-answered c =
     let next = replays (begin_by c.args.uid c.args.count arguments (seats_view c.args.self.now.seats) (Some session)) (sym c.next.ensures.next ∙ c.in_ok-next.was ∙ ap Ok c.in-Replays.is) in (
       next.0,
       ap (begin_by c.args.uid c.args.count arguments (seats_view c.args.self.now.seats)) found ∙ next.1,
-      ap (reply_in c.args.arguments.now.session c.args.arguments.now.slot (seats_view c.args.self.now.seats)) found ∙ replays_kept c.args.uid c.args.count arguments (seats_view c.args.self.now.seats) session next.0 next.1,
+      ap (kept_reply_in c.args.arguments.now.session c.args.arguments.now.slot (seats_view c.args.self.now.seats)) found ∙ replays_kept c.args.uid c.args.count arguments (seats_view c.args.self.now.seats) session next.0 next.1,
       refl,
     )
 

@@ -3,7 +3,7 @@ use Rattle.std.specs.Prelude.{IfSome}
 use Rattle.std.proofs.lemmas.List.{length-take}
 use Rattle.disk.specs.Moments.{Image, applied}
 use Rattle.directory.specs.Listing.{by_stamp, without_entry}
-use Rattle.directory.specs.Records.{Record, AreStamped, without_place, place_of}
+use Rattle.directory.specs.Records.{Record, NamesStamped, without_place, place_of}
 use Rattle.directory.specs.Spelling.{directory_sector}
 use Rattle.model.specs.declared.node.NodeKind.TheVariants as kind
 use Rattle.model.specs.Trees.Charge.{blocks_of}
@@ -25,8 +25,8 @@ use Rattle.tree_transaction.proofs.NameLaws.{named_card}
 use Rattle.tree_transaction.proofs.transaction.Transaction.drop_name.Goals as goal
 
 pub give_blocks-requires : goal.give_blocks-requires
-give_blocks-requires c = subst (λ (one : CachedNode). HaveMarks (148 + c.args.self.now.nodes) c.args.self.now.places one.blocks) (sym c.card.view_is)
-    (blocks_marked c.args.self.now c.args.place 0 c.in_ok-card.card c.requires.known c.in_ok-card.ensures.card)
+give_blocks-requires c = subst (λ (one : CachedNode). HaveMarks (148 + c.args.self.now.nodes) c.args.self.now.places one.blocks) (sym c.cached.view_is)
+    (blocks_marked c.args.self.now c.args.place 0 c.in_ok-cached.cached c.requires.known c.in_ok-cached.ensures.cached)
 
 -- what is said of a value that was found
 of_some : {X : Type 0} (P : X → Type 0) (found : Option X) (x : X) → found ≡ Some x → IfSome found P → P x
@@ -73,42 +73,42 @@ marks_left was card is names left first places mid_places left_is marks n =
 
 module _ (c : goal.After-store_cut-arg-1) where
   abbrev card : CachedNode
-  card = seen c.card.inside.form c.card.inside.inode c.card.inside.runs c.card.inside.blocks c.card.inside.names
+  card = seen c.cached.inside.form c.cached.inside.inode c.cached.inside.runs c.cached.inside.blocks c.cached.inside.names
 
-  left_can : IsLeft c.in_ok-card.card card c.args.name.now c.remove.new.self c.unwrap-at.result.0 c.count-left.result c.cut.new.self
-  left_can = is_left c.in_ok-card.card _ c.card.view_is c.args.name.now c.remove.new.self c.unwrap-at.result.0 c.count-left.result c.cut.new.self (of_some _ c.in_ok-remove.field-0 c.unwrap-at.result c.unwrap-at.ensures c.in_ok-remove.ensures.place).0
+  left_can : IsLeft c.in_ok-cached.cached card c.args.name.now c.remove.new.self c.unwrap-at.result.0 c.count-left.result c.cut.new.self
+  left_can = is_left c.in_ok-cached.cached _ c.cached.view_is c.args.name.now c.remove.new.self c.unwrap-at.result.0 c.count-left.result c.cut.new.self (of_some _ c.in_ok-remove.field-0 c.unwrap-at.result c.unwrap-at.ensures c.in_ok-remove.ensures.place).0
       (of_some _ c.in_ok-remove.field-0 c.unwrap-at.result c.unwrap-at.ensures c.in_ok-remove.ensures.removed) c.count-left.ensures.count c.cut.ensures
 
-  marks_can : (n : ℕ) → mark_by (148 + c.args.self.now.nodes) c.give_blocks.new.places n + times_set n c.in_ok-card.card.blocks
-      ≡ mark_by (148 + c.args.self.now.nodes) c.args.self.now.places n + times_set n (take (blocks_of kind.Directory (length c.remove.new.self)) c.in_ok-card.card.blocks)
-  marks_can = marks_left c.in_ok-card.card _ c.card.view_is c.remove.new.self c.count-left.result (148 + c.args.self.now.nodes) c.args.self.now.places c.give_blocks.new.places c.count-left.ensures.count c.in_ok-give_blocks.ensures.marks
+  marks_can : (n : ℕ) → mark_by (148 + c.args.self.now.nodes) c.give_blocks.new.places n + times_set n c.in_ok-cached.cached.blocks
+      ≡ mark_by (148 + c.args.self.now.nodes) c.args.self.now.places n + times_set n (take (blocks_of kind.Directory (length c.remove.new.self)) c.in_ok-cached.cached.blocks)
+  marks_can = marks_left c.in_ok-cached.cached _ c.cached.view_is c.remove.new.self c.count-left.result (148 + c.args.self.now.nodes) c.args.self.now.places c.give_blocks.new.places c.count-left.ensures.count c.in_ok-give_blocks.ensures.marks
 
 pub store_cut-requires-clause-can : goal.store_cut-requires-clause-can
 store_cut-requires-clause-can c =
     let it = left_can c in
     subst (λ (one : CachedNode). CanBeLaid c.args.self.now.nodes c.args.place c.give_blocks.new.places one) (sym it.now_is)
-    (drop_can c.args.self.now c.args.place c.in_ok-card.card c.args.name.now c.requires.known c.in_ok-card.ensures.card c.requires.names c.remove.new.self it.are c.give_blocks.new.places (marks_can c) c.give_blocks.ensures.len)
+    (drop_can c.args.self.now c.args.place c.in_ok-cached.cached c.args.name.now c.requires.known c.in_ok-cached.ensures.cached c.requires.names c.remove.new.self it.are c.give_blocks.new.places (marks_can c) c.give_blocks.ensures.len)
 
 pub store_cut-requires-clause-enough : goal.store_cut-requires-clause-enough
 store_cut-requires-clause-enough c =
     let it = left_can c in
     subst HasEnough (sym it.now_is)
-    (drop_enough c.args.self.now c.args.place c.in_ok-card.card c.args.name.now c.requires.known c.in_ok-card.ensures.card c.requires.names c.remove.new.self it.are c.give_blocks.new.places (marks_can c) c.give_blocks.ensures.len)
+    (drop_enough c.args.self.now c.args.place c.in_ok-cached.cached c.args.name.now c.requires.known c.in_ok-cached.ensures.cached c.requires.names c.remove.new.self it.are c.give_blocks.new.places (marks_can c) c.give_blocks.ensures.len)
 
 pub store_cut-requires-clause-same : goal.store_cut-requires-clause-same
 store_cut-requires-clause-same c more =
     let it = left_can c in
-    let long = ap (λ (one : CachedNode). length one.blocks) c.card.view_is in
+    let long = ap (λ (one : CachedNode). length one.blocks) c.cached.view_is in
     let left = ap length it.cut_is in
     subst (HasItsRuns c.args.place) (sym it.now_is)
-    (drop_runs c.args.self.now c.args.place c.in_ok-card.card c.args.name.now c.requires.known c.in_ok-card.ensures.card c.requires.names c.remove.new.self it.are
-    (omega (arith, more, long, left, c.count-before.ensures, length-take (blocks_of kind.Directory (length c.remove.new.self)) c.in_ok-card.card.blocks)) c.count-left.ensures.names)
+    (drop_runs c.args.self.now c.args.place c.in_ok-cached.cached c.args.name.now c.requires.known c.in_ok-cached.ensures.cached c.requires.names c.remove.new.self it.are
+    (omega (arith, more, long, left, c.count-before.ensures, length-take (blocks_of kind.Directory (length c.remove.new.self)) c.in_ok-cached.cached.blocks)) c.count-left.ensures.names)
 
 pub returns-in_err-store_cut-clause-count : goal.returns-in_err-store_cut-clause-count
 returns-in_err-store_cut-clause-count c =
-    let it = is_left c.in_ok-card.card _ c.card.view_is c.args.name.now c.remove.new.self c.unwrap-at.result.0 c.count-left.result c.cut.new.self (of_some _ c.in_ok-remove.field-0 c.unwrap-at.result c.unwrap-at.ensures c.in_ok-remove.ensures.place).0
+    let it = is_left c.in_ok-cached.cached _ c.cached.view_is c.args.name.now c.remove.new.self c.unwrap-at.result.0 c.count-left.result c.cut.new.self (of_some _ c.in_ok-remove.field-0 c.unwrap-at.result c.unwrap-at.ensures c.in_ok-remove.ensures.place).0
     (of_some _ c.in_ok-remove.field-0 c.unwrap-at.result c.unwrap-at.ensures c.in_ok-remove.ensures.removed) c.count-left.ensures.count c.cut.ensures in
-    let few = drop_few c.args.self.now c.args.place c.in_ok-card.card c.args.name.now c.requires.known c.in_ok-card.ensures.card c.requires.names c.remove.new.self it.are in
+    let few = drop_few c.args.self.now c.args.place c.in_ok-cached.cached c.args.name.now c.requires.known c.in_ok-cached.ensures.cached c.requires.names c.remove.new.self it.are in
     let cut = ap (λ (b : List (Option ℕ)). set_blocks b) it.cut_is in
     omega (arith, few, cut, c.rewrite_names.ensures.count, c.rewrite_names-2.ensures.count, c.store_cut.ensures.count)
 
@@ -121,10 +121,10 @@ written was is blocks now block at names cut same one =
 
 module _ (c : goal.After-drop-entry-2) where
   abbrev was : CachedNode
-  was = c.in_ok-card.card
+  was = c.in_ok-cached.cached
 
   abbrev mid_card : CachedNode
-  mid_card = seen c.card.inside.form c.card.inside.inode c.card.inside.runs c.card.inside.blocks c.card.inside.names
+  mid_card = seen c.cached.inside.form c.cached.inside.inode c.cached.inside.runs c.cached.inside.blocks c.cached.inside.names
 
   abbrev name : List ℕ
   name = c.args.name.now
@@ -136,11 +136,11 @@ module _ (c : goal.After-drop-entry-2) where
   blocks = take (blocks_of kind.Directory (length names)) was.blocks
 
   it : IsLeft was mid_card name names c.unwrap-at.result.0 c.count-left.result c.cut.new.self
-  it = is_left c.in_ok-card.card _ c.card.view_is c.args.name.now c.remove.new.self c.unwrap-at.result.0 c.count-left.result c.cut.new.self (of_some _ c.in_ok-remove.field-0 c.unwrap-at.result c.unwrap-at.ensures c.in_ok-remove.ensures.place).0
+  it = is_left c.in_ok-cached.cached _ c.cached.view_is c.args.name.now c.remove.new.self c.unwrap-at.result.0 c.count-left.result c.cut.new.self (of_some _ c.in_ok-remove.field-0 c.unwrap-at.result c.unwrap-at.ensures c.in_ok-remove.ensures.place).0
       (of_some _ c.in_ok-remove.field-0 c.unwrap-at.result c.unwrap-at.ensures c.in_ok-remove.ensures.removed) c.count-left.ensures.count c.cut.ensures
 
   marks : (n : ℕ) → mark_by (148 + c.args.self.now.nodes) c.give_blocks.new.places n + times_set n was.blocks ≡ mark_by (148 + c.args.self.now.nodes) c.args.self.now.places n + times_set n blocks
-  marks = marks_left c.in_ok-card.card _ c.card.view_is c.remove.new.self c.count-left.result (148 + c.args.self.now.nodes) c.args.self.now.places c.give_blocks.new.places c.count-left.ensures.count c.in_ok-give_blocks.ensures.marks
+  marks = marks_left c.in_ok-cached.cached _ c.cached.view_is c.remove.new.self c.count-left.result (148 + c.args.self.now.nodes) c.args.self.now.places c.give_blocks.new.places c.count-left.ensures.count c.in_ok-give_blocks.ensures.marks
 
   one : (image : Image) → Rewrites (applied c.args.self.now.updates image) (applied c.rewrite_names.new.updates image) (get_or blocks (place_of name was.names / 15) None) (directory_sector (names_of_block (place_of name was.names / 15) names))
   one image = written (applied c.args.self.now.updates image) (applied c.rewrite_names.new.updates image) c.cut.new.self blocks (c.unwrap-at.result.0 / 15) (place_of name was.names / 15) names it.cut_is
@@ -155,7 +155,7 @@ module _ (c : goal.After-drop-entry-2) where
       let stands = c.in_ok-store_cut.ensures.stands in
       subst (λ (one : CachedNode). StandsAgain c.args.self.now c.store_cut.new.self c.args.place one c.give_blocks.new.places c.rewrite_names-2.new.updates) it.now_is (record {
         is = stands.is;
-        put = stands.put ∙ ap (λ (l : List (Option CachedNode)). set l c.args.place (Some stands.is)) c.in_ok-card.ensures.cards ∙ put-back c.args.self.now.cards.cards c.args.place stands.is;
+        put = stands.put ∙ ap (λ (l : List (Option CachedNode)). set l c.args.place (Some stands.is)) c.in_ok-cached.ensures.cards ∙ put-back c.args.self.now.cards.cards c.args.place stands.is;
         same = stands.same;
         rerun = stands.rerun;
         follow = stands.follow;
@@ -168,27 +168,27 @@ module _ (c : goal.After-drop-entry-2) where
   map_is : (entry : Record) → entry_of name was.names ≡ Some entry → by_stamp names ≡ without (by_stamp was.names) entry.0
   map_is entry found =
       let inside : mid_card.names ≡ was.names =
-      ap (λ (one : CachedNode). one.names) c.card.view_is in
-      let stamped = stamped_was c.args.self.now c.args.place was name c.requires.known c.in_ok-card.ensures.card c.requires.names in
-      let removes = c.in_ok-remove.ensures.by_stamp (subst AreStamped (sym inside) stamped) in
+      ap (λ (one : CachedNode). one.names) c.cached.view_is in
+      let stamped = stamped_was c.args.self.now c.args.place was name c.requires.known c.in_ok-cached.ensures.cached c.requires.names in
+      let removes = c.in_ok-remove.ensures.by_stamp (subst NamesStamped (sym inside) stamped) in
       removes.entries ∙ ap (λ (l : List Record). without_entry (by_stamp l) (entry_of name l)) inside ∙ ap (λ (e : Option Record). without_entry (by_stamp was.names) e) found
 
 pub returns-clause-known : goal.returns-clause-known
 returns-clause-known c =
     let it_is = it c in
-    drop_stays c.args.self.now c.args.place (was c) (name c) c.requires.known c.in_ok-card.ensures.card c.requires.names (names c) it_is.are c.give_blocks.new.places (marks c) c.give_blocks.ensures.len
+    drop_stays c.args.self.now c.args.place (was c) (name c) c.requires.known c.in_ok-cached.ensures.cached c.requires.names (names c) it_is.are c.give_blocks.new.places (marks c) c.give_blocks.ensures.len
     c.store_cut.new.self c.rewrite_names.new.updates c.rewrite_names-2.new.updates c.count-left.ensures.names (one c) (other c) (back c)
 
 pub returns-clause-cards : goal.returns-clause-cards
 returns-clause-cards c =
     let it_is = it c in
-    turns c.args.self.now c.store_cut.new.self c.args.place (was c) c.in_ok-card.ensures.card (without_name (name c))
-    (drop_now c.args.self.now c.args.place (was c) (name c) c.requires.known c.in_ok-card.ensures.card c.requires.names (names c) it_is.are c.give_blocks.new.places (marks c) c.give_blocks.ensures.len
+    turns c.args.self.now c.store_cut.new.self c.args.place (was c) c.in_ok-cached.ensures.cached (without_name (name c))
+    (drop_now c.args.self.now c.args.place (was c) (name c) c.requires.known c.in_ok-cached.ensures.cached c.requires.names (names c) it_is.are c.give_blocks.new.places (marks c) c.give_blocks.ensures.len
     c.store_cut.new.self c.rewrite_names.new.updates c.rewrite_names-2.new.updates c.count-left.ensures.names (one c) (other c) (back c))
 
 pub returns-clause-dropped : goal.returns-clause-dropped
 returns-clause-dropped c =
     let it_is = it c in
-    dropped c.args.self.now c.store_cut.new.self c.args.place (was c) (name c) c.in_ok-card.ensures.card
-    (λ entry found base size. drop_made c.args.self.now c.args.place (was c) (name c) c.requires.known c.in_ok-card.ensures.card c.requires.names (names c) it_is.are c.give_blocks.new.places (marks c) c.give_blocks.ensures.len
+    dropped c.args.self.now c.store_cut.new.self c.args.place (was c) (name c) c.in_ok-cached.ensures.cached
+    (λ entry found base size. drop_made c.args.self.now c.args.place (was c) (name c) c.requires.known c.in_ok-cached.ensures.cached c.requires.names (names c) it_is.are c.give_blocks.new.places (marks c) c.give_blocks.ensures.len
     c.store_cut.new.self c.rewrite_names.new.updates c.rewrite_names-2.new.updates c.count-left.ensures.names (one c) (other c) (back c) base size entry.0 (map_is c entry found))

@@ -8,11 +8,11 @@ use Rattle.tree_transaction.proofs.transaction.Transaction.store_cut.Goals as go
 pub returns-in_ok-store_node_and_fewer_runs-clause-stands : goal.returns-in_ok-store_node_and_fewer_runs-clause-stands
 returns-in_ok-store_node_and_fewer_runs-clause-stands c =
     let back = c.in_ok-store_node_and_fewer_runs.ensures.back in
-    laid_again c.args.self.now c.store_node_and_fewer_runs.new.self c.args.place c.args.card c.args.self.now.places c.args.self.now.updates
+    laid_again c.args.self.now c.store_node_and_fewer_runs.new.self c.args.place c.args.cached c.args.self.now.places c.args.self.now.updates
     (record { is = back.is; put = back.put ∙ sym (put-back (cards_of c.args.self.now) c.args.place back.is); same = back.same; laid = back.laid })
 
 pub returns-in_ok-store_node-clause-stands : goal.returns-in_ok-store_node-clause-stands
 returns-in_ok-store_node-clause-stands c =
-    let has = c.requires.same (omega (arith, c.if-count-before.false, c.count.ensures, ap (λ (one : CachedNode). length one.blocks) c.card.view_is)) in
-    put_again c.args.self.now c.store_node.new.self c.args.place c.args.card c.args.self.now.places c.args.self.now.updates has.is_card has.apart
-    (c.in_ok-store_node.ensures.cards ∙ sym (put-back (cards_of c.args.self.now) c.args.place c.args.card)) c.store_node.ensures.nodes c.store_node.ensures.places c.in_ok-store_node.ensures.node
+    let has = c.requires.same (omega (arith, c.if-count-before.false, c.count.ensures, ap (λ (one : CachedNode). length one.blocks) c.cached.view_is)) in
+    put_again c.args.self.now c.store_node.new.self c.args.place c.args.cached c.args.self.now.places c.args.self.now.updates has.is_card has.apart
+    (c.in_ok-store_node.ensures.cards ∙ sym (put-back (cards_of c.args.self.now) c.args.place c.args.cached)) c.store_node.ensures.nodes c.store_node.ensures.places c.in_ok-store_node.ensures.node

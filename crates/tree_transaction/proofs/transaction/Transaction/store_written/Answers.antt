@@ -7,11 +7,11 @@ use Rattle.tree_transaction.proofs.transaction.Transaction.store_written.Goals a
 pub returns-in_ok-store_node_and_runs-clause-stands : goal.returns-in_ok-store_node_and_runs-clause-stands
 returns-in_ok-store_node_and_runs-clause-stands c =
     let back = c.in_ok-store_node_and_runs.ensures.back in
-    laid_again c.args.self.now c.store_node_and_runs.new.self c.args.place c.args.written.card c.args.self.now.places c.args.self.now.updates
+    laid_again c.args.self.now c.store_node_and_runs.new.self c.args.place c.args.written.cached c.args.self.now.places c.args.self.now.updates
     (record { is = back.is; put = back.put ∙ sym (put-back (cards_of c.args.self.now) c.args.place back.is); same = back.same; laid = back.laid })
 
 pub returns-in_ok-store_node-clause-stands : goal.returns-in_ok-store_node-clause-stands
 returns-in_ok-store_node-clause-stands c =
     let has = c.requires.same c.if-written.false in
-    put_again c.args.self.now c.store_node.new.self c.args.place c.args.written.card c.args.self.now.places c.args.self.now.updates has.is_card has.apart
-    (c.in_ok-store_node.ensures.cards ∙ sym (put-back (cards_of c.args.self.now) c.args.place c.args.written.card)) c.store_node.ensures.nodes c.store_node.ensures.places c.in_ok-store_node.ensures.node
+    put_again c.args.self.now c.store_node.new.self c.args.place c.args.written.cached c.args.self.now.places c.args.self.now.updates has.is_card has.apart
+    (c.in_ok-store_node.ensures.cards ∙ sym (put-back (cards_of c.args.self.now) c.args.place c.args.written.cached)) c.store_node.ensures.nodes c.store_node.ensures.places c.in_ok-store_node.ensures.node

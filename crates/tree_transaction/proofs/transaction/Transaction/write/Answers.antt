@@ -37,4 +37,4 @@ returns-clause-tree g c word =
 pub returns-clause-count : goal.returns-clause-count
 returns-clause-count g c =
     let few = few_now _ _ _ _ _ _ c.requires.known.0 c.requires.file c.in_ok-written.ensures.written in
-    omega (arith, few, set_most c.in_ok-written.written.card.blocks, c.in_ok-written.ensures.count, c.store_written.ensures.count)
+    omega (arith, few, set_most c.in_ok-written.written.cached.blocks, c.in_ok-written.ensures.count, c.store_written.ensures.count)

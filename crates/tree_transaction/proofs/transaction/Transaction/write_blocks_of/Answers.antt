@@ -14,8 +14,8 @@ use Rattle.tree_transaction.proofs.transaction.Transaction.write_blocks_of.Goals
 
 pub write_blocks-requires-clause-region : goal.write_blocks-requires-clause-region
 write_blocks-requires-clause-region g c = (
-  subst (λ (one : CachedNode). HaveRegion (148 + c.args.self.now.nodes) c.args.self.now.places one.blocks) (sym (c.card.view_is ∙ c.in_ok-grow_to.ensures))
-      (grown_region c.args.self.now c.args.place (c.args.offset + length c.args.bytes.now) c.in_ok-card.card c.requires.known.0 c.in_ok-card.ensures.card c.requires.file),
+  subst (λ (one : CachedNode). HaveRegion (148 + c.args.self.now.nodes) c.args.self.now.places one.blocks) (sym (c.cached.view_is ∙ c.in_ok-grow_to.ensures))
+      (grown_region c.args.self.now c.args.place (c.args.offset + length c.args.bytes.now) c.in_ok-cached.cached c.requires.known.0 c.in_ok-cached.ensures.cached c.requires.file),
   c.requires.known.1,
 )
 
@@ -23,23 +23,23 @@ pub returns-in_err-filled-clause-full : goal.returns-in_err-filled-clause-full
 returns-in_err-filled-clause-full g c full =
     let end = c.args.offset + length c.args.bytes.now in
     let more = c.in_err-filled.ensures.full (ap (λ (f : TransactionFault). Err f) (told c.from_residual-in_err-filled.result c.in_err-filled.field-0.0 fault.Full c.from_residual-in_err-filled.ensures.1 full)) in
-    overcharged c.args.self.now c.args.place c.in_ok-card.card (blocks_to end) c.in_ok-card.ensures.card
-    (charged_first c.args.self.now c.args.place end c.in_ok-card.card c.requires.known.0 c.in_ok-card.ensures.card c.requires.file
-    (subst (λ (one : CachedNode). free_places c.args.self.now.places + set_blocks one.blocks < length one.blocks) (c.card.view_is ∙ c.in_ok-grow_to.ensures) more))
+    overcharged c.args.self.now c.args.place c.in_ok-cached.cached (blocks_to end) c.in_ok-cached.ensures.cached
+    (charged_first c.args.self.now c.args.place end c.in_ok-cached.cached c.requires.known.0 c.in_ok-cached.ensures.cached c.requires.file
+    (subst (λ (one : CachedNode). free_places c.args.self.now.places + set_blocks one.blocks < length one.blocks) (c.cached.view_is ∙ c.in_ok-grow_to.ensures) more))
 
 pub returns-clause-written : goal.returns-clause-written
 returns-clause-written g c =
-    let grown_is = c.card.view_is ∙ c.in_ok-grow_to.ensures in
+    let grown_is = c.cached.view_is ∙ c.in_ok-grow_to.ensures in
     let end = c.args.offset + length c.args.bytes.now in
     record {
-      was = c.in_ok-card.card;
-      there = c.in_ok-card.ensures.card;
+      was = c.in_ok-cached.cached;
+      there = c.in_ok-cached.ensures.cached;
       card_is = ap (λ (one : CachedNode). record one { blocks = c.write_blocks.new.blocks }) grown_is;
       gets = subst (λ (one : CachedNode). GetSectors (148 + c.args.self.now.nodes) c.args.self.now.places c.write_blocks.new.places one.blocks c.write_blocks.new.blocks) grown_is c.in_ok-filled.ensures.gets.0;
       count = c.in_ok-filled.ensures.gets.1 ∙ ap (λ (one : CachedNode). length one.blocks) grown_is;
       others = c.in_ok-filled.ensures.others;
       fills = subst (λ (one : CachedNode). FillHoles c.in_ok-filled.filled one.blocks c.write_blocks.new.blocks) grown_is c.in_ok-filled.ensures.fills;
-      cards = c.in_ok-card.ensures.cards;
+      cards = c.in_ok-cached.ensures.cards;
       nodes = refl;
     }
 
@@ -48,6 +48,6 @@ returns-clause-bytes g c word was there =
     let base = g.S.Sectors.image (g.S.Sectors.kept c.args.base.now) in
     let end = c.args.offset + length c.args.bytes.now in
     subst (λ (one : CachedNode). WritesBytes (applied c.args.self.now.updates base) (applied c.write_blocks.new.updates base) (grown one end).blocks c.write_blocks.new.blocks c.args.offset c.args.bytes.now)
-    (same_card _ c.args.place c.in_ok-card.card was c.in_ok-card.ensures.card there)
-    (subst (λ (one : CachedNode). WritesBytes (applied c.args.self.now.updates base) (applied c.write_blocks.new.updates base) one.blocks c.write_blocks.new.blocks c.args.offset c.args.bytes.now) (c.card.view_is ∙ c.in_ok-grow_to.ensures)
+    (same_card _ c.args.place c.in_ok-cached.cached was c.in_ok-cached.ensures.cached there)
+    (subst (λ (one : CachedNode). WritesBytes (applied c.args.self.now.updates base) (applied c.write_blocks.new.updates base) one.blocks c.write_blocks.new.blocks c.args.offset c.args.bytes.now) (c.cached.view_is ∙ c.in_ok-grow_to.ensures)
     (c.in_ok-filled.ensures.bytes word))

@@ -1,7 +1,7 @@
 use Rattle.std.proofs.Common.{◌≡◌, ◌∙◌, ap, sym, subst, List}
 use Rattle.disk.specs.Moments.{applied, put}
 use Rattle.disk.specs.declared.update.Update.{Update}
-use Rattle.tree_transaction.specs.Updates.{AreApart, updated}
+use Rattle.tree_transaction.specs.Updates.{UpdatesApart, updated}
 use Rattle.tree_transaction.proofs.UpdateLaws.{apart-updated, filled, image-updated}
 use Rattle.tree_transaction.proofs.updates.Updates.put.Goals as goal
 
@@ -15,7 +15,7 @@ module _ (c : goal.After-fill) where
       (c.in_ok-place.ensures.put (c.args.content.now)) c.fill.ensures
 
 pub invariant_of-self-2 : goal.invariant_of-self-2
-invariant_of-self-2 c = subst AreApart (sym (list c)) (apart-updated c.self.inside.list.items (update c) c.self.invariant)
+invariant_of-self-2 c = subst UpdatesApart (sym (list c)) (apart-updated c.self.inside.list.items (update c) c.self.invariant)
 
 pub returns-clause-image : goal.returns-clause-image
 unfolding update
@@ -27,4 +27,4 @@ unfolding update
 returns-clause-list c = list c ∙ ap (λ (us : List Update). updated us (update c)) c.self.view_is
 
 pub returns-clause-apart : goal.returns-clause-apart
-returns-clause-apart c = subst AreApart (sym (list c)) (apart-updated c.self.inside.list.items (update c) c.self.invariant)
+returns-clause-apart c = subst UpdatesApart (sym (list c)) (apart-updated c.self.inside.list.items (update c) c.self.invariant)

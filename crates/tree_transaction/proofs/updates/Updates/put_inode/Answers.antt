@@ -3,7 +3,7 @@ use Rattle.disk.specs.Moments.{applied, put}
 use Rattle.disk.specs.declared.update.Update.{Update}
 use Rattle.inode.specs.Fields.{fields_of}
 use Rattle.inode.specs.Spelling.{inode_sector}
-use Rattle.tree_transaction.specs.Updates.{AreApart, updated}
+use Rattle.tree_transaction.specs.Updates.{UpdatesApart, updated}
 use Rattle.tree_transaction.proofs.UpdateLaws.{apart-updated, filled, image-updated}
 use Rattle.tree_transaction.proofs.updates.Updates.put_inode.Goals as goal
 
@@ -17,7 +17,7 @@ module _ (c : goal.After-fill_inode) where
       (c.in_ok-place.ensures.put (inode_sector c.args.form (fields_of c.args.inode.now))) c.fill_inode.ensures
 
 pub invariant_of-self-2 : goal.invariant_of-self-2
-invariant_of-self-2 c = subst AreApart (sym (list c)) (apart-updated c.self.inside.list.items (update c) c.self.invariant)
+invariant_of-self-2 c = subst UpdatesApart (sym (list c)) (apart-updated c.self.inside.list.items (update c) c.self.invariant)
 
 pub returns-clause-image : goal.returns-clause-image
 unfolding update

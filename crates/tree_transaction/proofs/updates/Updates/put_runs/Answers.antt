@@ -2,7 +2,7 @@ use Rattle.std.proofs.Common.{◌≡◌, ◌∙◌, ap, sym, subst, List}
 use Rattle.disk.specs.Moments.{applied, put}
 use Rattle.disk.specs.declared.update.Update.{Update}
 use Rattle.extents.specs.Sector.{run_sector}
-use Rattle.tree_transaction.specs.Updates.{AreApart, updated}
+use Rattle.tree_transaction.specs.Updates.{UpdatesApart, updated}
 use Rattle.tree_transaction.proofs.UpdateLaws.{apart-updated, filled, image-updated}
 use Rattle.tree_transaction.proofs.updates.Updates.put_runs.Goals as goal
 
@@ -16,7 +16,7 @@ module _ (c : goal.After-fill_runs) where
       (c.in_ok-place.ensures.put (run_sector c.args.runs.now)) c.fill_runs.ensures
 
 pub invariant_of-self-2 : goal.invariant_of-self-2
-invariant_of-self-2 c = subst AreApart (sym (list c)) (apart-updated c.self.inside.list.items (update c) c.self.invariant)
+invariant_of-self-2 c = subst UpdatesApart (sym (list c)) (apart-updated c.self.inside.list.items (update c) c.self.invariant)
 
 pub returns-clause-image : goal.returns-clause-image
 unfolding update

@@ -1,7 +1,7 @@
 use Rattle.std.proofs.Common.{◌≡◌, ◌∙◌, sym, ap, List, ℕ, subst, IfOk}
 use Rattle.disk.specs.Moments.{applied}
 use Rattle.disk.specs.declared.update.Update.{Update}
-use Rattle.tree_transaction.specs.Updates.{IsFirst, HasNot}
+use Rattle.tree_transaction.specs.Updates.{IsFirst, HasNoUpdate}
 use Rattle.tree_transaction.proofs.UpdateLaws.{applied-first, applied-other}
 use Rattle.tree_transaction.proofs.updates.Updates.read.Goals as goal
 
@@ -15,6 +15,6 @@ returns-in-Some-clause-content g c word =
 pub returns-in-None-clause-content : goal.returns-in-None-clause-content
 returns-in-None-clause-content g c word =
     let image = g.S.Sectors.image (g.S.Sectors.kept c.args.base.now) in
-    let none : HasNot c.args.n c.self.inside.list.items = subst (λ (us : List Update). HasNot c.args.n us) c.deref.ensures.value c.in-None.ensures.none in
+    let none : HasNoUpdate c.args.n c.self.inside.list.items = subst (λ (us : List Update). HasNoUpdate c.args.n us) c.deref.ensures.value c.in-None.ensures.none in
     let e = sym (applied-other c.self.inside.list.items image c.args.n none) ∙ ap (λ (us : List Update). applied us image c.args.n) c.self.view_is in
     subst (λ (v : List ℕ). IfOk c.read.result (λ content. content ≡ v)) e (c.read.ensures.content word)

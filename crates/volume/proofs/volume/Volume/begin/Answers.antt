@@ -10,7 +10,7 @@ use Rattle.model.specs.declared.limits.Limits.{Limits}
 use Rattle.model.specs.Trees.Limits.{limits_of}
 use Rattle.model.specs.Trees.Stamp.{stamp}
 use Rattle.disk.specs.Moments.{Image}
-use Rattle.volume.specs.Known.{IsKnown, IsServing}
+use Rattle.volume.specs.Known.{AreKnownNodes, IsServing}
 use Rattle.volume.specs.Loads.{AreLoaded, HoldsVolume}
 use Rattle.volume.specs.Mounts.{StandsOn}
 use Rattle.volume.specs.Views.{volume_state}
@@ -48,8 +48,8 @@ invariant_of-result g c =
       limited = c.of_volume.ensures ∙ (ap (λ (n : ℕ). limits_of n found.nodes) size ∙ ap (limits_of new.size) (sym nodes));
       formed = formed_later c.of_volume.result (stamp (found.run + 1) 0) (stamp (found.run + 1 + 1) 0) (tree_without_data cards) (omega arith)
           (loaded_formed word found old loaded.mark cards (seats_view loaded.seats) loaded.places c.in-Ok.ensures.loaded c.of_volume.result c.of_volume.ensures);
-      known = subst (λ (n : ℕ). IsKnown n c.of_volume.result.nodes cards loaded.places) size
-          (subst (λ (n : ℕ). IsKnown found.sectors n cards loaded.places) (sym nodes) c.in-Ok.ensures.loaded.known);
+      known = subst (λ (n : ℕ). AreKnownNodes n c.of_volume.result.nodes cards loaded.places) size
+          (subst (λ (n : ℕ). AreKnownNodes found.sectors n cards loaded.places) (sym nodes) c.in-Ok.ensures.loaded.known);
       named = c.in-Ok.ensures.parents;
       serves = λ k up. subst (λ (n : ℕ). ∥ IsServing new n (found.run + 1) cards ∥₁) (sym nodes)
           (begun_serving word found old mid new loaded.mark cards (seats_view loaded.seats) loaded.places c.in-Ok.ensures.loaded c.in-Ok-start.ensures.started c.in-Ok.ensures.loads.only (sym c.requires.volume.size) c.start.ensures.size k);

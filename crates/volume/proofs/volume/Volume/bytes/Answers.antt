@@ -20,10 +20,10 @@ pub read_bytes-requires : goal.read_bytes-requires
 read_bytes-requires g c =
     let volume = c.args.self.now in
     let old : Log = log_of volume.store.journal in
-    let card = c.unwrap-card.result.now in
+    let card = c.unwrap-cached.result.now in
     record {
       within = blocks_within old.size volume.limits.nodes c.unwrap-place.result volume.table volume.places card volume.known
-          (some_at c.card.result _ c.unwrap-card.result c.unwrap-card.ensures c.card.ensures.some);
+          (some_at c.cached.result _ c.unwrap-cached.result c.unwrap-cached.ensures c.cached.ensures.some);
     }
 
 pub returns-clause-bytes : goal.returns-clause-bytes
@@ -31,8 +31,8 @@ unfolding volume_state
 returns-clause-bytes g c w =
     let volume = c.args.self.now in
     let old : Log = log_of volume.store.journal in
-    let card = c.unwrap-card.result.now in
-    let there = some_at c.card.result _ c.unwrap-card.result c.unwrap-card.ensures c.card.ensures.some in
+    let card = c.unwrap-cached.result.now in
+    let there = some_at c.cached.result _ c.unwrap-cached.result c.unwrap-cached.ensures c.cached.ensures.some in
     let number = some_at c.find.result _ c.unwrap-place.result c.unwrap-place.ensures c.find.ensures.some in
     let front : List ℕ = c.args.out.now.items in
     c.in_ok-read_bytes.ensures.bytes w

@@ -3,20 +3,20 @@ use Rattle.std.specs.Prelude.{IsTrue, Err}
 use Rattle.tree_edits.specs.Outcomes.{cards_after}
 use Rattle.tree_edits.proofs.BlankLaws.{each_outline}
 use Rattle.journal.specs.Calls.{IsSafe, HasApplied}
-use Rattle.journal.specs.Journal.{log_of, failures_of}
+use Rattle.journal.specs.Journal.{log_of, journal_failures}
 use Rattle.journal.specs.Layout.{AreTargets, targets}
-use Rattle.journal.specs.Log.{Log, Answers, contents}
+use Rattle.journal.specs.Log.{Log, AnswersByDevice, contents}
 use Rattle.layout.specs.CachedNodes.{CachedNode}
 use Rattle.layout.specs.Health.{Health}
 use Rattle.layout.specs.Superblock.{is_size}
 use Rattle.model.specs.Trees.Charge.{fits}
 use Rattle.model.specs.Trees.Limits.{limits_of}
-use Rattle.volume.specs.Changes.{Done, Changes}
+use Rattle.volume.specs.Changes.{Done, VolumeChanges}
 use Rattle.volume.specs.ParentIndex.{AreParents}
 use Rattle.volume.specs.Edits.{IsEdited, edited_by, put_by}
 use Rattle.volume.specs.Parents.{PutsParent}
-use Rattle.volume.specs.Formed.{IsFormed, Shows}
-use Rattle.volume.specs.Known.{IsKnown, IsServing}
+use Rattle.volume.specs.Formed.{IsFormed, ShowsTree}
+use Rattle.volume.specs.Known.{AreKnownNodes, IsServing}
 use Rattle.volume.specs.Refusals.{fault_of}
 use Rattle.volume.specs.Views.{volume_state_by, volume_state, volume_failures}
 use Rattle.volume.proofs.ApplyLaws.{applied_serves, applied_tree, apply_done, apply_refused}
@@ -94,7 +94,7 @@ returns-in_err-apply-clause-volume g c =
     let fault = c.in_err-apply.field-0.0 in
     let health = c.in_ok-outcome.ensures.health.stays (λ faulted. cc) in
     let same : mid ≡ old = log_same old mid c.in_ok-outcome.ensures.kept (ap (λ (h : Health). h.is_down) health) in
-    let failed : failures_of c.outcome_of.new.base.journal ≡ failures_of volume.store.journal = ap (λ (h : Health). h.failed) health in
+    let failed : journal_failures c.outcome_of.new.base.journal ≡ journal_failures volume.store.journal = ap (λ (h : Health). h.failed) health in
     let told = told_err c.from_residual-in_err-apply.result (fault_of fault) c.from_residual-in_err-apply.ensures.1 in
     let up : old.is_down ≡ false = sym c.is_down.ensures ∙ c.if-is_down.false in
     let short : length c.in_ok-outcome.outcome.updates.items ≤ 48 = omega (arith, few (volume_state_by volume.limits volume.run volume.table old) c.args.edits.now c.requires, c.in_ok-outcome.ensures.done.count) in
@@ -102,8 +102,8 @@ returns-in_err-apply-clause-volume g c =
     (subst (λ (log : Log). IsSafe word log new) same c.in_err-apply.ensures.safe)
     up
     (λ many. (let bound = (c.in_err-apply.ensures.too_many (ap (λ (log : Log). log.is_down) same ∙ up)).0 (ap (λ x. Err x) many) in omega (arith, bound, short)))
-    (subst (λ (log : Log). Answers {T = Unit {0}} log new (failures_of volume.store.journal) (failures_of c.apply.new.self) (Err fault)) same
-    (subst (λ (n : ℕ). Answers {T = Unit {0}} mid new n (failures_of c.apply.new.self) (Err fault)) failed c.in_err-apply.ensures.answers))
+    (subst (λ (log : Log). AnswersByDevice {T = Unit {0}} log new (journal_failures volume.store.journal) (journal_failures c.apply.new.self) (Err fault)) same
+    (subst (λ (n : ℕ). AnswersByDevice {T = Unit {0}} mid new n (journal_failures c.apply.new.self) (Err fault)) failed c.in_err-apply.ensures.answers))
     c.in_err-apply.ensures.refuses)
 
 pub returns-in_err-apply-clause-stays : goal.returns-in_err-apply-clause-stays
@@ -143,8 +143,8 @@ invariant_of-self-2 g c =
       limited = volume.limited ∙ ap (λ (n : ℕ). limits_of n nodes) size;
       formed = subst (λ (cards : List (Option CachedNode)). IsFormed volume.limits (stamp (volume.run + 1) 0) (tree_without_data cards)) settled
           (formed_after word volume.limits volume.run old volume.table volume.places edits outcome c.requires volume.known comes fit);
-      known = subst (λ (cards : List (Option CachedNode)). IsKnown new.size nodes cards outcome.places) settled
-          (subst (λ (n : ℕ). IsKnown n nodes (cards_after volume.table outcome) outcome.places) size
+      known = subst (λ (cards : List (Option CachedNode)). AreKnownNodes new.size nodes cards outcome.places) settled
+          (subst (λ (n : ℕ). AreKnownNodes n nodes (cards_after volume.table outcome) outcome.places) size
           (known_after word volume.limits volume.run old volume.table volume.places edits outcome c.requires volume.known comes));
       named = subst (λ (cards : List (Option CachedNode)). AreParents cards c.put_parent.new.parents) settled
           (parents_behind word volume.limits volume.run old volume.table volume.places edits outcome c.requires volume.known comes volume.limited fit volume.parents c.put_parent.new.parents volume.named
@@ -172,16 +172,16 @@ returns-clause-volume g c =
     let outcome = c.in_ok-outcome.outcome in
     let health = c.in_ok-outcome.ensures.health.stays (λ faulted. cc) in
     let same : mid ≡ old = log_same old mid c.in_ok-outcome.ensures.kept (ap (λ (h : Health). h.is_down) health) in
-    let failed : failures_of c.outcome_of.new.base.journal ≡ failures_of volume.store.journal = ap (λ (h : Health). h.failed) health in
+    let failed : journal_failures c.outcome_of.new.base.journal ≡ journal_failures volume.store.journal = ap (λ (h : Health). h.failed) health in
     let safe : IsSafe word old new = subst (λ (log : Log). IsSafe word log new) same c.in_ok-apply.ensures.safe in
     let has : HasApplied word outcome.updates.items old new = subst (λ (log : Log). HasApplied word outcome.updates.items log new) same c.in_ok-apply.ensures.ok in
     let up : old.is_down ≡ false = sym c.is_down.ensures ∙ c.if-is_down.false in
     let fit : IsTrue (fits volume.limits (edited_by held edits)) =
     sym c.fits.ensures ∙ c.if-not-fits.false in
-    subst (λ (cards : List (Option CachedNode)). Changes word (IsEdited held edits) held (volume_state_by volume.limits volume.run cards new) (failures_of volume.store.journal) (failures_of c.apply.new.self) Done)
+    subst (λ (cards : List (Option CachedNode)). VolumeChanges word (IsEdited held edits) held (volume_state_by volume.limits volume.run cards new) (journal_failures volume.store.journal) (journal_failures c.apply.new.self) Done)
     (sym c.settle.ensures)
     (apply_done word volume.limits volume.run volume.table (cards_after volume.table outcome) old new outcome.updates.items (edited_by held edits)
-    (failures_of volume.store.journal) (failures_of c.apply.new.self) safe (let later = c.in_ok-apply.ensures.answers.later in omega (arith, later, failed))
+    (journal_failures volume.store.journal) (journal_failures c.apply.new.self) safe (let later = c.in_ok-apply.ensures.answers.later in omega (arith, later, failed))
     (c.in_ok-apply.ensures.answers.stays_up (ap (λ (log : Log). log.is_down) same ∙ up) (λ fault. cc)) has (λ kept. volume.serves kept up)
     (λ kept. behind_serving word kept nodes volume.run old volume.table volume.places edits outcome volume.known.are_cards.count c.in_ok-outcome.ensures.done
     (subst (λ l. IsFormed l (stamp (volume.run + 1) 0) (edited_by held edits)) volume.limited (c.requires.formed fit)) (volume.serves kept up))
@@ -206,7 +206,7 @@ returns-clause-shows g c =
     let up : old.is_down ≡ false = sym c.is_down.ensures ∙ c.if-is_down.false in
     let fit : IsTrue (fits volume.limits (edited_by held edits)) =
     sym c.fits.ensures ∙ c.if-not-fits.false in
-    subst (λ (cards : List (Option CachedNode)). Shows word (edited_by held edits) (volume_state_by volume.limits volume.run cards new).tree)
+    subst (λ (cards : List (Option CachedNode)). ShowsTree word (edited_by held edits) (volume_state_by volume.limits volume.run cards new).tree)
     (sym c.settle.ensures)
     (record {
       outline = outline_after word volume.limits volume.run old volume.table volume.places edits outcome c.requires volume.known c.in_ok-outcome.ensures.done (contents new);

@@ -6,7 +6,7 @@ use Rattle.layout.specs.CachedNodes.{tree_of}
 use Rattle.layout.specs.Superblock.{is_size}
 use Rattle.model.specs.Trees.Limits.{limits_of}
 use Rattle.volume.specs.Changes.{IsTree}
-use Rattle.volume.specs.Known.{IsKnown}
+use Rattle.volume.specs.Known.{AreKnownNodes}
 use Rattle.volume.specs.Refusals.{fault_of}
 use Rattle.volume.specs.Views.{volume_state_by, volume_state, volume_failures}
 use Rattle.volume.proofs.FormedLaws.{shows_same}
@@ -28,7 +28,7 @@ invariant_of-self g c =
       sized = subst (λ (n : ℕ). IsTrue (is_size n nodes)) size volume.sized;
       limited = volume.limited ∙ ap (λ (n : ℕ). limits_of n nodes) size;
       formed = volume.formed;
-      known = subst (λ (n : ℕ). IsKnown n nodes volume.table volume.places) size volume.known;
+      known = subst (λ (n : ℕ). AreKnownNodes n nodes volume.table volume.places) size volume.known;
       named = c.args.self.now.named;
       serves = λ k up.
           let flushed = up_answered g.D.Device.keeps_word old new _ _ _ c.flush.result c.flush.ensures.ok c.flush.ensures.answers c.flush.ensures.refuses up in

@@ -1,8 +1,8 @@
 use Rattle.std.proofs.Common.{ℕ, ◌<◌, ◌∙◌, Err, ap, sym, subst, arith}
 use Rattle.disk.specs.Moments.{History, seen}
-use Rattle.journal.specs.Journal.{log_of, failures_of}
+use Rattle.journal.specs.Journal.{log_of, journal_failures}
 use Rattle.journal.specs.MountAnswers as journal
-use Rattle.volume.specs.VolumeState.{IsNew}
+use Rattle.volume.specs.VolumeState.{IsJustMounted}
 use Rattle.volume.specs.Views.{volume_state}
 use Rattle.volume.specs.MountAnswers.{IsMountRefused}
 use Rattle.volume.specs.Refusals.{gate_fault}
@@ -56,8 +56,8 @@ returns-in-Err-mount_cached-clause-gives_back g c =
             none = λ other. back.none (λ is. other (c.into.ensures ∙ ap gate_fault is));
           });
       refused = λ k.
-          let told : journal.IsMountRefused sectors old new fault = subst (λ (n : ℕ). journal.IsMountRefused n old new fault) c.read_mountable_superblock.ensures.same_size
-          (subst (λ (h : History). journal.IsMountRefused (D.size c.read_mountable_superblock.new.device) h new fault) c.read_mountable_superblock.ensures.history (c.in-Err-mount_cached.ensures.refused k)) in
+          let told : journal.IsRecoveryRefused sectors old new fault = subst (λ (n : ℕ). journal.IsRecoveryRefused n old new fault) c.read_mountable_superblock.ensures.same_size
+          (subst (λ (h : History). journal.IsRecoveryRefused (D.size c.read_mountable_superblock.new.device) h new fault) c.read_mountable_superblock.ensures.history (c.in-Err-mount_cached.ensures.refused k)) in
           subst (IsMountRefused sectors old new) (sym c.into.ensures)
           (gate_refused sectors old new (c.in-Ok.ensures.told k).0 told.refused fault told.damaged (λ is. ap D.history (back.memory is) ∙ c.read_mountable_superblock.ensures.history));
     }
@@ -71,11 +71,11 @@ returns-in-Ok-mount_cached-clause-serves g c =
     let log = log_of c.in-Ok-mount_cached.journal in
     let parts = sized found.sectors found.nodes c.in-Ok.ensures.volume.sized in
     let word = D.keeps_word in
-    let mounted : word → journal.HasMounted sectors old log = λ k. subst (λ (n : ℕ). journal.HasMounted n old log) c.read_mountable_superblock.ensures.same_size
-    (subst (λ (h : History). journal.HasMounted (D.size c.read_mountable_superblock.new.device) h log) c.read_mountable_superblock.ensures.history (c.in-Ok-mount_cached.ensures.mounted k)) in
+    let mounted : word → journal.HasRecovered sectors old log = λ k. subst (λ (n : ℕ). journal.HasRecovered n old log) c.read_mountable_superblock.ensures.same_size
+    (subst (λ (h : History). journal.HasRecovered (D.size c.read_mountable_superblock.new.device) h log) c.read_mountable_superblock.ensures.history (c.in-Ok-mount_cached.ensures.mounted k)) in
     if_ok_all c.begin.result word _ _ _ _
     (λ mounted_it new counted begun. record {
-      new = subst (λ (n : ℕ). IsNew n (volume_state mounted_it.volume)) (c.in-Ok-mount_cached.ensures.new.size ∙ c.read_mountable_superblock.ensures.same_size) new;
+      new = subst (λ (n : ℕ). IsJustMounted n (volume_state mounted_it.volume)) (c.in-Ok-mount_cached.ensures.new.size ∙ c.read_mountable_superblock.ensures.same_size) new;
       counted = counted ∙ (c.in-Ok-mount_cached.ensures.new.failures ∙ c.in-Ok.ensures.none (λ is. absurd (cc)));
       mounted = λ k. begun_found sectors old log.history found log.base c.in-Ok.ensures.volume.size (omega (arith, parts.few)) (omega (arith, c.in-Ok.ensures.volume.counted))
           (c.in-Ok.ensures.told k).0 (c.in-Ok.ensures.told k).1 (mounted k).base (mounted k).moments (volume_state mounted_it.volume) (mounted k).since_sync (begun k);
@@ -91,11 +91,11 @@ returns-in-Ok-mount_cached-clause-gives_back g c =
     let log = log_of c.in-Ok-mount_cached.journal in
     let parts = sized found.sectors found.nodes c.in-Ok.ensures.volume.sized in
     let word = D.keeps_word in
-    let mounted : word → journal.HasMounted sectors old log = λ k. subst (λ (n : ℕ). journal.HasMounted n old log) c.read_mountable_superblock.ensures.same_size
-    (subst (λ (h : History). journal.HasMounted (D.size c.read_mountable_superblock.new.device) h log) c.read_mountable_superblock.ensures.history (c.in-Ok-mount_cached.ensures.mounted k)) in
+    let mounted : word → journal.HasRecovered sectors old log = λ k. subst (λ (n : ℕ). journal.HasRecovered n old log) c.read_mountable_superblock.ensures.same_size
+    (subst (λ (h : History). journal.HasRecovered (D.size c.read_mountable_superblock.new.device) h log) c.read_mountable_superblock.ensures.history (c.in-Ok-mount_cached.ensures.mounted k)) in
     if_err_all c.begin.result word _ _ _
     (λ unmounted back begun. record {
-      back = back_since D.size D.failed sectors (D.failed c.args.device) log.size (failures_of c.in-Ok-mount_cached.journal) unmounted
+      back = back_since D.size D.failed sectors (D.failed c.args.device) log.size (journal_failures c.in-Ok-mount_cached.journal) unmounted
           (c.in-Ok-mount_cached.ensures.new.size ∙ c.read_mountable_superblock.ensures.same_size) (c.in-Ok-mount_cached.ensures.new.failures ∙ c.in-Ok.ensures.none (λ is. absurd (cc))) back;
       refused = λ k. begin_refused sectors old log.history found log.base c.in-Ok.ensures.volume.size (omega (arith, parts.few)) (omega (arith, c.in-Ok.ensures.volume.counted))
           (c.in-Ok.ensures.told k).0 (c.in-Ok.ensures.told k).1 (mounted k).base (mounted k).moments (D.history unmounted.device) unmounted.fault (begun k);

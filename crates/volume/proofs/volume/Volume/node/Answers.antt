@@ -6,7 +6,7 @@ use Rattle.inode.specs.Fields.{most_entries}
 use Rattle.layout.specs.CachedNodes.{CachedNode}
 use Rattle.layout.specs.Known.{IsCard}
 use Rattle.layout.specs.Marks.{mark_by}
-use Rattle.layout.specs.Stands.{current}
+use Rattle.layout.specs.Stands.{current_version}
 use Rattle.model.specs.Sessions.Seats.{no_seats}
 use Rattle.volume.specs.Views.{volume_state}
 use Rattle.volume.proofs.NodeLaws.{node_there, none_there}
@@ -23,28 +23,28 @@ pub returns-clause-some : goal.returns-clause-some
 unfolding volume_state
 returns-clause-some g c =
     let volume = c.args.self.now in
-    if_some_so c.card.result _ _
+    if_some_so c.cached.result _ _
     (λ card there. node_there (contents (log_of volume.store.journal)) volume.table c.in_ok-place.place c.args.number card.now volume.known.are_cards.apart there c.in_ok-place.ensures.some)
-    c.card.ensures.some
+    c.cached.ensures.some
 
 pub returns-clause-fit : goal.returns-clause-fit
 returns-clause-fit g c =
     let volume = c.args.self.now in
     let nodes = volume.limits.nodes in
-    if_some_so c.card.result _ _
+    if_some_so c.cached.result _ _
     (λ card there. card_at nodes (mark_by (148 + nodes) volume.places) volume.table c.in_ok-place.place card.now volume.known.are_cards there)
-    c.card.ensures.some
+    c.cached.ensures.some
 
 -- a node has no more entries than its form has room for
-few_of : (place : ℕ) (card : CachedNode) → IsCard card → card.form ≡ (current no_seats).form place → length card.fields.acl ≤ 72
+few_of : (place : ℕ) (card : CachedNode) → IsCard card → card.form ≡ (current_version no_seats).form place → length card.fields.acl ≤ 72
 few_of place card fit form = (let most : most_entries card.form ≡ 72 = ap most_entries form in omega (arith, fit.fits.acl, most))
 
 pub returns-clause-few : goal.returns-clause-few
 returns-clause-few g c =
     let volume = c.args.self.now in
     let nodes = volume.limits.nodes in
-    if_some_so c.card.result _ _
+    if_some_so c.cached.result _ _
     (λ card there. few_of c.in_ok-place.place card.now
     (card_at nodes (mark_by (148 + nodes) volume.places) volume.table c.in_ok-place.place card.now volume.known.are_cards there)
     (volume.known.forms c.in_ok-place.place card.now there))
-    c.card.ensures.some
+    c.cached.ensures.some

@@ -2,7 +2,7 @@ use Rattle.std.proofs.Common.{◌≡◌, ◌≤◌, ◌+◌, ◌∙◌, ℕ, fal
 use Rattle.std.specs.Prelude.{IsTrue, Err}
 use Rattle.tree_edits.proofs.BlankLaws.{each_outline}
 use Rattle.journal.specs.Calls.{HasApplied, IsSafe}
-use Rattle.journal.specs.Journal.{log_of, failures_of}
+use Rattle.journal.specs.Journal.{log_of, journal_failures}
 use Rattle.journal.specs.Layout.{targets}
 use Rattle.journal.specs.Log.{Log, contents}
 use Rattle.layout.specs.Superblock.{is_size}
@@ -10,7 +10,7 @@ use Rattle.layout.specs.Stands.{seats_at}
 use Rattle.model.specs.Trees.Limits.{limits_of}
 use Rattle.model.specs.Sessions.SeatEdits.{edited_all, edits_view}
 use Rattle.volume.specs.Changes.{IsSeats}
-use Rattle.volume.specs.Known.{IsKnown}
+use Rattle.volume.specs.Known.{AreKnownNodes}
 use Rattle.volume.specs.Refusals.{fault_of}
 use Rattle.volume.specs.Views.{volume_state_by, volume_state, volume_failures}
 use Rattle.volume.proofs.FormedLaws.{shows_same}
@@ -77,7 +77,7 @@ invariant_of-self-2 g c =
       sized = subst (λ (n : ℕ). IsTrue (is_size n nodes)) size volume.sized;
       limited = volume.limited ∙ ap (λ (n : ℕ). limits_of n nodes) size;
       formed = volume.formed;
-      known = subst (λ (n : ℕ). IsKnown n nodes volume.table volume.places) size volume.known;
+      known = subst (λ (n : ℕ). AreKnownNodes n nodes volume.table volume.places) size volume.known;
       named = volume.named;
       serves = λ k is_up.
           let answered = up_answered word mid new _ _ _ c.flush.result c.flush.ensures.ok c.flush.ensures.answers c.flush.ensures.refuses is_up in
@@ -102,7 +102,7 @@ returns-in_err-flush-clause-volume g c =
     let fault = c.in_err-flush.field-0.0 in
     let told = told_err c.from_residual-in_err-flush.result (fault_of fault) c.from_residual-in_err-flush.ensures.1 in
     let up : old.is_down ≡ false = sym c.is_down.ensures ∙ c.if-is_down.false in
-    rw told (seated_refused word volume.limits volume.run volume.table old mid new updates seats (failures_of volume.store.journal) (failures_of c.apply.new.self) (failures_of c.flush.new.self)
+    rw told (seated_refused word volume.limits volume.run volume.table old mid new updates seats (journal_failures volume.store.journal) (journal_failures c.apply.new.self) (journal_failures c.flush.new.self)
     c.in_ok-apply.ensures.safe c.in_ok-apply.ensures.answers.later
     (c.in_ok-apply.ensures.answers.stays_up up (λ faulted. cc)) (c.in_ok-apply.ensures.answers.none (λ faulted. cc)) c.in_ok-apply.ensures.ok
     (λ kept. volume.serves kept up)
@@ -124,7 +124,7 @@ returns-clause-volume g c =
     let up : old.is_down ≡ false = sym c.is_down.ensures ∙ c.if-is_down.false in
     let did = c.in_ok-flush.ensures in
     let found = found_up mid new _ _ c.in_ok-flush.field-0 did.answers in
-    seated_done word volume.limits volume.run volume.table old mid new updates seats (failures_of volume.store.journal) (failures_of c.apply.new.self) (failures_of c.flush.new.self)
+    seated_done word volume.limits volume.run volume.table old mid new updates seats (journal_failures volume.store.journal) (journal_failures c.apply.new.self) (journal_failures c.flush.new.self)
     c.in_ok-apply.ensures.safe c.in_ok-apply.ensures.answers.later found.0 (c.in_ok-apply.ensures.answers.none (λ faulted. cc)) c.in_ok-apply.ensures.ok
     (λ kept. volume.serves kept up)
     (λ kept. seats_behind nodes volume.run old volume.table edits updates c.in_ok-updates.ensures (c.requires kept) (volume.serves kept up))

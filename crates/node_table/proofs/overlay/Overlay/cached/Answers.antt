@@ -5,7 +5,7 @@ use Rattle.layout.specs.CachedNodes.{CachedNode}
 use Rattle.node_table.specs.Overlays.{Overlaid, change_at}
 use Rattle.node_table.proofs.OverlayLaws.{at-off, changed-off, read-change, copied-some}
 use Rattle.node_table.proofs.OverlayLaws.{copied-none}
-use Rattle.node_table.proofs.overlay.Overlay.card.Goals as goal
+use Rattle.node_table.proofs.overlay.Overlay.cached.Goals as goal
 
 pub returns-in-Some-clause-some : goal.returns-in-Some-clause-some
 returns-in-Some-clause-some c =
@@ -28,12 +28,12 @@ returns-in-None-clause-some c =
     let none = at-off c.self.inside.changes.items c.args.place (subst (λ (l : Keyed (Option CachedNode)). (i : ℕ) → i < length l → (change_at l i).0 ≢ c.args.place) c.deref.ensures.value c.in-None.ensures.none) in
     let there : get_or c.self.inside.table.now c.args.place None ≡ get_or c.args.self.now.cards c.args.place None =
     sym (changed-off c.self.inside.table.now c.self.inside.changes.items c.args.place none) ∙ ap (λ (overlay : Overlaid). get_or overlay.cards c.args.place None) c.self.view_is in
-    subst (λ (there : Option CachedNode). IfSome c.card.result (λ card. there ≡ Some card.now)) there c.card.ensures.some
+    subst (λ (there : Option CachedNode). IfSome c.cached.result (λ card. there ≡ Some card.now)) there c.cached.ensures.some
 
 pub returns-in-None-clause-none : goal.returns-in-None-clause-none
 returns-in-None-clause-none c =
     let none = at-off c.self.inside.changes.items c.args.place (subst (λ (l : Keyed (Option CachedNode)). (i : ℕ) → i < length l → (change_at l i).0 ≢ c.args.place) c.deref.ensures.value c.in-None.ensures.none) in
     let there : get_or c.self.inside.table.now c.args.place None ≡ get_or c.args.self.now.cards c.args.place None =
     sym (changed-off c.self.inside.table.now c.self.inside.changes.items c.args.place none) ∙ ap (λ (overlay : Overlaid). get_or overlay.cards c.args.place None) c.self.view_is in
-    subst (λ (there : Option CachedNode). IfNone c.card.result (there ≡ None)) there
-    c.card.ensures.none
+    subst (λ (there : Option CachedNode). IfNone c.cached.result (there ≡ None)) there
+    c.cached.ensures.none
