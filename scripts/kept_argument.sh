@@ -11,7 +11,7 @@ top=$(realpath "$(dirname "$0")/..")
 expected=$top/scripts/kept_argument.expected
 folder=$(mktemp -d)
 trap 'rm -r "$folder"' EXIT
-below='xdr model wire rpc'
+below='xdr model_tree model wire rpc'
 
 # The crates below, and one more above them.
 for name in $below; do

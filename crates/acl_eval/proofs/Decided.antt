@@ -10,10 +10,10 @@ use Rattle.std.proofs.Math.Pow.{pow_pos}
 use Rattle.std.proofs.Math.Dec.{lit<}
 use mathlib.Core.Bool.{beq}
 use Rattle.std.specs.Int.{w32}
-use Rattle.model.specs.Rights.Acl.{meets, bits_without, bits_of, counts, first_of, allows, is_allow, is_owners_right, granted, matches, read_acl, write_acl, write_attributes}
-use Rattle.model.specs.declared.acl.Ace.{Ace}
-use Rattle.model.specs.declared.acl.Cred.{Cred}
-use Rattle.model.specs.declared.acl.Who.{Who}
+use Rattle.model_tree.specs.Rights.Acl.{meets, bits_without, bits_of, counts, first_of, allows, is_allow, is_owners_right, granted, matches, read_acl, write_acl, write_attributes}
+use Rattle.model_tree.specs.declared.acl.Ace.{Ace}
+use Rattle.model_tree.specs.declared.acl.Cred.{Cred}
+use Rattle.model_tree.specs.declared.acl.Who.{Who}
 
 -- ---- single bits
 

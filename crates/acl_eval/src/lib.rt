@@ -2,11 +2,11 @@
 #![tactic(auto)]
 
 ghost use Rattle.std.specs.Prelude.{◌≡◌, ◌+◌, ◌&&◌};
-ghost use Rattle.model.specs.Rights.Acl.{counts, granted, matches, read_acl, write_acl, write_attributes};
+ghost use Rattle.model_tree.specs.Rights.Acl.{counts, granted, matches, read_acl, write_acl, write_attributes};
 
 use bitflags::Flags;
-pub use model::acl::{Ace, AceFlags, AceKind, Acl, Cred, Gids, Mask, Who};
-pub use model::node::NodeKind;
+pub use model_tree::acl::{Ace, AceFlags, AceKind, Acl, Cred, Gids, Mask, Who};
+pub use model_tree::node::NodeKind;
 
 // With these no list locks the owner out.
 fn owners_rights() -> Mask

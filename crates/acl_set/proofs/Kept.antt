@@ -6,10 +6,10 @@ use Rattle.std.proofs.lemmas.List.Sums.{prefix_len-le-length}
 use Rattle.std.proofs.Math.Nat.{min_comm}
 use Rattle.std.proofs.lemmas.Bool.{and_parts, cases_lt, false≢true, le-ltb, lt-ltb}
 use Rattle.std.specs.List.{position, position_or_len}
-use Rattle.model.specs.Rights.Acl.{counts, first_of, is_allow, meets}
-use Rattle.model.specs.Rights.Mode.{allows_right}
-use Rattle.model.specs.declared.acl.Ace.{Ace}
-use Rattle.model.specs.declared.acl.Who.{Who}
+use Rattle.model_tree.specs.Rights.Acl.{counts, first_of, is_allow, meets}
+use Rattle.model_tree.specs.Rights.Mode.{allows_right}
+use Rattle.model_tree.specs.declared.acl.Ace.{Ace}
+use Rattle.model_tree.specs.declared.acl.Who.{Who}
 
 -- the first entry of the list cut to a class decides a right, or is passed over
 pub allows_right-decided : (named : Who → Bool) (ace : Ace) (rest : List Ace) (right : ℕ) → ((counts ace && named ace.who) && meets ace.mask.0 right) ≡ true → allows_right (filter (λ (a : Ace). counts a && named a.who) (ace ∷ rest)) right ≡ is_allow ace.kind

@@ -1,7 +1,7 @@
 -- Whose bits of a mode are asked for.
 use Rattle.std.specs.Prelude.{Bool, ◌||◌}
-use Rattle.model.specs.Rights.Mode.{is_owner, is_group, is_everyone}
-use Rattle.model.specs.declared.acl.Who.{Who}
+use Rattle.model_tree.specs.Rights.Mode.{is_owner, is_group, is_everyone}
+use Rattle.model_tree.specs.declared.acl.Who.{Who}
 use Rattle.acl_set.specs.declared.modes.Class.{Class}
 use Rattle.acl_set.specs.declared.modes.Class.TheVariants as class
 

@@ -1,8 +1,8 @@
 -- Which entry of a given list is refused.
 use Rattle.std.specs.Prelude.{ℕ, Option, Some, None, List}
-use Rattle.model.specs.Rights.Inherit.{first_refused}
-use Rattle.model.specs.declared.acl.Ace.{Ace}
-use Rattle.model.specs.declared.node.NodeKind.{NodeKind}
+use Rattle.model_tree.specs.Rights.Inherit.{first_refused}
+use Rattle.model_tree.specs.declared.acl.Ace.{Ace}
+use Rattle.model_tree.specs.declared.node.NodeKind.{NodeKind}
 
 -- how many entries a client may set
 abbrev pub most_set : ℕ

@@ -2,8 +2,8 @@
 
 ghost use Rattle.std.specs.Prelude.{◌≡◌, ◌≤◌, true, not, position, MatchOption, IfOk, IsOkUnless};
 ghost use Rattle.std.specs.Option.{ForSome, option_copied};
-ghost use Rattle.model.specs.Rights.Acl.{are_flags_for, has_width, inheritance, is_entry_for};
-ghost use Rattle.model.specs.Rights.Inherit.{is_inherited_by, inherited_flags, inherited, created_list, first_refused};
+ghost use Rattle.model_tree.specs.Rights.Acl.{are_flags_for, has_width, inheritance, is_entry_for};
+ghost use Rattle.model_tree.specs.Rights.Inherit.{is_inherited_by, inherited_flags, inherited, created_list, first_refused};
 ghost use Rattle.acl_set.specs.Refused.{most_set, refused_of};
 
 use crate::fault::AclFault;

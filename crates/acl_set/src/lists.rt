@@ -2,12 +2,12 @@
 
 ghost use Rattle.std.specs.Prelude.{◌≡◌, count_by, not};
 ghost use Rattle.std.specs.List.{list_all};
-ghost use Rattle.model.specs.Rights.Acl.{is_entry_for, is_list_for, is_plain};
+ghost use Rattle.model_tree.specs.Rights.Acl.{is_entry_for, is_list_for, is_plain};
 
 use crate::inheritance::is_entry_for;
 use acl_eval::{Ace, AceFlags, NodeKind};
 use bitflags::Flags;
-use model::limits::Limits;
+use model_tree::limits::Limits;
 
 // Whether the entry is what setting a mode replaces: of a special name, counting, and not handed
 // down.
@@ -36,7 +36,7 @@ fn count_set(acl: &[Ace]) -> usize
 
 /// Whether a node of this kind may have the list: it may have each entry, and neither all of them
 /// nor those that setting a mode leaves are more than the limits allow. Takes no memory.
-#[tactic(auto, unfolding(model::specs::Rights::Acl::is_list_for))]
+#[tactic(auto, unfolding(model_tree::specs::Rights::Acl::is_list_for))]
 pub fn is_list_for(kind: NodeKind, acl: &[Ace], limits: &Limits) -> bool
     ensures { result ≡ is_list_for limits.now.aces_set limits.now.aces kind acl.now }
 {

@@ -1,8 +1,8 @@
 //! The mode of a list, and the list of a mode.
 
 ghost use Rattle.std.specs.Prelude.{◌≡◌, ◌≤◌, ◌+◌, ◌&&◌, ◌++◌, [], ◌∷◌, not, filter, map, if◌then◌else◌, IfOk, OnOk, IsOkUnless};
-ghost use Rattle.model.specs.Rights.Acl.{counts, is_allow, is_special, meets};
-ghost use Rattle.model.specs.Rights.Mode.{allows_right, permissions, mode_of, rights_of, rights_lacking, entry, limited_kind, limited, is_handed_down, not_counting, has_rights, moded};
+ghost use Rattle.model_tree.specs.Rights.Acl.{counts, is_allow, is_special, meets};
+ghost use Rattle.model_tree.specs.Rights.Mode.{allows_right, permissions, mode_of, rights_of, rights_lacking, entry, limited_kind, limited, is_handed_down, not_counting, has_rights, moded};
 ghost use Rattle.acl_set.specs.Class.{named_by};
 
 use crate::fault::AclFault;

@@ -3,11 +3,11 @@ use Rattle.std.proofs.Common.{◌≡◌, ◌≢◌, ◌&&◌, not, ◌⊎◌, in
 use Rattle.std.specs.Prelude.{is_some}
 use Rattle.std.proofs.lemmas.Bool.{cases_eq, false≢true}
 use Rattle.std.proofs.lemmas.Option.{same_Some}
-use Rattle.model.specs.Trees.Keyed.{at, with}
+use Rattle.model_tree.specs.Trees.Keyed.{at, with}
 use Rattle.model.specs.Wire.Record.{RecordLimits}
 use Rattle.model.specs.Server.Runs.{Event, Arrives, Turns, HangsUp, Connects, Takes, effect_of}
 use Rattle.model.specs.Server.World.{World, Connection, Quiet, Waiting, Busy, Replied, Closed, arrives_at, arrives, connection_changed, with_connection, without_reply, takes, can_connect, connects, is_busy, without_connection, hangs_up}
-use Rattle.model.proofs.Trees.KeyedLaws.{at-with_same, at-with_other, at-without_other}
+use Rattle.model_tree.proofs.Trees.KeyedLaws.{at-with_same, at-with_other, at-without_other}
 use Rattle.client.specs.Whole.{IsElsewhere}
 use Rattle.client.proofs.Outcomes.{one_well}
 

@@ -10,10 +10,10 @@ use Rattle.xdr.specs.Laws.{Exact}
 use Rattle.xdr.proofs.Numbers.{int_exact}
 use Rattle.xdr.proofs.Sequences.{then_exact}
 use Rattle.xdr.proofs.Opaques.{opaque_exact}
-use Rattle.model.specs.declared.acl.Cred.{Cred}
-use Rattle.model.specs.declared.status.Status.{Status}
+use Rattle.model_tree.specs.declared.acl.Cred.{Cred}
+use Rattle.model_tree.specs.declared.status.Status.{Status}
 use Rattle.model.specs.Operations.Answer.{Outcome}
-use Rattle.model.specs.Trees.Keyed.{at}
+use Rattle.model_tree.specs.Trees.Keyed.{at}
 use Rattle.model.specs.Operations.Operation.{Argument}
 use Rattle.model.specs.Wire.Record.{Front, Whole, front, framed}
 use Rattle.model.specs.Wire.Results.{compound_result, AreResults}
@@ -21,10 +21,10 @@ use Rattle.model.specs.Wire.Rpc.{CallRead, Calls, Call, Reply, Success, Request,
 use Rattle.model.specs.Wire.RpcGrammar.{call_head, call_with, read_reply, reply_head, head_of}
 use Rattle.model.specs.Wire.RpcGrammar as rpc
 use Rattle.model.specs.Server.RuledOut.{request_at, request_in, request_by}
-use Rattle.model.specs.Operations.Status.{code_of}
+use Rattle.model_tree.specs.Refusals.Status.{code_of}
 use Rattle.model.specs.Wire.WireTypes.{system_credential}
 use Rattle.model.specs.Server.World.{World, InProgress, Connection, Quiet, Waiting, Closed, arrives, arrives_at, arrived, connection_changed, with_connection, in_progress, result_of}
-use Rattle.model.proofs.Trees.KeyedLaws.{at-with_same}
+use Rattle.model_tree.proofs.Trees.KeyedLaws.{at-with_same}
 use Rattle.model.proofs.Wire.RecordLaws.{sent_is_read}
 use Rattle.model.proofs.Wire.ResultLaws.{result_exact, spells_results}
 use Rattle.model.proofs.Wire.RpcExact.{reads_calls, reads_credentials, reply_head_exact}

@@ -5,7 +5,7 @@ use Rattle.xdr.specs.Grammar.{number}
 use Rattle.xdr.specs.Forms.{counted, elements}
 use Rattle.xdr.proofs.Sizes.{counted_length, elements_length}
 use Rattle.xdr.proofs.Numbers.{length-number_32}
-use Rattle.model.specs.declared.acl.Cred.{Cred}
+use Rattle.model_tree.specs.declared.acl.Cred.{Cred}
 use Rattle.client.specs.Requests.{credential_text}
 use Rattle.client.specs.Rests.{ids_text}
 

@@ -5,7 +5,7 @@ use Rattle.std.specs.Int.{w32}
 use Rattle.xdr.specs.declared.refusal.Refusal.{Refusal}
 use Rattle.xdr.specs.Grammar.{number, number_at}
 use Rattle.xdr.proofs.Numbers.{int_again}
-use Rattle.model.specs.declared.status.Status.TheVariants as status
+use Rattle.model_tree.specs.declared.status.Status.TheVariants as status
 use Rattle.model.specs.Operations.Operation.{Argument, operation_of}
 use Rattle.model.specs.Wire.Rpc.{is_empty}
 use Rattle.model.specs.Server.Served.{is_served, looks_no_further}

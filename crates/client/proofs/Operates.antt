@@ -1,8 +1,8 @@
 -- A turn of a request that has not ended is its next operation.
 use Rattle.std.proofs.Common.{◌≡◌, ℕ, Option, None, Some, ap}
 use Rattle.std.proofs.lemmas.Option.{same_Some}
-use Rattle.model.specs.declared.status.Status.{Status}
-use Rattle.model.specs.Trees.Keyed.{at}
+use Rattle.model_tree.specs.declared.status.Status.{Status}
+use Rattle.model_tree.specs.Trees.Keyed.{at}
 use Rattle.model.specs.Wire.Rpc.{CallRead, NoCall, OtherVersion, Calls, Request, Answers, Runs, read_call, request_of}
 use Rattle.model.specs.Server.RuledOut.{request_at, request_in, request_by, with_operations}
 use Rattle.model.specs.Server.World.{World, InProgress, Connection, Quiet, Waiting, Busy, Replied, Closed, next_operation, in_progress, operates, requested as request_runs, called, further, turned, one}

@@ -1,15 +1,15 @@
 -- Each outcome is under its operation's number, and a turn leaves the other connections.
 use Rattle.std.proofs.Common.{◌≡◌, ◌≢◌, ℕ, inl, inr, Bool, true, false, cond, find, Option, None, Some, Result, Ok, Err, refl, sym, ap, ◌∙◌}
-use Rattle.model.specs.declared.limits.Limits.{Limits}
-use Rattle.model.specs.declared.status.Status.{Status}
-use Rattle.model.specs.declared.status.Status.TheVariants as status
+use Rattle.model_tree.specs.declared.limits.Limits.{Limits}
+use Rattle.model_tree.specs.declared.status.Status.{Status}
+use Rattle.model_tree.specs.declared.status.Status.TheVariants as status
 use Rattle.model.specs.Operations.Answer.{Answer, Outcome, ExchangeIdAnswer, CreateSessionAnswer}
 use Rattle.model.specs.Operations.Context.{is_same_name}
 use Rattle.model.specs.Operations.Files.{has_bytes, write}
-use Rattle.model.specs.Trees.Keyed.{at, with}
+use Rattle.model_tree.specs.Trees.Keyed.{at, with}
 use Rattle.model.specs.Operations.Operation.{Argument, NewDirectory, OtherType, RenameArguments, SequenceArguments, SetAttrArguments, WriteArguments, operation_of}
 use Rattle.model.specs.Wire.Record.{framed}
-use Rattle.model.specs.Operations.Refusal.{first_refusal}
+use Rattle.model_tree.specs.Refusals.Refusal.{first_refusal}
 use Rattle.model.specs.Operations.Rename.{rename}
 use Rattle.model.specs.Wire.Rpc.{CallRead, NoCall, OtherVersion, Calls, VersionRefused, Request, Answers, Runs, Reply, Success, read_call, request_of, reply_text}
 use Rattle.model.specs.Sessions.Session as sessions
@@ -19,7 +19,7 @@ use Rattle.model.specs.Operations.State.{current_refusals}
 use Rattle.model.specs.Sessions.StateIds.{has_opens}
 use Rattle.model.specs.Operations.Step.{State, Stepped, effect, does}
 use Rattle.model.specs.Server.World.{World, InProgress, Connection, Quiet, Waiting, Busy, Replied, Closed, HasRun, Gives, Replays, exchanged, created_by, tabled, started_in, begun, reclaimed, state_of, refuses, in_room, has_room, run, result_of, with_result, Turned, Entry, executed_entry, idle, replies, behind, ends, goes_on, closes, is_to_hold, further, is_last, has_run, operates, Next, Refuses, Reads, next_operation, requested, in_progress, called, turned, one}
-use Rattle.model.proofs.Trees.KeyedLaws.{at-with_other}
+use Rattle.model_tree.proofs.Trees.KeyedLaws.{at-with_other}
 use Rattle.model.proofs.Operations.StepCases.{does_cases}
 use Rattle.client.specs.Replies.{outcome_number}
 

@@ -5,22 +5,22 @@ use Rattle.std.specs.List.{AllByRecursion}
 use Rattle.std.specs.Prelude.{map}
 use Rattle.std.proofs.lemmas.Bool.{eq-eqb}
 use Rattle.std.proofs.lemmas.Option.{same_Some}
-use Rattle.model.specs.declared.status.Status.{Status}
-use Rattle.model.specs.declared.status.Status.TheVariants as status
+use Rattle.model_tree.specs.declared.status.Status.{Status}
+use Rattle.model_tree.specs.declared.status.Status.TheVariants as status
 use Rattle.model.specs.Operations.Answer.{Outcome}
-use Rattle.model.specs.Trees.Keyed.{at}
+use Rattle.model_tree.specs.Trees.Keyed.{at}
 use Rattle.model.specs.Operations.Operation.{Argument, operation_of}
 use Rattle.model.specs.Wire.Record.{framed}
 use Rattle.model.specs.Wire.Results.{compound_result, AreResults}
 use Rattle.model.specs.Wire.Rpc.{CallRead, NoCall, OtherVersion, Calls, Request, Answers, Runs, Success, is_empty, read_call, request_of, reply_text}
 use Rattle.model.specs.Server.RuledOut.{IsOutcome, IsBehind, HasOneMore, HasLast, IsAnswered, IsRepeated, IsOneFurther, request_at, request_in, request_by, with_operations}
 use Rattle.model.specs.Server.Runs.{Event, effect_of, is_done}
-use Rattle.model.specs.Operations.Status.{code_of}
-use Rattle.model.specs.Trees.Tree.{Tree}
+use Rattle.model_tree.specs.Refusals.Status.{code_of}
+use Rattle.model_tree.specs.Trees.Tree.{Tree}
 use Rattle.model.specs.Wire.WireArguments.{argument}
 use Rattle.model.specs.Server.World as worlds
 use Rattle.model.specs.Server.World.{World, InProgress, Connection, Quiet, Waiting, Busy, Replied, Closed, Entry, Next, Refuses, Reads, next_operation, in_progress, with_result, result_of, Turned, one, arrives}
-use Rattle.model.proofs.Trees.KeyedLaws.{at-with_same}
+use Rattle.model_tree.proofs.Trees.KeyedLaws.{at-with_same}
 use Rattle.model.proofs.Wire.ResultLaws.{one_more}
 use Rattle.model.proofs.Server.RuledOutLaws.{one_a_turn, ends_by_holding}
 use Rattle.client.specs.Client.{Client, Sent}

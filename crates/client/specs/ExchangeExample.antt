@@ -1,14 +1,14 @@
 -- An exchange worked out by hand: the first request of a session with one slot, which is PUTROOTFH
 -- behind its SEQUENCE. The definitions compute to it.
 use Rattle.std.specs.Prelude.{◌≡◌, ℕ, true, false, List, [], ◌∷◌, None, Some}
-use Rattle.model.specs.declared.acl.Cred.{Cred}
-use Rattle.model.specs.declared.status.Status.TheVariants as status
+use Rattle.model_tree.specs.declared.acl.Cred.{Cred}
+use Rattle.model_tree.specs.declared.status.Status.TheVariants as status
 use Rattle.model.specs.Operations.Answer.{Answer, Outcome}
-use Rattle.model.specs.Trees.Fresh.{fresh_tree}
-use Rattle.model.specs.Trees.Limits.{limits_of}
+use Rattle.model_tree.specs.Trees.Fresh.{fresh_tree}
+use Rattle.model_tree.specs.Trees.Limits.{limits_of}
 use Rattle.model.specs.Operations.Operation.{Argument}
 use Rattle.model.specs.Wire.Rpc.{words}
-use Rattle.model.specs.Sessions.Seats.{no_seats}
+use Rattle.model_tree.specs.Seats.Seats.{no_seats}
 use Rattle.model.specs.Sessions.Session.{Table, no_slot}
 use Rattle.model.specs.Server.World.{World, ServerLimits, Quiet, mounted_world}
 use Rattle.client.specs.Client.{Client, Session}

@@ -2,16 +2,16 @@
 -- definition runs, and of the reply that this makes the client tells its results.
 use Rattle.std.specs.Prelude.{◌≡◌, ◌<◌, ◌≤◌, ◌^◌, ℕ, List, [], length, Some}
 use Rattle.xdr.specs.Laws.{IsBytes}
-use Rattle.model.specs.declared.acl.Cred.{Cred}
-use Rattle.model.specs.declared.status.Status.{Status}
+use Rattle.model_tree.specs.declared.acl.Cred.{Cred}
+use Rattle.model_tree.specs.declared.status.Status.{Status}
 use Rattle.model.specs.Operations.Answer.{Outcome}
-use Rattle.model.specs.Trees.Keyed.{at}
+use Rattle.model_tree.specs.Trees.Keyed.{at}
 use Rattle.model.specs.Operations.Operation.{Argument}
 use Rattle.model.specs.Wire.Record.{framed}
 use Rattle.model.specs.Wire.Results.{compound_result, AreResults}
 use Rattle.model.specs.Wire.Rpc.{Compound, Success, reply_text}
 use Rattle.model.specs.Server.RuledOut.{request_at}
-use Rattle.model.specs.Operations.Status.{code_of}
+use Rattle.model_tree.specs.Refusals.Status.{code_of}
 use Rattle.model.specs.Wire.WireTypes.{system_credential}
 use Rattle.model.specs.Server.World.{World, InProgress, Quiet, arrives, in_progress, result_of}
 use Rattle.client.specs.Client.{Sent}

@@ -5,9 +5,9 @@ use Rattle.std.specs.Option.{option_map}
 use Rattle.std.specs.Int.{w32}
 use Rattle.xdr.specs.declared.refusal.Refusal.{Refusal}
 use Rattle.xdr.specs.Grammar.{number_at}
-use Rattle.model.specs.declared.status.Status.{Status}
-use Rattle.model.specs.declared.status.Status.TheVariants as status
-use Rattle.model.specs.Operations.Status.{code_of}
+use Rattle.model_tree.specs.declared.status.Status.{Status}
+use Rattle.model_tree.specs.declared.status.Status.TheVariants as status
+use Rattle.model_tree.specs.Refusals.Status.{code_of}
 use Rattle.model.specs.Operations.Answer.{Answer, Outcome, Done, Refused}
 use Rattle.model.specs.Operations.OperationNumber.{OP_SEQUENCE}
 use Rattle.model.specs.Wire.Results.{compound_result}

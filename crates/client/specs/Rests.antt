@@ -3,7 +3,7 @@ use Rattle.std.specs.Prelude.{ℕ, Option, None, Some, List, [], ◌∷◌, ◌+
 use Rattle.std.specs.Int.{w32}
 use Rattle.xdr.specs.Grammar.{number}
 use Rattle.xdr.specs.Forms.{elements}
-use Rattle.model.specs.declared.acl.Cred.{Cred}
+use Rattle.model_tree.specs.declared.acl.Cred.{Cred}
 use Rattle.model.specs.Wire.Rpc.{opaque_auth}
 use Rattle.model.specs.Operations.Operation.{operation_of}
 use Rattle.model.specs.Operations.OperationNumber.{OP_SEQUENCE}

@@ -2,10 +2,10 @@
 -- one a turn, whatever else happens between, and of the reply the client tells the outcomes.
 use Rattle.std.specs.Prelude.{◌≡◌, ◌<◌, ◌^◌, ⊤, ℕ, List, [], ◌∷◌, length, None, Some}
 use Rattle.std.specs.List.{AllByRecursion}
-use Rattle.model.specs.declared.acl.Cred.{Cred}
-use Rattle.model.specs.declared.status.Status.{Status}
+use Rattle.model_tree.specs.declared.acl.Cred.{Cred}
+use Rattle.model_tree.specs.declared.status.Status.{Status}
 use Rattle.model.specs.Operations.Answer.{Outcome}
-use Rattle.model.specs.Trees.Keyed.{at}
+use Rattle.model_tree.specs.Trees.Keyed.{at}
 use Rattle.model.specs.Operations.Operation.{Argument}
 use Rattle.model.specs.Server.RuledOut.{IsOutcome, request_at}
 use Rattle.model.specs.Server.Runs.{Event, Arrives, Turns, HangsUp, Connects, Takes, effect_of}

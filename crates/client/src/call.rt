@@ -15,7 +15,7 @@ ghost use Rattle.wire_client.specs.ArgumentFits.{ArgumentFits};
 ghost use Rattle.client.specs.Requests.{credential_text, compound_call, head_text, operations_text};
 ghost use Rattle.client.specs.Rests.{ids_text, procedure_text, auths_text};
 
-use model::acl::{Cred, Gids};
+use model_tree::acl::{Cred, Gids};
 use rpc::{
     AUTH_NONE, AUTH_SYS, CALL, COMPOUND, MAX_AUTH_BYTES, MAX_TAG_BYTES, MINOR_VERSION, NFS_VERSION,
     PROGRAM, RPC_VERSION, write_frame_header,

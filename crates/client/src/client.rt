@@ -17,7 +17,7 @@ use crate::known::{is_delayed, learn, was_answered};
 use crate::receive::converse;
 use crate::reply::{ReplyRead, read_reply, results_or_status};
 use crate::sent::{Sent, Session, is_alone, make_record};
-use model::acl::Cred;
+use model_tree::acl::Cred;
 use rpc::MAX_TAG_BYTES;
 use std::alloc::Global;
 use std::io::{Read, Write};

@@ -2,7 +2,7 @@
 
 ghost use Rattle.std.specs.Prelude.{◌≡◌};
 
-use model::status::Status;
+use model_tree::status::Status;
 use std::alloc::AllocError;
 use wire::Outcome;
 

@@ -7,7 +7,7 @@ ghost use Rattle.client.specs.Replies.{session_after, is_run, is_delayed, joined
 ghost use Rattle.client.specs.Views.{session_of, sent_of};
 
 use crate::sent::{Sent, Session};
-use model::status::Status;
+use model_tree::status::Status;
 use wire::{Answer, Operation, Outcome};
 
 /// Whether the record's own SEQUENCE ended well.

@@ -1,7 +1,7 @@
 //! What a record of bytes is as a reply to the last record.
 
 ghost use Rattle.std.specs.Prelude.{◌≡◌, ◌≢◌, ◌<◌, length, map, IfOk, IfErr};
-ghost use Rattle.model.specs.declared.status.Status.TheVariants as status;
+ghost use Rattle.model_tree.specs.declared.status.Status.TheVariants as status;
 ghost use Rattle.model.specs.Wire.Results.{compound_result};
 ghost use Rattle.wire.specs.OutcomeView.{outcome_view};
 ghost use Rattle.xdr.specs.declared.refusal.Refusal.TheVariants.{Memory};
@@ -12,7 +12,7 @@ use crate::fault::ClientFault;
 use crate::head::{message_of, read_message};
 use crate::results::{ending, read_result};
 use crate::sent::Sent;
-use model::status::Status;
+use model_tree::status::Status;
 use std::alloc::Global;
 use wire::Outcome;
 use xdr::{Reader, Refusal};

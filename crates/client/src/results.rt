@@ -9,7 +9,7 @@ ghost use Rattle.wire.specs.OutcomeView.{outcome_view};
 ghost use Rattle.client.specs.Replies.{ending, outcome_number, status_of, is_ok};
 ghost use Rattle.client.specs.Views.{result_view, ReadsOutcomes};
 
-use model::status::Status;
+use model_tree::status::Status;
 use rpc::MAX_TAG_BYTES;
 use std::alloc::Global;
 use wire::Outcome;

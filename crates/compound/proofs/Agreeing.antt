@@ -6,8 +6,8 @@ use Rattle.model.specs.Operations.Answer as model
 use Rattle.model.specs.Sessions.Session.{Table}
 use Rattle.model.specs.Server.World as turns
 use Rattle.model.specs.Server.World.{World, InProgress, HasRun, Entry, Turned, Next, Refuses, Reads, behind, closes, further, has_run, is_last, is_to_hold, kept_by, next_operation, operates, result_of, with_connection, with_result}
-use Rattle.model.specs.declared.status.Status.{Status}
-use Rattle.model.specs.declared.status.Status.TheVariants as status
+use Rattle.model_tree.specs.declared.status.Status.{Status}
+use Rattle.model_tree.specs.declared.status.Status.TheVariants as status
 use Rattle.model.proofs.Sessions.TableCalls.{either}
 use Rattle.rpc.specs.Assembly.{record_limits}
 use Rattle.session.specs.Limits.{served}

@@ -7,7 +7,7 @@ use Rattle.model.specs.Operations.Operation.{Argument, operation_of}
 use Rattle.model.specs.Sessions.Session.{Table}
 use Rattle.model.specs.Operations.Step.{State, does, refused}
 use Rattle.model.specs.Server.World.{World, InProgress, run, stepped, state_of}
-use Rattle.model.specs.declared.status.Status.{Status}
+use Rattle.model_tree.specs.declared.status.Status.{Status}
 use Rattle.compound.specs.Beside.{IsBeside}
 use Rattle.compound.specs.Operates.{GivesIn}
 use Rattle.compound.specs.Runs.{with_rest}

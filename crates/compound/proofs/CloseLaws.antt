@@ -3,22 +3,22 @@ use Rattle.std.proofs.Common.{◌≡◌, ◌∷◌, [], ◌++◌, ◌+◌, ℕ, 
 use Rattle.fs.specs.FileSystem.{FileSystem}
 use Rattle.fs.specs.Operations.{current_refusal}
 use Rattle.model.specs.Operations.Context.{Context, has_current, current_number, without_stateid}
-use Rattle.model.specs.Trees.Keyed.{is_key}
+use Rattle.model_tree.specs.Trees.Keyed.{is_key}
 use Rattle.model.specs.Operations.Open.{closed_by}
 use Rattle.model.specs.Sessions.Opens.{Open, Opens}
 use Rattle.model.specs.Operations.Operation.{Argument, CloseArguments, StateId}
-use Rattle.model.specs.Operations.Refusal.{Refusals, first_refusal, refused_or}
+use Rattle.model_tree.specs.Refusals.Refusal.{Refusals, first_refusal, refused_or}
 use Rattle.model.specs.Sessions.StateIds.{Found, Anonymous, Refused, Names, found, by_meaning, by_open, by_seqid, is_anonymous, meant, open_named, close_refusals, closed_state, without_open}
-use Rattle.model.specs.Operations.Status.{code_of}
+use Rattle.model_tree.specs.Refusals.Status.{code_of}
 use Rattle.model.specs.Operations.Step.{State, Stepped, does, effect, answered, refused, refusals, unless_refused, current}
 use Rattle.xdr.specs.Forms as forms
 use Rattle.xdr.specs.Forms.{fixed_opaque}
 use Rattle.xdr.proofs.Numbers.{length-number_32}
 use Rattle.model.specs.Operations.Answer.{Answer, Done}
 use Rattle.model.specs.Server.World.{World, InProgress, run, stepped, state_of, outcome_text}
-use Rattle.model.specs.declared.limits.Limits.{Limits}
-use Rattle.model.specs.declared.status.Status.{Status}
-use Rattle.model.specs.declared.status.Status.TheVariants as status
+use Rattle.model_tree.specs.declared.limits.Limits.{Limits}
+use Rattle.model_tree.specs.declared.status.Status.{Status}
+use Rattle.model_tree.specs.declared.status.Status.TheVariants as status
 use Rattle.wire.specs.Short.{IsRefusal}
 use Rattle.compound.specs.Beside.{IsBeside, Closes, EndsOpen, closed_answer}
 use Rattle.compound.specs.Runs.{with_rest}

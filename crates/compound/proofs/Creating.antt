@@ -12,14 +12,14 @@ use Rattle.model.specs.Attributes.Attribute.{trimmed}
 use Rattle.model.specs.Operations.Context.{at_node}
 use Rattle.model.specs.Sessions.Opens.{Opens}
 use Rattle.model.specs.Operations.Operation.{Attributes}
-use Rattle.model.specs.Operations.Refusal.{first_refusal}
+use Rattle.model_tree.specs.Refusals.Refusal.{first_refusal}
 use Rattle.model.specs.Server.Runs.{is_done}
 use Rattle.model.specs.Sessions.Session.{Table}
 use Rattle.model.specs.Operations.Step.{State, does, effect, refused, refusals, change_refusals, unless_refused}
 use Rattle.model.specs.Server.World.{World, InProgress, Gives, run, stepped, state_of, in_room, has_room, refuses, reply_with, outcome_text}
-use Rattle.model.specs.declared.limits.Limits.{Limits}
-use Rattle.model.specs.declared.status.Status.{Status}
-use Rattle.model.specs.declared.status.Status.TheVariants as status
+use Rattle.model_tree.specs.declared.limits.Limits.{Limits}
+use Rattle.model_tree.specs.declared.status.Status.{Status}
+use Rattle.model_tree.specs.declared.status.Status.TheVariants as status
 use Rattle.compound.specs.Operates.{RunsTo, GivesIn, run_in_room, tree_by}
 use Rattle.compound.specs.Runs.{with_rest}
 use Rattle.compound.specs.States.{HasState, shared}

@@ -3,12 +3,12 @@ use Rattle.std.proofs.Common.{◌≡◌, ℕ, Bool, true, false, Option, Some, N
 use Rattle.model.specs.Operations.Answer.{Answer, Outcome}
 use Rattle.model.specs.Operations.Context.{has_current, at_node}
 use Rattle.model.specs.Operations.Operation.{Argument, NewDirectory, OtherType, operation_of}
-use Rattle.model.specs.Operations.Refusal.{refused_or}
+use Rattle.model_tree.specs.Refusals.Refusal.{refused_or}
 use Rattle.model.specs.Operations.Step.{does, refusals, effect, permitted}
-use Rattle.model.specs.Trees.Tree.{root}
+use Rattle.model_tree.specs.Trees.Tree.{root}
 use Rattle.model.specs.Server.World.{World, InProgress, Gives, run}
-use Rattle.model.specs.declared.status.Status.{Status}
-use Rattle.model.specs.declared.status.Status.TheVariants as status
+use Rattle.model_tree.specs.declared.status.Status.{Status}
+use Rattle.model_tree.specs.declared.status.Status.TheVariants as status
 
 pub ran_root : (world : World) (request : InProgress) (now : ℕ)
     → run world request now Argument.PutRootFh ≡ Gives (Outcome.Done Answer.PutRootFh) world (record request { context = at_node request.context root })

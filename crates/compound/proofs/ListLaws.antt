@@ -4,12 +4,12 @@ use Rattle.fs.specs.FileSystem.{FileSystem}
 use Rattle.fs.specs.Listing.{Lists}
 use Rattle.fs.specs.declared.fault.FsFault.{FsFault}
 use Rattle.fs.specs.declared.fault.FsFault.TheVariants as fault
-use Rattle.model.specs.declared.limits.Limits.{Limits}
+use Rattle.model_tree.specs.declared.limits.Limits.{Limits}
 use Rattle.model.specs.Operations.Operation.{Argument, ReadDirArguments}
 use Rattle.model.specs.Operations.Step.{State, does, refused, refusals, effect}
 use Rattle.model.specs.Server.World.{InProgress, run}
-use Rattle.model.specs.declared.status.Status.{Status}
-use Rattle.model.proofs.Facts.BooleanLaws.{never_both}
+use Rattle.model_tree.specs.declared.status.Status.{Status}
+use Rattle.model_tree.proofs.Facts.BooleanLaws.{never_both}
 use Rattle.wire.specs.Short.{IsRefusal}
 use Rattle.compound.specs.Operates.{OnlyReads}
 use Rattle.compound.specs.States.{shared}

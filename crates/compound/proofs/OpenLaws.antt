@@ -2,15 +2,15 @@
 use Rattle.std.proofs.Common.{◌≡◌, ℕ, List, not, Option, Some, None, refl, ap}
 use Rattle.fs.specs.Operations.{current_refusal}
 use Rattle.model.specs.Operations.Context.{has_current}
-use Rattle.model.specs.Trees.Keyed.{is_key}
+use Rattle.model_tree.specs.Trees.Keyed.{is_key}
 use Rattle.model.specs.Operations.Open.{opening_refusals}
 use Rattle.model.specs.Operations.Operation.{Argument, OpenArguments, Opening, Opens, Exclusive, ByName, ByHandle, OtherClaim}
-use Rattle.model.specs.Operations.Refusal.{first_refusal}
+use Rattle.model_tree.specs.Refusals.Refusal.{first_refusal}
 use Rattle.model.specs.Operations.Step.{State, does, effect, refused, refusals, unless_refused, current}
 use Rattle.model.specs.Server.World.{World, InProgress, run, stepped, state_of}
-use Rattle.model.specs.declared.limits.Limits.{Limits}
-use Rattle.model.specs.declared.status.Status.{Status}
-use Rattle.model.specs.declared.status.Status.TheVariants as status
+use Rattle.model_tree.specs.declared.limits.Limits.{Limits}
+use Rattle.model_tree.specs.declared.status.Status.{Status}
+use Rattle.model_tree.specs.declared.status.Status.TheVariants as status
 use Rattle.compound.specs.Runs.{with_rest}
 use Rattle.compound.proofs.Current.{after_some, after_none}
 

@@ -18,25 +18,24 @@ use Rattle.fs.specs.declared.opening.OpenEffect.TheVariants as effects
 use Rattle.fs.specs.declared.opening.Opened.{Opened}
 use Rattle.fs.specs.declared.opening.Opening.{Opening as Asked}
 use Rattle.fs.specs.declared.opening.Share.{Share}
-use Rattle.model.specs.declared.acl.Cred.{Cred}
+use Rattle.model_tree.specs.declared.acl.Cred.{Cred}
 use Rattle.model.specs.Operations.Answer.{Done}
 use Rattle.model.specs.Attributes.Attribute.{settable_at_open, trimmed}
 use Rattle.model.specs.Operations.Context.{Context, has_current, current_number}
-use Rattle.model.specs.Operations.Directory.{is_named}
-use Rattle.model.specs.Attributes.Name.{name_refusals}
+use Rattle.model_tree.specs.Trees.Tree.{is_named, Tree}
+use Rattle.model_tree.specs.Refusals.Name.{name_refusals}
 use Rattle.model.specs.Operations.Open.{asked_open, at_opened, creates, cuts, file_opened, given_by, known_refusals, late_at_open, middle_at_open, new_refusals, no_change_info, open_refusals, opening_refusals, place_refusals, set_at_open, share_refusals, size_alone}
 use Rattle.model.specs.Sessions.Opens.{Open, Opens}
 use Rattle.model.specs.Operations.Operation.{Argument, ChangeInfo, OpenArguments, OpenType, NoCreate, Unchecked, Guarded, Opening, Opens as Opens_as, Exclusive, ByName, ByHandle, OtherClaim}
 use Rattle.model.specs.Sessions.Session.{Table}
 use Rattle.model.specs.Sessions.StateIds.{closed_state, is_like, is_table_full, new_open, open_like, opened, opened_by, open_stateid as stateid_of, zeros}
 use Rattle.model.specs.Operations.Step.{State, Stepped, alters, does, effect, refused, refusals, without_rights, answered, current, current_refusals, need_first, need_then}
-use Rattle.model.specs.Trees.Tree.{Tree}
 use Rattle.model.specs.Server.World as turns
 use Rattle.model.specs.Server.World.{World, InProgress, HasRun, run, state_of, reply_with, outcome_text}
-use Rattle.model.specs.declared.limits.Limits.{Limits}
-use Rattle.model.specs.declared.node.NodeKind.TheVariants as kind
-use Rattle.model.specs.declared.status.Status.{Status}
-use Rattle.model.specs.declared.status.Status.TheVariants as status
+use Rattle.model_tree.specs.declared.limits.Limits.{Limits}
+use Rattle.model_tree.specs.declared.node.NodeKind.TheVariants as kind
+use Rattle.model_tree.specs.declared.status.Status.{Status}
+use Rattle.model_tree.specs.declared.status.Status.TheVariants as status
 use Rattle.model.proofs.Sessions.TableCalls.{found_passes}
 use Rattle.opens.specs.Views.{opened_stateid}
 use Rattle.wire.specs.Short.{IsRefusal}

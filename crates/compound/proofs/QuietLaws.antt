@@ -4,7 +4,7 @@ use Rattle.layout.specs.Stands.{Kept}
 use Rattle.volume.specs.Changes.{Given, Ending, Done, Nothing, Broken, EndsAs}
 use Rattle.volume.specs.VolumeState.{VolumeState, IsSameVolume, IsRecent, AddsTrees}
 use Rattle.volume.specs.Shown.{ShowsAs}
-use Rattle.model.specs.Trees.Tree.{Tree}
+use Rattle.model_tree.specs.Trees.Tree.{Tree}
 use Rattle.fs.specs.Changes.{FsChanges}
 use Rattle.fs.specs.FileSystem.{FileSystem}
 

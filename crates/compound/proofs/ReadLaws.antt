@@ -16,10 +16,10 @@ use Rattle.model.specs.Sessions.Session.{Table}
 use Rattle.model.specs.Sessions.StateIds.{state_refusals, read_access}
 use Rattle.model.specs.Operations.Step.{State, answered, does, effect, refused, refusals, unless_refused, without_rights, late, permitted, need_first, need_then}
 use Rattle.model.specs.Server.World.{World, InProgress, Gives, run, stepped, state_of, in_room, refuses}
-use Rattle.model.specs.declared.limits.Limits.{Limits}
-use Rattle.model.specs.declared.status.Status.{Status}
-use Rattle.model.specs.declared.status.Status.TheVariants as status
-use Rattle.model.proofs.Facts.BooleanLaws.{never_both}
+use Rattle.model_tree.specs.declared.limits.Limits.{Limits}
+use Rattle.model_tree.specs.declared.status.Status.{Status}
+use Rattle.model_tree.specs.declared.status.Status.TheVariants as status
+use Rattle.model_tree.proofs.Facts.BooleanLaws.{never_both}
 use Rattle.volume.specs.Changes as ended
 use Rattle.volume.specs.VolumeState.{with_tree}
 use Rattle.volume.specs.Changes.{IsTree, Nothing, Broken}

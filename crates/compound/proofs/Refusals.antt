@@ -7,11 +7,11 @@ use Rattle.xdr.specs.declared.refusal.Refusal.{Refusal}
 use Rattle.model.specs.Operations.Answer as model
 use Rattle.model.specs.Operations.Operation.{Argument}
 use Rattle.model.specs.Server.Served.{is_served}
-use Rattle.model.specs.Operations.Status.{code_of}
+use Rattle.model_tree.specs.Refusals.Status.{code_of}
 use Rattle.model.specs.Wire.WireArguments.{arguments_at}
 use Rattle.model.specs.Server.World.{InProgress, Next, Refuses, Reads, next_operation, by_number, by_arguments, first_or, first_tests, later_tests, is_no_operation, is_sequence, stands_alone, op_illegal}
-use Rattle.model.specs.declared.status.Status.{Status}
-use Rattle.model.specs.declared.status.Status.TheVariants as status
+use Rattle.model_tree.specs.declared.status.Status.{Status}
+use Rattle.model_tree.specs.declared.status.Status.TheVariants as status
 use Rattle.model.proofs.Sessions.KeptLaws.{refused_length}
 use Rattle.compound.specs.Operates.{IsSpelled}
 

@@ -10,17 +10,17 @@ use Rattle.fs.specs.declared.renaming.Change.{Change}
 use Rattle.fs.specs.declared.renaming.Renamed.{Renamed}
 use Rattle.model.specs.Operations.Answer.{Done}
 use Rattle.model.specs.Operations.Context.{Context, has_current, has_saved, saved_number, is_same_name}
-use Rattle.model.specs.Trees.Keyed.{is_key}
+use Rattle.model_tree.specs.Trees.Keyed.{is_key}
 use Rattle.model.specs.Sessions.Opens.{Opens}
 use Rattle.model.specs.Operations.Operation.{Argument, RenameArguments}
-use Rattle.model.specs.Operations.Refusal.{refused_or}
+use Rattle.model_tree.specs.Refusals.Refusal.{refused_or}
 use Rattle.model.specs.Sessions.Session.{Table}
 use Rattle.model.specs.Operations.Step.{State, does, effect, refused, refusals, unless_refused, answered, rename, current}
 use Rattle.model.specs.Server.World as turns
 use Rattle.model.specs.Server.World.{World, InProgress, HasRun, run, stepped, state_of, reply_with, outcome_text}
-use Rattle.model.specs.declared.limits.Limits.{Limits}
-use Rattle.model.specs.declared.status.Status.{Status}
-use Rattle.model.specs.declared.status.Status.TheVariants as status
+use Rattle.model_tree.specs.declared.limits.Limits.{Limits}
+use Rattle.model_tree.specs.declared.status.Status.{Status}
+use Rattle.model_tree.specs.declared.status.Status.TheVariants as status
 use Rattle.compound.specs.Operates.{run_in_room}
 use Rattle.compound.specs.Runs.{with_rest}
 use Rattle.compound.specs.States.{shared}

@@ -9,7 +9,7 @@ use Rattle.model.specs.Operations.Answer.{Outcome, Done, Refused}
 use Rattle.model.specs.Wire.Record.{framed}
 use Rattle.model.specs.Wire.Rpc.{Success, reply_text, compound_text}
 use Rattle.model.specs.Server.World.{InProgress, outcome_text, reply_with, result_of, status_of}
-use Rattle.model.specs.declared.status.Status.{Status}
+use Rattle.model_tree.specs.declared.status.Status.{Status}
 use Rattle.model.proofs.Sessions.KeptLaws.{refused_length}
 use Rattle.compound.specs.Operates.{IsSpelled}
 

@@ -9,7 +9,7 @@ use Rattle.compound.specs.declared.step.Stepped.TheVariants as stepped
 use Rattle.model.specs.Operations.Answer.{Answer, Done}
 use Rattle.model.specs.Sessions.Session.{Table}
 use Rattle.model.specs.Server.World.{InProgress, with_result, is_last}
-use Rattle.model.specs.declared.status.Status.{Status}
+use Rattle.model_tree.specs.declared.status.Status.{Status}
 use Rattle.xdr.specs.Forms.{counted}
 
 -- before its end

@@ -7,7 +7,7 @@ use Rattle.model.specs.Operations.Operation.{Argument, SequenceArguments}
 use Rattle.model.specs.Sessions.Session as sessions
 use Rattle.model.specs.Sessions.Session.{Table, Session, Client, is_client, reclaim_by, is_session, started, sequence_answer}
 use Rattle.model.specs.Server.World.{World, InProgress, Gives, run, begun, started_in, tabled, gives, with_table, of_session}
-use Rattle.model.specs.declared.status.Status.{Status}
+use Rattle.model_tree.specs.declared.status.Status.{Status}
 use Rattle.fs.specs.FileSystem.{FileSystem}
 use Rattle.compound.specs.States.{HasState, shared}
 

@@ -15,13 +15,13 @@ use Rattle.model.specs.Sessions.Session.{Table}
 use Rattle.model.specs.Operations.SetAttr.{kind_at, set_attributes, sets, sets_size, size_refusals, was_set}
 use Rattle.model.specs.Sessions.StateIds.{state_refusals, write_access}
 use Rattle.model.specs.Operations.Step.{State, alters, does, effect, refused, refusals, without_rights, answered, current, current_refusals, need_first, need_then}
-use Rattle.model.specs.Trees.Tree.{is_directory_at}
+use Rattle.model_tree.specs.Trees.Tree.{is_directory_at}
 use Rattle.model.specs.Server.World as turns
 use Rattle.model.specs.Server.World.{World, InProgress, HasRun, run, stepped, state_of, reply_with}
-use Rattle.model.specs.declared.limits.Limits.{Limits}
-use Rattle.model.specs.declared.node.NodeKind.{NodeKind}
-use Rattle.model.specs.declared.status.Status.{Status}
-use Rattle.model.specs.declared.status.Status.TheVariants as status
+use Rattle.model_tree.specs.declared.limits.Limits.{Limits}
+use Rattle.model_tree.specs.declared.node.NodeKind.{NodeKind}
+use Rattle.model_tree.specs.declared.status.Status.{Status}
+use Rattle.model_tree.specs.declared.status.Status.TheVariants as status
 use Rattle.wire.specs.Short.{IsRefusal}
 use Rattle.compound.specs.Operates.{run_in_room}
 use Rattle.compound.specs.Runs.{with_rest}

@@ -11,13 +11,13 @@ use Rattle.model.specs.Sessions.Opens.{Opens}
 use Rattle.model.specs.Operations.Operation.{Argument}
 use Rattle.model.specs.Wire.Record.{framed}
 use Rattle.model.specs.Wire.Rpc.{Success, reply_text}
-use Rattle.model.specs.Sessions.SeatEdits.{SeatEdit, stays, all_stay, edited_all}
-use Rattle.model.specs.Sessions.SeatEdits as edit
-use Rattle.model.specs.Sessions.Seats.{Seats}
+use Rattle.model_tree.specs.Seats.SeatEdits.{SeatEdit, stays, all_stay, edited_all}
+use Rattle.model_tree.specs.Seats.SeatEdits as edit
+use Rattle.model_tree.specs.Seats.Seats.{Seats}
 use Rattle.model.specs.Sessions.Session.{Table, is_session, finish, held_by}
-use Rattle.model.specs.Trees.Tree.{Tree}
+use Rattle.model_tree.specs.Trees.Tree.{Tree}
 use Rattle.model.specs.Server.World.{World, InProgress, HasRun, Turned, Replied, ends, further, kept_by, result_of, with_connection, with_table}
-use Rattle.model.specs.declared.status.Status.{Status}
+use Rattle.model_tree.specs.declared.status.Status.{Status}
 use Rattle.compound.specs.Operates.{GivesIn, run_in_room, world_by}
 use Rattle.compound.specs.Runs.{with_rest}
 use Rattle.compound.specs.States.{SharedState, shared, with_state}

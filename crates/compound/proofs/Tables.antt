@@ -6,12 +6,12 @@ use Rattle.model.specs.Sessions.Opens.{Open, Opens}
 use Rattle.model.specs.Sessions.Session as sessions
 use Rattle.std.specs.List.{find, list_any}
 use Rattle.std.proofs.Math.Path.{fun_ext}
-use Rattle.model.specs.Operations.Refusal.{first_refusal}
+use Rattle.model_tree.specs.Refusals.Refusal.{first_refusal}
 use Rattle.model.specs.Sessions.Session.{Table, SessionLimits, CreateSessionOutcome, Client, create_refused, create_unless, create_again, create_by, create_refusals, next_number, is_client}
 use Rattle.model.specs.Sessions.StateIds.{has_opens, without_clients}
-use Rattle.model.specs.Trees.Tree.{Tree}
+use Rattle.model_tree.specs.Trees.Tree.{Tree}
 use Rattle.model.specs.Server.World.{World, InProgress, Gives, run, exchanged, session_created, created_by, tabled, gives, with_table}
-use Rattle.model.specs.declared.status.Status.{Status}
+use Rattle.model_tree.specs.declared.status.Status.{Status}
 use Rattle.session.specs.Limits.{served}
 use Rattle.session.specs.Views.{among}
 use Rattle.fs.specs.FileSystem.{FileSystem}

@@ -1,10 +1,10 @@
 -- What operations and turns leave of the table: it is of its run, and but for CREATE_SESSION and DESTROY_SESSION its seats stay.
 use Rattle.std.proofs.Common.{◌≡◌, ℕ, Bool, true, false, ◌==◌, List, find, Option, None, Some, Result, Ok, Err, refl, bytes_eq}
-use Rattle.model.specs.declared.status.Status.{Status}
+use Rattle.model_tree.specs.declared.status.Status.{Status}
 use Rattle.model.specs.Operations.Answer.{Answer, Done, Refused, ExchangeIdAnswer, CreateSessionAnswer}
 use Rattle.model.specs.Operations.Operation.{Argument, SequenceArguments, CreateSessionArguments, ExchangeIdArguments, operation_of}
-use Rattle.model.specs.Operations.Refusal.{first_refusal}
-use Rattle.model.specs.Sessions.Seats.{has_seat}
+use Rattle.model_tree.specs.Refusals.Refusal.{first_refusal}
+use Rattle.model_tree.specs.Seats.Seats.{has_seat}
 use Rattle.model.specs.Sessions.Session as sessions
 use Rattle.model.specs.Sessions.Session.{SessionLimits, Client, Session, Table, is_session, is_client, is_running, is_confirmed_of, has_only, exchange_flags, exchange_by, exchange_id, new_record, is_full_of_clients, without_unconfirmed, without_client, has_state, create_refusals, create_unless, create_again, create_by, create_session, CreateSessionOutcome, next_number, destroy_by, destroy_session, destroy_client_by, destroy_client_id, reclaim_by, reclaim_complete, started, finish}
 use Rattle.model.specs.Sessions.StateIds.{has_opens}

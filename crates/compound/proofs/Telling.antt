@@ -5,14 +5,14 @@ use Rattle.fs.specs.Operations.{does_on, IsRefused}
 use Rattle.fs.specs.declared.fault.FsFault.{FsFault}
 use Rattle.fs.specs.declared.fault.FsFault.TheVariants as fault
 use Rattle.model.specs.Operations.Answer.{Answer, Done, Refused}
-use Rattle.model.specs.declared.limits.Limits.{Limits}
+use Rattle.model_tree.specs.declared.limits.Limits.{Limits}
 use Rattle.model.specs.Sessions.Opens.{Opens}
 use Rattle.model.specs.Operations.Operation.{Argument, operation_of}
 use Rattle.model.specs.Sessions.Session.{Table}
 use Rattle.model.specs.Operations.Step.{State, answered, does, refused, refusals, effect}
 use Rattle.model.specs.Server.World.{World, InProgress, run, stepped, state_of}
-use Rattle.model.specs.declared.status.Status.{Status}
-use Rattle.model.proofs.Facts.BooleanLaws.{never_both}
+use Rattle.model_tree.specs.declared.status.Status.{Status}
+use Rattle.model_tree.proofs.Facts.BooleanLaws.{never_both}
 use Rattle.wire.specs.Short.{IsRefusal}
 use Rattle.compound.specs.Operates.{RunsTo}
 use Rattle.compound.specs.Runs.{with_rest}

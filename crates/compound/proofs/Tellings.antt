@@ -13,8 +13,8 @@ use Rattle.model.specs.Server.Runs.{is_done}
 use Rattle.model.specs.Sessions.Session.{Table}
 use Rattle.model.specs.Wire.WireAnswers as answers
 use Rattle.model.specs.Server.World.{World, InProgress, Entry, Turned, Busy, Replied, behind, closes, ends, goes_on, is_to_hold, is_last, kept_by, outcome_text, reply_with, result_of, status_of, with_connection, with_result, with_table}
-use Rattle.model.specs.declared.status.Status.{Status}
-use Rattle.model.specs.declared.status.Status.TheVariants as status
+use Rattle.model_tree.specs.declared.status.Status.{Status}
+use Rattle.model_tree.specs.declared.status.Status.TheVariants as status
 use Rattle.wire.specs.OutcomeView.{outcome_view}
 use Rattle.compound.specs.Operates.{HasRoom, HasRoomFor, Spells, spelled_text}
 use Rattle.compound.specs.EncodedResult.{CanBeTold, Tells, is_ok, told_status, told_text, with_last, with_told}

@@ -11,22 +11,22 @@ use Rattle.std.proofs.lemmas.Bool.{and_parts}
 use Rattle.model.specs.Attributes.Attribute.{attribute_refusals, entry_refusals, value_refusals, values_of}
 use Rattle.model.specs.Attributes.AttributeValue.{Value, Acl}
 use Rattle.model.specs.Operations.Context.{Context, has_current, current_number, at_node, has_saved, saving, restored, is_same_name}
-use Rattle.model.specs.Trees.Keyed.{is_key}
-use Rattle.model.specs.declared.limits.Limits.{Limits}
-use Rattle.model.specs.Attributes.Name.{name_refusals}
+use Rattle.model_tree.specs.Trees.Keyed.{is_key}
+use Rattle.model_tree.specs.declared.limits.Limits.{Limits}
+use Rattle.model_tree.specs.Refusals.Name.{name_refusals}
 use Rattle.model.specs.Sessions.Opens.{Opens, no_opens}
 use Rattle.model.specs.Operations.Operation.{Argument, Attributes, NewDirectory, OtherType, RenameArguments, operation_of}
-use Rattle.model.specs.Operations.Refusal.{Refusals, first_refusal, refused_or}
+use Rattle.model_tree.specs.Refusals.Refusal.{Refusals, first_refusal, refused_or}
 use Rattle.model.specs.Sessions.Session.{Table}
-use Rattle.model.specs.Operations.Status.{code_of}
+use Rattle.model_tree.specs.Refusals.Status.{code_of}
 use Rattle.model.specs.Operations.Step.{State, Stepped, does, refused, refusals, effect, late, without_rights, change_refusals, unless_refused, current, current_refusals, answered, rename, rename_refusals, late_at_rename, need_first, need_then}
-use Rattle.model.specs.Trees.Tree.{root}
+use Rattle.model_tree.specs.Trees.Tree.{root}
 use Rattle.model.specs.Server.World.{World, InProgress, Gives, run, stepped, state_of, reclaimed}
-use Rattle.model.specs.declared.node.NodeKind.{NodeKind}
-use Rattle.model.specs.declared.node.NodeKind.TheVariants as kind
-use Rattle.model.specs.declared.status.Status.{Status}
-use Rattle.model.specs.declared.status.Status.TheVariants as status
-use Rattle.model.proofs.Facts.BooleanLaws.{never_both}
+use Rattle.model_tree.specs.declared.node.NodeKind.{NodeKind}
+use Rattle.model_tree.specs.declared.node.NodeKind.TheVariants as kind
+use Rattle.model_tree.specs.declared.status.Status.{Status}
+use Rattle.model_tree.specs.declared.status.Status.TheVariants as status
+use Rattle.model_tree.proofs.Facts.BooleanLaws.{never_both}
 use Rattle.wire.specs.Short.{IsRefusal}
 use Rattle.compound.specs.Operates.{RunsTo}
 use Rattle.compound.specs.Runs.{with_rest}

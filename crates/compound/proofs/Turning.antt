@@ -3,12 +3,12 @@ use Rattle.std.proofs.Common.{◌≡◌, ℕ, false, List, Option, Some, None, r
 use Rattle.layout.specs.Stands.{Kept}
 use Rattle.model.specs.Operations.Answer as model
 use Rattle.model.specs.Operations.Operation.{Argument}
-use Rattle.model.specs.Sessions.Seats.{Seats}
+use Rattle.model_tree.specs.Seats.Seats.{Seats}
 use Rattle.model.specs.Sessions.Session.{Table}
 use Rattle.model.specs.Server.World as turns
 use Rattle.model.specs.Server.World.{World, InProgress, HasRun, Entry, Turned, Refuses, Reads, next_operation, operates, further, has_run, behind, closes, is_to_hold, kept_by, result_of, with_result, is_last, executed_entry}
-use Rattle.model.specs.declared.status.Status.{Status}
-use Rattle.model.specs.declared.status.Status.TheVariants as status
+use Rattle.model_tree.specs.declared.status.Status.{Status}
+use Rattle.model_tree.specs.declared.status.Status.TheVariants as status
 use Rattle.wire.specs.OutcomeView.{outcome_view}
 use Rattle.compound.specs.Operates.{Operates, GivesIn, run_in_room, world_by, left_by_effect}
 use Rattle.compound.specs.Runs.{with_rest}

@@ -11,15 +11,15 @@ use Rattle.model.specs.Attributes.Attribute.{trimmed}
 use Rattle.model.specs.Operations.Context.{has_current, current_number}
 use Rattle.model.specs.Sessions.Opens.{Opens}
 use Rattle.model.specs.Operations.Operation.{Argument, Attributes, OtherType}
-use Rattle.model.specs.Sessions.Seats.{Seats}
+use Rattle.model_tree.specs.Seats.Seats.{Seats}
 use Rattle.model.specs.Sessions.Session.{Table}
 use Rattle.model.specs.Server.Runs.{is_durable, is_commit}
 use Rattle.model.specs.Operations.Step.{State, alters, does, effect, refused, unless_refused}
-use Rattle.model.specs.Trees.Tree.{Tree}
+use Rattle.model_tree.specs.Trees.Tree.{Tree}
 use Rattle.model.specs.Server.World as turns
 use Rattle.model.specs.Server.World.{World, InProgress, HasRun, Entry, Turned, Reads, Refuses, next_operation, operates, has_run, behind, closes, is_to_hold, with_result, is_last, executed_entry, run, in_room, stepped, state_of, reply_with}
-use Rattle.model.specs.declared.status.Status.{Status}
-use Rattle.model.specs.declared.status.Status.TheVariants as status
+use Rattle.model_tree.specs.declared.status.Status.{Status}
+use Rattle.model_tree.specs.declared.status.Status.TheVariants as status
 use Rattle.fs.specs.Operations.{MakesTree, new_directory}
 use Rattle.compound.specs.Operates.{GivesIn, run_in_room, tree_by, world_by}
 use Rattle.compound.specs.Runs.{with_rest}

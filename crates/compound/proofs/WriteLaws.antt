@@ -17,15 +17,15 @@ use Rattle.model.specs.Operations.Context.{Context, has_current, current_number}
 use Rattle.model.specs.Operations.Files.{are_bytes, commit, file_refusals, has_bytes, write, write_refusals}
 use Rattle.model.specs.Sessions.Opens.{Opens}
 use Rattle.model.specs.Operations.Operation.{Argument, CommitArguments, WriteArguments}
-use Rattle.model.specs.Operations.Refusal.{Refusals}
+use Rattle.model_tree.specs.Refusals.Refusal.{Refusals}
 use Rattle.model.specs.Sessions.Session.{Table}
 use Rattle.model.specs.Sessions.StateIds.{state_refusals, write_access}
 use Rattle.model.specs.Operations.Step.{State, does, effect, refused, refusals, without_rights, answered, current_refusals, unless_refused, need_first, need_then}
 use Rattle.model.specs.Server.World as turns
 use Rattle.model.specs.Server.World.{World, InProgress, HasRun, run, stepped, state_of, reply_with, outcome_text}
-use Rattle.model.specs.declared.limits.Limits.{Limits}
-use Rattle.model.specs.declared.status.Status.{Status}
-use Rattle.model.specs.declared.status.Status.TheVariants as status
+use Rattle.model_tree.specs.declared.limits.Limits.{Limits}
+use Rattle.model_tree.specs.declared.status.Status.{Status}
+use Rattle.model_tree.specs.declared.status.Status.TheVariants as status
 use Rattle.wire.specs.Short.{IsRefusal}
 use Rattle.compound.specs.Files.{committed_answer, written_answer}
 use Rattle.compound.specs.Operates.{RunsTo}

@@ -12,11 +12,11 @@ use Rattle.model.specs.Sessions.Opens.{Open, Opens}
 use Rattle.model.specs.Operations.Open.{at_opened, given_by, no_change_info}
 use Rattle.model.specs.Operations.Operation.{Argument, ByName, ChangeInfo, CloseArguments, OpenArguments, OpenType, StateId}
 use Rattle.model.specs.Operations.Operation as operations
-use Rattle.model.specs.Operations.Refusal.{first_refusal}
+use Rattle.model_tree.specs.Refusals.Refusal.{first_refusal}
 use Rattle.model.specs.Operations.Step.{State, answered, refused}
 use Rattle.model.specs.Sessions.StateIds.{Found, Names, close_refusals, closed_state, opened, without_open}
 use Rattle.model.specs.Server.World.{InProgress, reply_with}
-use Rattle.model.specs.declared.status.Status.{Status}
+use Rattle.model_tree.specs.declared.status.Status.{Status}
 use Rattle.opens.specs.Views.{opened_stateid}
 use Rattle.compound.specs.Operates.{RunsTo}
 use Rattle.compound.specs.States.{SharedState}

@@ -4,8 +4,8 @@ use Rattle.model.specs.Operations.Answer as model
 use Rattle.model.specs.Server.Runs.{is_done}
 use Rattle.model.specs.Wire.WireAnswers as answers
 use Rattle.model.specs.Server.World.{InProgress, outcome_text, status_of}
-use Rattle.model.specs.declared.status.Status.{Status}
-use Rattle.model.specs.declared.status.Status.TheVariants as status
+use Rattle.model_tree.specs.declared.status.Status.{Status}
+use Rattle.model_tree.specs.declared.status.Status.TheVariants as status
 use Rattle.wire.specs.Numbers.{number_of}
 use Rattle.wire.specs.OutcomeView.{outcome_view}
 use Rattle.compound.specs.Operates.{IsSpelled, Spells, HasRoomFor, spelled_text}

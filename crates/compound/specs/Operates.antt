@@ -8,7 +8,7 @@ use Rattle.model.specs.Operations.Open.{at_opened}
 use Rattle.model.specs.Sessions.Opens.{Opens}
 use Rattle.model.specs.Operations.Operation.{Argument, operation_of}
 use Rattle.model.specs.Sessions.Session.{Table}
-use Rattle.model.specs.Trees.Tree.{Tree}
+use Rattle.model_tree.specs.Trees.Tree.{Tree}
 use Rattle.model.specs.Wire.WireAnswers as answers
 use Rattle.model.specs.Server.World as turns
 use Rattle.model.specs.Server.World.{World, InProgress, HasRun, run, in_room, outcome_text, reply_with}

@@ -12,8 +12,8 @@ use Rattle.model.specs.Operations.Context.{Context, has_current, current_number,
 use Rattle.model.specs.Operations.Operation.{Argument, ChangeInfo, RenameArguments}
 use Rattle.model.specs.Operations.Step.{State, refused}
 use Rattle.model.specs.Server.World.{InProgress}
-use Rattle.model.specs.declared.status.Status.{Status}
-use Rattle.model.specs.declared.status.Status.TheVariants as status
+use Rattle.model_tree.specs.declared.status.Status.{Status}
+use Rattle.model_tree.specs.declared.status.Status.TheVariants as status
 use Rattle.wire.specs.Short.{IsRefusal}
 use Rattle.wire.specs.declared.outcome.Outcome.TheVariants as outcomes
 use Rattle.compound.specs.declared.fault.Fault.{Fault}

@@ -3,11 +3,11 @@ use Rattle.std.specs.Prelude.{◌≡◌, ℕ, List, Option, Some, None, false}
 use Rattle.model.specs.Operations.Answer as model
 use Rattle.model.specs.Wire.Record.{framed}
 use Rattle.model.specs.Wire.Rpc.{Success, reply_text}
-use Rattle.model.specs.Sessions.SeatEdits.{edited_all, edits_view}
+use Rattle.model_tree.specs.Seats.SeatEdits.{edited_all, edits_view}
 use Rattle.model.specs.Sessions.Session.{Table}
 use Rattle.model.specs.Server.World as turns
 use Rattle.model.specs.Server.World.{World, InProgress, Entry, Turned, behind, is_to_hold, kept_by, with_connection, with_table}
-use Rattle.model.specs.declared.seats.SeatEdits.{SeatEdits}
+use Rattle.model_tree.specs.declared.seats.SeatEdits.{SeatEdits}
 use Rattle.session.specs.Views.{reply_kept}
 use Rattle.wire.specs.Numbers.{number_of}
 use Rattle.wire.specs.OutcomeView.{outcome_view}

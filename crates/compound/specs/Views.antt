@@ -5,7 +5,7 @@ use Rattle.model.specs.Operations.Context.{Context, Place}
 use Rattle.model.specs.Wire.Rpc.{Compound}
 use Rattle.model.specs.Server.World as world
 use Rattle.model.specs.Server.World.{World, InProgress, in_progress}
-use Rattle.model.specs.declared.acl.Cred.{Cred}
+use Rattle.model_tree.specs.declared.acl.Cred.{Cred}
 use Rattle.rpc.specs.Views.{compound_view}
 use Rattle.xdr.specs.Forms.{counted}
 use Rattle.wire.specs.ArgumentView.{argument_view}
@@ -17,7 +17,7 @@ use Rattle.compound.specs.declared.progress.SlotId.{SlotId}
 use Rattle.compound.specs.declared.next.Next.{Next}
 use Rattle.compound.specs.declared.next.Next.TheVariants as nexts
 use Rattle.compound.specs.declared.results.TheConstants.{AROUND_RESULTS, MAX_REPLY_BYTES, MAX_REFUSAL_BYTES}
-use Rattle.model.specs.declared.status.Status.{Status}
+use Rattle.model_tree.specs.declared.status.Status.{Status}
 
 -- a filehandle, with the stateid that goes with it
 abbrev pub place_of : HandlePlace → Place

@@ -4,7 +4,7 @@ use Rattle.fs.specs.FileSystem.{FileSystem}
 use Rattle.layout.specs.Stands.{Kept}
 use Rattle.model.specs.Operations.Operation.{Argument}
 use Rattle.model.specs.Server.Runs.{is_durable}
-use Rattle.model.specs.Sessions.Seats.{Seats}
+use Rattle.model_tree.specs.Seats.Seats.{Seats}
 use Rattle.model.specs.Server.World as turns
 use Rattle.model.specs.Server.World.{World, InProgress, HasRun, Entry, Turned, executed_entry}
 use Rattle.volume.specs.Changes.{Given, Ending, Done, Nothing, Broken}

@@ -7,7 +7,7 @@ ghost use Rattle.compound.specs.declared.progress.TheConstants.{RESULT_BUFFER};
 use crate::fault::Fault;
 use crate::progress::{Progress, RECORD_BUFFER, RESULT_BUFFER};
 use crate::running::Running;
-use model::acl::Cred;
+use model_tree::acl::Cred;
 use rpc::Compound;
 use std::alloc::Global;
 use std::mem;

@@ -12,7 +12,7 @@ use crate::results::MAX_REPLY_BYTES;
 use crate::running::Running;
 use disk::Device;
 use fs::Fs;
-use model::status::Status;
+use model_tree::status::Status;
 use opens::{Found, Opens};
 use wire::{Answer, CloseArguments, Operation, Outcome, StateId};
 

@@ -1,6 +1,6 @@
 //! A result on its way into the reply.
 
-use model::status::Status;
+use model_tree::status::Status;
 use wire::{Operation, Outcome};
 use xdr::{Refusal, Writer};
 

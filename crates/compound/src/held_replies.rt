@@ -2,13 +2,13 @@
 
 ghost use Rattle.std.specs.Prelude.{◌≡◌, false, OnOk};
 ghost use Rattle.fs.specs.Views.{fs_of, AltersFs};
-ghost use Rattle.model.specs.Sessions.SeatEdits.{AreEdits, edited_all, edits_view};
+ghost use Rattle.model_tree.specs.Seats.SeatEdits.{AreEdits, edited_all, edits_view};
 ghost use Rattle.compound.specs.Volumes.{IsSeated, HasSameTree, ending};
 
 use crate::fault::Fault;
 use disk::Device;
 use fs::{Fs, FsFault};
-use model::seats::SeatEdits;
+use model_tree::seats::SeatEdits;
 use session::is_idle;
 
 /// The volume keeps the seats, edited so. Nothing is written where each place stays.

@@ -10,11 +10,11 @@ ghost use Rattle.wire.specs.Numbers.{number_of};
 ghost use Rattle.wire.specs.ArgumentViews.{opening_view};
 ghost use Rattle.compound.specs.Views.{refused_or};
 ghost use Rattle.compound.specs.declared.next.Next.TheVariants as nexts;
-ghost use Rattle.model.specs.declared.status.Status.TheVariants as status;
+ghost use Rattle.model_tree.specs.declared.status.Status.TheVariants as status;
 
 use crate::fault::Fault;
 use crate::running::Running;
-use model::status::Status;
+use model_tree::status::Status;
 use std::alloc::Global;
 use wire::{Argument, Claim, CreateArguments, Opening, Operation};
 use xdr::{Reader, Refusal};

@@ -20,7 +20,7 @@ use crate::tree::status_of;
 use bitflags::Flags;
 use disk::Device;
 use fs::{Fs, Share};
-use model::status::Status;
+use model_tree::status::Status;
 use opens::{Access, Open, Opens};
 use wire::{
     Answer, Bitmap, ChangeInfo, Claim, OpenAnswer, OpenArguments, OpenType, Opening, Operation,
@@ -32,10 +32,10 @@ impl Running<'_> {
     ghost use Rattle.fs.specs.Views.{fs_of, AltersFs};
     ghost use Rattle.model.specs.Operations.Open.{opening_refusals};
     ghost use Rattle.model.specs.Operations.Operation as operations;
-    ghost use Rattle.model.specs.Operations.Refusal.{first_refusal};
+    ghost use Rattle.model_tree.specs.Refusals.Refusal.{first_refusal};
     ghost use Rattle.model.specs.Sessions.Session.{Table};
     ghost use Rattle.model.specs.Sessions.StateIds.{new_open, opened};
-    ghost use Rattle.model.specs.declared.status.Status.TheVariants.{NotSupp};
+    ghost use Rattle.model_tree.specs.declared.status.Status.TheVariants.{NotSupp};
     ghost use Rattle.opens.specs.Views.{opens_of, open_of, CanOpen, HasMemory};
     ghost use Rattle.wire.specs.ArgumentViews.{open_view, opening_view};
     ghost use Rattle.wire.specs.SmallViews.{change_view};

@@ -3,7 +3,7 @@
 ghost use Rattle.std.specs.Prelude.{◌≡◌, ◌≤◌, []};
 ghost use Rattle.compound.specs.declared.progress.TheConstants.{RESULT_BUFFER, RECORD_BUFFER};
 
-use model::status::Status;
+use model_tree::status::Status;
 use wire::StateId;
 use xdr::Writer;
 

@@ -16,7 +16,7 @@ use crate::results::MAX_REPLY_BYTES;
 use crate::running::Running;
 use disk::Device;
 use fs::{Change, Fs, Renaming};
-use model::status::Status;
+use model_tree::status::Status;
 use opens::Opens;
 use wire::{Answer, Operation, Outcome, RenameAnswer, RenameArguments};
 

@@ -8,7 +8,7 @@ use crate::fault::Fault;
 use crate::progress::{Progress, RESULT_BUFFER};
 use crate::running::Running;
 use fs::FsFault;
-use model::status::Status;
+use model_tree::status::Status;
 use wire::{Answer, Operation, Outcome};
 use xdr::opaque_size;
 

@@ -5,7 +5,7 @@ ghost use Rattle.xdr.specs.Forms.{counted};
 ghost use Rattle.compound.specs.declared.results.TheConstants.{MAX_REPLY_BYTES, MAX_REFUSAL_BYTES, AROUND_RESULTS};
 
 use crate::progress::Progress;
-use model::acl::Cred;
+use model_tree::acl::Cred;
 use rpc::Compound;
 use std::alloc::Global;
 

@@ -8,7 +8,7 @@ use crate::results::MAX_REPLY_BYTES;
 use crate::running::Running;
 use disk::Device;
 use fs::Fs;
-use model::status::Status;
+use model_tree::status::Status;
 use session::{Begun, Table};
 use wire::{Answer, Operation, Outcome, SequenceArguments};
 

@@ -1,7 +1,7 @@
 //! What a stateid means where an operation uses it (RFC 8881, section 8.2.4).
 
 use crate::running::Running;
-use model::status::Status;
+use model_tree::status::Status;
 use opens::{Access, Opens, StateIdContext};
 use wire::StateId;
 

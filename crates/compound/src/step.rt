@@ -14,7 +14,7 @@ use crate::progress::{HandlePlace, Progress};
 use crate::running::Running;
 use disk::Device;
 use fs::Fs;
-use model::status::Status;
+use model_tree::status::Status;
 use opens::Opens;
 use session::Table;
 use wire::Outcome;

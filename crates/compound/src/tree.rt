@@ -8,7 +8,7 @@ use crate::results::MAX_REPLY_BYTES;
 use crate::running::Running;
 use disk::Device;
 use fs::{Fs, FsFault, NewDirectory};
-use model::status::Status;
+use model_tree::status::Status;
 use set_attributes::GivenAttributes;
 use wire::{
     Answer, Attributes, Bitmap, ChangeInfo, CreateAnswer, CreateArguments, Operation, Outcome,

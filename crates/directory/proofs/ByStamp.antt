@@ -1,9 +1,9 @@
 -- The map of records by stamp, and what it has after a cookie.
 use Rattle.std.proofs.Common.{ℕ, List, [], ◌∷◌, ◌≡◌, ◌≢◌, ◌<◌, ◌≤◌, ◌∙◌, Some, None, inl, inr, refl, sym, ap, arith, ne_eqb, eq-eqb}
 use Rattle.std.proofs.lemmas.Bool.{cases_order, cases_eq, cases_lt, lt-ltb, le-ltb}
-use Rattle.model.specs.Trees.Keyed.{Keyed, at, with, IsAbove}
-use Rattle.model.specs.Trees.Tree.{DirEntry}
-use Rattle.model.proofs.Trees.KeyedLaws.{at-below, at-first, at-rest, at-with_same, at-with_other, IsAbove-with, some≢none}
+use Rattle.model_tree.specs.Trees.Keyed.{Keyed, at, with, IsAbove}
+use Rattle.model_tree.specs.Trees.Tree.{DirEntry}
+use Rattle.model_tree.proofs.Trees.KeyedLaws.{at-below, at-first, at-rest, at-with_same, at-with_other, IsAbove-with, some≢none}
 use Rattle.directory.specs.Records.{Record}
 use Rattle.directory.specs.Listing.{by_stamp, after}
 use Rattle.directory.specs.Least.{IsLeast}

@@ -3,8 +3,8 @@ use Rattle.std.proofs.Common.{ℕ, zero, suc, List, [], ◌∷◌, ◌++◌, ◌
 use Rattle.std.specs.List.{Contains}
 use Rattle.std.proofs.lemmas.Bool.{cases_eq, cases_lt, cases_order}
 use Rattle.std.proofs.lemmas.List.{length-set, length-take, length_push, get_or-set_other, get_or_default, get_or_append_left, get_or-take}
-use Rattle.model.specs.Trees.Keyed.{at}
-use Rattle.model.proofs.Trees.KeyedLaws.{at-first, at-rest}
+use Rattle.model_tree.specs.Trees.Keyed.{at}
+use Rattle.model_tree.proofs.Trees.KeyedLaws.{at-first, at-rest}
 use Rattle.directory.specs.declared.order.By.{By}
 use Rattle.directory.specs.declared.order.By.TheVariants as by
 use Rattle.directory.specs.Records.{Record, record_from, stamp_of, without_place}

@@ -4,7 +4,6 @@ pub mod Changes
 pub mod Sector
 pub mod ByStamp
 pub mod PagingLaw
-pub mod ReadingLaws
 pub mod Apart
 pub mod MapLaws
 pub mod RecordMaps

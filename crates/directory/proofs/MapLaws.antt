@@ -2,7 +2,7 @@
 use Rattle.std.proofs.Common.{ℕ, zero, suc, Bool, true, false, List, [], ◌∷◌, ◌++◌, ◌≡◌, ◌≢◌, ◌<◌, ◌-◌, ◌∙◌, Option, Some, None, inl, inr, length, get_or, set, take, refl, sym, ap, arith}
 use Rattle.std.proofs.lemmas.Bool.{cases_eq, cases_order}
 use Rattle.std.proofs.lemmas.List.{length-set, length-take, get_or-set_same, get_or-set_other, get_or_default}
-use Rattle.model.specs.Trees.Tree.{found_or}
+use Rattle.model_tree.specs.Trees.Tree.{found_or}
 use Rattle.directory.specs.Records.{Record, ApartBy}
 use Rattle.directory.proofs.Kept.{moved_at, moved_here, moved_apart}
 

@@ -2,9 +2,9 @@
 use Rattle.std.proofs.Common.{ℕ, Bool, true, false, List, [], ◌∷◌, ◌≡◌, ◌≢◌, ◌<◌, ◌∙◌, Option, Some, None, inl, inr, bytes_eq, eqb, length, get_or, refl, sym, ap, arith}
 use Rattle.std.proofs.lemmas.Bool.{cases_order, eqb-true, true≢false}
 use Rattle.std.proofs.lemmas.Option.{same_Some}
-use Rattle.model.specs.Trees.Keyed.{Keyed, at, IsAbove}
-use Rattle.model.specs.Trees.Tree.{DirEntry, entry_of, found_or}
-use Rattle.model.proofs.Trees.KeyedLaws.{at-first, at-rest, at-above, some≢none}
+use Rattle.model_tree.specs.Trees.Keyed.{Keyed, at, IsAbove}
+use Rattle.model_tree.specs.Trees.Tree.{DirEntry, entry_of, found_or}
+use Rattle.model_tree.proofs.Trees.KeyedLaws.{at-first, at-rest, at-above, some≢none}
 use Rattle.directory.specs.Records.{Record, name_of, stamp_of, ApartBy}
 use Rattle.directory.specs.Listing.{by_stamp}
 use Rattle.directory.proofs.ByStamp.{IsRising, rising_above, rising_by_stamp, at-by_stamp}

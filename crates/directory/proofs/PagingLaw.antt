@@ -3,9 +3,9 @@ use Rattle.std.proofs.Common.{ℕ, Bool, true, false, zero, suc, List, [], ◌�
 use Rattle.std.proofs.lemmas.Bool.{cases_lt}
 use Rattle.std.proofs.lemmas.List.{append-nil}
 use Rattle.std.specs.List.{AllByRecursion}
-use Rattle.model.specs.Trees.Keyed.{Keyed, at, here_or, IsAbove}
-use Rattle.model.specs.Trees.Tree.{DirEntry}
-use Rattle.model.proofs.Trees.KeyedLaws.{at-below, at-rest, some≢none}
+use Rattle.model_tree.specs.Trees.Keyed.{Keyed, at, here_or, IsAbove}
+use Rattle.model_tree.specs.Trees.Tree.{DirEntry}
+use Rattle.model_tree.proofs.Trees.KeyedLaws.{at-below, at-rest, some≢none}
 use Rattle.directory.specs.Records.{Record}
 use Rattle.directory.specs.Listing.{by_stamp, after, behind, last_cookie, Page, IsListing, all_shown, EveryPaging}
 use Rattle.directory.proofs.ByStamp.{IsRising, rising_above, rising_by_stamp, after_all, keeps, drops}

@@ -2,7 +2,7 @@
 use Rattle.std.proofs.Common.{◌≡◌, ◌≢◌, ◌<◌, ◌≤◌, ◌+◌, ℕ, zero, suc, Bool, true, false, eqb, cond, List, [], ◌∷◌, ◌++◌, length, get_or, set, bytes_eq, refl, sym, ap, ◌∙◌, arith, add-one}
 use Rattle.std.specs.Prelude.{slice_get}
 use Rattle.std.proofs.lemmas.Bool.{eqb-true, eq-eqb, and_parts}
-use Rattle.model.specs.Trees.Tree.{entry_of, found_or}
+use Rattle.model_tree.specs.Trees.Tree.{entry_of, found_or}
 use Rattle.directory.specs.Records.{Record, is_named, place_of, with_record}
 
 -- ---- one step

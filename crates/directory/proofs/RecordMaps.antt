@@ -5,9 +5,9 @@ use Rattle.std.specs.List.{AllByRecursion}
 use Rattle.std.proofs.lemmas.Bool.{cases_eq, cases_lt, eqb-true, eq-eqb}
 use Rattle.std.proofs.lemmas.List.{get_or_default}
 use Rattle.std.proofs.lemmas.Option.{slice_get-get_or, slice_get_past}
-use Rattle.model.specs.Trees.Keyed.{Keyed, at, here_or, with, without, IsAbove}
-use Rattle.model.specs.Trees.Tree.{DirEntry, entry_of, found_or}
-use Rattle.model.proofs.Trees.KeyedLaws.{only_map, at-with_same, at-with_other, at-without_same, at-without_other, IsAbove-with, IsAbove-without, some≢none}
+use Rattle.model_tree.specs.Trees.Keyed.{Keyed, at, here_or, with, without, IsAbove}
+use Rattle.model_tree.specs.Trees.Tree.{DirEntry, entry_of, found_or}
+use Rattle.model_tree.proofs.Trees.KeyedLaws.{only_map, at-with_same, at-with_other, at-without_same, at-without_other, IsAbove-with, IsAbove-without, some≢none}
 use Rattle.directory.specs.Records.{Record, record_from, place_of, with_record, without_place, name_of, stamp_of, ApartBy, NamesStamped}
 use Rattle.directory.specs.Listing.{by_stamp, without_entry, PutsByStamp, RemovesByStamp}
 use Rattle.directory.proofs.ByStamp.{at-by_stamp}

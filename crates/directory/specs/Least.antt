@@ -1,6 +1,6 @@
 -- The record of the least stamp above a cookie.
 use Rattle.std.specs.Prelude.{ℕ, List, Option, Some, None, ◌≡◌, ◌<◌}
-use Rattle.model.specs.Trees.Keyed.{at}
+use Rattle.model_tree.specs.Trees.Keyed.{at}
 use Rattle.directory.specs.Records.{Record}
 
 -- it is above the cookie, the first of its stamp, and none stands between

@@ -2,8 +2,6 @@ pub mod Least
 pub mod Listing
 pub mod Order
 pub mod Reading
-pub mod ReadingExample
-pub mod Readings
 pub mod Records
 pub mod Rest
 pub mod Spelling

@@ -3,8 +3,8 @@
 -- stands, whatever record holds it.
 use Rattle.std.specs.Prelude.{ℕ, List, [], ◌∷◌, ◌++◌, Option, Some, None, ◌≡◌, ◌≢◌, ◌<◌, nat_lt, length, filter, slice_index_or}
 use Rattle.std.specs.List.{flat_map, AllByRecursion}
-use Rattle.model.specs.Trees.Keyed.{Keyed, at, with, without, IsAbove}
-use Rattle.model.specs.Trees.Tree.{DirEntry, entry_of}
+use Rattle.model_tree.specs.Trees.Keyed.{Keyed, at, with, without, IsAbove}
+use Rattle.model_tree.specs.Trees.Tree.{DirEntry, entry_of}
 use Rattle.directory.specs.Records.{Record, name_of, stamp_of, NamesStamped}
 
 -- the map of these records, by rising stamp: of two records of one stamp it has the first

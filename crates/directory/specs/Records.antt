@@ -4,7 +4,7 @@
 use Rattle.std.specs.Prelude.{◌≢◌, ◌<◌, ◌≤◌, ◌+◌, ◌^◌, ℕ, Bool, List, [], ◌∷◌, bytes_eq, length, if◌then◌else◌, slice_index_or}
 use Rattle.std.specs.Rc.{rc_slice_items}
 use Rattle.std.specs.List.{swap_remove, AllByRecursion}
-use Rattle.model.specs.Trees.Tree.{DirEntry}
+use Rattle.model_tree.specs.Trees.Tree.{DirEntry}
 use Rattle.directory.specs.declared.entry.Entry.{Entry}
 
 abbrev pub Record : Type 0

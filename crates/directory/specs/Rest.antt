@@ -1,7 +1,7 @@
 -- What an iterator over names has left.
 use denote.Ref.{Bor}
-use Rattle.model.specs.Trees.Keyed.{Keyed}
-use Rattle.model.specs.Trees.Tree.{DirEntry}
+use Rattle.model_tree.specs.Trees.Keyed.{Keyed}
+use Rattle.model_tree.specs.Trees.Tree.{DirEntry}
 use Rattle.directory.specs.declared.entry.Entry.{Entry}
 use Rattle.directory.specs.declared.listing.ListAfter.{ListAfter}
 use Rattle.directory.specs.Listing.{by_stamp, after}

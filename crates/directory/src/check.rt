@@ -2,11 +2,11 @@
 
 ghost use Rattle.std.specs.Prelude.{◌≡◌, None, Some, OnOk, IfErr};
 ghost use Rattle.std.specs.Str.{is_utf8};
-ghost use Rattle.model.specs.Attributes.Name.{name_refusals, parts_a_path, is_dot_or_dots};
-ghost use Rattle.model.specs.Operations.Refusal.{first_refusal};
+ghost use Rattle.model_tree.specs.Refusals.Name.{name_refusals, parts_a_path, is_dot_or_dots};
+ghost use Rattle.model_tree.specs.Refusals.Refusal.{first_refusal};
 
-use model::limits::Limits;
-use model::status::Status;
+use model_tree::limits::Limits;
+use model_tree::status::Status;
 
 fn is_utf8(name: &[u8]) -> bool
     ensures { result ≡ is_utf8 name.now }
@@ -32,7 +32,7 @@ fn is_dot_or_dots(name: &[u8]) -> bool
 ///
 /// `Inval` for an empty name, then `NameTooLong`, `Inval` for bytes that are no UTF-8 text,
 /// `BadChar` for `/` or a zero byte, and `BadName` for `.` and `..`.
-#[tactic(auto, unfolding(model::specs::Attributes::Name::name_refusals))]
+#[tactic(auto, unfolding(model_tree::specs::Refusals::Name::name_refusals))]
 pub fn check_name(name: &[u8], limits: &Limits) -> Result<(), Status>
     ensures allowed { OnOk result (first_refusal (name_refusals limits.now name.now) ≡ None) }
     ensures refused { IfErr result (λ status.

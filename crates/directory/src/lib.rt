@@ -18,5 +18,5 @@ pub use fault::{DirectoryFault, RecordsFault};
 pub use laws::reads_back;
 pub use listing::ListAfter;
 pub use names::Names;
-pub use paging::{every_paging, every_reading, reading_example};
+pub use paging::every_paging;
 pub use sectors::{MAX_NAME_BYTES, RECORDS, read_records};

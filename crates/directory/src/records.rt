@@ -22,7 +22,7 @@ pub(crate) struct Records {
 
 impl Model for Records {
     ghost use Rattle.std.specs.Prelude.{ℕ, List, map, take};
-    ghost use Rattle.model.specs.Trees.Tree.{DirEntry};
+    ghost use Rattle.model_tree.specs.Trees.Tree.{DirEntry};
     ghost use Rattle.directory.specs.Blocks.{joined, AreFilled};
     ghost use Rattle.directory.specs.Records.{record_of};
 

@@ -2,11 +2,11 @@
 use Rattle.std.proofs.Common.{◌≡◌, ℕ, refl, ap}
 use Rattle.std.specs.Prelude.{Some}
 use Rattle.layout.specs.CachedNodes.{CachedNode}
-use Rattle.model.specs.declared.acl.Cred.{Cred}
-use Rattle.model.specs.declared.node.NodeKind.{NodeKind}
-use Rattle.model.specs.declared.node.NodeKind.TheVariants as kind
+use Rattle.model_tree.specs.declared.acl.Cred.{Cred}
+use Rattle.model_tree.specs.declared.node.NodeKind.{NodeKind}
+use Rattle.model_tree.specs.declared.node.NodeKind.TheVariants as kind
 use Rattle.model.specs.Operations.Access.{access_of}
-use Rattle.model.specs.Trees.Tree.{Tree, kind_of}
+use Rattle.model_tree.specs.Trees.Tree.{Tree, kind_of}
 use Rattle.fs.specs.AccessRights.{access_on}
 use Rattle.volume.specs.Nodes.{IsNodeOf, ShowsContent}
 

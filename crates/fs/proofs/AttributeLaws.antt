@@ -6,15 +6,15 @@ use Rattle.directory.specs.Listing.{by_stamp}
 use Rattle.layout.specs.CachedNodes.{CachedNode}
 use Rattle.layout.specs.Known.{IsCard, HasContent}
 use Rattle.layout.proofs.ChargeLaws.{length-by_stamp}
-use Rattle.model.specs.declared.limits.Limits.{Limits}
-use Rattle.model.specs.declared.node.NodeKind.{NodeKind}
-use Rattle.model.specs.declared.node.NodeKind.TheVariants as kind
+use Rattle.model_tree.specs.declared.limits.Limits.{Limits}
+use Rattle.model_tree.specs.declared.node.NodeKind.{NodeKind}
+use Rattle.model_tree.specs.declared.node.NodeKind.TheVariants as kind
 use Rattle.model.specs.Attributes.Attribute.{attributes_of, trimmed}
 use Rattle.model.specs.Attributes.AttributeValue.{Value, value_text}
-use Rattle.model.specs.Rights.Mode.{mode_of}
+use Rattle.model_tree.specs.Rights.Mode.{mode_of}
 use Rattle.model.specs.Attributes.NodeAttributes.{node_values, node_attributes, asked_values, common, supported_bitmap, size_of}
 use Rattle.model.specs.Operations.Operation.{Attributes}
-use Rattle.model.specs.Trees.Tree.{Tree, Node, kind_of}
+use Rattle.model_tree.specs.Trees.Tree.{Tree, Node, kind_of}
 use Rattle.fs.specs.Outline.{content_shown, node_shown}
 use Rattle.fs.proofs.AccessLaws.{kind_is}
 use Rattle.volume.specs.Nodes.{IsNodeOf, ShowsContent}

@@ -6,15 +6,14 @@ use Rattle.directory.specs.Listing.{by_stamp}
 use Rattle.directory.specs.Records.{Record, NamesStamped}
 use Rattle.layout.specs.CachedNodes.{CachedNode}
 use Rattle.layout.specs.Known.{IsCard, HasContent}
-use Rattle.model.specs.declared.acl.Cred.{Cred}
-use Rattle.model.specs.declared.node.NodeKind.{NodeKind}
-use Rattle.model.specs.declared.node.NodeKind.TheVariants as kind
-use Rattle.model.specs.Rights.Acl.{granted, delete, delete_child}
-use Rattle.model.specs.Trees.Keyed.{Keyed, at, with, in_place_of, before_or_behind}
-use Rattle.model.specs.Operations.Directory.{number_named}
-use Rattle.model.specs.Rights.Need.{granted_on}
+use Rattle.model_tree.specs.declared.acl.Cred.{Cred}
+use Rattle.model_tree.specs.declared.node.NodeKind.{NodeKind}
+use Rattle.model_tree.specs.declared.node.NodeKind.TheVariants as kind
+use Rattle.model_tree.specs.Rights.Acl.{granted, delete, delete_child}
+use Rattle.model_tree.specs.Trees.Keyed.{Keyed, at, with, in_place_of, before_or_behind}
+use Rattle.model_tree.specs.Trees.Tree.{number_named, Tree, Node, Content, Directory, is_directory, is_directory_node, is_directory_at, names_of, names_at, names_of_node, entry_of}
+use Rattle.model.specs.Operations.Need.{granted_on}
 use Rattle.model.specs.Operations.Rename.{has_names}
-use Rattle.model.specs.Trees.Tree.{Tree, Node, Content, Directory, is_directory, is_directory_node, is_directory_at, names_of, names_at, names_of_node, entry_of}
 use Rattle.fs.specs.Removing.{may_remove}
 use Rattle.volume.specs.Nodes.{IsNodeOf, ShowsContent}
 

@@ -6,32 +6,32 @@ use Rattle.std.proofs.lemmas.Bool.{not-false}
 use Rattle.directory.specs.Listing.{by_stamp}
 use Rattle.layout.specs.CachedNodes.{CachedNode}
 use Rattle.layout.specs.Known.{IsCard}
-use Rattle.model.specs.declared.acl.Ace.{Ace}
-use Rattle.model.specs.declared.acl.Cred.{Cred}
-use Rattle.model.specs.declared.limits.Limits.{Limits}
-use Rattle.model.specs.declared.node.NodeKind.{NodeKind}
-use Rattle.model.specs.declared.node.NodeKind.TheVariants as kind
-use Rattle.model.specs.declared.status.Status.{Status}
-use Rattle.model.specs.declared.status.Status.TheVariants as status
-use Rattle.model.specs.Rights.Acl.{is_list_for}
+use Rattle.model_tree.specs.declared.acl.Ace.{Ace}
+use Rattle.model_tree.specs.declared.acl.Cred.{Cred}
+use Rattle.model_tree.specs.declared.limits.Limits.{Limits}
+use Rattle.model_tree.specs.declared.node.NodeKind.{NodeKind}
+use Rattle.model_tree.specs.declared.node.NodeKind.TheVariants as kind
+use Rattle.model_tree.specs.declared.status.Status.{Status}
+use Rattle.model_tree.specs.declared.status.Status.TheVariants as status
+use Rattle.model_tree.specs.Rights.Acl.{is_list_for}
 use Rattle.model.specs.Operations.Answer.{Answer}
 use Rattle.model.specs.Attributes.Attribute.{attribute_refusals, settable_at_creation, is_empty, mode_given, trimmed}
-use Rattle.model.specs.Trees.Charge.{fits}
+use Rattle.model_tree.specs.Trees.Charge.{fits}
 use Rattle.model.specs.Operations.Context.{at_node}
 use Rattle.model.specs.Operations.Directory.{change_of, new_directory}
-use Rattle.model.specs.Trees.Edit.{Shown}
-use Rattle.model.specs.Rights.Inherit.{created_list}
-use Rattle.model.specs.Trees.Keyed.{at}
-use Rattle.model.specs.Trees.Limits.{limits_of}
-use Rattle.model.specs.Attributes.Name.{name_refusals}
+use Rattle.model_tree.specs.Trees.Edit.{Shown}
+use Rattle.model_tree.specs.Rights.Inherit.{created_list}
+use Rattle.model_tree.specs.Trees.Keyed.{at}
+use Rattle.model_tree.specs.Trees.Limits.{limits_of}
+use Rattle.model_tree.specs.Refusals.Name.{name_refusals}
 use Rattle.model.specs.Operations.Operation.{Attributes}
-use Rattle.model.specs.Operations.Refusal.{first_refusal, refused_or}
-use Rattle.model.specs.Trees.Stamp.{next_stamp, is_stamp_left}
+use Rattle.model_tree.specs.Refusals.Refusal.{first_refusal, refused_or}
+use Rattle.model_tree.specs.Trees.Stamp.{next_stamp, is_stamp_left}
 use Rattle.model.specs.Operations.Step.{State, made, answered, refused, current, stamp_of}
-use Rattle.model.specs.Trees.Tree.{Tree, Node, kind_of, names_at, entry_of}
-use Rattle.model.specs.Trees.WellFormed.{IsNode}
+use Rattle.model_tree.specs.Trees.Tree.{Tree, Node, kind_of, names_at, entry_of}
+use Rattle.model_tree.specs.Trees.WellFormed.{IsNode}
 use Rattle.model.proofs.Operations.RefusalLaws.{none_in_front, none_in_both}
-use Rattle.model.proofs.Facts.OptionLaws.{none_by_test}
+use Rattle.model_tree.proofs.Facts.OptionLaws.{none_by_test}
 use Rattle.set_attributes.specs.declared.said.Settings.{Settings}
 use Rattle.set_attributes.specs.Given.{AreSettings, WithinLimits}
 use Rattle.fs.specs.OnTree.{new_directory_refusals}

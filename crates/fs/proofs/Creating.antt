@@ -1,25 +1,25 @@
 -- CREATE's tests, one after the other, and what it does.
 use Rattle.std.proofs.Common.{ℕ, Bool, true, false, List, [], ◌∷◌, ◌++◌, ◌≡◌, ◌∙◌, not, refl, sym, ap, is_some}
 use Rattle.std.specs.Prelude.{Option, Some, None, IsTrue}
-use Rattle.model.specs.declared.acl.Cred.{Cred}
-use Rattle.model.specs.declared.limits.Limits.{Limits}
-use Rattle.model.specs.declared.node.NodeKind.TheVariants as kind
-use Rattle.model.specs.declared.status.Status.{Status}
-use Rattle.model.specs.declared.status.Status.TheVariants as status
-use Rattle.model.specs.Rights.Acl.{append_data}
+use Rattle.model_tree.specs.declared.acl.Cred.{Cred}
+use Rattle.model_tree.specs.declared.limits.Limits.{Limits}
+use Rattle.model_tree.specs.declared.node.NodeKind.TheVariants as kind
+use Rattle.model_tree.specs.declared.status.Status.{Status}
+use Rattle.model_tree.specs.declared.status.Status.TheVariants as status
+use Rattle.model_tree.specs.Rights.Acl.{append_data}
 use Rattle.model.specs.Attributes.Attribute.{attribute_refusals, settable_at_creation}
-use Rattle.model.specs.Trees.Charge.{fits}
+use Rattle.model_tree.specs.Trees.Charge.{fits}
 use Rattle.model.specs.Operations.Context.{has_current}
-use Rattle.model.specs.Trees.Keyed.{at, is_key}
-use Rattle.model.specs.Attributes.Name.{name_refusals}
-use Rattle.model.specs.Rights.Need.{granted_on}
+use Rattle.model_tree.specs.Trees.Keyed.{at, is_key}
+use Rattle.model_tree.specs.Refusals.Name.{name_refusals}
+use Rattle.model.specs.Operations.Need.{granted_on}
 use Rattle.model.specs.Operations.Operation.{Argument, Attributes, NewDirectory}
-use Rattle.model.specs.Operations.Refusal.{Refusals, first_refusal, refused_or}
-use Rattle.model.specs.Trees.Stamp.{is_stamp_left}
+use Rattle.model_tree.specs.Refusals.Refusal.{Refusals, first_refusal, refused_or}
+use Rattle.model_tree.specs.Trees.Stamp.{is_stamp_left}
 use Rattle.model.specs.Operations.Step.{State, current, late, without_rights, refusals, change_refusals, effect, does, refused, made, create, unless_refused, need_first, need_then}
-use Rattle.model.specs.Trees.Tree.{Tree, Node, is_directory, is_directory_at, names_of, names_at, entry_of}
+use Rattle.model_tree.specs.Trees.Tree.{Tree, Node, is_directory, is_directory_at, names_of, names_at, entry_of}
 use Rattle.model.proofs.Operations.RefusalLaws.{first-append, or_else}
-use Rattle.model.proofs.Facts.BooleanLaws.{alone}
+use Rattle.model_tree.proofs.Facts.BooleanLaws.{alone}
 use Rattle.fs.specs.OnTree.{IsState, new_directory_refusals}
 
 module _ (limits : Limits) (tree : Tree) (cred : Cred) (number : ℕ) (name : List ℕ) (given : Attributes) (node : Node)

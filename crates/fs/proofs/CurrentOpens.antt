@@ -1,15 +1,15 @@
 -- OPEN of the current file, in each state of a COMPOUND.
 use Rattle.std.proofs.Common.{◌≡◌, ℕ, Bool, true, false, Option, Some, None, refl, sym, ap, ap₂, ◌∙◌, subst}
-use Rattle.model.specs.declared.acl.Cred.{Cred}
-use Rattle.model.specs.declared.limits.Limits.{Limits}
-use Rattle.model.specs.declared.status.Status.{Status}
-use Rattle.model.specs.declared.status.Status.TheVariants as status
+use Rattle.model_tree.specs.declared.acl.Cred.{Cred}
+use Rattle.model_tree.specs.declared.limits.Limits.{Limits}
+use Rattle.model_tree.specs.declared.status.Status.{Status}
+use Rattle.model_tree.specs.declared.status.Status.TheVariants as status
 use Rattle.model.specs.Operations.Open.{asked_open, late_at_open}
 use Rattle.model.specs.Operations.Operation.{Argument, OpenArguments, NoCreate, Opening, Opens as Opening_of, ByHandle}
-use Rattle.model.specs.Operations.Refusal.{first_refusal, refused_or}
+use Rattle.model_tree.specs.Refusals.Refusal.{first_refusal, refused_or}
 use Rattle.model.specs.Sessions.StateIds.{is_table_full}
 use Rattle.model.specs.Operations.Step.{State, current, does, refused}
-use Rattle.model.specs.Trees.Tree.{Tree}
+use Rattle.model_tree.specs.Trees.Tree.{Tree}
 use Rattle.model.proofs.Operations.RefusalLaws.{or_else}
 use Rattle.fs.specs.declared.opening.Share.{Share}
 use Rattle.fs.specs.FileSystem.{FileSystem}

@@ -9,18 +9,18 @@ use Rattle.tree_edits.specs.Outlines.{blank_node, without_data}
 use Rattle.tree_edits.proofs.BlankLaws.{at-without_data}
 use Rattle.inode.specs.Fields.{IsAce, id_of}
 use Rattle.layout.specs.CachedNodes.{CachedNode}
-use Rattle.model.specs.declared.acl.Ace.{Ace}
-use Rattle.model.specs.declared.acl.Who.{Who}
-use Rattle.model.specs.declared.acl.Who.TheVariants as who
-use Rattle.model.specs.declared.limits.Limits.{Limits}
-use Rattle.model.specs.declared.node.NodeKind.{NodeKind}
-use Rattle.model.specs.declared.node.NodeKind.TheVariants as kind
-use Rattle.model.specs.Rights.Acl.{is_within, every_right, inheritance, are_flags_for, has_width, is_entry_for, is_list_for}
-use Rattle.model.specs.Rights.Inherit.{created_list}
-use Rattle.model.specs.Trees.Limits.{limits_of}
+use Rattle.model_tree.specs.declared.acl.Ace.{Ace}
+use Rattle.model_tree.specs.declared.acl.Who.{Who}
+use Rattle.model_tree.specs.declared.acl.Who.TheVariants as who
+use Rattle.model_tree.specs.declared.limits.Limits.{Limits}
+use Rattle.model_tree.specs.declared.node.NodeKind.{NodeKind}
+use Rattle.model_tree.specs.declared.node.NodeKind.TheVariants as kind
+use Rattle.model_tree.specs.Rights.Acl.{is_within, every_right, inheritance, are_flags_for, has_width, is_entry_for, is_list_for}
+use Rattle.model_tree.specs.Rights.Inherit.{created_list}
+use Rattle.model_tree.specs.Trees.Limits.{limits_of}
 use Rattle.model.specs.Operations.SetAttr.{list_set}
 use Rattle.model.proofs.Operations.FileStepLaws.{list_given, list_is_set}
-use Rattle.model.proofs.Rights.LimitLaws.{modes_keep_limits, inheritance_keeps_limits}
+use Rattle.model_tree.proofs.Rights.LimitLaws.{modes_keep_limits, inheritance_keeps_limits}
 use Rattle.set_attributes.specs.declared.said.Settings.{Settings}
 use Rattle.set_attributes.specs.Given.{WithinLimits}
 use Rattle.fs.specs.FileSystem.{FileSystem}

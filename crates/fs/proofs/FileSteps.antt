@@ -1,24 +1,24 @@
 -- READ, WRITE and COMMIT by the definition: their tests, one after the other, and what they do.
 use Rattle.std.proofs.Common.{◌≡◌, ℕ, Bool, true, false, [], ◌∷◌, ◌++◌, not, nat_lt, ◌+◌, length, refl, sym, ap, ap₂, ◌∙◌}
 use Rattle.std.specs.Prelude.{Option, Some, None, IsTrue, Result, Ok, Err}
-use Rattle.model.specs.declared.limits.Limits.{Limits}
-use Rattle.model.specs.declared.status.Status.{Status}
-use Rattle.model.specs.declared.status.Status.TheVariants as status
-use Rattle.model.specs.Rights.Acl.{read_data, write_data}
-use Rattle.model.specs.Trees.Charge.{fits}
+use Rattle.model_tree.specs.declared.limits.Limits.{Limits}
+use Rattle.model_tree.specs.declared.status.Status.{Status}
+use Rattle.model_tree.specs.declared.status.Status.TheVariants as status
+use Rattle.model_tree.specs.Rights.Acl.{read_data, write_data}
+use Rattle.model_tree.specs.Trees.Charge.{fits}
 use Rattle.model.specs.Operations.Context.{has_current}
 use Rattle.model.specs.Operations.Files as files
 use Rattle.model.specs.Operations.Files.{are_bytes, has_bytes, taken_bytes, write_refusals, read, write, commit}
-use Rattle.model.specs.Trees.Keyed.{at, is_key}
-use Rattle.model.specs.Rights.Need.{granted_on, here}
+use Rattle.model_tree.specs.Trees.Keyed.{at, is_key}
+use Rattle.model.specs.Operations.Need.{granted_on, here}
 use Rattle.model.specs.Operations.Operation.{Argument, StateId, ReadArguments, WriteArguments, CommitArguments}
-use Rattle.model.specs.Operations.Refusal.{Refusals, first_refusal, refused_or}
-use Rattle.model.specs.Trees.Stamp.{is_stamp_left}
+use Rattle.model_tree.specs.Refusals.Refusal.{Refusals, first_refusal, refused_or}
+use Rattle.model_tree.specs.Trees.Stamp.{is_stamp_left}
 use Rattle.model.specs.Sessions.StateIds.{state_refusals, read_access, write_access}
 use Rattle.model.specs.Operations.Step.{State, Stepped, current, refusals, change_refusals, without_rights, effect, does, refused, unless_refused, current_refusals}
-use Rattle.model.specs.Trees.Tree.{is_directory_at}
+use Rattle.model_tree.specs.Trees.Tree.{is_directory_at}
 use Rattle.model.proofs.Operations.RefusalLaws.{first-append, or_else}
-use Rattle.model.proofs.Facts.BooleanLaws.{alone}
+use Rattle.model_tree.proofs.Facts.BooleanLaws.{alone}
 use Rattle.fs.specs.Files.{IsVerdict, verdict_refusals, file_refusals, permit_refusals}
 
 pub or_none : (o : Option Status) → or_else o None ≡ o

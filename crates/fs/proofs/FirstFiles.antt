@@ -5,24 +5,24 @@ use Rattle.std.specs.Option.{ForSome}
 use Rattle.std.proofs.lemmas.List.Elements.{All-replicate}
 use Rattle.tree_edits.proofs.BlankLaws.{length-zeros}
 use Rattle.layout.specs.CachedNodes.{CachedNode}
-use Rattle.model.specs.declared.acl.Ace.{Ace}
-use Rattle.model.specs.declared.acl.Cred.{Cred}
-use Rattle.model.specs.declared.limits.Limits.{Limits}
-use Rattle.model.specs.declared.node.NodeKind.TheVariants as kind
+use Rattle.model_tree.specs.declared.acl.Ace.{Ace}
+use Rattle.model_tree.specs.declared.acl.Cred.{Cred}
+use Rattle.model_tree.specs.declared.limits.Limits.{Limits}
+use Rattle.model_tree.specs.declared.node.NodeKind.TheVariants as kind
 use Rattle.model.specs.Attributes.Attribute.{is_empty, mode_given, size_given}
-use Rattle.model.specs.Operations.Directory.{acl_of, is_named}
-use Rattle.model.specs.Trees.Edit.{Shown}
-use Rattle.model.specs.Rights.Inherit.{created_list}
-use Rattle.model.specs.Trees.Keyed.{at}
-use Rattle.model.specs.Trees.Limits.{limits_of}
-use Rattle.model.specs.Attributes.Name.{name_refusals}
+use Rattle.model_tree.specs.Trees.Tree.{is_named, Node, entry_of, names_at}
+use Rattle.model_tree.specs.Trees.Changes.{acl_of}
+use Rattle.model_tree.specs.Trees.Edit.{Shown}
+use Rattle.model_tree.specs.Rights.Inherit.{created_list}
+use Rattle.model_tree.specs.Trees.Keyed.{at}
+use Rattle.model_tree.specs.Trees.Limits.{limits_of}
+use Rattle.model_tree.specs.Refusals.Name.{name_refusals}
 use Rattle.model.specs.Operations.Open.{new_file}
 use Rattle.model.specs.Operations.Operation.{Attributes}
-use Rattle.model.specs.Operations.Refusal.{first_refusal}
-use Rattle.model.specs.Trees.Stamp.{next_stamp}
-use Rattle.model.specs.Trees.Tree.{Node, entry_of, names_at}
-use Rattle.model.specs.Trees.WellFormed.{IsNode}
-use Rattle.model.proofs.Facts.OptionLaws.{none_by_test}
+use Rattle.model_tree.specs.Refusals.Refusal.{first_refusal}
+use Rattle.model_tree.specs.Trees.Stamp.{next_stamp}
+use Rattle.model_tree.specs.Trees.WellFormed.{IsNode}
+use Rattle.model_tree.proofs.Facts.OptionLaws.{none_by_test}
 use Rattle.set_attributes.specs.declared.said.Settings.{Settings}
 use Rattle.set_attributes.specs.Given.{AreSettings, WithinLimits}
 use Rattle.fs.specs.FileSystem.{FileSystem}

@@ -6,15 +6,14 @@ use Rattle.std.proofs.lemmas.Option.{same_Some}
 use Rattle.tree_edits.specs.Outlines.{blank_node, without_data}
 use Rattle.tree_edits.proofs.BlankLaws.{at-without_data, without_data-with, without_data-without}
 use Rattle.tree_edits.proofs.BlankLaws.{names-without_data}
-use Rattle.model.specs.declared.acl.Cred.{Cred}
-use Rattle.model.specs.Rights.Acl.{delete, delete_child}
-use Rattle.model.specs.Trees.Changes.{touched}
-use Rattle.model.specs.Operations.Directory.{number_of_entry}
-use Rattle.model.specs.Trees.Edit.{Shown, DropNode, Show, PutName, DropName, done, altered, altered_at, showing, with_content, name_put, name_dropped}
-use Rattle.model.specs.Trees.Keyed.{Keyed, at, with, without, is_key}
-use Rattle.model.specs.Rights.Need.{granted_on}
-use Rattle.model.specs.Trees.Tree.{Tree, Node, DirEntry, entry_of, names_at}
-use Rattle.model.proofs.Trees.KeyedLaws.{at-with_same, at-with_other, at-without_other}
+use Rattle.model_tree.specs.declared.acl.Cred.{Cred}
+use Rattle.model_tree.specs.Rights.Acl.{delete, delete_child}
+use Rattle.model_tree.specs.Trees.Changes.{touched}
+use Rattle.model_tree.specs.Trees.Tree.{number_of_entry, Tree, Node, DirEntry, entry_of, names_at}
+use Rattle.model_tree.specs.Trees.Edit.{Shown, DropNode, Show, PutName, DropName, done, altered, altered_at, showing, with_content, name_put, name_dropped}
+use Rattle.model_tree.specs.Trees.Keyed.{Keyed, at, with, without, is_key}
+use Rattle.model.specs.Operations.Need.{granted_on}
+use Rattle.model_tree.proofs.Trees.KeyedLaws.{at-with_same, at-with_other, at-without_other}
 use Rattle.fs.specs.Removing.{may_remove}
 
 -- What the tree tells

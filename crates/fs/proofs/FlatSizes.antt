@@ -7,16 +7,16 @@ use Rattle.tree_edits.specs.Outlines.{blank, blank_node, without_data, zeros}
 use Rattle.tree_edits.proofs.BlankLaws.{at-without_data, without_data-with}
 use Rattle.tree_edits.proofs.BlankLaws.{length-zeros}
 use Rattle.tree_edits.proofs.FitLaws.{fits-without_data}
-use Rattle.model.specs.declared.limits.Limits.{Limits}
-use Rattle.model.specs.declared.node.NodeKind.TheVariants as kind
-use Rattle.model.specs.Trees.Charge.{fits}
-use Rattle.model.specs.Trees.Edit.{Edit, SetSize, Show, Shown, edited, showing, with_content, resized}
-use Rattle.model.specs.Trees.Keyed.{at, with}
-use Rattle.model.specs.Trees.Stamp.{next_stamp}
-use Rattle.model.specs.Trees.Tree.{Tree, Node, Content, File, Directory, bytes_of, names_of, is_directory}
-use Rattle.model.specs.Trees.WellFormed.{IsWellFormed, IsBefore, IsContent, IsNode}
-use Rattle.model.proofs.Trees.ChangeLaws.{IsChanged}
-use Rattle.model.proofs.Trees.NodeChangeLaws.{altered-twice, length-resized, resized_bytes, replacement_keeps}
+use Rattle.model_tree.specs.declared.limits.Limits.{Limits}
+use Rattle.model_tree.specs.declared.node.NodeKind.TheVariants as kind
+use Rattle.model_tree.specs.Trees.Charge.{fits}
+use Rattle.model_tree.specs.Trees.Edit.{Edit, SetSize, Show, Shown, edited, showing, with_content, resized}
+use Rattle.model_tree.specs.Trees.Keyed.{at, with}
+use Rattle.model_tree.specs.Trees.Stamp.{next_stamp}
+use Rattle.model_tree.specs.Trees.Tree.{Tree, Node, Content, File, Directory, bytes_of, names_of, is_directory}
+use Rattle.model_tree.specs.Trees.WellFormed.{IsWellFormed, IsBefore, IsContent, IsNode}
+use Rattle.model_tree.proofs.Trees.ChangeLaws.{IsChanged}
+use Rattle.model_tree.proofs.Trees.NodeChangeLaws.{altered-twice, length-resized, resized_bytes, replacement_keeps}
 use Rattle.fs.specs.FileSystem.{FileSystem}
 use Rattle.fs.specs.Planned.{IsList}
 use Rattle.fs.specs.Ready.{MayStand}

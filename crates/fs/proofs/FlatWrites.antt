@@ -8,27 +8,27 @@ use Rattle.std.specs.Prelude.{Result, Ok, option_map, nat_le}
 use Rattle.tree_edits.specs.Outlines.{blank, blank_node, without_data, zeros}
 use Rattle.tree_edits.proofs.BlankLaws.{at-without_data, without_data-with, key-without_data, directory-without_data, length-zeros, overwritten-length}
 use Rattle.tree_edits.proofs.FitLaws.{fits-without_data}
-use Rattle.model.specs.declared.acl.Cred.{Cred}
-use Rattle.model.specs.declared.limits.Limits.{Limits}
-use Rattle.model.specs.declared.status.Status.{Status}
-use Rattle.model.specs.declared.status.Status.TheVariants as status
-use Rattle.model.specs.Rights.Acl.{write_data}
-use Rattle.model.specs.Trees.Changes.{touched}
-use Rattle.model.specs.Trees.Charge.{fits}
-use Rattle.model.specs.Trees.Edit.{Edit, PutBytes, Show, Shown, edited, showing, with_content, overwritten, resized}
+use Rattle.model_tree.specs.declared.acl.Cred.{Cred}
+use Rattle.model_tree.specs.declared.limits.Limits.{Limits}
+use Rattle.model_tree.specs.declared.status.Status.{Status}
+use Rattle.model_tree.specs.declared.status.Status.TheVariants as status
+use Rattle.model_tree.specs.Rights.Acl.{write_data}
+use Rattle.model_tree.specs.Trees.Changes.{touched}
+use Rattle.model_tree.specs.Trees.Charge.{fits}
+use Rattle.model_tree.specs.Trees.Edit.{Edit, PutBytes, Show, Shown, edited, showing, with_content, overwritten, resized}
 use Rattle.model.specs.Operations.Files.{are_bytes, taken_bytes, write}
-use Rattle.model.specs.Trees.Keyed.{at, with, is_key}
-use Rattle.model.specs.Trees.Limits.{limits_of}
-use Rattle.model.specs.Rights.Need.{granted_on}
+use Rattle.model_tree.specs.Trees.Keyed.{at, with, is_key}
+use Rattle.model_tree.specs.Trees.Limits.{limits_of}
+use Rattle.model.specs.Operations.Need.{granted_on}
 use Rattle.model.specs.Sessions.Opens.{no_opens}
 use Rattle.model.specs.Operations.Operation.{Argument, StateId, WriteArguments}
-use Rattle.model.specs.Operations.Refusal.{first_refusal}
-use Rattle.model.specs.Trees.Stamp.{next_stamp, is_stamp_left}
+use Rattle.model_tree.specs.Refusals.Refusal.{first_refusal}
+use Rattle.model_tree.specs.Trees.Stamp.{next_stamp, is_stamp_left}
 use Rattle.model.specs.Sessions.StateIds.{found, state_refusals, write_access}
 use Rattle.model.specs.Operations.Step.{State, does}
-use Rattle.model.specs.Trees.Tree.{Tree, Node, Content, File, Directory, bytes_of, is_directory_at}
-use Rattle.model.specs.Trees.WellFormed.{IsContent}
-use Rattle.model.proofs.Trees.NodeChangeLaws.{altered-twice}
+use Rattle.model_tree.specs.Trees.Tree.{Tree, Node, Content, File, Directory, bytes_of, is_directory_at}
+use Rattle.model_tree.specs.Trees.WellFormed.{IsContent}
+use Rattle.model_tree.proofs.Trees.NodeChangeLaws.{altered-twice}
 use Rattle.model.proofs.Operations.RefusalLaws.{none_in_front, none_in_both}
 use Rattle.fs.specs.FileSystem.{FileSystem}
 use Rattle.fs.specs.Files.{permit_refusals, verdict_refusals}

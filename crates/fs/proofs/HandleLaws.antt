@@ -1,12 +1,12 @@
 -- PUTFH and GETFH by the definition: their tests, and what they do.
 use Rattle.std.proofs.Common.{ℕ, true, false, List, ◌≡◌, refl}
-use Rattle.model.specs.declared.limits.Limits.{Limits}
-use Rattle.model.specs.declared.status.Status.TheVariants as status
+use Rattle.model_tree.specs.declared.limits.Limits.{Limits}
+use Rattle.model_tree.specs.declared.status.Status.TheVariants as status
 use Rattle.model.specs.Operations.Answer.{Answer}
 use Rattle.model.specs.Operations.Context.{has_current}
-use Rattle.model.specs.Trees.Keyed.{is_key}
+use Rattle.model_tree.specs.Trees.Keyed.{is_key}
 use Rattle.model.specs.Operations.Operation.{Argument}
-use Rattle.model.specs.Trees.Stamp.{filehandle_of, is_filehandle, handle_number}
+use Rattle.model_tree.specs.Trees.Stamp.{filehandle_of, is_filehandle, handle_number}
 use Rattle.model.specs.Operations.Step.{State, current, refusals, effect, does, refused, answered, moved_to, permitted}
 
 module _ (limits : Limits) (state : State) (now : ℕ) (handle : List ℕ) where

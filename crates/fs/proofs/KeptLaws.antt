@@ -5,17 +5,17 @@ use Rattle.std.proofs.Props.{props}
 use Rattle.std.specs.Prelude.{IsTrue}
 use Rattle.tree_edits.specs.Edits.{AreDoable}
 use Rattle.tree_edits.specs.Outlines.{without_data}
-use Rattle.model.specs.declared.limits.Limits.{Limits}
-use Rattle.model.specs.Trees.Charge.{fits}
-use Rattle.model.specs.Trees.Limits.{limits_of}
+use Rattle.model_tree.specs.declared.limits.Limits.{Limits}
+use Rattle.model_tree.specs.Trees.Charge.{fits}
+use Rattle.model_tree.specs.Trees.Limits.{limits_of}
 use Rattle.model.specs.Operations.Operation.{Argument}
-use Rattle.model.specs.Trees.Stamp.{next_stamp, stamp}
+use Rattle.model_tree.specs.Trees.Stamp.{next_stamp, stamp}
 use Rattle.model.specs.Operations.State.{State, Stepped, stamp_of}
 use Rattle.model.specs.Operations.Step.{does}
 use Rattle.model.specs.Operations.StepLaws.{IsSound, IsLawful}
-use Rattle.model.specs.Trees.Tree.{Tree}
-use Rattle.model.specs.Trees.WellFormed.{IsWellFormed, IsBefore}
-use Rattle.model.proofs.Rights.LimitLaws.{modes_keep_limits, inheritance_keeps_limits}
+use Rattle.model_tree.specs.Trees.Tree.{Tree}
+use Rattle.model_tree.specs.Trees.WellFormed.{IsWellFormed, IsBefore}
+use Rattle.model_tree.proofs.Rights.LimitLaws.{modes_keep_limits, inheritance_keeps_limits}
 use Rattle.model.proofs.Operations.StepProofs.{every_step, before_later}
 use Rattle.fs.specs.FileSystem.{FileSystem}
 use Rattle.fs.specs.Planned.{IsPlanned}

@@ -7,20 +7,20 @@ use Rattle.tree_edits.specs.Edits.{AreDoable, IsFileTo, size_of}
 use Rattle.tree_edits.specs.Outlines.{blank, blank_node}
 use Rattle.tree_edits.proofs.BlankLaws.{at-without_data, length-zeros}
 use Rattle.layout.specs.CachedNodes.{CachedNode}
-use Rattle.model.specs.declared.limits.Limits.{Limits}
-use Rattle.model.specs.declared.node.NodeKind.{NodeKind}
-use Rattle.model.specs.declared.node.NodeKind.TheVariants as kind
-use Rattle.model.specs.declared.status.Status.{Status}
-use Rattle.model.specs.declared.status.Status.TheVariants as status
-use Rattle.model.specs.Trees.Charge.{fits}
-use Rattle.model.specs.Trees.Edit.{Shown, Show, SetSize, PutBytes, done, edited, overwritten, resized, with_content}
-use Rattle.model.specs.Trees.Keyed.{at, IsAbove}
-use Rattle.model.specs.Trees.Limits.{limits_of}
-use Rattle.model.specs.Operations.Refusal.{first_refusal}
+use Rattle.model_tree.specs.declared.limits.Limits.{Limits}
+use Rattle.model_tree.specs.declared.node.NodeKind.{NodeKind}
+use Rattle.model_tree.specs.declared.node.NodeKind.TheVariants as kind
+use Rattle.model_tree.specs.declared.status.Status.{Status}
+use Rattle.model_tree.specs.declared.status.Status.TheVariants as status
+use Rattle.model_tree.specs.Trees.Charge.{fits}
+use Rattle.model_tree.specs.Trees.Edit.{Shown, Show, SetSize, PutBytes, done, edited, overwritten, resized, with_content}
+use Rattle.model_tree.specs.Trees.Keyed.{at, IsAbove}
+use Rattle.model_tree.specs.Trees.Limits.{limits_of}
+use Rattle.model_tree.specs.Refusals.Refusal.{first_refusal}
 use Rattle.model.specs.Operations.SetAttr.{size_edits}
-use Rattle.model.specs.Trees.Stamp.{is_stamp_left}
-use Rattle.model.specs.Trees.Tree.{Tree, Node, Content, File, Directory, bytes_of, is_directory, is_directory_at, is_directory_node}
-use Rattle.model.specs.Trees.WellFormed.{IsContent}
+use Rattle.model_tree.specs.Trees.Stamp.{is_stamp_left}
+use Rattle.model_tree.specs.Trees.Tree.{Tree, Node, Content, File, Directory, bytes_of, is_directory, is_directory_at, is_directory_node}
+use Rattle.model_tree.specs.Trees.WellFormed.{IsContent}
 use Rattle.fs.specs.FileSystem.{FileSystem}
 use Rattle.fs.specs.Making.{last_refusal, room_tests}
 use Rattle.fs.specs.Ready.{MayStand}

@@ -3,25 +3,25 @@ use Rattle.std.proofs.Common.{◌≡◌, ℕ, Bool, true, false, List, [], ◌�
 use Rattle.std.specs.Prelude.{if◌then◌else◌, Option, Some, None, nat_lt, bytes_eq, replicate}
 use Rattle.std.specs.List.{AllByRecursion, list_all, list_any}
 use Rattle.std.proofs.lemmas.Bool.{lt-ltb, le-ltb, eqb-true, eqb-false, cases_eq}
-use Rattle.model.specs.declared.acl.Cred.{Cred}
-use Rattle.model.specs.declared.limits.Limits.{Limits}
-use Rattle.model.specs.declared.status.Status.{Status}
-use Rattle.model.specs.declared.status.Status.TheVariants as status
-use Rattle.model.specs.Rights.Acl.{read_acl, read_data}
+use Rattle.model_tree.specs.declared.acl.Cred.{Cred}
+use Rattle.model_tree.specs.declared.limits.Limits.{Limits}
+use Rattle.model_tree.specs.declared.status.Status.{Status}
+use Rattle.model_tree.specs.declared.status.Status.TheVariants as status
+use Rattle.model_tree.specs.Rights.Acl.{read_acl, read_data}
 use Rattle.model.specs.Operations.Answer.{Answer, Entry, ReadDirAnswer}
 use Rattle.model.specs.Operations.Context.{Context}
 use Rattle.directory.specs.Listing.{after, by_stamp}
 use Rattle.directory.specs.Records.{Record}
-use Rattle.model.specs.Trees.Keyed.{Keyed, at, is_key, with, in_place_of, before_or_behind}
-use Rattle.model.specs.Rights.Need.{Right, granted_on, is_granted, are_granted, here}
+use Rattle.model_tree.specs.Trees.Keyed.{Keyed, at, is_key, with, in_place_of, before_or_behind}
+use Rattle.model.specs.Operations.Need.{Right, granted_on, is_granted, are_granted, here}
 use Rattle.model.specs.Attributes.NodeAttributes.{unreadable}
 use Rattle.model.specs.Operations.Operation.{Argument, Attributes, ReadDirArguments}
 use Rattle.model.specs.Operations.ReadDir.{asks_errors, may_read_list, listed_entry, names_after, all_entries, page, page_bytes, page_room, page_refusals, listing_rights}
-use Rattle.model.specs.Operations.Refusal.{first_refusal, refused_or}
+use Rattle.model_tree.specs.Refusals.Refusal.{first_refusal, refused_or}
 use Rattle.model.specs.Operations.SetAttr.{attributes_at, asks_lists}
 use Rattle.model.specs.Operations.Step.{State, current, refusals, change_refusals, without_rights, effect, does, answered, refused, unless_refused}
-use Rattle.model.specs.Trees.Tree.{Tree, Node, DirEntry, is_directory_at, names_at}
-use Rattle.model.proofs.Facts.BooleanLaws.{and_false, alone}
+use Rattle.model_tree.specs.Trees.Tree.{Tree, Node, DirEntry, is_directory_at, names_at}
+use Rattle.model_tree.proofs.Facts.BooleanLaws.{and_false, alone}
 use Rattle.model.proofs.Operations.RefusalLaws.{or_else}
 use Rattle.fs.specs.OnTree.{IsState}
 use Rattle.fs.specs.Listing.{list_refusals, may_read_lists, page_of, shown_attributes, shown_entry}

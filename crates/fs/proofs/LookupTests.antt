@@ -1,23 +1,22 @@
 -- LOOKUP's tests, one after the other.
 use Rattle.std.proofs.Common.{ℕ, true, false, List, [], ◌∷◌, ◌++◌, ◌≡◌, not, refl, ap, ◌∙◌, is_some}
 use Rattle.std.specs.Prelude.{Option, Some, None}
-use Rattle.model.specs.declared.acl.Cred.{Cred}
-use Rattle.model.specs.declared.status.Status.{Status}
-use Rattle.model.specs.declared.status.Status.TheVariants as status
-use Rattle.model.specs.Rights.Acl.{execute}
+use Rattle.model_tree.specs.declared.acl.Cred.{Cred}
+use Rattle.model_tree.specs.declared.status.Status.{Status}
+use Rattle.model_tree.specs.declared.status.Status.TheVariants as status
+use Rattle.model_tree.specs.Rights.Acl.{execute}
 use Rattle.model.specs.Operations.Answer.{Answer}
 use Rattle.model.specs.Operations.Context.{has_current}
-use Rattle.model.specs.Operations.Directory.{number_of_entry}
-use Rattle.model.specs.Trees.Keyed.{at, is_key}
-use Rattle.model.specs.declared.limits.Limits.{Limits}
-use Rattle.model.specs.Attributes.Name.{name_refusals}
-use Rattle.model.specs.Rights.Need.{granted_on}
+use Rattle.model_tree.specs.Trees.Tree.{number_of_entry, Tree, Node, DirEntry, is_directory_at, is_directory_node, is_directory, names_of, names_of_node, entry_of}
+use Rattle.model_tree.specs.Trees.Keyed.{at, is_key}
+use Rattle.model_tree.specs.declared.limits.Limits.{Limits}
+use Rattle.model_tree.specs.Refusals.Name.{name_refusals}
+use Rattle.model.specs.Operations.Need.{granted_on}
 use Rattle.model.specs.Operations.Operation.{Argument}
-use Rattle.model.specs.Operations.Refusal.{Refusals, first_refusal, refused_or}
+use Rattle.model_tree.specs.Refusals.Refusal.{Refusals, first_refusal, refused_or}
 use Rattle.model.specs.Operations.Step.{State, current, is_name_there, refusals, change_refusals, effect, does, refused, answered, moved_to, unless_refused, permitted}
-use Rattle.model.specs.Trees.Tree.{Tree, Node, DirEntry, is_directory_at, is_directory_node, is_directory, names_of, names_of_node, entry_of}
 use Rattle.model.proofs.Operations.RefusalLaws.{first-append, or_else}
-use Rattle.model.proofs.Facts.BooleanLaws.{alone}
+use Rattle.model_tree.proofs.Facts.BooleanLaws.{alone}
 use Rattle.fs.specs.OnTree.{IsState}
 
 -- LOOKUP's tests

@@ -6,19 +6,19 @@ use Rattle.std.specs.Prelude.{IsTrue, option_map}
 use Rattle.tree_edits.specs.Making.{first_content}
 use Rattle.tree_edits.specs.Outlines.{blank, blank_node, without_data, zeros}
 use Rattle.tree_edits.proofs.BlankLaws.{at-without_data, without_data-with, without_data-twice, edits_blanked, names-without_data, length-zeros}
-use Rattle.model.specs.declared.limits.Limits.{Limits}
-use Rattle.model.specs.declared.node.NodeKind.{NodeKind}
-use Rattle.model.specs.declared.node.NodeKind.TheVariants as kind
-use Rattle.model.specs.Trees.Changes.{touched}
-use Rattle.model.specs.Trees.Charge.{fits}
-use Rattle.model.specs.Trees.Edit.{Edit, Shown, PutNode, PutName, Show, edited, altered, altered_at, with_content, name_put, showing}
-use Rattle.model.specs.Trees.Keyed.{Keyed, at, with, is_key}
-use Rattle.model.specs.Trees.Stamp.{next_stamp}
-use Rattle.model.specs.Trees.Tree.{Tree, Node, File, Directory, DirEntry, names_of, names_at, is_directory, is_directory_node, is_directory_at, entry_of}
-use Rattle.model.specs.Trees.WellFormed.{IsWellFormed, IsBefore}
-use Rattle.model.proofs.Trees.ChangeLaws.{IsChanged, creation_keeps}
-use Rattle.model.proofs.Trees.KeyedLaws.{at-with_same, at-with_other}
-use Rattle.model.proofs.Facts.OptionLaws.{none_unless}
+use Rattle.model_tree.specs.declared.limits.Limits.{Limits}
+use Rattle.model_tree.specs.declared.node.NodeKind.{NodeKind}
+use Rattle.model_tree.specs.declared.node.NodeKind.TheVariants as kind
+use Rattle.model_tree.specs.Trees.Changes.{touched}
+use Rattle.model_tree.specs.Trees.Charge.{fits}
+use Rattle.model_tree.specs.Trees.Edit.{Edit, Shown, PutNode, PutName, Show, edited, altered, altered_at, with_content, name_put, showing}
+use Rattle.model_tree.specs.Trees.Keyed.{Keyed, at, with, is_key}
+use Rattle.model_tree.specs.Trees.Stamp.{next_stamp}
+use Rattle.model_tree.specs.Trees.Tree.{Tree, Node, File, Directory, DirEntry, names_of, names_at, is_directory, is_directory_node, is_directory_at, entry_of}
+use Rattle.model_tree.specs.Trees.WellFormed.{IsWellFormed, IsBefore}
+use Rattle.model_tree.proofs.Trees.ChangeLaws.{IsChanged, creation_keeps}
+use Rattle.model_tree.proofs.Trees.KeyedLaws.{at-with_same, at-with_other}
+use Rattle.model_tree.proofs.Facts.OptionLaws.{none_unless}
 use Rattle.fs.specs.FileSystem.{FileSystem}
 use Rattle.fs.specs.Making.{first_node, tree_with, MayBeMade}
 use Rattle.fs.specs.Ready.{MayStand}

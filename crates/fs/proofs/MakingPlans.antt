@@ -8,22 +8,22 @@ use Rattle.tree_transaction.specs.Nodes.{shown_of}
 use Rattle.tree_edits.specs.declared.edit.Edit.{Edit}
 use Rattle.tree_edits.specs.declared.edit.Edit.TheVariants as edit
 use Rattle.tree_edits.specs.Edits.{AreEntries, AreDoable, edits_of, fresh_node, size_of}
-use Rattle.model.specs.declared.limits.Limits.{Limits}
-use Rattle.model.specs.declared.node.NodeKind.{NodeKind}
-use Rattle.model.specs.declared.node.NodeKind.TheVariants as kind
-use Rattle.model.specs.Trees.Changes.{touched}
-use Rattle.model.specs.Trees.Charge.{fits}
-use Rattle.model.specs.Trees.Edit.{PutNode, PutName, Show, SetSize, done, edited, name_put, with_content, resized}
-use Rattle.model.specs.Trees.Edit as model
-use Rattle.model.specs.Trees.Keyed.{Keyed, at, with, is_key}
-use Rattle.model.specs.Trees.Limits.{limits_of}
-use Rattle.model.specs.Attributes.Name.{name_refusals}
-use Rattle.model.specs.Operations.Refusal.{first_refusal}
-use Rattle.model.specs.declared.status.Status.TheVariants as status
-use Rattle.model.specs.Trees.Stamp.{next_stamp}
-use Rattle.model.specs.Trees.Tree.{Tree, Node, File, Directory, DirEntry, bytes_of, names_of, names_of_node, is_directory, is_directory_node, entry_of}
-use Rattle.model.proofs.Trees.KeyedLaws.{at-with_same, with-with_same}
-use Rattle.model.proofs.Trees.NodeChangeLaws.{altered-once}
+use Rattle.model_tree.specs.declared.limits.Limits.{Limits}
+use Rattle.model_tree.specs.declared.node.NodeKind.{NodeKind}
+use Rattle.model_tree.specs.declared.node.NodeKind.TheVariants as kind
+use Rattle.model_tree.specs.Trees.Changes.{touched}
+use Rattle.model_tree.specs.Trees.Charge.{fits}
+use Rattle.model_tree.specs.Trees.Edit.{PutNode, PutName, Show, SetSize, done, edited, name_put, with_content, resized}
+use Rattle.model_tree.specs.Trees.Edit as model
+use Rattle.model_tree.specs.Trees.Keyed.{Keyed, at, with, is_key}
+use Rattle.model_tree.specs.Trees.Limits.{limits_of}
+use Rattle.model_tree.specs.Refusals.Name.{name_refusals}
+use Rattle.model_tree.specs.Refusals.Refusal.{first_refusal}
+use Rattle.model_tree.specs.declared.status.Status.TheVariants as status
+use Rattle.model_tree.specs.Trees.Stamp.{next_stamp}
+use Rattle.model_tree.specs.Trees.Tree.{Tree, Node, File, Directory, DirEntry, bytes_of, names_of, names_of_node, is_directory, is_directory_node, entry_of}
+use Rattle.model_tree.proofs.Trees.KeyedLaws.{at-with_same, with-with_same}
+use Rattle.model_tree.proofs.Trees.NodeChangeLaws.{altered-once}
 use Rattle.model.proofs.Operations.RefusalLaws.{none_in_front}
 use Rattle.fs.specs.FileSystem.{FileSystem}
 use Rattle.fs.specs.Making.{first_node, tree_with, IsSizeOf, MayBeMade}

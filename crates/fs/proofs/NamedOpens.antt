@@ -1,19 +1,20 @@
 -- OPEN by a name, in each state of a COMPOUND: what refuses it, and what it comes to of a file that is there, that is cut or that is made.
 use Rattle.std.proofs.Common.{◌≡◌, ◌+◌, ◌&&◌, ◌||◌, ℕ, Bool, true, false, List, Option, Some, None, not, refl, sym, ap, ap₂, ◌∙◌, subst}
-use Rattle.model.specs.declared.acl.Cred.{Cred}
-use Rattle.model.specs.declared.limits.Limits.{Limits}
-use Rattle.model.specs.declared.status.Status.{Status}
-use Rattle.model.specs.declared.status.Status.TheVariants as status
-use Rattle.model.specs.Trees.Charge.{fits}
-use Rattle.model.specs.Operations.Directory.{acl_of, change_of, is_named, number_named}
-use Rattle.model.specs.Trees.Keyed.{at}
+use Rattle.model_tree.specs.declared.acl.Cred.{Cred}
+use Rattle.model_tree.specs.declared.limits.Limits.{Limits}
+use Rattle.model_tree.specs.declared.status.Status.{Status}
+use Rattle.model_tree.specs.declared.status.Status.TheVariants as status
+use Rattle.model_tree.specs.Trees.Charge.{fits}
+use Rattle.model.specs.Operations.Directory.{change_of}
+use Rattle.model_tree.specs.Trees.Tree.{is_named, number_named, Tree, Node}
+use Rattle.model_tree.specs.Trees.Changes.{acl_of}
+use Rattle.model_tree.specs.Trees.Keyed.{at}
 use Rattle.model.specs.Operations.Open.{asked_open, cuts, given_by, late_at_open, new_file, open_file}
 use Rattle.model.specs.Operations.Operation.{Argument, OpenArguments, OpenType, Opening, Opens as Opening_of, ByName}
-use Rattle.model.specs.Operations.Refusal.{first_refusal, refused_or}
-use Rattle.model.specs.Trees.Stamp.{next_stamp, is_stamp_left}
+use Rattle.model_tree.specs.Refusals.Refusal.{first_refusal, refused_or}
+use Rattle.model_tree.specs.Trees.Stamp.{next_stamp, is_stamp_left}
 use Rattle.model.specs.Sessions.StateIds.{is_table_full}
 use Rattle.model.specs.Operations.Step.{State, Stepped, alters, change_refusals, current, does, is_name_there, refused, unless_refused}
-use Rattle.model.specs.Trees.Tree.{Tree, Node}
 use Rattle.model.proofs.Operations.RefusalLaws.{or_else}
 use Rattle.fs.specs.declared.opening.OpenEffect.{OpenEffect}
 use Rattle.fs.specs.declared.opening.OpenEffect.TheVariants as effect

@@ -11,15 +11,15 @@ use Rattle.tree_edits.specs.declared.edit.Edit.TheVariants as edit
 use Rattle.tree_edits.specs.Edits.{AreEntries, AreDoable}
 use Rattle.tree_edits.specs.Making.{IsMaking, first_content}
 use Rattle.layout.specs.CachedNodes.{CachedNode}
-use Rattle.model.specs.declared.node.NodeKind.{NodeKind}
-use Rattle.model.specs.declared.status.Status.TheVariants as status
-use Rattle.model.specs.Trees.Changes.{made_edits, touched}
-use Rattle.model.specs.Trees.Charge.{fits}
-use Rattle.model.specs.Trees.Keyed.{at}
-use Rattle.model.specs.Trees.Limits.{limits_of}
-use Rattle.model.specs.Operations.Refusal.{first_refusal, refused_or}
-use Rattle.model.specs.Trees.Stamp.{next_stamp, is_stamp_left}
-use Rattle.model.specs.Trees.Tree.{Tree, Node, Directory, is_directory, is_directory_at, is_directory_node, names_of_node}
+use Rattle.model_tree.specs.declared.node.NodeKind.{NodeKind}
+use Rattle.model_tree.specs.declared.status.Status.TheVariants as status
+use Rattle.model_tree.specs.Trees.Changes.{made_edits, touched}
+use Rattle.model_tree.specs.Trees.Charge.{fits}
+use Rattle.model_tree.specs.Trees.Keyed.{at}
+use Rattle.model_tree.specs.Trees.Limits.{limits_of}
+use Rattle.model_tree.specs.Refusals.Refusal.{first_refusal, refused_or}
+use Rattle.model_tree.specs.Trees.Stamp.{next_stamp, is_stamp_left}
+use Rattle.model_tree.specs.Trees.Tree.{Tree, Node, Directory, is_directory, is_directory_at, is_directory_node, names_of_node}
 use Rattle.model.proofs.Operations.RefusalLaws.{none_in_front}
 use Rattle.fs.specs.FileSystem.{FileSystem}
 use Rattle.fs.specs.Making.{first_node, room_tests, tree_with, IsDirectoryOf, IsSizeOf, MayBeMade}

@@ -1,22 +1,22 @@
 -- OPEN by the definition: its tests, one after the other, and what it does.
 use Rattle.std.proofs.Common.{◌≡◌, ℕ, Bool, List, [], ◌∷◌, ◌++◌, not, refl, sym, ap, ap₂, ◌∙◌}
 use Rattle.std.specs.Prelude.{Option, Some, None, IsTrue}
-use Rattle.model.specs.declared.limits.Limits.{Limits}
-use Rattle.model.specs.declared.status.Status.{Status}
-use Rattle.model.specs.declared.status.Status.TheVariants as status
-use Rattle.model.specs.Rights.Acl.{execute}
+use Rattle.model_tree.specs.declared.limits.Limits.{Limits}
+use Rattle.model_tree.specs.declared.status.Status.{Status}
+use Rattle.model_tree.specs.declared.status.Status.TheVariants as status
+use Rattle.model_tree.specs.Rights.Acl.{execute}
 use Rattle.model.specs.Operations.Context.{has_current}
-use Rattle.model.specs.Trees.Keyed.{at, is_key}
-use Rattle.model.specs.Attributes.Name.{name_refusals}
-use Rattle.model.specs.Rights.Need.{granted_on, here}
+use Rattle.model_tree.specs.Trees.Keyed.{at, is_key}
+use Rattle.model_tree.specs.Refusals.Name.{name_refusals}
+use Rattle.model.specs.Operations.Need.{granted_on, here}
 use Rattle.model.specs.Operations.Open.{asked_open, late_at_open, name_opening_refusals, open_file, share_refusals, opening_rights}
 use Rattle.model.specs.Operations.Operation.{Argument, OpenArguments, OpenType, Opens as Opening_of, ByName, ByHandle}
-use Rattle.model.specs.Operations.Refusal.{Refusals, first_refusal, refused_or}
+use Rattle.model_tree.specs.Refusals.Refusal.{Refusals, first_refusal, refused_or}
 use Rattle.model.specs.Sessions.StateIds.{is_table_full}
 use Rattle.model.specs.Operations.Step.{State, current, refusals, change_refusals, without_rights, effect, does, unless_refused}
-use Rattle.model.specs.Trees.Tree.{is_directory_at}
+use Rattle.model_tree.specs.Trees.Tree.{is_directory_at}
 use Rattle.model.proofs.Operations.RefusalLaws.{first-append, or_else}
-use Rattle.model.proofs.Facts.BooleanLaws.{alone}
+use Rattle.model_tree.proofs.Facts.BooleanLaws.{alone}
 use Rattle.fs.specs.Opening.{file_tests, handle_tests, place_tests}
 use Rattle.fs.proofs.FileSteps.{does_by}
 

@@ -6,16 +6,16 @@ use Rattle.tree_transaction.specs.declared.nodes.Shown.{Shown}
 use Rattle.tree_transaction.specs.Nodes.{shown_of}
 use Rattle.tree_edits.specs.declared.edit.Edit.{Edit}
 use Rattle.tree_edits.specs.Edits.{AreEntries, AreDoable}
-use Rattle.model.specs.declared.limits.Limits.{Limits}
-use Rattle.model.specs.Trees.Edit.{DropName, DropNode, PutName, done, name_put, name_dropped, showing, altered_at}
-use Rattle.model.specs.Trees.Keyed.{Keyed, at, is_key, without, kept_or_not, worth_at}
-use Rattle.model.specs.Trees.Tree.{Tree, Node, DirEntry, names_of_node, names_at, is_directory_node, is_directory_at, entry_of, found_or}
-use Rattle.model.specs.Trees.WellFormed.{one_if, is_stamped, times_named, AreNames, IsWellFormed, IsBefore}
-use Rattle.model.proofs.Trees.ChangeLaws.{entry_found, names_in, led_to, never_named, directory_key}
-use Rattle.model.proofs.Trees.EditLaws.{IsForest, forest_of, directory_at}
-use Rattle.model.proofs.Trees.EditViews.{entry_before, NameDropped, name_is_dropped, NodeDropped, node_is_dropped}
-use Rattle.model.proofs.Trees.KeyedLaws.{at-above, at-with_same, at-without_same, at-without_other, total-without, IsAbove-without}
-use Rattle.model.proofs.Facts.OptionLaws.{none_unless, some≢none}
+use Rattle.model_tree.specs.declared.limits.Limits.{Limits}
+use Rattle.model_tree.specs.Trees.Edit.{DropName, DropNode, PutName, done, name_put, name_dropped, showing, altered_at}
+use Rattle.model_tree.specs.Trees.Keyed.{Keyed, at, is_key, without, kept_or_not, worth_at}
+use Rattle.model_tree.specs.Trees.Tree.{Tree, Node, DirEntry, names_of_node, names_at, is_directory_node, is_directory_at, entry_of, found_or}
+use Rattle.model_tree.specs.Trees.WellFormed.{one_if, is_stamped, times_named, AreNames, IsWellFormed, IsBefore}
+use Rattle.model_tree.proofs.Trees.ChangeLaws.{entry_found, names_in, led_to, never_named, directory_key}
+use Rattle.model_tree.proofs.Trees.EditLaws.{IsForest, forest_of, directory_at}
+use Rattle.model_tree.proofs.Trees.EditViews.{entry_before, NameDropped, name_is_dropped, NodeDropped, node_is_dropped}
+use Rattle.model_tree.proofs.Trees.KeyedLaws.{at-above, at-with_same, at-without_same, at-without_other, total-without, IsAbove-without}
+use Rattle.model_tree.proofs.Facts.OptionLaws.{none_unless, some≢none}
 use Rattle.fs.specs.declared.renaming.Renaming.{Renaming}
 use Rattle.fs.specs.RenameTests.{new_place, old_place}
 use Rattle.fs.proofs.FlatLaws.{key-altered}

@@ -1,17 +1,17 @@
 -- READ and COMMIT in each state of a COMPOUND on a file system.
 use Rattle.std.proofs.Common.{◌≡◌, ◌+◌, ℕ, Bool, true, List, Some, None, length, refl, sym, ap, ap₂, ◌⊎◌, ⊎_elim, ◌∙◌}
 use Rattle.std.specs.Prelude.{Result, Err, nat_le, take, drop, min}
-use Rattle.model.specs.declared.acl.Cred.{Cred}
-use Rattle.model.specs.declared.status.Status.{Status}
-use Rattle.model.specs.Rights.Acl.{read_data}
+use Rattle.model_tree.specs.declared.acl.Cred.{Cred}
+use Rattle.model_tree.specs.declared.status.Status.{Status}
+use Rattle.model_tree.specs.Rights.Acl.{read_data}
 use Rattle.model.specs.Operations.Answer.{Answer}
-use Rattle.model.specs.Operations.Files.{bytes_at, write_verifier}
+use Rattle.model.specs.Operations.Files.{write_verifier}
+use Rattle.model_tree.specs.Trees.Tree.{bytes_at, Tree}
 use Rattle.model.specs.Operations.Operation.{Argument, StateId, CommitArguments}
-use Rattle.model.specs.Operations.Refusal.{first_refusal}
+use Rattle.model_tree.specs.Refusals.Refusal.{first_refusal}
 use Rattle.model.specs.Server.Runs.{is_done}
 use Rattle.model.specs.Sessions.StateIds.{read_access}
 use Rattle.model.specs.Operations.Step.{State, Stepped, current, answered, refused}
-use Rattle.model.specs.Trees.Tree.{Tree}
 use Rattle.fs.specs.FileSystem.{FileSystem}
 use Rattle.fs.specs.Files.{IsVerdict, file_refusals, permit_refusals}
 use Rattle.fs.specs.Operations.{IsOn, does_on}

@@ -1,20 +1,20 @@
 -- LOOKUPP, ACCESS and GETATTR, one test after the other.
 use Rattle.std.proofs.Common.{ℕ, true, false, ◌≡◌, ◌==◌, List, refl, ap, ◌∙◌}
 use Rattle.std.specs.Prelude.{Option, Some, None}
-use Rattle.model.specs.declared.acl.Cred.{Cred}
-use Rattle.model.specs.declared.limits.Limits.{Limits}
-use Rattle.model.specs.declared.status.Status.TheVariants as status
+use Rattle.model_tree.specs.declared.acl.Cred.{Cred}
+use Rattle.model_tree.specs.declared.limits.Limits.{Limits}
+use Rattle.model_tree.specs.declared.status.Status.TheVariants as status
 use Rattle.model.specs.Operations.Access.{access_of}
-use Rattle.model.specs.Rights.Acl.{execute, read_acl}
-use Rattle.model.specs.Trees.Ancestors.{parent_of}
+use Rattle.model_tree.specs.Rights.Acl.{execute, read_acl}
+use Rattle.model_tree.specs.Trees.Ancestors.{parent_of}
 use Rattle.model.specs.Operations.Answer.{Answer}
-use Rattle.model.specs.Trees.Keyed.{at}
-use Rattle.model.specs.Rights.Need.{granted_on}
+use Rattle.model_tree.specs.Trees.Keyed.{at}
+use Rattle.model.specs.Operations.Need.{granted_on}
 use Rattle.model.specs.Attributes.NodeAttributes.{node_attributes}
 use Rattle.model.specs.Operations.Operation.{Argument}
 use Rattle.model.specs.Operations.SetAttr.{asks_lists}
 use Rattle.model.specs.Operations.Step.{State, current, refusals, effect, does, refused, answered, moved_to}
-use Rattle.model.specs.Trees.Tree.{Tree, Node, is_directory, root}
+use Rattle.model_tree.specs.Trees.Tree.{Tree, Node, is_directory, root}
 use Rattle.fs.specs.OnTree.{IsState}
 
 module _ (limits : Limits) (tree : Tree) (cred : Cred) (number : ℕ) (state : State) (now : ℕ)

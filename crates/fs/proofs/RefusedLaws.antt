@@ -1,7 +1,7 @@
 -- Tests that are part of others.
 use Rattle.std.specs.Prelude.{◌≡◌, Some}
-use Rattle.model.specs.declared.status.Status.{Status}
-use Rattle.model.specs.Operations.Refusal.{Refusals, first_refusal}
+use Rattle.model_tree.specs.declared.status.Status.{Status}
+use Rattle.model_tree.specs.Refusals.Refusal.{Refusals, first_refusal}
 use Rattle.model.specs.declared.not_done.NotDone.{NotDone}
 use Rattle.model.specs.declared.not_done.NotDone.TheVariants as refusal
 use Rattle.set_attributes.specs.Given.{IsRefusedBy}

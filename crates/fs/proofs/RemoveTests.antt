@@ -1,23 +1,22 @@
 -- REMOVE's tests, one after the other, and what it does.
 use Rattle.std.proofs.Common.{ℕ, Bool, true, false, List, [], ◌∷◌, ◌++◌, ◌≡◌, ◌∙◌, not, refl, sym, ap, is_some}
 use Rattle.std.specs.Prelude.{Option, Some, None, IsTrue}
-use Rattle.model.specs.declared.acl.Cred.{Cred}
-use Rattle.model.specs.declared.limits.Limits.{Limits}
-use Rattle.model.specs.declared.status.Status.{Status}
-use Rattle.model.specs.declared.status.Status.TheVariants as status
-use Rattle.model.specs.Trees.Charge.{fits}
+use Rattle.model_tree.specs.declared.acl.Cred.{Cred}
+use Rattle.model_tree.specs.declared.limits.Limits.{Limits}
+use Rattle.model_tree.specs.declared.status.Status.{Status}
+use Rattle.model_tree.specs.declared.status.Status.TheVariants as status
+use Rattle.model_tree.specs.Trees.Charge.{fits}
 use Rattle.model.specs.Operations.Context.{has_current}
-use Rattle.model.specs.Operations.Directory.{is_named, number_named}
-use Rattle.model.specs.Trees.Keyed.{at, is_key}
-use Rattle.model.specs.Attributes.Name.{name_refusals}
+use Rattle.model_tree.specs.Trees.Tree.{is_named, number_named, Tree, Node, is_directory, is_directory_node, is_directory_at}
+use Rattle.model_tree.specs.Trees.Keyed.{at, is_key}
+use Rattle.model_tree.specs.Refusals.Name.{name_refusals}
 use Rattle.model.specs.Operations.Operation.{Argument}
-use Rattle.model.specs.Operations.Refusal.{Refusals, first_refusal, refused_or}
+use Rattle.model_tree.specs.Refusals.Refusal.{Refusals, first_refusal, refused_or}
 use Rattle.model.specs.Operations.Rename.{has_names, remove}
-use Rattle.model.specs.Trees.Stamp.{is_stamp_left}
+use Rattle.model_tree.specs.Trees.Stamp.{is_stamp_left}
 use Rattle.model.specs.Operations.Step.{State, current, late, without_rights, refusals, change_refusals, effect, does, refused, unless_refused, need_first, need_then}
-use Rattle.model.specs.Trees.Tree.{Tree, Node, is_directory, is_directory_node, is_directory_at}
 use Rattle.model.proofs.Operations.RefusalLaws.{first-append, or_else}
-use Rattle.model.proofs.Facts.BooleanLaws.{and_true}
+use Rattle.model_tree.proofs.Facts.BooleanLaws.{and_true}
 use Rattle.fs.specs.Removing.{may_remove, removal_refusals}
 
 module _ (limits : Limits) (tree : Tree) (cred : Cred) (number : ℕ) (name : List ℕ) where

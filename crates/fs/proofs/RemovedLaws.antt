@@ -6,31 +6,31 @@ use Rattle.std.proofs.lemmas.Bool.{not-false, lt-ltb}
 use Rattle.std.specs.Prelude.{IsTrue, nat_lt}
 use Rattle.tree_edits.specs.Outlines.{without_data}
 use Rattle.tree_edits.proofs.BlankLaws.{without_data-twice, key-without_data, directory-without_data, names-without_data, edits_blanked}
-use Rattle.model.specs.declared.acl.Cred.{Cred}
-use Rattle.model.specs.declared.limits.Limits.{Limits}
-use Rattle.model.specs.declared.status.Status.{Status}
-use Rattle.model.specs.declared.status.Status.TheVariants as status
+use Rattle.model_tree.specs.declared.acl.Cred.{Cred}
+use Rattle.model_tree.specs.declared.limits.Limits.{Limits}
+use Rattle.model_tree.specs.declared.status.Status.{Status}
+use Rattle.model_tree.specs.declared.status.Status.TheVariants as status
 use Rattle.model.specs.Operations.Answer.{Answer}
-use Rattle.model.specs.Trees.Changes.{touched, removal, removed_edits}
-use Rattle.model.specs.Trees.Charge.{fits}
-use Rattle.model.specs.Operations.Directory.{is_named, number_named, number_of_entry, change_of}
-use Rattle.model.specs.Trees.Edit.{Edit, Shown, DropName, DropNode, Show, done, edited, name_dropped}
-use Rattle.model.specs.Trees.Keyed.{Keyed, at, is_key}
-use Rattle.model.specs.Trees.Limits.{limits_of}
-use Rattle.model.specs.Attributes.Name.{name_refusals}
+use Rattle.model_tree.specs.Trees.Changes.{touched, removal, removed_edits}
+use Rattle.model_tree.specs.Trees.Charge.{fits}
+use Rattle.model.specs.Operations.Directory.{change_of}
+use Rattle.model_tree.specs.Trees.Tree.{is_named, number_named, number_of_entry, Tree, Node, DirEntry, is_directory_node, is_directory_at, names_at, entry_of}
+use Rattle.model_tree.specs.Trees.Edit.{Edit, Shown, DropName, DropNode, Show, done, edited, name_dropped}
+use Rattle.model_tree.specs.Trees.Keyed.{Keyed, at, is_key}
+use Rattle.model_tree.specs.Trees.Limits.{limits_of}
+use Rattle.model_tree.specs.Refusals.Name.{name_refusals}
 use Rattle.model.specs.Operations.Operation.{Argument}
 use Rattle.model.specs.Sessions.Opens.{no_opens}
-use Rattle.model.specs.Operations.Refusal.{Refusals, first_refusal}
+use Rattle.model_tree.specs.Refusals.Refusal.{Refusals, first_refusal}
 use Rattle.model.specs.Operations.Rename.{has_names, remove}
-use Rattle.model.specs.Trees.Stamp.{next_stamp, is_stamp_left}
+use Rattle.model_tree.specs.Trees.Stamp.{next_stamp, is_stamp_left}
 use Rattle.model.specs.Sessions.StateIds.{without_number}
 use Rattle.model.specs.Operations.Step.{State, Stepped, does, answered, refused, current, stamp_of}
-use Rattle.model.specs.Trees.Tree.{Tree, Node, DirEntry, is_directory_node, is_directory_at, names_at, entry_of}
-use Rattle.model.specs.Trees.WellFormed.{IsWellFormed}
-use Rattle.model.proofs.Trees.ChangeLaws.{entry_found, names_in, led_to}
-use Rattle.model.proofs.Trees.EditLaws.{forest_of}
+use Rattle.model_tree.specs.Trees.WellFormed.{IsWellFormed}
+use Rattle.model_tree.proofs.Trees.ChangeLaws.{entry_found, names_in, led_to}
+use Rattle.model_tree.proofs.Trees.EditLaws.{forest_of}
 use Rattle.model.proofs.Operations.RefusalLaws.{none_in_front, none_in_both}
-use Rattle.model.proofs.Facts.OptionLaws.{some≢none}
+use Rattle.model_tree.proofs.Facts.OptionLaws.{some≢none}
 use Rattle.volume.specs.Formed.{IsFormed}
 use Rattle.volume.proofs.EditLaws.{fits_alike}
 use Rattle.volume.proofs.RoomLaws.{above_name_dropped, drop_name_room, above_node_dropped, drop_node_room, show_room}

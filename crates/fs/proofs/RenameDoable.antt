@@ -15,20 +15,20 @@ use Rattle.tree_edits.specs.Outlines.{without_data}
 use Rattle.tree_edits.proofs.BlankLaws.{without_data-twice, directory-without_data}
 use Rattle.tree_edits.proofs.BlankLaws.{names-without_data}
 use Rattle.tree_edits.proofs.DoableLaws.{doable_alike}
-use Rattle.model.specs.declared.acl.Cred.{Cred}
-use Rattle.model.specs.declared.limits.Limits.{Limits}
-use Rattle.model.specs.Trees.Charge.{fits}
-use Rattle.model.specs.Trees.Edit.{DropName, PutName, Show, done, edited, name_dropped, name_put, showing}
-use Rattle.model.specs.Trees.Edit as model
-use Rattle.model.specs.Trees.Keyed.{at, is_key, IsAbove}
-use Rattle.model.specs.Trees.Limits.{limits_of}
-use Rattle.model.specs.Operations.Refusal.{first_refusal}
-use Rattle.model.specs.Trees.Stamp.{next_stamp}
-use Rattle.model.specs.Trees.Tree.{Tree, DirEntry, entry_of, names_at, is_directory_at}
-use Rattle.model.specs.Trees.WellFormed.{IsWellFormed}
-use Rattle.model.proofs.Trees.ChangeLaws.{names_in}
-use Rattle.model.proofs.Trees.EditLaws.{forest_of}
-use Rattle.model.proofs.Trees.KeyedLaws.{IsAbove-without}
+use Rattle.model_tree.specs.declared.acl.Cred.{Cred}
+use Rattle.model_tree.specs.declared.limits.Limits.{Limits}
+use Rattle.model_tree.specs.Trees.Charge.{fits}
+use Rattle.model_tree.specs.Trees.Edit.{DropName, PutName, Show, done, edited, name_dropped, name_put, showing}
+use Rattle.model_tree.specs.Trees.Edit as model
+use Rattle.model_tree.specs.Trees.Keyed.{at, is_key, IsAbove}
+use Rattle.model_tree.specs.Trees.Limits.{limits_of}
+use Rattle.model_tree.specs.Refusals.Refusal.{first_refusal}
+use Rattle.model_tree.specs.Trees.Stamp.{next_stamp}
+use Rattle.model_tree.specs.Trees.Tree.{Tree, DirEntry, entry_of, names_at, is_directory_at}
+use Rattle.model_tree.specs.Trees.WellFormed.{IsWellFormed}
+use Rattle.model_tree.proofs.Trees.ChangeLaws.{names_in}
+use Rattle.model_tree.proofs.Trees.EditLaws.{forest_of}
+use Rattle.model_tree.proofs.Trees.KeyedLaws.{IsAbove-without}
 use Rattle.fs.specs.declared.renaming.Renaming.{Renaming}
 use Rattle.fs.specs.FileSystem.{FileSystem}
 use Rattle.fs.specs.Ready.{MayStand}

@@ -6,20 +6,19 @@ use Rattle.tree_edits.specs.Outlines.{blank, blank_node, without_data}
 use Rattle.tree_edits.proofs.BlankLaws.{key-without_data, directory-without_data}
 use Rattle.tree_edits.proofs.BlankLaws.{names-without_data}
 use Rattle.tree_edits.proofs.BlankLaws.{length-without_data}
-use Rattle.model.specs.declared.acl.Cred.{Cred}
-use Rattle.model.specs.declared.limits.Limits.{Limits}
-use Rattle.model.specs.declared.status.Status.TheVariants as status
-use Rattle.model.specs.Trees.Ancestors.{parent_of, ancestors_in, is_below}
-use Rattle.model.specs.Operations.Directory.{is_named, number_named, number_of_entry}
-use Rattle.model.specs.Trees.Keyed.{Keyed, is_key}
-use Rattle.model.specs.Attributes.Name.{name_refusals}
-use Rattle.model.specs.Rights.Need.{Right, is_granted}
-use Rattle.model.specs.Rights.Acl.{append_data, write_data, delete, delete_child}
+use Rattle.model_tree.specs.declared.acl.Cred.{Cred}
+use Rattle.model_tree.specs.declared.limits.Limits.{Limits}
+use Rattle.model_tree.specs.declared.status.Status.TheVariants as status
+use Rattle.model_tree.specs.Trees.Ancestors.{parent_of, ancestors_in, is_below}
+use Rattle.model_tree.specs.Trees.Tree.{is_named, number_named, number_of_entry, Tree, Node, Content, File, Directory, DirEntry, root, is_directory_at, names_at, names_of, entry_of}
+use Rattle.model_tree.specs.Trees.Keyed.{Keyed, is_key}
+use Rattle.model_tree.specs.Refusals.Name.{name_refusals}
+use Rattle.model.specs.Operations.Need.{Right, is_granted}
+use Rattle.model_tree.specs.Rights.Acl.{append_data, write_data, delete, delete_child}
 use Rattle.model.specs.Operations.Operation.{RenameArguments}
-use Rattle.model.specs.Operations.Refusal.{first_refusal}
+use Rattle.model_tree.specs.Refusals.Refusal.{first_refusal}
 use Rattle.model.specs.Operations.Rename.{is_other, has_names, rename_rights}
-use Rattle.model.specs.Trees.Tree.{Tree, Node, Content, File, Directory, DirEntry, root, is_directory_at, names_at, names_of, entry_of}
-use Rattle.model.specs.Trees.WellFormed.{links_from, links_in}
+use Rattle.model_tree.specs.Trees.WellFormed.{links_from, links_in}
 use Rattle.fs.specs.RenameTests.{moving_refusals, placing_refusals, may_rename, moved_in, target_in}
 use Rattle.fs.proofs.FlatLaws.{granted-without_data}
 

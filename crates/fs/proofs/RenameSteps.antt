@@ -4,20 +4,19 @@ use Rattle.std.specs.Prelude.{Option, Some, None, Result, Ok, Err, IfOk, IsTrue,
 use Rattle.std.specs.Global.{Vec}
 use Rattle.tree_edits.specs.declared.edit.Edit.{Edit}
 use Rattle.model.specs.declared.not_done.NotDone.{NotDone}
-use Rattle.model.specs.declared.limits.Limits.{Limits}
-use Rattle.model.specs.declared.status.Status.{Status}
-use Rattle.model.specs.declared.status.Status.TheVariants as status
-use Rattle.model.specs.Trees.Charge.{fits}
+use Rattle.model_tree.specs.declared.limits.Limits.{Limits}
+use Rattle.model_tree.specs.declared.status.Status.{Status}
+use Rattle.model_tree.specs.declared.status.Status.TheVariants as status
+use Rattle.model_tree.specs.Trees.Charge.{fits}
 use Rattle.model.specs.Operations.Context.{has_current, has_saved, is_same_name}
-use Rattle.model.specs.Operations.Directory.{is_named}
-use Rattle.model.specs.Trees.Keyed.{is_key}
-use Rattle.model.specs.Attributes.Name.{name_refusals}
+use Rattle.model_tree.specs.Trees.Tree.{is_named, Tree, is_directory_at}
+use Rattle.model_tree.specs.Trees.Keyed.{is_key}
+use Rattle.model_tree.specs.Refusals.Name.{name_refusals}
 use Rattle.model.specs.Operations.Operation.{Argument, RenameArguments}
-use Rattle.model.specs.Operations.Refusal.{Refusals, first_refusal, refused_or}
+use Rattle.model_tree.specs.Refusals.Refusal.{Refusals, first_refusal, refused_or}
 use Rattle.model.specs.Operations.Rename.{late_at_rename, rename, rename_rights}
-use Rattle.model.specs.Trees.Stamp.{is_stamp_left}
+use Rattle.model_tree.specs.Trees.Stamp.{is_stamp_left}
 use Rattle.model.specs.Operations.Step.{State, current, saved, late, without_rights, refusals, effect, does, refused, unless_refused, need_first, need_then}
-use Rattle.model.specs.Trees.Tree.{Tree, is_directory_at}
 use Rattle.model.proofs.Operations.RefusalLaws.{first-append, or_else}
 use Rattle.fs.specs.declared.renaming.Planned.{Planned}
 use Rattle.fs.specs.RenameTests.{directory_refusals, moving_refusals, placing_refusals}

@@ -7,29 +7,29 @@ use Rattle.tree_edits.specs.Outlines.{without_data}
 use Rattle.tree_edits.proofs.BlankLaws.{without_data-twice, directory-without_data}
 use Rattle.tree_edits.proofs.BlankLaws.{names-without_data}
 use Rattle.tree_edits.proofs.BlankLaws.{edits_blanked}
-use Rattle.model.specs.declared.acl.Cred.{Cred}
-use Rattle.model.specs.declared.limits.Limits.{Limits}
-use Rattle.model.specs.declared.status.Status.{Status}
-use Rattle.model.specs.declared.status.Status.TheVariants as status
-use Rattle.model.specs.Trees.Changes.{touched, removal, moving, renamed_edits}
-use Rattle.model.specs.Trees.Charge.{fits}
-use Rattle.model.specs.Operations.Directory.{is_named, number_of_entry, change_of}
-use Rattle.model.specs.Trees.Edit.{Edit, Shown, DropName, DropNode, PutName, Show, done, edited}
-use Rattle.model.specs.Trees.Keyed.{at}
-use Rattle.model.specs.Trees.Limits.{limits_of}
-use Rattle.model.specs.Attributes.Name.{name_refusals}
+use Rattle.model_tree.specs.declared.acl.Cred.{Cred}
+use Rattle.model_tree.specs.declared.limits.Limits.{Limits}
+use Rattle.model_tree.specs.declared.status.Status.{Status}
+use Rattle.model_tree.specs.declared.status.Status.TheVariants as status
+use Rattle.model_tree.specs.Trees.Changes.{touched, removal, moving, renamed_edits}
+use Rattle.model_tree.specs.Trees.Charge.{fits}
+use Rattle.model.specs.Operations.Directory.{change_of}
+use Rattle.model_tree.specs.Trees.Tree.{is_named, number_of_entry, Tree, DirEntry, is_directory_at, names_at, entry_of}
+use Rattle.model_tree.specs.Trees.Edit.{Edit, Shown, DropName, DropNode, PutName, Show, done, edited}
+use Rattle.model_tree.specs.Trees.Keyed.{at}
+use Rattle.model_tree.specs.Trees.Limits.{limits_of}
+use Rattle.model_tree.specs.Refusals.Name.{name_refusals}
 use Rattle.model.specs.Operations.Operation.{Argument, RenameArguments}
 use Rattle.model.specs.Sessions.Opens.{Opens, no_opens}
-use Rattle.model.specs.Operations.Refusal.{first_refusal}
+use Rattle.model_tree.specs.Refusals.Refusal.{first_refusal}
 use Rattle.model.specs.Operations.Rename.{has_names, target_number, rename}
-use Rattle.model.specs.Trees.Stamp.{next_stamp, is_stamp_left}
+use Rattle.model_tree.specs.Trees.Stamp.{next_stamp, is_stamp_left}
 use Rattle.model.specs.Operations.Context.{is_same_name}
 use Rattle.model.specs.Operations.Answer.{Answer}
 use Rattle.model.specs.Sessions.StateIds.{without_number}
 use Rattle.model.specs.Operations.Step.{State, Stepped, does, answered, refused, current, saved, stamp_of}
-use Rattle.model.specs.Trees.Tree.{Tree, DirEntry, is_directory_at, names_at, entry_of}
-use Rattle.model.specs.Trees.WellFormed.{IsWellFormed}
-use Rattle.model.proofs.Facts.BooleanLaws.{second_of_neither, second_false}
+use Rattle.model_tree.specs.Trees.WellFormed.{IsWellFormed}
+use Rattle.model_tree.proofs.Facts.BooleanLaws.{second_of_neither, second_false}
 use Rattle.model.proofs.Operations.RefusalLaws.{none_in_front, none_in_both}
 use Rattle.model.proofs.Operations.StepProofs.{other_way}
 use Rattle.volume.specs.Formed.{IsFormed}

@@ -4,26 +4,26 @@ use Rattle.std.specs.Prelude.{Result, Ok, option_map, if◌then◌else◌}
 use Rattle.tree_edits.specs.Outlines.{blank_node, without_data, zeros}
 use Rattle.tree_edits.proofs.BlankLaws.{at-without_data, without_data-twice, key-without_data, directory-without_data, edits_blanked}
 use Rattle.tree_edits.proofs.FitLaws.{fits-without_data}
-use Rattle.model.specs.declared.acl.Cred.{Cred}
-use Rattle.model.specs.declared.limits.Limits.{Limits}
-use Rattle.model.specs.declared.node.NodeKind.{NodeKind}
-use Rattle.model.specs.declared.node.NodeKind.TheVariants as kind
-use Rattle.model.specs.declared.status.Status.{Status}
-use Rattle.model.specs.declared.status.Status.TheVariants as status
+use Rattle.model_tree.specs.declared.acl.Cred.{Cred}
+use Rattle.model_tree.specs.declared.limits.Limits.{Limits}
+use Rattle.model_tree.specs.declared.node.NodeKind.{NodeKind}
+use Rattle.model_tree.specs.declared.node.NodeKind.TheVariants as kind
+use Rattle.model_tree.specs.declared.status.Status.{Status}
+use Rattle.model_tree.specs.declared.status.Status.TheVariants as status
 use Rattle.model.specs.Attributes.Attribute.{attribute_refusals, attributes_of, settable_at_setattr, size_given}
-use Rattle.model.specs.Trees.Charge.{fits}
-use Rattle.model.specs.Trees.Edit.{Edit, SetSize, Show, Shown, edited, done, with_content, resized}
-use Rattle.model.specs.Trees.Keyed.{at, is_key}
-use Rattle.model.specs.Trees.Limits.{limits_of}
-use Rattle.model.specs.Rights.Need.{granted_on}
+use Rattle.model_tree.specs.Trees.Charge.{fits}
+use Rattle.model_tree.specs.Trees.Edit.{Edit, SetSize, Show, Shown, edited, done, with_content, resized}
+use Rattle.model_tree.specs.Trees.Keyed.{at, is_key}
+use Rattle.model_tree.specs.Trees.Limits.{limits_of}
+use Rattle.model.specs.Operations.Need.{granted_on}
 use Rattle.model.specs.Operations.Operation.{Argument, Attributes, SetAttrArguments}
-use Rattle.model.specs.Operations.Refusal.{Refusals, first_refusal}
+use Rattle.model_tree.specs.Refusals.Refusal.{Refusals, first_refusal}
 use Rattle.model.specs.Operations.SetAttr.{kind_at, set_attributes, sets, sets_size, shown_set, size_edits}
-use Rattle.model.specs.Trees.Stamp.{next_stamp, is_stamp_left}
+use Rattle.model_tree.specs.Trees.Stamp.{next_stamp, is_stamp_left}
 use Rattle.model.specs.Operations.Step.{State, does}
-use Rattle.model.specs.Trees.Tree.{Tree, Node, File, bytes_of, is_directory_at}
+use Rattle.model_tree.specs.Trees.Tree.{Tree, Node, File, bytes_of, is_directory_at}
 use Rattle.model.proofs.Operations.RefusalLaws.{none_in_front, none_in_both}
-use Rattle.model.proofs.Trees.NodeChangeLaws.{length-resized}
+use Rattle.model_tree.proofs.Trees.NodeChangeLaws.{length-resized}
 use Rattle.fs.specs.FileSystem.{FileSystem}
 use Rattle.fs.specs.Files.{verdict_refusals}
 use Rattle.fs.specs.Ready.{MayStand}

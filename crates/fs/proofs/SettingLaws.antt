@@ -2,20 +2,20 @@
 use Rattle.std.proofs.Common.{◌≡◌, ◌+◌, ℕ, Bool, true, false, List, [], ◌∷◌, ◌++◌, Some, None, refl, ap, ap₂, ◌∙◌, not}
 use Rattle.tree_edits.specs.declared.edit.Edit.{Edit}
 use Rattle.layout.specs.Stands.{Kept}
-use Rattle.model.specs.declared.acl.Cred.{Cred}
-use Rattle.model.specs.declared.limits.Limits.{Limits}
-use Rattle.model.specs.declared.status.Status.{Status}
-use Rattle.model.specs.declared.status.Status.TheVariants as status
+use Rattle.model_tree.specs.declared.acl.Cred.{Cred}
+use Rattle.model_tree.specs.declared.limits.Limits.{Limits}
+use Rattle.model_tree.specs.declared.status.Status.{Status}
+use Rattle.model_tree.specs.declared.status.Status.TheVariants as status
 use Rattle.model.specs.Attributes.Attribute.{is_empty, size_given}
-use Rattle.model.specs.Trees.Charge.{fits}
-use Rattle.model.specs.Trees.Edit.{Show, edited}
-use Rattle.model.specs.Trees.Keyed.{at}
+use Rattle.model_tree.specs.Trees.Charge.{fits}
+use Rattle.model_tree.specs.Trees.Edit.{Show, edited}
+use Rattle.model_tree.specs.Trees.Keyed.{at}
 use Rattle.model.specs.Operations.Operation.{Argument, Attributes, SetAttrArguments}
-use Rattle.model.specs.Operations.Refusal.{first_refusal}
+use Rattle.model_tree.specs.Refusals.Refusal.{first_refusal}
 use Rattle.model.specs.Operations.SetAttr.{set_attributes, sets, shown_set, size_edits}
-use Rattle.model.specs.Trees.Stamp.{next_stamp, is_stamp_left}
+use Rattle.model_tree.specs.Trees.Stamp.{next_stamp, is_stamp_left}
 use Rattle.model.specs.Operations.Step.{State, Stepped, current, refused}
-use Rattle.model.specs.Trees.Tree.{Tree, Node}
+use Rattle.model_tree.specs.Trees.Tree.{Tree, Node}
 use Rattle.model.specs.declared.not_done.NotDone.{NotDone}
 use Rattle.model.specs.declared.not_done.NotDone.TheVariants as refusal
 use Rattle.set_attributes.specs.Given.{IsRefusedBy, given_of}

@@ -14,29 +14,29 @@ use Rattle.tree_edits.specs.Outlines.{blank, blank_node}
 use Rattle.tree_edits.proofs.BlankLaws.{at-without_data, length-zeros}
 use Rattle.inode.specs.Fields.{Fields}
 use Rattle.layout.specs.CachedNodes.{CachedNode}
-use Rattle.model.specs.declared.acl.Ace.{Ace}
-use Rattle.model.specs.declared.acl.Cred.{Cred}
-use Rattle.model.specs.declared.limits.Limits.{Limits}
-use Rattle.model.specs.declared.node.NodeKind.{NodeKind}
-use Rattle.model.specs.declared.node.NodeKind.TheVariants as kind
-use Rattle.model.specs.declared.status.Status.{Status}
-use Rattle.model.specs.declared.status.Status.TheVariants as status
+use Rattle.model_tree.specs.declared.acl.Ace.{Ace}
+use Rattle.model_tree.specs.declared.acl.Cred.{Cred}
+use Rattle.model_tree.specs.declared.limits.Limits.{Limits}
+use Rattle.model_tree.specs.declared.node.NodeKind.{NodeKind}
+use Rattle.model_tree.specs.declared.node.NodeKind.TheVariants as kind
+use Rattle.model_tree.specs.declared.status.Status.{Status}
+use Rattle.model_tree.specs.declared.status.Status.TheVariants as status
 use Rattle.model.specs.Attributes.Attribute.{attribute_refusals, attributes_of, is_empty, settable_at_setattr, size_given}
-use Rattle.model.specs.Trees.Charge.{fits}
-use Rattle.model.specs.Trees.Edit.{Show, SetSize, done, edited, with_content, resized}
-use Rattle.model.specs.Trees.Edit as model
-use Rattle.model.specs.Trees.Keyed.{at, is_key}
-use Rattle.model.specs.Trees.Limits.{limits_of}
-use Rattle.model.specs.Rights.Need.{granted_on}
+use Rattle.model_tree.specs.Trees.Charge.{fits}
+use Rattle.model_tree.specs.Trees.Edit.{Show, SetSize, done, edited, with_content, resized}
+use Rattle.model_tree.specs.Trees.Edit as model
+use Rattle.model_tree.specs.Trees.Keyed.{at, is_key}
+use Rattle.model_tree.specs.Trees.Limits.{limits_of}
+use Rattle.model.specs.Operations.Need.{granted_on}
 use Rattle.model.specs.Operations.Operation.{Argument, Attributes, SetAttrArguments}
-use Rattle.model.specs.Operations.Refusal.{first_refusal}
+use Rattle.model_tree.specs.Refusals.Refusal.{first_refusal}
 use Rattle.model.specs.Operations.SetAttr.{kind_at, sets_size, shown_set, size_edits}
-use Rattle.model.specs.Trees.Stamp.{next_stamp, is_stamp_left}
+use Rattle.model_tree.specs.Trees.Stamp.{next_stamp, is_stamp_left}
 use Rattle.model.specs.Operations.Step.{State, refused}
-use Rattle.model.specs.Trees.Tree.{Tree, Node, Content, File, Directory, bytes_of, kind_of, is_directory_at}
-use Rattle.model.specs.Trees.WellFormed.{IsContent}
-use Rattle.model.proofs.Trees.KeyedLaws.{at-with_same}
-use Rattle.model.proofs.Trees.NodeChangeLaws.{altered-once}
+use Rattle.model_tree.specs.Trees.Tree.{Tree, Node, Content, File, Directory, bytes_of, kind_of, is_directory_at}
+use Rattle.model_tree.specs.Trees.WellFormed.{IsContent}
+use Rattle.model_tree.proofs.Trees.KeyedLaws.{at-with_same}
+use Rattle.model_tree.proofs.Trees.NodeChangeLaws.{altered-once}
 use Rattle.model.proofs.Operations.RefusalLaws.{none_in_front, none_in_both}
 use Rattle.set_attributes.specs.declared.said.Settings.{Settings}
 use Rattle.set_attributes.specs.Given.{AreSettings, WithinLimits, given_of}

@@ -10,22 +10,22 @@ use Rattle.tree_edits.specs.Outlines.{blank, blank_node, without_data}
 use Rattle.tree_edits.proofs.BlankLaws.{at-without_data}
 use Rattle.layout.specs.CachedNodes.{CachedNode}
 use Rattle.layout.specs.Known.{IsCard}
-use Rattle.model.specs.declared.acl.Ace.{Ace}
-use Rattle.model.specs.declared.limits.Limits.{Limits}
-use Rattle.model.specs.declared.node.NodeKind.{NodeKind}
-use Rattle.model.specs.declared.node.NodeKind.TheVariants as kind
-use Rattle.model.specs.Rights.Acl.{is_list_for}
-use Rattle.model.specs.Trees.Changes.{touched}
-use Rattle.model.specs.Trees.Charge.{fits}
-use Rattle.model.specs.Trees.Edit.{SetSize, Show, done, edited, with_content, resized}
-use Rattle.model.specs.Trees.Edit as model
-use Rattle.model.specs.Trees.Keyed.{at, is_key}
-use Rattle.model.specs.Trees.Limits.{limits_of}
-use Rattle.model.specs.Trees.Stamp.{next_stamp}
-use Rattle.model.specs.Trees.Tree.{Tree, Node, Content, File, bytes_of, kind_of, is_directory, is_directory_node}
-use Rattle.model.specs.Trees.WellFormed.{IsWellFormed}
-use Rattle.model.proofs.Trees.KeyedLaws.{at-with_same}
-use Rattle.model.proofs.Trees.NodeChangeLaws.{altered-once}
+use Rattle.model_tree.specs.declared.acl.Ace.{Ace}
+use Rattle.model_tree.specs.declared.limits.Limits.{Limits}
+use Rattle.model_tree.specs.declared.node.NodeKind.{NodeKind}
+use Rattle.model_tree.specs.declared.node.NodeKind.TheVariants as kind
+use Rattle.model_tree.specs.Rights.Acl.{is_list_for}
+use Rattle.model_tree.specs.Trees.Changes.{touched}
+use Rattle.model_tree.specs.Trees.Charge.{fits}
+use Rattle.model_tree.specs.Trees.Edit.{SetSize, Show, done, edited, with_content, resized}
+use Rattle.model_tree.specs.Trees.Edit as model
+use Rattle.model_tree.specs.Trees.Keyed.{at, is_key}
+use Rattle.model_tree.specs.Trees.Limits.{limits_of}
+use Rattle.model_tree.specs.Trees.Stamp.{next_stamp}
+use Rattle.model_tree.specs.Trees.Tree.{Tree, Node, Content, File, bytes_of, kind_of, is_directory, is_directory_node}
+use Rattle.model_tree.specs.Trees.WellFormed.{IsWellFormed}
+use Rattle.model_tree.proofs.Trees.KeyedLaws.{at-with_same}
+use Rattle.model_tree.proofs.Trees.NodeChangeLaws.{altered-once}
 use Rattle.fs.specs.FileSystem.{FileSystem}
 use Rattle.fs.specs.Planned.{IsList, IsPlanned, shown_by}
 use Rattle.fs.specs.Ready.{MayStand}

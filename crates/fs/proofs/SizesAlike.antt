@@ -7,12 +7,12 @@ use Rattle.tree_edits.specs.Edits.{edit_of, edits_of, CanDo, AreDoable}
 use Rattle.tree_edits.specs.Sizes.{charge_of_size, names_in, edited_number, resized_by, size_at}
 use Rattle.tree_edits.specs.Sizes.{size_there}
 use Rattle.tree_edits.proofs.SizeLaws.{IsRising, behind, still_rising, charge_there, names_there}
-use Rattle.model.specs.declared.limits.Limits.{Limits}
-use Rattle.model.specs.Trees.Charge.{charge, few_names, fits}
-use Rattle.model.specs.Trees.Edit.{done, edited}
-use Rattle.model.specs.Trees.Keyed.{total, IsAbove}
-use Rattle.model.specs.Trees.Tree.{Tree, Node}
-use Rattle.model.proofs.Trees.KeyedLaws.{at-below, at-first, at-rest}
+use Rattle.model_tree.specs.declared.limits.Limits.{Limits}
+use Rattle.model_tree.specs.Trees.Charge.{charge, few_names, fits}
+use Rattle.model_tree.specs.Trees.Edit.{done, edited}
+use Rattle.model_tree.specs.Trees.Keyed.{total, IsAbove}
+use Rattle.model_tree.specs.Trees.Tree.{Tree, Node}
+use Rattle.model_tree.proofs.Trees.KeyedLaws.{at-below, at-first, at-rest}
 
 -- Trees whose nodes have as much
 

@@ -3,19 +3,19 @@ use Rattle.std.proofs.Common.{◌≡◌, ◌≤◌, ◌<◌, ◌^◌, ◌-◌, �
 use Rattle.std.specs.Prelude.{bit_and, not}
 use Rattle.std.proofs.lemmas.Bool.{cases_eq}
 use Rattle.std.proofs.lemmas.Option.{same_Some}
-use Rattle.model.specs.declared.acl.Cred.{Cred}
-use Rattle.model.specs.declared.status.Status.{Status}
-use Rattle.model.specs.declared.status.Status.TheVariants as status
+use Rattle.model_tree.specs.declared.acl.Cred.{Cred}
+use Rattle.model_tree.specs.declared.status.Status.{Status}
+use Rattle.model_tree.specs.declared.status.Status.TheVariants as status
 use Rattle.model.specs.Operations.Context.{Context, current_number}
-use Rattle.model.specs.Trees.Keyed.{at}
+use Rattle.model_tree.specs.Trees.Keyed.{at}
 use Rattle.model.specs.Sessions.Opens.{Open, Opens, no_opens}
 use Rattle.model.specs.Sessions.OpensLaws.{AreOpens}
 use Rattle.model.specs.Operations.Operation.{StateId}
-use Rattle.model.specs.Operations.Refusal.{first_refusal, refused_or}
+use Rattle.model_tree.specs.Refusals.Refusal.{first_refusal, refused_or}
 use Rattle.model.specs.Operations.State.{State}
 use Rattle.model.specs.Sessions.StateIdLaws.{IsOwn, OpenStands}
 use Rattle.model.specs.Sessions.StateIds.{Found, Anonymous, Refused, Names, access_refusals, by_meaning, by_open, by_seqid, found, is_anonymous, meant, open_named, open_stateid, write_access, zeros}
-use Rattle.model.proofs.Trees.KeyedLaws.{at-first, at-rest, some≢none}
+use Rattle.model_tree.proofs.Trees.KeyedLaws.{at-first, at-rest, some≢none}
 use Rattle.model.proofs.Sessions.StateIdLaws.{lower, newest}
 use Rattle.set_attributes.specs.Given.{given_of}
 use Rattle.fs.specs.FileSystem.{FileSystem}

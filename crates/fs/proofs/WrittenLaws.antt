@@ -12,29 +12,29 @@ use Rattle.tree_edits.specs.Edits.{AreEntries, AreDoable, edits_of, size_of}
 use Rattle.layout.specs.CachedNodes.{CachedNode}
 use Rattle.layout.specs.Known.{IsCard}
 use Rattle.layout.specs.Stands.{Kept}
-use Rattle.model.specs.declared.acl.Ace.{Ace}
-use Rattle.model.specs.declared.acl.Cred.{Cred}
-use Rattle.model.specs.declared.limits.Limits.{Limits}
-use Rattle.model.specs.declared.node.NodeKind.{NodeKind}
-use Rattle.model.specs.declared.node.NodeKind.TheVariants as kind
-use Rattle.model.specs.declared.status.Status.{Status}
-use Rattle.model.specs.declared.status.Status.TheVariants as status
-use Rattle.model.specs.Rights.Acl.{write_data}
-use Rattle.model.specs.Trees.Changes.{touched}
-use Rattle.model.specs.Trees.Charge.{fits}
-use Rattle.model.specs.Trees.Edit.{PutBytes, Show, done, edited, with_content, overwritten}
-use Rattle.model.specs.Trees.Edit as model
+use Rattle.model_tree.specs.declared.acl.Ace.{Ace}
+use Rattle.model_tree.specs.declared.acl.Cred.{Cred}
+use Rattle.model_tree.specs.declared.limits.Limits.{Limits}
+use Rattle.model_tree.specs.declared.node.NodeKind.{NodeKind}
+use Rattle.model_tree.specs.declared.node.NodeKind.TheVariants as kind
+use Rattle.model_tree.specs.declared.status.Status.{Status}
+use Rattle.model_tree.specs.declared.status.Status.TheVariants as status
+use Rattle.model_tree.specs.Rights.Acl.{write_data}
+use Rattle.model_tree.specs.Trees.Changes.{touched}
+use Rattle.model_tree.specs.Trees.Charge.{fits}
+use Rattle.model_tree.specs.Trees.Edit.{PutBytes, Show, done, edited, with_content, overwritten}
+use Rattle.model_tree.specs.Trees.Edit as model
 use Rattle.model.specs.Operations.Files.{are_bytes, has_bytes, taken_bytes, write}
-use Rattle.model.specs.Trees.Keyed.{at, is_key}
-use Rattle.model.specs.Trees.Limits.{limits_of}
+use Rattle.model_tree.specs.Trees.Keyed.{at, is_key}
+use Rattle.model_tree.specs.Trees.Limits.{limits_of}
 use Rattle.model.specs.Operations.Operation.{Argument, WriteArguments}
-use Rattle.model.specs.Operations.Refusal.{first_refusal}
-use Rattle.model.specs.Trees.Stamp.{next_stamp, is_stamp_left}
+use Rattle.model_tree.specs.Refusals.Refusal.{first_refusal}
+use Rattle.model_tree.specs.Trees.Stamp.{next_stamp, is_stamp_left}
 use Rattle.model.specs.Server.Runs.{is_done}
 use Rattle.model.specs.Operations.Step.{State, Stepped, current, refused}
-use Rattle.model.specs.Trees.Tree.{Tree, Node, Content, File, bytes_of, is_directory, is_directory_node, is_directory_at}
-use Rattle.model.proofs.Trees.KeyedLaws.{at-with_same}
-use Rattle.model.proofs.Trees.NodeChangeLaws.{altered-once}
+use Rattle.model_tree.specs.Trees.Tree.{Tree, Node, Content, File, bytes_of, is_directory, is_directory_node, is_directory_at}
+use Rattle.model_tree.proofs.Trees.KeyedLaws.{at-with_same}
+use Rattle.model_tree.proofs.Trees.NodeChangeLaws.{altered-once}
 use Rattle.fs.specs.declared.writing.Writing.{Writing}
 use Rattle.fs.specs.FileSystem.{FileSystem}
 use Rattle.fs.specs.Files.{permit_refusals}

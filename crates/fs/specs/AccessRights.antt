@@ -1,7 +1,7 @@
 -- What the call of ACCESS says.
 use Rattle.std.specs.Prelude.{ℕ, Result, Ok, Err, ◌≡◌}
 use Rattle.layout.specs.CachedNodes.{CachedNode}
-use Rattle.model.specs.declared.acl.Cred.{Cred}
+use Rattle.model_tree.specs.declared.acl.Cred.{Cred}
 use Rattle.model.specs.Operations.Access.{access_masks, asked_bits, granted_bits}
 use Rattle.model.specs.Operations.Answer.{Answer, AccessAnswer}
 use Rattle.model.specs.Operations.Operation.{Argument}

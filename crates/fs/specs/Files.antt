@@ -1,15 +1,15 @@
 -- What an operation on a file's bytes asks before it looks at them.
 use Rattle.std.specs.Prelude.{ℕ, [], ◌∷◌, ◌++◌, true, not, Result, Ok, Err}
-use Rattle.model.specs.declared.acl.Cred.{Cred}
-use Rattle.model.specs.declared.status.Status.{Status}
-use Rattle.model.specs.declared.status.Status.TheVariants as status
-use Rattle.model.specs.Trees.Keyed.{at, is_key}
-use Rattle.model.specs.Rights.Need.{granted_on}
+use Rattle.model_tree.specs.declared.acl.Cred.{Cred}
+use Rattle.model_tree.specs.declared.status.Status.{Status}
+use Rattle.model_tree.specs.declared.status.Status.TheVariants as status
+use Rattle.model_tree.specs.Trees.Keyed.{at, is_key}
+use Rattle.model.specs.Operations.Need.{granted_on}
 use Rattle.model.specs.Operations.Operation.{StateId}
-use Rattle.model.specs.Operations.Refusal.{Refusals}
+use Rattle.model_tree.specs.Refusals.Refusal.{Refusals}
 use Rattle.model.specs.Operations.State.{State}
 use Rattle.model.specs.Sessions.StateIds.{state_refusals}
-use Rattle.model.specs.Trees.Tree.{Tree, is_directory_at}
+use Rattle.model_tree.specs.Trees.Tree.{Tree, is_directory_at}
 use Rattle.set_attributes.specs.Given.{IsChecked}
 
 -- The verdict on a stateid

@@ -1,20 +1,20 @@
 -- READDIR, as a call on a file system.
 use Rattle.std.specs.Prelude.{◌≡◌, ◌==◌, ◌&&◌, ℕ, Bool, true, List, [], ◌∷◌, ◌++◌, Option, Result, Ok, Err, not, length, map, if◌then◌else◌}
 use Rattle.std.specs.List.{AllByRecursion, list_all}
-use Rattle.model.specs.declared.acl.Cred.{Cred}
-use Rattle.model.specs.declared.limits.Limits.{Limits}
-use Rattle.model.specs.declared.status.Status.TheVariants as status
-use Rattle.model.specs.Rights.Acl.{read_data}
+use Rattle.model_tree.specs.declared.acl.Cred.{Cred}
+use Rattle.model_tree.specs.declared.limits.Limits.{Limits}
+use Rattle.model_tree.specs.declared.status.Status.TheVariants as status
+use Rattle.model_tree.specs.Rights.Acl.{read_data}
 use Rattle.model.specs.Operations.Answer.{Answer, Entry, ReadDirAnswer}
-use Rattle.model.specs.Trees.Keyed.{at, is_key}
-use Rattle.model.specs.Rights.Need.{granted_on}
+use Rattle.model_tree.specs.Trees.Keyed.{at, is_key}
+use Rattle.model.specs.Operations.Need.{granted_on}
 use Rattle.model.specs.Attributes.NodeAttributes.{unreadable}
 use Rattle.model.specs.Operations.Operation.{Argument, Attributes, ReadDirArguments}
 use Rattle.model.specs.Operations.ReadDir.{asks_errors, cookie_refusals, fitting, may_read_list, names_after}
-use Rattle.model.specs.Operations.Refusal.{Refusals}
+use Rattle.model_tree.specs.Refusals.Refusal.{Refusals}
 use Rattle.model.specs.Operations.SetAttr.{attributes_at, asks_lists}
 use Rattle.model.specs.Operations.Step.{State, answered, refused}
-use Rattle.model.specs.Trees.Tree.{Tree, Node, DirEntry, is_directory_at, names_at}
+use Rattle.model_tree.specs.Trees.Tree.{Tree, Node, DirEntry, is_directory_at, names_at}
 use Rattle.fs.specs.declared.fault.FsFault.{FsFault}
 use Rattle.fs.specs.declared.fault.FsFault.TheVariants as fault
 use Rattle.fs.specs.declared.listing.Listing.{Listing}

@@ -3,18 +3,18 @@ use Rattle.std.specs.Prelude.{◌≡◌, ◌≤◌, ◌∷◌, [], ℕ, not, Lis
 use Rattle.tree_edits.specs.Making.{first_content}
 use Rattle.layout.specs.CachedNodes.{CachedNode}
 use Rattle.layout.specs.Known.{IsCard}
-use Rattle.model.specs.declared.node.NodeKind.{NodeKind}
-use Rattle.model.specs.declared.node.NodeKind.TheVariants as kind
-use Rattle.model.specs.declared.status.Status.{Status}
-use Rattle.model.specs.declared.status.Status.TheVariants as status
-use Rattle.model.specs.Trees.Changes.{made_edits}
-use Rattle.model.specs.Trees.Charge.{fits}
-use Rattle.model.specs.Trees.Edit.{Shown, edited}
-use Rattle.model.specs.Attributes.Name.{name_refusals}
-use Rattle.model.specs.Operations.Refusal.{Refusals, first_refusal}
-use Rattle.model.specs.Trees.Stamp.{next_stamp, is_stamp_left}
-use Rattle.model.specs.Trees.Tree.{Tree, Node, entry_of, names_at}
-use Rattle.model.specs.Trees.WellFormed.{IsNode}
+use Rattle.model_tree.specs.declared.node.NodeKind.{NodeKind}
+use Rattle.model_tree.specs.declared.node.NodeKind.TheVariants as kind
+use Rattle.model_tree.specs.declared.status.Status.{Status}
+use Rattle.model_tree.specs.declared.status.Status.TheVariants as status
+use Rattle.model_tree.specs.Trees.Changes.{made_edits}
+use Rattle.model_tree.specs.Trees.Charge.{fits}
+use Rattle.model_tree.specs.Trees.Edit.{Shown, edited}
+use Rattle.model_tree.specs.Refusals.Name.{name_refusals}
+use Rattle.model_tree.specs.Refusals.Refusal.{Refusals, first_refusal}
+use Rattle.model_tree.specs.Trees.Stamp.{next_stamp, is_stamp_left}
+use Rattle.model_tree.specs.Trees.Tree.{Tree, Node, entry_of, names_at}
+use Rattle.model_tree.specs.Trees.WellFormed.{IsNode}
 use Rattle.volume.specs.Nodes.{IsNodeOf}
 use Rattle.fs.specs.FileSystem.{FileSystem}
 

@@ -2,27 +2,26 @@
 use Rattle.std.specs.Prelude.{ℕ, Bool, List, [], ◌∷◌, ◌++◌, ◌+◌, Result, Ok, Err, None, MatchOption, ◌≡◌, ◌&&◌, ◌||◌, true, false, not, if◌then◌else◌}
 use Rattle.tree_edits.specs.declared.edit.Edit.{Edit}
 use Rattle.layout.specs.Stands.{Kept}
-use Rattle.model.specs.declared.acl.Cred.{Cred}
-use Rattle.model.specs.declared.limits.Limits.{Limits}
-use Rattle.model.specs.declared.status.Status.TheVariants as status
+use Rattle.model_tree.specs.declared.acl.Cred.{Cred}
+use Rattle.model_tree.specs.declared.limits.Limits.{Limits}
+use Rattle.model_tree.specs.declared.status.Status.TheVariants as status
 use Rattle.inode.specs.Fields.{Fields}
-use Rattle.model.specs.Rights.Acl.{execute, granted, meets, read_data, write_data}
+use Rattle.model_tree.specs.Rights.Acl.{execute, granted, meets, read_data, write_data}
 use Rattle.model.specs.Operations.Answer.{Answer}
 use Rattle.model.specs.Attributes.Attribute.{trimmed}
-use Rattle.model.specs.Trees.Changes.{touch}
-use Rattle.model.specs.Operations.Directory.{is_named, number_named}
-use Rattle.model.specs.Trees.Edit.{SetSize, edited}
-use Rattle.model.specs.Trees.Keyed.{at, is_key}
-use Rattle.model.specs.Rights.Need.{granted_on}
+use Rattle.model_tree.specs.Trees.Changes.{touch}
+use Rattle.model_tree.specs.Trees.Tree.{is_named, number_named, Tree, is_directory_at}
+use Rattle.model_tree.specs.Trees.Edit.{SetSize, edited}
+use Rattle.model_tree.specs.Trees.Keyed.{at, is_key}
+use Rattle.model.specs.Operations.Need.{granted_on}
 use Rattle.model.specs.Operations.Open.{asked_open, at_opened, creates, cuts, file_opened, given_by, name_opening_refusals, opened_state, share_refusals, size_alone, access_rights, opening_rights}
 use Rattle.model.specs.Operations.Operation.{Argument, OpenArguments, OpenType, NoCreate, Unchecked, Guarded}
 use Rattle.model.specs.Operations.Operation as operation
-use Rattle.model.specs.Operations.Refusal.{Refusals, first_refusal}
-use Rattle.model.specs.Trees.Stamp.{next_stamp}
+use Rattle.model_tree.specs.Refusals.Refusal.{Refusals, first_refusal}
+use Rattle.model_tree.specs.Trees.Stamp.{next_stamp}
 use Rattle.model.specs.Operations.State.{State, Stepped, current, named_refusals, answered}
 use Rattle.model.specs.Sessions.StateIds.{is_table_full, new_open, opened, read_access, write_access}
 use Rattle.model.specs.Operations.Step.{alters, without_rights}
-use Rattle.model.specs.Trees.Tree.{Tree, is_directory_at}
 use Rattle.set_attributes.specs.Given.{given_of}
 use Rattle.fs.specs.declared.fault.FsFault.{FsFault}
 use Rattle.fs.specs.declared.opening.How.{How}

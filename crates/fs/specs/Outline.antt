@@ -2,9 +2,9 @@
 use Rattle.directory.specs.Listing.{by_stamp}
 use Rattle.tree_edits.specs.Outlines.{zeros}
 use Rattle.layout.specs.CachedNodes.{CachedNode, node_with}
-use Rattle.model.specs.declared.node.NodeKind.{NodeKind}
-use Rattle.model.specs.declared.node.NodeKind.TheVariants as kind
-use Rattle.model.specs.Trees.Tree.{Node, Content, File, Directory}
+use Rattle.model_tree.specs.declared.node.NodeKind.{NodeKind}
+use Rattle.model_tree.specs.declared.node.NodeKind.TheVariants as kind
+use Rattle.model_tree.specs.Trees.Tree.{Node, Content, File, Directory}
 
 abbrev pub content_shown : NodeKind → CachedNode → Content
 content_shown kind.File card = File (zeros card.fields.size)

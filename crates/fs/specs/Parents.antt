@@ -1,12 +1,12 @@
 -- What the call of LOOKUPP says.
 use Rattle.std.specs.Prelude.{ℕ, Result, Ok, Err, ◌≡◌}
-use Rattle.model.specs.declared.acl.Cred.{Cred}
-use Rattle.model.specs.declared.limits.Limits.{Limits}
-use Rattle.model.specs.declared.status.Status.{Status}
+use Rattle.model_tree.specs.declared.acl.Cred.{Cred}
+use Rattle.model_tree.specs.declared.limits.Limits.{Limits}
+use Rattle.model_tree.specs.declared.status.Status.{Status}
 use Rattle.model.specs.Operations.Answer.{Answer}
 use Rattle.model.specs.Operations.Operation.{Argument}
 use Rattle.model.specs.Operations.Step.{State, Stepped, answered, refused, moved_to, does}
-use Rattle.model.specs.Trees.Tree.{Tree}
+use Rattle.model_tree.specs.Trees.Tree.{Tree}
 use Rattle.fs.specs.OnTree.{IsState}
 use Rattle.fs.specs.declared.fault.FsFault.{FsFault}
 use Rattle.fs.specs.FileSystem.{FileSystem}

@@ -2,15 +2,15 @@
 use Rattle.std.specs.Prelude.{◌+◌, ◌<◌, ◌^◌, ℕ, List, IsTrue}
 use Rattle.tree_edits.specs.declared.edit.Edit.{Edit}
 use Rattle.inode.specs.Fields.{Fields}
-use Rattle.model.specs.declared.acl.Ace.{Ace}
-use Rattle.model.specs.declared.acl.Cred.{Cred}
-use Rattle.model.specs.declared.limits.Limits.{Limits}
-use Rattle.model.specs.declared.node.NodeKind.{NodeKind}
-use Rattle.model.specs.Rights.Acl.{is_list_for}
-use Rattle.model.specs.Trees.Charge.{fits}
-use Rattle.model.specs.Trees.Edit.{Shown}
-use Rattle.model.specs.Rights.Inherit.{created_list}
-use Rattle.model.specs.Trees.Stamp.{next_stamp}
+use Rattle.model_tree.specs.declared.acl.Ace.{Ace}
+use Rattle.model_tree.specs.declared.acl.Cred.{Cred}
+use Rattle.model_tree.specs.declared.limits.Limits.{Limits}
+use Rattle.model_tree.specs.declared.node.NodeKind.{NodeKind}
+use Rattle.model_tree.specs.Rights.Acl.{is_list_for}
+use Rattle.model_tree.specs.Trees.Charge.{fits}
+use Rattle.model_tree.specs.Trees.Edit.{Shown}
+use Rattle.model_tree.specs.Rights.Inherit.{created_list}
+use Rattle.model_tree.specs.Trees.Stamp.{next_stamp}
 use Rattle.set_attributes.specs.declared.said.Settings.{Settings}
 use Rattle.fs.specs.FileSystem.{FileSystem}
 use Rattle.volume.specs.Edits.{IsChange, edited_by}

@@ -1,7 +1,7 @@
 -- READ, as a call on a file system.
 use Rattle.std.specs.Prelude.{◌≡◌, ℕ, Bool, true, List, Result, Ok, Err, take, drop, min}
 use Rattle.model.specs.Operations.Answer.{Answer}
-use Rattle.model.specs.Operations.Files.{bytes_at}
+use Rattle.model_tree.specs.Trees.Tree.{bytes_at}
 use Rattle.model.specs.Operations.Operation.{Argument, StateId}
 use Rattle.model.specs.Server.Runs.{is_done}
 use Rattle.model.specs.Operations.Step.{State, answered, refused}

@@ -1,7 +1,7 @@
 -- What a file system knows of its tree on any device, while that has not failed.
 use Rattle.std.specs.Prelude.{◌≡◌, ℕ, false}
 use Rattle.std.proofs.Props.{props}
-use Rattle.model.specs.Trees.Stamp.{next_stamp}
+use Rattle.model_tree.specs.Trees.Stamp.{next_stamp}
 use Rattle.volume.specs.Formed.{IsFormed}
 use Rattle.volume.specs.VolumeState.{VolumeState}
 use Rattle.volume.specs.KnownProps.{IsFormed-prop}

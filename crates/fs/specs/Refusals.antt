@@ -2,7 +2,7 @@
 use Rattle.std.specs.Prelude.{◌≡◌, Bool, true, false, Result, OnOk, IsErrOf}
 use Rattle.fs.specs.declared.fault.FsFault.{FsFault}
 use Rattle.fs.specs.declared.fault.FsFault.TheVariants as fault
-use Rattle.model.specs.declared.status.Status.TheVariants as status
+use Rattle.model_tree.specs.declared.status.Status.TheVariants as status
 use Rattle.model.specs.declared.not_done.NotDone.{NotDone}
 use Rattle.model.specs.declared.not_done.NotDone.TheVariants as refusal
 use Rattle.volume.specs.declared.fault.VolumeFault.{VolumeFault}
@@ -20,7 +20,8 @@ volume_fault volumes.Down = fault.Down
 
 -- A caller tells whether the reply to a change has room: only then is it done, or the device asked.
 -- A file system that is down answers so.
-pub record MindsRoom {T : Type 0} (has_room is_down : Bool) (result : Result T FsFault) : Type 0 where
+pub record MindsRoom {T : Type 0} (has_room is_down : Bool) (result : Result T FsFault)
+    : Type 0 where
   pub done : OnOk result (has_room ≡ true)
   pub refused : IsErrOf result fault.NoRoom → has_room ≡ false
   pub device : IsErrOf result fault.Device → has_room ≡ true

@@ -2,20 +2,19 @@
 use Rattle.std.specs.Prelude.{ℕ, Bool, true, List, [], ◌∷◌, ◌++◌, ◌+◌, Result, Ok, Err, not, ◌≡◌}
 use Rattle.std.specs.List.{list_any}
 use Rattle.tree_edits.specs.declared.edit.Edit.{Edit}
-use Rattle.model.specs.declared.acl.Cred.{Cred}
-use Rattle.model.specs.declared.limits.Limits.{Limits}
-use Rattle.model.specs.declared.status.Status.TheVariants as status
+use Rattle.model_tree.specs.declared.acl.Cred.{Cred}
+use Rattle.model_tree.specs.declared.limits.Limits.{Limits}
+use Rattle.model_tree.specs.declared.status.Status.TheVariants as status
 use Rattle.model.specs.Operations.Answer.{Answer}
-use Rattle.model.specs.Operations.Directory.{is_named, number_named}
-use Rattle.model.specs.Trees.Keyed.{is_key}
-use Rattle.model.specs.Attributes.Name.{name_refusals}
-use Rattle.model.specs.Rights.Need.{is_granted}
+use Rattle.model_tree.specs.Trees.Tree.{is_named, number_named, Tree, is_directory_at}
+use Rattle.model_tree.specs.Trees.Keyed.{is_key}
+use Rattle.model_tree.specs.Refusals.Name.{name_refusals}
+use Rattle.model.specs.Operations.Need.{is_granted}
 use Rattle.model.specs.Operations.Operation.{Argument}
-use Rattle.model.specs.Operations.Refusal.{Refusals}
+use Rattle.model_tree.specs.Refusals.Refusal.{Refusals}
 use Rattle.model.specs.Operations.Rename.{has_names, removable}
 use Rattle.model.specs.Operations.State.{State, Stepped, answered}
 use Rattle.model.specs.Sessions.StateIds.{without_number}
-use Rattle.model.specs.Trees.Tree.{Tree, is_directory_at}
 use Rattle.fs.specs.declared.fault.FsFault.{FsFault}
 use Rattle.fs.specs.declared.removing.Removed.{Removed}
 use Rattle.fs.specs.FileSystem.{FileSystem}

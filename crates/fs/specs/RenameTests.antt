@@ -5,19 +5,18 @@ use Rattle.std.specs.List.{list_any, list_all}
 use Rattle.directory.specs.Records.{record_from}
 use Rattle.layout.specs.CachedNodes.{CachedNode}
 use Rattle.layout.specs.Known.{IsCard}
-use Rattle.model.specs.declared.acl.Cred.{Cred}
-use Rattle.model.specs.declared.limits.Limits.{Limits}
-use Rattle.model.specs.declared.status.Status.TheVariants as status
-use Rattle.model.specs.Rights.Acl.{granted, delete, delete_child}
-use Rattle.model.specs.Trees.Ancestors.{is_below}
-use Rattle.model.specs.Operations.Directory.{is_named, number_named}
-use Rattle.model.specs.Trees.Keyed.{at, is_key}
-use Rattle.model.specs.Attributes.Name.{name_refusals}
-use Rattle.model.specs.Rights.Need.{is_granted, granted_on}
+use Rattle.model_tree.specs.declared.acl.Cred.{Cred}
+use Rattle.model_tree.specs.declared.limits.Limits.{Limits}
+use Rattle.model_tree.specs.declared.status.Status.TheVariants as status
+use Rattle.model_tree.specs.Rights.Acl.{granted, delete, delete_child}
+use Rattle.model_tree.specs.Trees.Ancestors.{is_below}
+use Rattle.model_tree.specs.Trees.Tree.{is_named, number_named, Tree, DirEntry, entry_of, is_directory_at, names_at}
+use Rattle.model_tree.specs.Trees.Keyed.{at, is_key}
+use Rattle.model_tree.specs.Refusals.Name.{name_refusals}
+use Rattle.model.specs.Operations.Need.{is_granted, granted_on}
 use Rattle.model.specs.Operations.Operation.{RenameArguments}
-use Rattle.model.specs.Operations.Refusal.{Refusals}
+use Rattle.model_tree.specs.Refusals.Refusal.{Refusals}
 use Rattle.model.specs.Operations.Rename.{is_other, has_names, rename_rights}
-use Rattle.model.specs.Trees.Tree.{Tree, DirEntry, entry_of, is_directory_at, names_at}
 use Rattle.volume.specs.Forms.{Place}
 use Rattle.volume.specs.Nodes.{IsNodeOf}
 use Rattle.fs.specs.declared.renaming.Moving.{Moving}

@@ -3,14 +3,14 @@ use Rattle.std.specs.Prelude.{ℕ, Bool, true, false, List, Option, Some, None, 
 use Rattle.std.specs.Prelude.{MatchOption, ◌+◌, ◌==◌, ◌&&◌, ◌≡◌, bytes_eq, option_map, IsTrue, if◌then◌else◌}
 use Rattle.tree_edits.specs.declared.edit.Edit.{Edit}
 use Rattle.layout.specs.Stands.{Kept}
-use Rattle.model.specs.declared.acl.Cred.{Cred}
+use Rattle.model_tree.specs.declared.acl.Cred.{Cred}
 use Rattle.model.specs.Operations.Answer.{Answer}
 use Rattle.model.specs.Operations.Context.{has_saved, is_same_name}
 use Rattle.model.specs.Operations.Operation.{Argument, ChangeInfo, RenameArguments}
 use Rattle.model.specs.Sessions.Opens.{Opens}
 use Rattle.model.specs.Operations.State.{State, Stepped, saved, answered}
 use Rattle.model.specs.Sessions.StateIds.{without_number}
-use Rattle.model.specs.Trees.Tree.{Tree, DirEntry, entry_of, names_at}
+use Rattle.model_tree.specs.Trees.Tree.{Tree, DirEntry, entry_of, names_at}
 use Rattle.fs.specs.declared.fault.FsFault.{FsFault}
 use Rattle.fs.specs.declared.renaming.Change.{Change}
 use Rattle.fs.specs.declared.renaming.Planned.{Planned}

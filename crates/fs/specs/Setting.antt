@@ -5,21 +5,21 @@ use Rattle.std.specs.Global.{Vec}
 use Rattle.tree_edits.specs.declared.edit.Edit.{Edit}
 use Rattle.inode.specs.Fields.{Fields}
 use Rattle.layout.specs.Stands.{Kept}
-use Rattle.model.specs.declared.acl.Cred.{Cred}
-use Rattle.model.specs.declared.limits.Limits.{Limits}
-use Rattle.model.specs.declared.status.Status.{Status}
-use Rattle.model.specs.declared.status.Status.TheVariants as status
-use Rattle.model.specs.Rights.Acl.{write_acl, write_data, write_owner}
+use Rattle.model_tree.specs.declared.acl.Cred.{Cred}
+use Rattle.model_tree.specs.declared.limits.Limits.{Limits}
+use Rattle.model_tree.specs.declared.status.Status.{Status}
+use Rattle.model_tree.specs.declared.status.Status.TheVariants as status
+use Rattle.model_tree.specs.Rights.Acl.{write_acl, write_data, write_owner}
 use Rattle.model.specs.Attributes.Attribute.{acl_number, attribute_refusals, attributes_of, is_among, mode_number, owner_group_number, owner_number, settable_at_setattr, size_number}
-use Rattle.model.specs.Trees.Edit.{Shown}
-use Rattle.model.specs.Trees.Keyed.{at, is_key}
-use Rattle.model.specs.Rights.Need.{granted_on}
+use Rattle.model_tree.specs.Trees.Edit.{Shown}
+use Rattle.model_tree.specs.Trees.Keyed.{at, is_key}
+use Rattle.model.specs.Operations.Need.{granted_on}
 use Rattle.model.specs.Operations.Operation.{Argument, Attributes, SetAttrArguments}
-use Rattle.model.specs.Operations.Refusal.{Refusals}
+use Rattle.model_tree.specs.Refusals.Refusal.{Refusals}
 use Rattle.model.specs.Operations.SetAttr.{kind_at, list_set, sets_size, was_set}
 use Rattle.model.specs.Sessions.StateIds.{write_access}
 use Rattle.model.specs.Operations.Step.{State, Stepped, alters, answered}
-use Rattle.model.specs.Trees.Tree.{Tree, is_directory_at}
+use Rattle.model_tree.specs.Trees.Tree.{Tree, is_directory_at}
 use Rattle.set_attributes.specs.declared.said.Settings.{Settings}
 use Rattle.set_attributes.specs.Given.{given_of}
 use Rattle.fs.specs.declared.fault.FsFault.{FsFault}

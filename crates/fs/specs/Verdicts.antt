@@ -2,18 +2,18 @@
 -- 8.2.4): no refusal; or that it names no open, an old seqid of one, or one without this access.
 -- Each is given in some state.
 use Rattle.std.specs.Prelude.{ℕ, Result, Ok, Err, Some, None, [], codes, ◌≡◌, ◌≤◌, ◌<◌, ◌^◌, ◌⊎◌, IsTrue, IsFalse}
-use Rattle.model.specs.declared.acl.Cred.{Cred}
-use Rattle.model.specs.declared.status.Status.{Status}
-use Rattle.model.specs.declared.status.Status.TheVariants as status
+use Rattle.model_tree.specs.declared.acl.Cred.{Cred}
+use Rattle.model_tree.specs.declared.status.Status.{Status}
+use Rattle.model_tree.specs.declared.status.Status.TheVariants as status
 use Rattle.model.specs.Examples.FileExamples.{anonymous, current_state, number, stateid}
-use Rattle.model.specs.Trees.Keyed.{is_key}
+use Rattle.model_tree.specs.Trees.Keyed.{is_key}
 use Rattle.model.specs.Sessions.Opens.{Open, Opens, no_opens}
 use Rattle.model.specs.Sessions.OpensLaws.{AreOpens}
 use Rattle.model.specs.Operations.Operation.{SetAttrArguments, StateId, WriteArguments}
 use Rattle.model.specs.Operations.State.{State}
 use Rattle.model.specs.Sessions.StateIds.{new_open, opened, read_access, write_access}
 use Rattle.model.specs.Examples.StepExamples.{caller}
-use Rattle.model.specs.Trees.Tree.{Tree, is_directory_at}
+use Rattle.model_tree.specs.Trees.Tree.{Tree, is_directory_at}
 use Rattle.fs.specs.declared.setting.Setting.{Setting}
 use Rattle.fs.specs.declared.writing.Writing.{Writing}
 use Rattle.fs.specs.FileSystem.{FileSystem}

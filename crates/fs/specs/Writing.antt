@@ -2,15 +2,15 @@
 use Rattle.std.specs.Prelude.{◌≡◌, ◌+◌, ℕ, Bool, true, List, Result, Ok, Err, ◌==◌, not, take}
 use Rattle.tree_edits.specs.declared.edit.Edit.{Edit}
 use Rattle.layout.specs.Stands.{Kept}
-use Rattle.model.specs.declared.acl.Cred.{Cred}
-use Rattle.model.specs.declared.status.Status.{Status}
+use Rattle.model_tree.specs.declared.acl.Cred.{Cred}
+use Rattle.model_tree.specs.declared.status.Status.{Status}
 use Rattle.model.specs.Operations.Answer.{Answer}
 use Rattle.model.specs.Operations.Files.{committed_as, write_verifier}
 use Rattle.model.specs.Operations.Operation.{Argument, WriteArguments, CommitArguments}
 use Rattle.model.specs.Server.Runs.{is_done, is_durable}
 use Rattle.model.specs.Operations.Step.{State, Stepped, answered, refused}
 use Rattle.model.specs.Sessions.StateIds.{write_access}
-use Rattle.model.specs.Trees.Tree.{Tree}
+use Rattle.model_tree.specs.Trees.Tree.{Tree}
 use Rattle.fs.specs.declared.fault.FsFault.{FsFault}
 use Rattle.fs.specs.declared.fault.FsFault.TheVariants as fault
 use Rattle.fs.specs.declared.writing.Writing.{Writing}

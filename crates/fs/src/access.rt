@@ -4,7 +4,7 @@ ghost use Rattle.std.specs.Prelude.{◌≡◌, ◌≤◌, ◌&&◌, if◌then◌
 ghost use Rattle.fs.specs.AccessRights.{access_answer, access_on};
 ghost use Rattle.fs.specs.Outline.{node_shown};
 ghost use Rattle.model.specs.Operations.Access.{access_masks, asked_bits, granted_bits};
-ghost use Rattle.model.specs.Rights.Acl.{granted, meets};
+ghost use Rattle.model_tree.specs.Rights.Acl.{granted, meets};
 
 use crate::fault::FsFault;
 use crate::fs::Fs;
@@ -12,7 +12,7 @@ use crate::rights::grants;
 use acl_eval::{Cred, Mask, NodeKind};
 use bitflags::Flags;
 use disk::Device;
-use model::status::Status;
+use model_tree::status::Status;
 use node_table::CachedNode;
 
 /// `ACCESS4_READ`: to read a file's bytes, or to list a directory.

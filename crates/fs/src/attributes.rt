@@ -5,7 +5,7 @@ use crate::fs::Fs;
 use crate::rights::grants;
 use acl_eval::{Cred, Mask};
 use disk::Device;
-use model::status::Status;
+use model_tree::status::Status;
 use node_table::CachedNode;
 use wire_attributes::{Attribute, AttributesAnswer, NodeAttributes, is_asked};
 
@@ -17,7 +17,7 @@ impl<D: Device> Fs<D> {
     ghost use Rattle.fs.specs.Attributes.{AreAttributes, GetsAttributes, ShowsCard};
     ghost use Rattle.fs.specs.Views.{fs_of};
     ghost use Rattle.fs.specs.Operations.{IsOn};
-    ghost use Rattle.model.specs.declared.acl.TheConstants.Acl.{MAX_STORED};
+    ghost use Rattle.model_tree.specs.declared.acl.TheConstants.Acl.{MAX_STORED};
     ghost use Rattle.wire_attributes.specs.NodeValues.{HasFewEntries};
 
     /// GETATTR (RFC 8881, section 18.7) of what a bitmap, of any length, asks of the node of this

@@ -11,7 +11,7 @@ use crate::fs::Fs;
 use acl_eval::NodeKind;
 use disk::Device;
 use model::not_done::NotDone;
-use model::status::Status;
+use model_tree::status::Status;
 use node_table::CachedNode;
 use std::alloc::{AllocError, Global};
 use tree_edits::Edit;
@@ -152,7 +152,7 @@ impl<D: Device> Fs<D> {
     ghost use Rattle.tree_edits.specs.Edits.{AreDoable};
     ghost use Rattle.fs.specs.Making.{last_refusal};
     ghost use Rattle.fs.specs.Planned.{IsPlanned};
-    ghost use Rattle.model.specs.Trees.Stamp.{next_stamp, is_stamp_left};
+    ghost use Rattle.model_tree.specs.Trees.Stamp.{next_stamp, is_stamp_left};
     ghost use Rattle.volume.specs.Changes.{IsTree};
     ghost use Rattle.volume.specs.Edits.{IsEdited, edited_by};
     ghost use Rattle.volume.specs.Formed.{ShowsTree};

@@ -3,7 +3,7 @@
 ghost use Rattle.std.specs.Prelude.{◌≡◌};
 
 use model::not_done::NotDone;
-use model::status::Status;
+use model_tree::status::Status;
 use std::alloc::AllocError;
 use thiserror::Error;
 use volume::VolumeFault;

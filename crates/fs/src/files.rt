@@ -5,14 +5,14 @@ use crate::nodes::is_directory;
 use crate::rights::grants;
 use acl_eval::{Cred, Mask};
 use disk::Device;
-use model::status::Status;
+use model_tree::status::Status;
 use node_table::CachedNode;
 
 #[tactic(auto, unfolding(crate::specs::Views::fs_of))]
 impl<D: Device> Fs<D> {
     ghost use Rattle.std.specs.Prelude.{◌≡◌, IfOk};
     ghost use Rattle.layout.specs.Known.{IsCard};
-    ghost use Rattle.model.specs.declared.node.NodeKind.TheVariants as kind;
+    ghost use Rattle.model_tree.specs.declared.node.NodeKind.TheVariants as kind;
     ghost use Rattle.set_attributes.specs.Given.{IsChecked};
     ghost use Rattle.fs.specs.Files.{file_refusals, permit_refusals};
     ghost use Rattle.fs.specs.Views.{fs_of};

@@ -6,8 +6,8 @@ ghost use Rattle.volume.specs.Views.{volume_state};
 
 use crate::fault::FsFault;
 use disk::Device;
-use model::limits::Limits;
-use model::seats::{SeatEdits, Seats};
+use model_tree::limits::Limits;
+use model_tree::seats::{SeatEdits, Seats};
 use std::alloc::Global;
 use std::num::NonZeroUsize;
 use volume::{Checked, FormatFault, MountFault, Unmounted, Volume};
@@ -36,8 +36,8 @@ impl<D: Device> Fs<D> {
     ghost use Rattle.fs.specs.Views.{fs_of, fs_failures, AltersFs};
     ghost use Rattle.fs.specs.Formatting.{Formats};
     ghost use Rattle.volume.specs.Checks.{Checks};
-    ghost use Rattle.model.specs.Sessions.SeatEdits.{AreEdits, edited_all, edits_view};
-    ghost use Rattle.model.specs.Sessions.SeatViews.{seats_view};
+    ghost use Rattle.model_tree.specs.Seats.SeatEdits.{AreEdits, edited_all, edits_view};
+    ghost use Rattle.model_tree.specs.Seats.SeatViews.{seats_view};
     ghost use Rattle.volume.specs.Changes.{IsSeats, Stays};
     ghost use Rattle.volume.specs.Formed.{ShowsTree};
     ghost use Rattle.volume.specs.VolumeState.{KeepsRecent};

@@ -1,12 +1,12 @@
 //! Operations that move the current filehandle or answer it.
 
 ghost use Rattle.std.specs.Prelude.{◌≡◌, MatchResult, IsTrue, IsFalse};
-ghost use Rattle.model.specs.Trees.Stamp.{filehandle_of, is_filehandle, handle_number};
+ghost use Rattle.model_tree.specs.Trees.Stamp.{filehandle_of, is_filehandle, handle_number};
 
 use crate::fault::FsFault;
 use crate::fs::Fs;
 use disk::Device;
-use model::status::Status;
+use model_tree::status::Status;
 
 // The filehandle of a node.
 fn filehandle_of(number: u64) -> [u8; 8]
@@ -30,7 +30,7 @@ fn number_of(handle: &[u8]) -> Result<u64, Status>
 #[tactic(auto, unfolding(crate::specs::Views::fs_of))]
 impl<D: Device> Fs<D> {
     ghost use Rattle.std.specs.Prelude.{◌≡◌, true, ℕ, IsErrOf};
-    ghost use Rattle.model.specs.declared.acl.Cred.{Cred};
+    ghost use Rattle.model_tree.specs.declared.acl.Cred.{Cred};
     ghost use Rattle.model.specs.Operations.Step.{State};
     ghost use Rattle.fs.specs.Views.{fs_of};
     ghost use Rattle.fs.specs.Operations.{IsOn, PutsHandle, GetsHandle, TestsCurrent};

@@ -11,7 +11,7 @@ use crate::rights::grants;
 use acl_eval::{Cred, Mask};
 use directory::{Entry, ListAfter};
 use disk::Device;
-use model::status::Status;
+use model_tree::status::Status;
 use node_table::CachedNode;
 use std::alloc::AllocError;
 use wire_attributes::{Attribute, AttributesAnswer, ListedAttributes, ListedEntry, is_asked};
@@ -86,10 +86,10 @@ impl<D: Device> Fs<D> {
     ghost use Rattle.fs.specs.Listing.{Lists, PageFits, list_arguments, list_refusals, page_of, page_view};
     ghost use Rattle.fs.specs.Listing.{shown_attributes, shown_entry};
     ghost use Rattle.fs.specs.Operations.{IsOn};
-    ghost use Rattle.model.specs.Trees.Keyed.{at};
+    ghost use Rattle.model_tree.specs.Trees.Keyed.{at};
     ghost use Rattle.model.specs.Operations.ReadDir.{may_read_list};
     ghost use Rattle.model.specs.Operations.Step.{State};
-    ghost use Rattle.model.specs.Trees.Tree.{names_at};
+    ghost use Rattle.model_tree.specs.Trees.Tree.{names_at};
     ghost use Rattle.set_attributes.specs.Given.{IsChecked};
     ghost use Rattle.wire_attributes.specs.Listed.{EntryFits, ListedFits, entry_view, listed_view};
 

@@ -2,7 +2,7 @@
 
 ghost use Rattle.std.specs.Prelude.{◌≡◌, ◌≤◌, IfOk};
 ghost use Rattle.std.specs.Option.{ForSome};
-ghost use Rattle.model.specs.Rights.Inherit.{created_list};
+ghost use Rattle.model_tree.specs.Rights.Inherit.{created_list};
 ghost use Rattle.model.specs.Operations.SetAttr.{list_set};
 
 use acl_eval::{Ace, Acl, NodeKind};

@@ -7,7 +7,7 @@ use crate::rights::grants;
 use acl_eval::{Cred, Mask};
 use directory::check_name;
 use disk::Device;
-use model::status::Status;
+use model_tree::status::Status;
 
 #[tactic(auto, unfolding(crate::specs::Views::fs_of))]
 impl<D: Device> Fs<D> {

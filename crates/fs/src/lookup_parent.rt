@@ -6,8 +6,8 @@ use crate::nodes::is_directory;
 use crate::rights::grants;
 use acl_eval::{Cred, Mask};
 use disk::Device;
-use model::node::ROOT;
-use model::status::Status;
+use model_tree::node::ROOT;
+use model_tree::status::Status;
 
 #[tactic(auto, unfolding(crate::specs::Views::fs_of))]
 impl<D: Device> Fs<D> {

@@ -2,10 +2,10 @@
 
 ghost use Rattle.std.specs.Prelude.{◌≡◌, ◌↔◌, IsTrue, option_map};
 ghost use Rattle.directory.specs.Records.{record_from};
-ghost use Rattle.model.specs.declared.node.NodeKind.TheVariants as kind;
-ghost use Rattle.model.specs.Trees.Keyed.{is_key};
+ghost use Rattle.model_tree.specs.declared.node.NodeKind.TheVariants as kind;
+ghost use Rattle.model_tree.specs.Trees.Keyed.{is_key};
 ghost use Rattle.model.specs.Operations.Rename.{has_names};
-ghost use Rattle.model.specs.Trees.Tree.{entry_of, is_directory_at, names_at};
+ghost use Rattle.model_tree.specs.Trees.Tree.{entry_of, is_directory_at, names_at};
 ghost use Rattle.fs.specs.Views.{fs_of};
 
 use crate::fs::Fs;

@@ -13,7 +13,7 @@ use crate::renaming::Change;
 use crate::rights::grants;
 use acl_eval::{Cred, Mask};
 use disk::Device;
-use model::status::Status;
+use model_tree::status::Status;
 use node_table::CachedNode;
 use set_attributes::GivenAttributes;
 

@@ -4,7 +4,7 @@ use crate::fault::FsFault;
 use crate::fs::Fs;
 use acl_eval::{Cred, Mask};
 use disk::Device;
-use model::status::Status;
+use model_tree::status::Status;
 
 /// The part of a file that a READ gives.
 #[derive(Clone, Copy)]
@@ -18,8 +18,8 @@ struct Part {
 #[tactic(auto, unfolding(crate::specs::Views::fs_of, crate::specs::Views::fs_failures))]
 impl<D: Device> Fs<D> {
     ghost use Rattle.std.specs.Prelude.{◌≡◌, ◌+◌, ◌<◌, ◌++◌, ◌⊎◌, true, ℕ, nat_le, length, OnOk, OnErr, IfOk, IsErrOf};
-    ghost use Rattle.model.specs.Rights.Acl.{read_data};
-    ghost use Rattle.model.specs.Operations.Files.{bytes_at};
+    ghost use Rattle.model_tree.specs.Rights.Acl.{read_data};
+    ghost use Rattle.model_tree.specs.Trees.Tree.{bytes_at};
     ghost use Rattle.model.specs.Operations.Operation.{StateId};
     ghost use Rattle.model.specs.Sessions.StateIds.{read_access};
     ghost use Rattle.model.specs.Operations.Step.{State};

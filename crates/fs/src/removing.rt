@@ -8,7 +8,7 @@ use acl_eval::Cred;
 use directory::check_name;
 use disk::Device;
 use model::not_done::NotDone;
-use model::status::Status;
+use model_tree::status::Status;
 use node_table::CachedNode;
 use tree_edits::Edit;
 
@@ -46,11 +46,11 @@ impl<D: Device> Fs<D> {
     ghost use Rattle.std.specs.Prelude.{◌≡◌, true, false, Some, OnOk, IfOk, IfErr, IsErrOf};
     ghost use Rattle.directory.specs.Records.{record_from};
     ghost use Rattle.layout.specs.Known.{IsCard};
-    ghost use Rattle.model.specs.Operations.Directory.{number_named};
+    ghost use Rattle.model_tree.specs.Trees.Tree.{number_named};
     ghost use Rattle.model.specs.Operations.Operation.{Argument};
-    ghost use Rattle.model.specs.Trees.Stamp.{is_stamp_left};
+    ghost use Rattle.model_tree.specs.Trees.Stamp.{is_stamp_left};
     ghost use Rattle.model.specs.Operations.Step.{State};
-    ghost use Rattle.model.specs.Trees.Tree.{entry_of, names_at};
+    ghost use Rattle.model_tree.specs.Trees.Tree.{entry_of, names_at};
     ghost use Rattle.set_attributes.specs.Given.{IsChecked};
     ghost use Rattle.fs.specs.Changes.{fs_ending};
     ghost use Rattle.fs.specs.Views.{fs_of, AltersFs};

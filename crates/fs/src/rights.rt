@@ -1,9 +1,9 @@
 //! Whether a node's list grants a caller rights.
 
 ghost use Rattle.std.specs.Prelude.{◌≡◌, ◌||◌};
-ghost use Rattle.model.specs.Rights.Acl.{granted, delete, delete_child};
-ghost use Rattle.model.specs.Trees.Keyed.{at};
-ghost use Rattle.model.specs.Rights.Need.{granted_on};
+ghost use Rattle.model_tree.specs.Rights.Acl.{granted, delete, delete_child};
+ghost use Rattle.model_tree.specs.Trees.Keyed.{at};
+ghost use Rattle.model.specs.Operations.Need.{granted_on};
 ghost use Rattle.fs.specs.Views.{fs_of};
 
 use crate::fs::Fs;

@@ -1,7 +1,7 @@
 //! SETATTR.
 
 ghost use Rattle.std.specs.Prelude.{◌≡◌};
-ghost use Rattle.model.specs.Rights.Acl.{granted};
+ghost use Rattle.model_tree.specs.Rights.Acl.{granted};
 ghost use Rattle.set_attributes.specs.Given.{IsChecked};
 ghost use Rattle.fs.specs.Setting.{may_set, sized_refusals};
 
@@ -14,7 +14,7 @@ use crate::rights::grants;
 use acl_eval::{Cred, Mask};
 use disk::Device;
 use model::not_done::NotDone;
-use model::status::Status;
+use model_tree::status::Status;
 use node_table::CachedNode;
 use set_attributes::{
     ACL, GivenAttributes, MODE, OWNER, OWNER_GROUP, SETTABLE_AT_SETATTR, SIZE, Settings,

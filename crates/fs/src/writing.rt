@@ -6,7 +6,7 @@ use crate::fs::Fs;
 use acl_eval::{Cred, Mask};
 use disk::Device;
 use model::not_done::NotDone;
-use model::status::Status;
+use model_tree::status::Status;
 use tree_edits::Edit;
 
 /// The bytes that a caller writes to a file.
@@ -24,7 +24,7 @@ impl<D: Device> Fs<D> {
     ghost use Rattle.std.specs.Prelude.{◌≡◌, ◌+◌, ◌<◌, ◌≤◌, ◌⊎◌, true, false, ℕ, length, take, OnOk, IfOk, IfErr, IfSome, IfNone, IsErrOf, IsTrue};
     ghost use Rattle.model.specs.Operations.Files.{are_bytes};
     ghost use Rattle.model.specs.Operations.Operation.{Argument, CommitArguments, WriteArguments};
-    ghost use Rattle.model.specs.Trees.Stamp.{is_stamp_left};
+    ghost use Rattle.model_tree.specs.Trees.Stamp.{is_stamp_left};
     ghost use Rattle.model.specs.Operations.Step.{State};
     ghost use Rattle.fs.specs.Changes.{fs_ending};
     ghost use Rattle.fs.specs.Views.{fs_of, AltersFs};

@@ -2,9 +2,9 @@
 use Rattle.std.proofs.Common.{◌≡◌, ◌+◌, ℕ, List, [], ◌∷◌, ◌++◌, Option, Some, Result, Err, get_or, take, drop, replicate, refl, sym, ap, ◌∙◌, arith, append_assoc}
 use Rattle.std.specs.Int.{w32, to_be_bytes}
 use Rattle.std.proofs.lemmas.List.{get_or-drop, drop-drop}
-use Rattle.model.specs.declared.acl.Ace.{Ace}
-use Rattle.model.specs.declared.acl.AceKind.{AceKind}
-use Rattle.model.specs.declared.acl.Who.{Who}
+use Rattle.model_tree.specs.declared.acl.Ace.{Ace}
+use Rattle.model_tree.specs.declared.acl.AceKind.{AceKind}
+use Rattle.model_tree.specs.declared.acl.Who.{Who}
 use Rattle.inode.specs.declared.fault.InodeFault.{InodeFault}
 use Rattle.sector.specs.Placed.{IsNumberAt}
 use Rattle.sector.specs.Records.{AreWide}

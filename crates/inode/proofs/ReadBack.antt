@@ -2,13 +2,13 @@
 use Rattle.std.proofs.Common.{◌≡◌, ◌+◌, ◌/◌, ℕ, List, ◌++◌, length, drop, refl, sym, ap, ap₂, ◌∙◌, arith}
 use Rattle.std.specs.Int.{w16, w32, from_be_bytes}
 use Rattle.std.proofs.lemmas.Nat.{from_be_bytes-to_be_bytes_2, from_be_bytes-to_be_bytes_4, from_be_bytes-to_be_bytes_8}
-use Rattle.model.specs.declared.node.NodeKind.{NodeKind}
-use Rattle.model.specs.declared.node.NodeKind.TheVariants as node
-use Rattle.model.specs.declared.acl.Ace.{Ace}
-use Rattle.model.specs.declared.acl.AceKind.{AceKind}
-use Rattle.model.specs.declared.acl.AceKind.TheVariants as ace_kind
-use Rattle.model.specs.declared.acl.Who.{Who}
-use Rattle.model.specs.declared.acl.Who.TheVariants as who
+use Rattle.model_tree.specs.declared.node.NodeKind.{NodeKind}
+use Rattle.model_tree.specs.declared.node.NodeKind.TheVariants as node
+use Rattle.model_tree.specs.declared.acl.Ace.{Ace}
+use Rattle.model_tree.specs.declared.acl.AceKind.{AceKind}
+use Rattle.model_tree.specs.declared.acl.AceKind.TheVariants as ace_kind
+use Rattle.model_tree.specs.declared.acl.Who.{Who}
+use Rattle.model_tree.specs.declared.acl.Who.TheVariants as who
 use Rattle.sector.specs.Records.{records_at_front, records-back}
 use Rattle.inode.specs.declared.node.Form.{Form}
 use Rattle.inode.specs.declared.node.Form.TheVariants.{One, Two}

@@ -1,10 +1,10 @@
 -- What a node's sector says of it, apart from where it lies in memory.
 use Rattle.std.specs.Prelude.{◌≡◌, ◌<◌, ◌≤◌, ◌+◌, ◌/◌, ◌^◌, ℕ, List, length}
 use Rattle.std.specs.List.{AllByRecursion}
-use Rattle.model.specs.declared.node.NodeKind.{NodeKind}
-use Rattle.model.specs.declared.acl.Ace.{Ace}
-use Rattle.model.specs.declared.acl.Who.{Who}
-use Rattle.model.specs.declared.acl.Who.TheVariants as who
+use Rattle.model_tree.specs.declared.node.NodeKind.{NodeKind}
+use Rattle.model_tree.specs.declared.acl.Ace.{Ace}
+use Rattle.model_tree.specs.declared.acl.Who.{Who}
+use Rattle.model_tree.specs.declared.acl.Who.TheVariants as who
 use Rattle.inode.specs.declared.node.Form.{Form}
 use Rattle.inode.specs.declared.node.Form.TheVariants.{One, Two}
 use Rattle.inode.specs.declared.node.Inode.{Inode}

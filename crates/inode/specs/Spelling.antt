@@ -3,13 +3,13 @@
 use Rattle.std.specs.Prelude.{◌-◌, ◌*◌, ◌++◌, ℕ, List, [], ◌∷◌, length, replicate, codes}
 use Rattle.std.specs.List.{flat_map}
 use Rattle.std.specs.Int.{w16, w32, w64, to_be_bytes}
-use Rattle.model.specs.declared.node.NodeKind.{NodeKind}
-use Rattle.model.specs.declared.node.NodeKind.TheVariants as node
-use Rattle.model.specs.declared.acl.Ace.{Ace}
-use Rattle.model.specs.declared.acl.AceKind.{AceKind}
-use Rattle.model.specs.declared.acl.AceKind.TheVariants as ace_kind
-use Rattle.model.specs.declared.acl.Who.{Who}
-use Rattle.model.specs.declared.acl.Who.TheVariants as who
+use Rattle.model_tree.specs.declared.node.NodeKind.{NodeKind}
+use Rattle.model_tree.specs.declared.node.NodeKind.TheVariants as node
+use Rattle.model_tree.specs.declared.acl.Ace.{Ace}
+use Rattle.model_tree.specs.declared.acl.AceKind.{AceKind}
+use Rattle.model_tree.specs.declared.acl.AceKind.TheVariants as ace_kind
+use Rattle.model_tree.specs.declared.acl.Who.{Who}
+use Rattle.model_tree.specs.declared.acl.Who.TheVariants as who
 use Rattle.inode.specs.declared.node.Form.{Form}
 use Rattle.inode.specs.declared.node.Form.TheVariants.{One, Two}
 use Rattle.inode.specs.Fields.{Fields, id_of}

@@ -1,14 +1,14 @@
 //! Access control entries in a node's sector: 16 bytes each.
 
 ghost use Rattle.std.specs.Prelude.{◌≡◌, ◌<◌, ◌≤◌, ◌+◌, ◌^◌, ◌++◌, ℕ, List, length, drop, take, Some, IfSome};
-ghost use Rattle.model.specs.declared.acl.Ace.{Ace};
-ghost use Rattle.model.specs.declared.acl.AceKind.{AceKind};
-ghost use Rattle.model.specs.declared.acl.Who.{Who};
+ghost use Rattle.model_tree.specs.declared.acl.Ace.{Ace};
+ghost use Rattle.model_tree.specs.declared.acl.AceKind.{AceKind};
+ghost use Rattle.model_tree.specs.declared.acl.Who.{Who};
 ghost use Rattle.inode.specs.Fields.{IsAce, id_of};
 ghost use Rattle.inode.specs.Spelling.{ace_bytes, ace_kind_byte, who_byte};
 
 use bitflags::Flags;
-use model::acl::{Ace, AceFlags, AceKind, Mask, Who};
+use model_tree::acl::{Ace, AceFlags, AceKind, Mask, Who};
 use sector::{SIZE, put_bytes, put_u32, put_zeros, u32_at};
 
 /// How long an entry is.

@@ -3,8 +3,8 @@
 ghost use Rattle.std.specs.Prelude.{◌≡◌, ◌≤◌, IfOk, OnOk, vec_capacity};
 ghost use Rattle.inode.specs.Ranges.{AreInRange};
 
-use model::acl::Acl;
-use model::node::NodeKind;
+use model_tree::acl::Acl;
+use model_tree::node::NodeKind;
 use std::alloc::{AllocError, Global};
 
 /// The forms of node sectors.

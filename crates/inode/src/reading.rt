@@ -2,8 +2,8 @@
 
 ghost use Rattle.std.specs.Prelude.{◌≡◌, ◌≤◌, ◌+◌, ◌*◌, ◌++◌, ℕ, List, length, drop, vec_len, IfOk, IfSome, IsErrOf, Some};
 ghost use Rattle.std.specs.List.{AllByRecursion, flat_map};
-ghost use Rattle.model.specs.declared.acl.Ace.{Ace};
-ghost use Rattle.model.specs.declared.node.NodeKind.{NodeKind};
+ghost use Rattle.model_tree.specs.declared.acl.Ace.{Ace};
+ghost use Rattle.model_tree.specs.declared.node.NodeKind.{NodeKind};
 ghost use Rattle.inode.specs.Fields.{Fields, fields_of, IsAce, IsRunSector, IsInode};
 ghost use Rattle.inode.specs.Spelling.{inode_sector, ace_bytes, number_bytes, kind_byte};
 ghost use Rattle.inode.specs.Reading.{count_in};
@@ -12,8 +12,8 @@ use crate::entries::{MOST, WIDTH, ace_at};
 use crate::fault::InodeFault;
 use crate::node::{Form, Inode};
 use crate::writing::{ENTRIES, RUN_NUMBERS, SECOND_COUNT, to_sector};
-use model::acl::Acl;
-use model::node::NodeKind;
+use model_tree::acl::Acl;
+use model_tree::node::NodeKind;
 use sector::{SIZE, u16_at, u32_at, u64_at};
 use std::alloc::Global;
 

@@ -8,8 +8,8 @@ ghost use Rattle.inode.specs.Spelling as spelled;
 
 use crate::entries::{MOST, WIDTH, put_ace};
 use crate::node::{Form, Inode};
-use model::acl::Ace;
-use model::node::NodeKind;
+use model_tree::acl::Ace;
+use model_tree::node::NodeKind;
 use sector::{SIZE, put_bytes, put_u16, put_u32, put_u64, put_zeros};
 
 /// Where the numbers of the run sectors, the second number of entries, the zeros after it and the

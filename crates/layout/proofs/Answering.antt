@@ -2,8 +2,8 @@
 use Rattle.std.proofs.Common.{◌≡◌, ℕ, zero, suc, List, [], ◌∷◌, Option, Some, None, get_or, refl, sym, ap, ◌∙◌, arith}
 use Rattle.std.proofs.lemmas.Option.{same_Some, none-some}
 use Rattle.disk.specs.Moments.{Image}
-use Rattle.model.specs.Trees.Keyed.{at, with}
-use Rattle.model.proofs.Trees.KeyedLaws.{at-with_same, at-with_other}
+use Rattle.model_tree.specs.Trees.Keyed.{at, with}
+use Rattle.model_tree.proofs.Trees.KeyedLaws.{at-with_same, at-with_other}
 use Rattle.layout.specs.CachedNodeLaws.{FindsCached, EachAnswer}
 use Rattle.layout.specs.CachedNodes.{CachedNode, tree_of, node_of}
 use Rattle.layout.specs.Laid.{AreNumbered}

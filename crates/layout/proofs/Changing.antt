@@ -4,16 +4,16 @@ use Rattle.std.proofs.lemmas.Bool.{cases_eq, cases_lt}
 use Rattle.std.proofs.lemmas.List.{length-set, get_or-set_same, get_or-set_other, set-get_or, get_or_past}
 use Rattle.std.proofs.lemmas.Option.{same_Some, none-some}
 use Rattle.disk.specs.Moments.{Image}
-use Rattle.model.specs.Trees.Keyed.{at, with, without, IsAbove}
-use Rattle.model.proofs.Trees.KeyedLaws.{at-with_other, IsAbove-with}
-use Rattle.model.specs.Trees.Tree.{Tree, Node}
+use Rattle.model_tree.specs.Trees.Keyed.{at, with, without, IsAbove}
+use Rattle.model_tree.proofs.Trees.KeyedLaws.{at-with_other, IsAbove-with}
+use Rattle.model_tree.specs.Trees.Tree.{Tree, Node}
 use Rattle.layout.specs.CachedNodes.{CachedNode, node_sector, node_of, tree_of}
 use Rattle.layout.specs.ChangeLaws.{tree_with, IsOwnNumber, IsSameNumber, ChangesCard, OneChange}
 use Rattle.layout.specs.Laid.{HoldsPlace, AreNumbered, AreLaid}
 use Rattle.layout.specs.Marks.{namings_of, named}
 use Rattle.layout.proofs.Frame.{node-kept, held-still}
-use Rattle.model.proofs.Trees.KeyedLaws.{with-with_same, with-with_other}
-use Rattle.model.proofs.Trees.KeyedChanges.{without-with_other, without-with_fresh}
+use Rattle.model_tree.proofs.Trees.KeyedLaws.{with-with_same, with-with_other}
+use Rattle.model_tree.proofs.Trees.KeyedChanges.{without-with_other, without-with_fresh}
 
 -- How often cached nodes name a sector
 

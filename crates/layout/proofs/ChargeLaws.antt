@@ -3,12 +3,12 @@ use Rattle.std.proofs.Common.{◌≡◌, ◌≢◌, ◌≤◌, ◌<◌, ◌+◌,
 use Rattle.std.proofs.lemmas.Bool.{cases_eq, cases_order}
 use Rattle.std.proofs.lemmas.List.FromFn.{length-map-range_with_len}
 use Rattle.disk.specs.Moments.{Image}
-use Rattle.model.specs.declared.node.NodeKind.{NodeKind}
-use Rattle.model.specs.declared.node.NodeKind.TheVariants as kind
-use Rattle.model.specs.Trees.Charge.{charge, blocks, blocks_of, charge_of_blocks, divided_up}
-use Rattle.model.specs.Trees.Keyed.{Keyed, at, with, total, worth_at, IsAbove}
-use Rattle.model.proofs.Trees.KeyedLaws.{total-with, IsAbove-with}
-use Rattle.model.proofs.Sessions.OpensLaws.{total-ones}
+use Rattle.model_tree.specs.declared.node.NodeKind.{NodeKind}
+use Rattle.model_tree.specs.declared.node.NodeKind.TheVariants as kind
+use Rattle.model_tree.specs.Trees.Charge.{charge, blocks, blocks_of, charge_of_blocks, divided_up}
+use Rattle.model_tree.specs.Trees.Keyed.{Keyed, at, with, total, worth_at, IsAbove}
+use Rattle.model_tree.proofs.Trees.KeyedLaws.{total-with, IsAbove-with}
+use Rattle.model_tree.proofs.Trees.KeyedParts.{total-ones}
 use Rattle.directory.proofs.ByStamp.{at-by_stamp}
 use Rattle.extents.specs.declared.run.Run.{Run}
 use Rattle.extents.specs.Runs.{AreRising}

@@ -1,9 +1,9 @@
 -- Edits of one file, one after the other.
 use Rattle.std.proofs.Common.{◌≡◌, ◌+◌, ◌++◌, ℕ, List, Option, Some, None, length, refl, sym, ap, ◌∙◌}
-use Rattle.model.specs.Trees.Edit.{altered, altered_at, overwritten, resized, with_content}
-use Rattle.model.specs.Trees.Keyed.{at, with}
-use Rattle.model.specs.Trees.Tree.{Tree, Node, File, bytes_of}
-use Rattle.model.proofs.Trees.NodeChangeLaws.{altered-once, altered-twice}
+use Rattle.model_tree.specs.Trees.Edit.{altered, altered_at, overwritten, resized, with_content}
+use Rattle.model_tree.specs.Trees.Keyed.{at, with}
+use Rattle.model_tree.specs.Trees.Tree.{Tree, Node, File, bytes_of}
+use Rattle.model_tree.proofs.Trees.NodeChangeLaws.{altered-once, altered-twice}
 use Rattle.layout.specs.EditLaws.{EachWriteMeets}
 use Rattle.layout.proofs.StepLaws.{written_on, written_grown}
 

@@ -9,8 +9,8 @@ use Rattle.extents.specs.Runs.{with_holes}
 use Rattle.sector.specs.Placed.{placed}
 use Rattle.layout.specs.CachedNodes.{content_at, byte_at, bytes_in}
 use Rattle.layout.specs.Files.{over, below, CutsBlocks, Filling, Writing, WritingOn, Cutting, Growing, HoldBytes, FilledBytes, WrittenBytes, ResizedBytes, GrownBytes}
-use Rattle.model.specs.Trees.Edit.{overwritten, resized}
-use Rattle.model.proofs.Trees.NodeChangeLaws.{length-resized}
+use Rattle.model_tree.specs.Trees.Edit.{overwritten, resized}
+use Rattle.model_tree.proofs.Trees.NodeChangeLaws.{length-resized}
 
 -- ---- bytes by their places
 

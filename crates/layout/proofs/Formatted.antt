@@ -6,15 +6,15 @@ use Rattle.std.proofs.lemmas.List.{length-replicate, get_or-replicate, get_or_pa
 use Rattle.std.proofs.lemmas.Option.{none-some}
 use Rattle.disk.specs.Moments.{Image}
 use Rattle.disk.specs.Calls.{zero_sector}
-use Rattle.model.specs.Trees.Keyed.{with}
+use Rattle.model_tree.specs.Trees.Keyed.{with}
 use Rattle.freemap.specs.Places.{bit_of, bit_in}
 use Rattle.inode.specs.Fields.{IsInode}
 use Rattle.inode.proofs.Parts.{least_entries}
-use Rattle.model.specs.Trees.Fresh.{fresh_tree}
-use Rattle.model.specs.Trees.Limits.{limits_of}
-use Rattle.model.specs.Trees.Stamp.{stamp}
-use Rattle.model.specs.Trees.Tree.{Tree, Node}
-use Rattle.model.proofs.Trees.FreshTree.{fresh}
+use Rattle.model_tree.specs.Trees.Fresh.{fresh_tree}
+use Rattle.model_tree.specs.Trees.Limits.{limits_of}
+use Rattle.model_tree.specs.Trees.Stamp.{stamp}
+use Rattle.model_tree.specs.Trees.Tree.{Tree, Node}
+use Rattle.model_tree.proofs.Trees.FreshTree.{fresh}
 use Rattle.layout.specs.CachedNodes.{CachedNode, tree_of, node_of}
 use Rattle.layout.specs.FreshLaws.{root_fields, IsFresh, FreshStands}
 use Rattle.layout.specs.Laid.{HoldsCard, HoldsPlace, AreNumbered}

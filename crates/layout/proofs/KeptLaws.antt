@@ -1,8 +1,8 @@
 -- What a volume keeps: its tree, and the seats that its sectors tell.
 use Rattle.std.proofs.Common.{ℕ, ◌≡◌, ◌<◌, ◌+◌, Option, None, refl, sym, ap, ap₂, ◌∙◌, arith}
 use Rattle.disk.specs.Moments.{Image}
-use Rattle.model.specs.Sessions.Seats.{Seats, no_seats}
-use Rattle.model.specs.Trees.Tree.{Tree}
+use Rattle.model_tree.specs.Seats.Seats.{Seats, no_seats}
+use Rattle.model_tree.specs.Trees.Tree.{Tree}
 use Rattle.layout.specs.CachedNodeLaws.{OneKept}
 use Rattle.layout.specs.Stands.{Version, AreKept, Kept, IsMark, IsVersion, MayHaveSeats, By, TreeStands, StandsAs, StandsNow, current_version, seats_at, version_by}
 use Rattle.layout.specs.declared.versions.VersionNumber.{VersionNumber}

@@ -5,10 +5,10 @@ use Rattle.std.proofs.lemmas.Bool.{cases_eq, cases_lt}
 use Rattle.std.proofs.lemmas.List.{get_or_past}
 use Rattle.std.proofs.lemmas.List.FromFn.{length-map-range_with_len, get_or-map-range_with_len}
 use Rattle.disk.specs.Moments.{Image}
-use Rattle.model.specs.Trees.Keyed.{with, is_key}
-use Rattle.model.specs.Trees.Tree.{root}
-use Rattle.model.specs.Trees.WellFormed.{links_owed, one_if}
-use Rattle.model.proofs.Trees.KeyedLaws.{at-with_same, at-with_other}
+use Rattle.model_tree.specs.Trees.Keyed.{with, is_key}
+use Rattle.model_tree.specs.Trees.Tree.{root}
+use Rattle.model_tree.specs.Trees.WellFormed.{links_owed, one_if}
+use Rattle.model_tree.proofs.Trees.KeyedLaws.{at-with_same, at-with_other}
 use Rattle.layout.specs.CachedNodes.{CachedNode, tree_of, node_of, content_at, byte_at, bytes_in}
 use Rattle.layout.specs.Known.{AreCards}
 use Rattle.layout.specs.Laid.{AreNumbered}

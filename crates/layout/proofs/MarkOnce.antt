@@ -6,7 +6,7 @@ use Rattle.disk.specs.Moments.{Image}
 use Rattle.disk.specs.Calls as calls
 use Rattle.disk.specs.Calls.{zero_sector}
 use Rattle.layout.specs.Stands as marks
-use Rattle.model.specs.Sessions.Seats.{Seats}
+use Rattle.model_tree.specs.Seats.Seats.{Seats}
 use Rattle.layout.specs.Stands.{IsMark, Kept, MayHaveSeats, TreeStands, StandsAs, mark_held, mark_sector, number_of_version, spare_by, version_by}
 use Rattle.layout.specs.Superblock as first
 use Rattle.layout.specs.Superblock.{superblock}

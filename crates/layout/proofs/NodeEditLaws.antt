@@ -5,12 +5,12 @@ use Rattle.sector.specs.Placed.{placed}
 use Rattle.directory.specs.Listing.{by_stamp}
 use Rattle.directory.specs.Records.{IsDirectory, NamesStamped}
 use Rattle.directory.specs.Spelling.{directory_sector}
-use Rattle.model.specs.declared.node.NodeKind.{NodeKind}
-use Rattle.model.specs.declared.node.NodeKind.TheVariants as kind
-use Rattle.model.specs.Trees.Edit.{Shown, PutBytes, done, showing, overwritten, resized, altered, with_content}
-use Rattle.model.specs.Trees.Keyed.{Keyed, at, with, without}
-use Rattle.model.specs.Trees.Tree.{Node, Content, File, Directory, DirEntry, bytes_of, names_of}
-use Rattle.model.proofs.Trees.NodeChangeLaws.{altered-once, length-resized}
+use Rattle.model_tree.specs.declared.node.NodeKind.{NodeKind}
+use Rattle.model_tree.specs.declared.node.NodeKind.TheVariants as kind
+use Rattle.model_tree.specs.Trees.Edit.{Shown, PutBytes, done, showing, overwritten, resized, altered, with_content}
+use Rattle.model_tree.specs.Trees.Keyed.{Keyed, at, with, without}
+use Rattle.model_tree.specs.Trees.Tree.{Node, Content, File, Directory, DirEntry, bytes_of, names_of}
+use Rattle.model_tree.proofs.Trees.NodeChangeLaws.{altered-once, length-resized}
 use Rattle.layout.specs.CachedNodes.{CachedNode, node_sector, content_at, byte_at, bytes_in, content_of, node_with, node_of, tree_of}
 use Rattle.layout.specs.ChangeLaws.{ChangesOwn, ChangesCard, tree_with}
 use Rattle.layout.specs.Directories.{ChangesBlocks, block_of, block_put}

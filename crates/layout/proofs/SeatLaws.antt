@@ -2,7 +2,7 @@
 use Rattle.std.proofs.Common.{◌≡◌, ◌≤◌, ◌<◌, ◌+◌, ◌-◌, ◌*◌, ◌/◌, ◌%◌, ◌==◌, ℕ, zero, suc, Bool, true, false, List, Option, None, Some, get_or, if◌then◌else◌, ne_eqb, refl, sym, ap, ◌∙◌, subst, arith, true≢false}
 use Rattle.disk.specs.Calls as calls
 use Rattle.disk.specs.Calls.{zero_sector}
-use Rattle.model.specs.Sessions.Seats.{Seat, Seats, AreOfRuns, has_seat, no_seats}
+use Rattle.model_tree.specs.Seats.Seats.{Seat, Seats, AreOfRuns, has_seat, no_seats}
 use Rattle.seats.specs.Spelling as spelled
 use Rattle.seats.specs.Spelling.{ArePlaces, seat_sector, seats_sector}
 use Rattle.layout.specs.Stands.{AreKept, MayHaveSeats, mark_held, spare_by, version_by}

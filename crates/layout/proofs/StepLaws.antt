@@ -3,10 +3,10 @@ use Rattle.std.proofs.Common.{◌≡◌, ◌≢◌, ◌≤◌, ◌<◌, ◌+◌,
 use Rattle.std.proofs.lemmas.Bool.{cases_lt}
 use Rattle.std.proofs.lemmas.List.{length-append, ext_get_or, set-get_or}
 use Rattle.disk.specs.Moments.{Image}
-use Rattle.model.specs.declared.node.NodeKind.{NodeKind}
-use Rattle.model.specs.declared.node.NodeKind.TheVariants as kind
-use Rattle.model.specs.Trees.Keyed.{Keyed, with}
-use Rattle.model.specs.Trees.Tree.{Node, Content, File, Directory, DirEntry}
+use Rattle.model_tree.specs.declared.node.NodeKind.{NodeKind}
+use Rattle.model_tree.specs.declared.node.NodeKind.TheVariants as kind
+use Rattle.model_tree.specs.Trees.Keyed.{Keyed, with}
+use Rattle.model_tree.specs.Trees.Tree.{Node, Content, File, Directory, DirEntry}
 use Rattle.inode.specs.Fields.{Fields}
 use Rattle.std.proofs.lemmas.List.FromFn.{length-map-range_with_len}
 use Rattle.directory.specs.Listing.{by_stamp}
@@ -16,11 +16,11 @@ use Rattle.layout.specs.Files.{HoldBytes, over, EachWrite}
 use Rattle.layout.specs.Laid.{HoldsCard, HoldsBytes, HoldsContent, HoldsPlace, AreNumbered}
 use Rattle.layout.specs.Marks.{once_if, times_set}
 use Rattle.layout.specs.Steps.{NodeSteps, LaysTree, FileStep, NamesStep, ShowsSame, SameStep, FileThere, OthersHold, EachOwn, EachChange}
-use Rattle.model.specs.Trees.Edit.{overwritten, resized}
+use Rattle.model_tree.specs.Trees.Edit.{overwritten, resized}
 use Rattle.layout.proofs.Frame.{times_set-at}
 use Rattle.layout.proofs.Changing.{one_change}
 use Rattle.layout.proofs.FileLaws.{over-same, overwritten-at, length-overwritten, grown-at, writing_on}
-use Rattle.model.proofs.Trees.NodeChangeLaws.{length-resized}
+use Rattle.model_tree.proofs.Trees.NodeChangeLaws.{length-resized}
 
 own_number : (cards : List (Option CachedNode)) (place : ℕ) (was is : CachedNode) → AreNumbered cards → get_or cards place None ≡ Some was → is.fields.number ≡ was.fields.number
     → (i : ℕ) (other : CachedNode) → i ≢ place → get_or cards i None ≡ Some other → other.fields.number ≢ is.fields.number

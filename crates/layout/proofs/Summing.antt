@@ -2,14 +2,14 @@
 use Rattle.std.proofs.Common.{◌≡◌, ℕ, suc, List, [], ◌∷◌, Option, Some, None, length, refl, sym, ap, ◌∙◌, arith, inl, inr, eqb, eq-eqb, ne_eqb}
 use Rattle.std.proofs.lemmas.Bool.{cases_eq}
 use Rattle.disk.specs.Moments.{Image}
-use Rattle.model.specs.declared.node.NodeKind.{NodeKind}
-use Rattle.model.specs.declared.node.NodeKind.TheVariants as kind
-use Rattle.model.specs.Trees.Charge.{charge, charge_of_blocks}
-use Rattle.model.specs.Trees.Keyed.{at, total}
-use Rattle.model.specs.Trees.Tree.{Node, DirEntry, names_of}
-use Rattle.model.specs.Trees.WellFormed.{links_from, links_in, links_to, one_if}
-use Rattle.model.proofs.Trees.KeyedLaws.{total-with}
-use Rattle.model.proofs.Sessions.OpensLaws.{total-ones}
+use Rattle.model_tree.specs.declared.node.NodeKind.{NodeKind}
+use Rattle.model_tree.specs.declared.node.NodeKind.TheVariants as kind
+use Rattle.model_tree.specs.Trees.Charge.{charge, charge_of_blocks}
+use Rattle.model_tree.specs.Trees.Keyed.{at, total}
+use Rattle.model_tree.specs.Trees.Tree.{Node, DirEntry, names_of}
+use Rattle.model_tree.specs.Trees.WellFormed.{links_from, links_in, links_to, one_if}
+use Rattle.model_tree.proofs.Trees.KeyedLaws.{total-with}
+use Rattle.model_tree.proofs.Trees.KeyedParts.{total-ones}
 use Rattle.directory.specs.Listing.{by_stamp}
 use Rattle.directory.specs.Records.{Record}
 use Rattle.layout.specs.CachedNodes.{CachedNode, tree_of, node_of, content_of}

@@ -1,8 +1,8 @@
 -- The laws of cached nodes.
 use Rattle.std.specs.Prelude.{◌≡◌, ◌≢◌, ◌<◌, ℕ, List, Option, Some, None, length, slice_index_or}
 use Rattle.disk.specs.Moments.{Image}
-use Rattle.model.specs.Trees.Keyed.{at}
-use Rattle.model.specs.Trees.Tree.{Tree}
+use Rattle.model_tree.specs.Trees.Keyed.{at}
+use Rattle.model_tree.specs.Trees.Tree.{Tree}
 use Rattle.layout.specs.CachedNodes.{CachedNode, tree_of, card_in, cards_in, node_sector, node_of}
 use Rattle.layout.specs.Laid.{AreLaid, HoldsPlace, HoldsCard}
 use Rattle.layout.specs.Marks.{namings_of}

@@ -1,8 +1,8 @@
 -- One cached node changes: a node is made, altered or removed.
 use Rattle.std.specs.Prelude.{◌≡◌, ◌≢◌, ◌≤◌, ◌<◌, ◌+◌, ℕ, List, Option, Some, None, set, slice_index_or}
 use Rattle.disk.specs.Moments.{Image}
-use Rattle.model.specs.Trees.Keyed.{with, without}
-use Rattle.model.specs.Trees.Tree.{Tree}
+use Rattle.model_tree.specs.Trees.Keyed.{with, without}
+use Rattle.model_tree.specs.Trees.Tree.{Tree}
 use Rattle.layout.specs.CachedNodes.{CachedNode, node_sector, node_of, tree_of}
 use Rattle.layout.specs.Laid.{AreLaid, HoldsPlace}
 use Rattle.layout.specs.Marks.{namings_of}

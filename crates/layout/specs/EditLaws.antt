@@ -1,8 +1,8 @@
 -- Edits of one file, one after the other.
 use Rattle.std.specs.Prelude.{◌≡◌, ◌≤◌, ◌+◌, ◌++◌, ℕ, List, Some, max, length}
-use Rattle.model.specs.Trees.Edit.{PutBytes, SetSize, done}
-use Rattle.model.specs.Trees.Keyed.{at}
-use Rattle.model.specs.Trees.Tree.{Tree, Node, bytes_of}
+use Rattle.model_tree.specs.Trees.Edit.{PutBytes, SetSize, done}
+use Rattle.model_tree.specs.Trees.Keyed.{at}
+use Rattle.model_tree.specs.Trees.Tree.{Tree, Node, bytes_of}
 
 -- a part after a part is one part, and a write over what has grown to its end at most is the write
 pub record WritesMeet (tree : Tree) (number offset : ℕ) : Type 0 where

@@ -1,7 +1,7 @@
 -- What files of some sizes take of the data region: so many blocks, and a sector for each 500 of them.
 use Rattle.std.specs.Prelude.{◌≡◌, ℕ}
-use Rattle.model.specs.declared.node.NodeKind.TheVariants as kind
-use Rattle.model.specs.Trees.Charge.{blocks_of, charge_of_blocks}
+use Rattle.model_tree.specs.declared.node.NodeKind.TheVariants as kind
+use Rattle.model_tree.specs.Trees.Charge.{blocks_of, charge_of_blocks}
 
 abbrev pub FileTakes : (size blocks sectors : ℕ) → Type 0
 FileTakes size blocks sectors =

@@ -2,7 +2,7 @@
 use Rattle.std.specs.Prelude.{◌≡◌, ◌≢◌, ◌≤◌, ◌<◌, ◌+◌, ◌-◌, ◌*◌, ◌++◌, ℕ, List, Option, Some, None, max, length, take, set, nat_lt, slice_index_or, if◌then◌else◌}
 use Rattle.disk.specs.Moments.{Image}
 use Rattle.disk.specs.Calls.{zero_sector}
-use Rattle.model.specs.Trees.Edit.{overwritten, resized}
+use Rattle.model_tree.specs.Trees.Edit.{overwritten, resized}
 use Rattle.extents.specs.Runs.{with_holes}
 use Rattle.sector.specs.Placed.{placed}
 use Rattle.layout.specs.CachedNodes.{content_at, byte_at, bytes_in}

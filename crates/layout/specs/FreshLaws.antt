@@ -4,9 +4,9 @@ use Rattle.disk.specs.Moments.{Image}
 use Rattle.disk.specs.Calls.{zero_sector}
 use Rattle.inode.specs.Fields.{Fields}
 use Rattle.inode.specs.Spelling.{inode_sector}
-use Rattle.model.specs.declared.node.NodeKind.TheVariants as kind
-use Rattle.model.specs.Trees.Fresh.{fresh_tree, fresh_root}
-use Rattle.model.specs.Trees.Tree.{root}
+use Rattle.model_tree.specs.declared.node.NodeKind.TheVariants as kind
+use Rattle.model_tree.specs.Trees.Fresh.{fresh_tree, fresh_root}
+use Rattle.model_tree.specs.Trees.Tree.{root}
 use Rattle.layout.specs.CachedNodes.{node_sector}
 use Rattle.layout.specs.Stands.{Version, TreeStands}
 use Rattle.layout.specs.Superblock.{superblock, is_size}

@@ -4,8 +4,8 @@
 use Rattle.std.specs.Prelude.{◌≡◌, ◌≤◌, ◌<◌, ◌+◌, ℕ, List, [], Option, Some, None, length, set, slice_index_or}
 use Rattle.std.specs.List.{AllByRecursion}
 use Rattle.disk.specs.Moments.{Image}
-use Rattle.model.specs.declared.node.NodeKind.{NodeKind}
-use Rattle.model.specs.declared.node.NodeKind.TheVariants as kind
+use Rattle.model_tree.specs.declared.node.NodeKind.{NodeKind}
+use Rattle.model_tree.specs.declared.node.NodeKind.TheVariants as kind
 use Rattle.inode.specs.Fields.{IsInode}
 use Rattle.extents.specs.Runs.{AreRunsOf}
 use Rattle.extents.specs.Sector.{IsRun}

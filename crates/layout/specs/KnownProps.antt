@@ -1,8 +1,8 @@
 -- What is known of cached nodes without their sectors has one proof at most.
 use Rattle.std.specs.Prelude.{ℕ, List, Option, Some, None}
 use Rattle.std.proofs.Props.{props}
-use Rattle.model.specs.declared.node.NodeKind.{NodeKind}
-use Rattle.model.specs.declared.node.NodeKind.TheVariants as kind
+use Rattle.model_tree.specs.declared.node.NodeKind.{NodeKind}
+use Rattle.model_tree.specs.declared.node.NodeKind.TheVariants as kind
 use Rattle.layout.specs.CachedNodes.{CachedNode}
 use Rattle.layout.specs.Known.{HasContent, IsCard, IsNodePlace, AreCards}
 use Rattle.layout.specs.LaidProps.{AreRunsOf-prop, IsInode-prop}

@@ -3,8 +3,8 @@ use Rattle.std.specs.Prelude.{◌≡◌, ◌≢◌, ◌≤◌, ◌<◌, ◌+◌,
 use Rattle.std.specs.List.{AllByRecursion}
 use Rattle.disk.specs.Moments.{Image}
 use Rattle.disk.specs.Calls.{zero_sector}
-use Rattle.model.specs.declared.node.NodeKind.{NodeKind}
-use Rattle.model.specs.declared.node.NodeKind.TheVariants as kind
+use Rattle.model_tree.specs.declared.node.NodeKind.{NodeKind}
+use Rattle.model_tree.specs.declared.node.NodeKind.TheVariants as kind
 use Rattle.inode.specs.Fields.{IsInode}
 use Rattle.inode.specs.Spelling.{inode_sector}
 use Rattle.extents.specs.declared.run.Run.{Run}

@@ -3,9 +3,9 @@
 use Rattle.std.specs.Prelude.{◌≡◌, ◌≤◌, ◌<◌, ◌+◌, ◌==◌, ℕ, Bool, true, false, List, Option, Some, length, slice_get, slice_set, slice_index_or}
 use Rattle.disk.specs.Moments.{Image}
 use Rattle.freemap.specs.Places.{Show, mark_of, bit_in}
-use Rattle.model.specs.Trees.Charge.{charge}
-use Rattle.model.specs.Trees.Keyed.{total}
-use Rattle.model.specs.Trees.Tree.{Tree}
+use Rattle.model_tree.specs.Trees.Charge.{charge}
+use Rattle.model_tree.specs.Trees.Keyed.{total}
+use Rattle.model_tree.specs.Trees.Tree.{Tree}
 use Rattle.layout.specs.CachedNodes.{CachedNode, cards_in, tree_of}
 use Rattle.layout.specs.Laid.{AreLaid}
 use Rattle.layout.specs.Marks.{once_if, mark_in, mark_by}

@@ -6,9 +6,9 @@ use Rattle.sector.specs.Placed.{placed}
 use Rattle.directory.specs.Listing.{by_stamp}
 use Rattle.directory.specs.Records.{Record, IsDirectory, NamesStamped, with_record, without_place}
 use Rattle.extents.specs.Runs.{with_holes}
-use Rattle.model.specs.declared.node.NodeKind.TheVariants as kind
-use Rattle.model.specs.Trees.Edit.{Shown, PutNode, DropNode, Show, PutName, DropName, PutBytes, SetSize, done}
-use Rattle.model.specs.Trees.Keyed.{with, without}
+use Rattle.model_tree.specs.declared.node.NodeKind.TheVariants as kind
+use Rattle.model_tree.specs.Trees.Edit.{Shown, PutNode, DropNode, Show, PutName, DropName, PutBytes, SetSize, done}
+use Rattle.model_tree.specs.Trees.Keyed.{with, without}
 use Rattle.layout.specs.CachedNodes.{CachedNode, byte_at, node_sector, node_of, tree_of}
 use Rattle.layout.specs.ChangeLaws.{ChangesOwn, IsOwnNumber}
 use Rattle.layout.specs.Directories.{RewritesBlocks, block_of, block_put}

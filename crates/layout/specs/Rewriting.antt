@@ -6,8 +6,8 @@ use Rattle.inode.specs.declared.node.Form.{Form}
 use Rattle.inode.specs.declared.node.Form.TheVariants.{One, Two}
 use Rattle.inode.specs.Reading.{fields_in}
 use Rattle.inode.specs.Spelling.{inode_sector}
-use Rattle.model.specs.Sessions.Seats.{no_seats}
-use Rattle.model.specs.Trees.Tree.{Tree}
+use Rattle.model_tree.specs.Seats.Seats.{no_seats}
+use Rattle.model_tree.specs.Trees.Tree.{Tree}
 use Rattle.disk.specs.Calls.{zero_sector}
 use Rattle.layout.specs.CachedNodes.{CachedNode, node_sector, cards_in, tree_of}
 use Rattle.layout.specs.Known.{AreCards}

@@ -8,11 +8,11 @@ use Rattle.inode.specs.declared.node.Form.{Form}
 use Rattle.inode.specs.declared.node.Form.TheVariants.{One, Two}
 use Rattle.layout.specs.declared.versions.VersionNumber.{VersionNumber}
 use Rattle.layout.specs.declared.versions.VersionNumber.TheVariants as numbers
-use Rattle.model.specs.Trees.Limits.{limits_of}
-use Rattle.model.specs.Sessions.Seats.{Seats, AreOfRuns, no_seats}
-use Rattle.model.specs.Trees.Stamp.{stamp}
-use Rattle.model.specs.Trees.Tree.{Tree}
-use Rattle.model.specs.Trees.WellFormed.{IsWellFormed, IsBefore}
+use Rattle.model_tree.specs.Trees.Limits.{limits_of}
+use Rattle.model_tree.specs.Seats.Seats.{Seats, AreOfRuns, no_seats}
+use Rattle.model_tree.specs.Trees.Stamp.{stamp}
+use Rattle.model_tree.specs.Trees.Tree.{Tree}
+use Rattle.model_tree.specs.Trees.WellFormed.{IsWellFormed, IsBefore}
 use Rattle.seats.specs.Reading.{seats_in}
 use Rattle.seats.specs.Spelling.{ArePlaces, seats_sector}
 use Rattle.layout.specs.CachedNodes.{CachedNode, cards_in, tree_in}

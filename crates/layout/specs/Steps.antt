@@ -4,9 +4,9 @@ use Rattle.disk.specs.Moments.{Image}
 use Rattle.directory.specs.Listing.{by_stamp}
 use Rattle.extents.specs.Runs.{with_holes}
 use Rattle.inode.specs.Fields.{Fields}
-use Rattle.model.specs.declared.node.NodeKind.TheVariants as kind
-use Rattle.model.specs.Trees.Keyed.{Keyed, with}
-use Rattle.model.specs.Trees.Tree.{Tree, File, Directory, DirEntry}
+use Rattle.model_tree.specs.declared.node.NodeKind.TheVariants as kind
+use Rattle.model_tree.specs.Trees.Keyed.{Keyed, with}
+use Rattle.model_tree.specs.Trees.Tree.{Tree, File, Directory, DirEntry}
 use Rattle.layout.specs.CachedNodes.{CachedNode, bytes_in, node_with, tree_of}
 use Rattle.layout.specs.ChangeLaws.{ChangesOwn}
 use Rattle.layout.specs.Files.{HoldBytes, HoldOthers}

@@ -4,10 +4,10 @@ use Rattle.std.specs.Prelude.{◌≡◌, ◌+◌, ◌==◌, ◌<◌, ◌++◌, �
 use Rattle.disk.specs.Moments.{Image}
 use Rattle.directory.specs.Listing.{by_stamp}
 use Rattle.directory.specs.Records.{Record, NamesStamped}
-use Rattle.model.specs.Trees.Charge.{charge, charge_of_blocks}
-use Rattle.model.specs.Trees.Keyed.{total}
-use Rattle.model.specs.Trees.Tree.{Node, DirEntry, root}
-use Rattle.model.specs.Trees.WellFormed.{links_to, links_owed}
+use Rattle.model_tree.specs.Trees.Charge.{charge, charge_of_blocks}
+use Rattle.model_tree.specs.Trees.Keyed.{total}
+use Rattle.model_tree.specs.Trees.Tree.{Node, DirEntry, root}
+use Rattle.model_tree.specs.Trees.WellFormed.{links_to, links_owed}
 use Rattle.layout.specs.CachedNodes.{CachedNode, tree_of, node_of, bytes_in}
 use Rattle.layout.specs.Laid.{AreLaid}
 use Rattle.layout.specs.Marks.{times}

@@ -3,7 +3,7 @@
 ghost use Rattle.std.specs.Prelude.{◌≡◌, ◌↔◌, IsTrue, length, take};
 ghost use Rattle.layout.specs.Stands as marks;
 ghost use Rattle.layout.specs.Stands.{IsMark, mark_fields, mark_held, version_by};
-ghost use Rattle.model.specs.Sessions.Seats.{no_seats};
+ghost use Rattle.model_tree.specs.Seats.Seats.{no_seats};
 
 use disk::SECTOR;
 use inode::Form;

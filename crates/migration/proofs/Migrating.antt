@@ -16,8 +16,8 @@ use Rattle.layout.proofs.FirstLaws.{sized_parts}
 use Rattle.layout.proofs.SeatLaws.{no_seats_kept, spare_none, spare_other}
 use Rattle.layout.proofs.MarkProofs.{kept_alone, stands_alone, room}
 use Rattle.layout.proofs.Rewriting.{form_stays, rewritten_stands, rewritten_cards}
-use Rattle.model.specs.Sessions.Seats.{no_seats}
-use Rattle.model.specs.Trees.Tree.{Tree}
+use Rattle.model_tree.specs.Seats.Seats.{no_seats}
+use Rattle.model_tree.specs.Trees.Tree.{Tree}
 use Rattle.migration.specs.Commits.{AreTransactions, Commits, HasCommitted}
 use Rattle.migration.specs.Migrations.{StandsStill, MovesSafely, HasMovedAll, ClearsSafely, HasCleared}
 use Rattle.migration.specs.Plans.{plan, clearing_updates}

@@ -18,8 +18,8 @@ use Rattle.layout.specs.declared.versions.VersionNumber.TheVariants as numbers
 use Rattle.layout.proofs.FirstLaws.{sized_parts}
 use Rattle.layout.proofs.SeatLaws.{no_seats_kept, spare_other}
 use Rattle.layout.proofs.Rewriting.{node_in_form, free_in_form, second_at, form_stays, rewritten_stands, rewritten_cards}
-use Rattle.model.specs.Sessions.Seats.{no_seats}
-use Rattle.model.specs.Trees.Tree.{Tree}
+use Rattle.model_tree.specs.Seats.Seats.{no_seats}
+use Rattle.model_tree.specs.Trees.Tree.{Tree}
 use Rattle.migration.specs.Plans.{moved_node, step, step_at, plan}
 use Rattle.migration.proofs.Transactions.{mark_written, far_stays, node_written}
 

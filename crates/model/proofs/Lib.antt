@@ -1,6 +1,3 @@
-pub mod Facts
-pub mod Rights
-pub mod Trees
 pub mod Operations
 pub mod Sessions
 pub mod Wire

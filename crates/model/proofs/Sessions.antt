@@ -16,7 +16,6 @@ pub mod SeatReplies
 pub mod SeatWorlds
 pub mod SeatLives
 pub mod SeatRunLaws
-pub mod OpensLaws
 pub mod OpensSteps
 pub mod OpensGoOn
 pub mod OpensJoined

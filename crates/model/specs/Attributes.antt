@@ -1,5 +1,4 @@
--- The tests of names and attributes, and the values that a node shows.
-pub mod Name
+-- The tests of attributes, and the values that a node shows.
 pub mod Attribute
 pub mod AttributeValue
 pub mod AclText

@@ -1,5 +1,3 @@
-pub mod Rights
-pub mod Trees
 pub mod Attributes
 pub mod Operations
 pub mod Sessions

@@ -4,8 +4,7 @@ pub mod Operation
 pub mod OperationNumber
 pub mod Answer
 pub mod Context
-pub mod Refusal
-pub mod Status
+pub mod Need
 pub mod State
 pub mod Step
 pub mod StepLaws

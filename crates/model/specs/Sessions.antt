@@ -2,9 +2,6 @@
 pub mod Session
 pub mod SessionTables
 pub mod SessionRuns
-pub mod Seats
-pub mod SeatEdits
-pub mod SeatViews
 pub mod SeatRuns
 pub mod SlotsHeld
 pub mod KeptReplies

@@ -3,7 +3,7 @@
 ghost use Rattle.std.specs.Prelude.{◌≡◌};
 ghost use Rattle.model.specs.declared.not_done.NotDone.TheVariants as not_done;
 
-use crate::status::Status;
+use model_tree::status::Status;
 use std::alloc::{AllocError, AllocFailed};
 use thiserror::Error;
 

@@ -9,9 +9,9 @@ use Rattle.std.proofs.lemmas.List.Elements.{Contains-get_or}
 use Rattle.std.proofs.lemmas.List.Sorted.{IsPermutation-sym, length_permutation, Contains-permutation, sum_by-IsPermutation}
 use Rattle.std.proofs.lemmas.List.Sums.{sum_by-cons}
 use Rattle.std.proofs.lemmas.Option.{same_Some}
-use Rattle.model.specs.Trees.Keyed.{Keyed, at, IsAbove}
-use Rattle.model.proofs.Trees.KeyedLaws.{at-first, at-rest}
-use Rattle.model.proofs.Facts.OptionLaws.{some≢none}
+use Rattle.model_tree.specs.Trees.Keyed.{Keyed, at, IsAbove}
+use Rattle.model_tree.proofs.Trees.KeyedLaws.{at-first, at-rest}
+use Rattle.model_tree.proofs.Facts.OptionLaws.{some≢none}
 use Rattle.layout.specs.CachedNodes.{CachedNode}
 use Rattle.layout.specs.Marks.{once_if, times}
 use Rattle.layout.specs.SumLaws.{sum_over}

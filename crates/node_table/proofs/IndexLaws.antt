@@ -9,8 +9,8 @@ use Rattle.std.proofs.lemmas.Cmp.{ranked}
 use Rattle.std.proofs.lemmas.List.Sorted.{IsNonDecreasingBy-from_default}
 use Rattle.std.proofs.lemmas.Bool.{cases_lt}
 use Rattle.std.proofs.lemmas.Bool.Decides.{nat_tests}
-use Rattle.model.specs.Trees.Keyed.{Keyed, at, with, without, IsAbove}
-use Rattle.model.proofs.Trees.KeyedLaws.{at-first, at-rest, at-above}
+use Rattle.model_tree.specs.Trees.Keyed.{Keyed, at, with, without, IsAbove}
+use Rattle.model_tree.proofs.Trees.KeyedLaws.{at-first, at-rest, at-above}
 use Rattle.node_table.specs.Index.{key_at, IsAt}
 
 -- keys rise with their places

@@ -6,9 +6,9 @@ use Rattle.std.proofs.Common.{Bor}
 use Rattle.std.specs.Option.{option_copied}
 use Rattle.std.specs.Prelude.{IfSome, IfNone}
 use Rattle.std.proofs.lemmas.Option.{same_Some}
-use Rattle.model.specs.Trees.Keyed.{Keyed, at}
-use Rattle.model.proofs.Trees.KeyedLaws.{at-first, at-rest}
-use Rattle.model.proofs.Facts.OptionLaws.{some≢none}
+use Rattle.model_tree.specs.Trees.Keyed.{Keyed, at}
+use Rattle.model_tree.proofs.Trees.KeyedLaws.{at-first, at-rest}
+use Rattle.model_tree.proofs.Facts.OptionLaws.{some≢none}
 use Rattle.layout.specs.CachedNodes.{CachedNode}
 use Rattle.node_table.specs.Tables.{node_number, node_number_at, HaveOwnPlaces, HasNoNode}
 use Rattle.node_table.specs.Overlays.{overlaid, HaveOwnPlace, PlacesWithin, change_at, Overlaid, IsMade, IsFresh, CanBecome}

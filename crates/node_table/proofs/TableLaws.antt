@@ -6,9 +6,9 @@ use Rattle.std.proofs.lemmas.List.{length-append, length-set, get_or-set_same, g
 use Rattle.std.proofs.lemmas.Option.{slice_get_within, get_or_from_slice_get, same_Some}
 use Rattle.std.specs.Prelude.{IfSome, slice_get}
 use Rattle.std.proofs.lemmas.List.Edits.{length-remove}
-use Rattle.model.specs.Trees.Keyed.{Keyed, at, with, without, IsAbove}
-use Rattle.model.proofs.Trees.KeyedLaws.{at-with_same, at-with_other, at-without_same, at-without_other, IsAbove-with, IsAbove-without}
-use Rattle.model.proofs.Facts.OptionLaws.{some≢none}
+use Rattle.model_tree.specs.Trees.Keyed.{Keyed, at, with, without, IsAbove}
+use Rattle.model_tree.proofs.Trees.KeyedLaws.{at-with_same, at-with_other, at-without_same, at-without_other, IsAbove-with, IsAbove-without}
+use Rattle.model_tree.proofs.Facts.OptionLaws.{some≢none}
 use Rattle.layout.specs.CachedNodes.{CachedNode}
 use Rattle.layout.specs.Marks.{once_if, times}
 use Rattle.layout.specs.SumLaws.{sum_over}

@@ -1,6 +1,6 @@
 -- Numbers and places by rising number, as they stand in memory.
 use Rattle.std.specs.Prelude.{◌≡◌, ◌≢◌, ◌<◌, ◌+◌, ℕ, List, [], ◌∷◌, Option, Some, None, length, slice_index_or}
-use Rattle.model.specs.Trees.Keyed.{Keyed}
+use Rattle.model_tree.specs.Trees.Keyed.{Keyed}
 use Rattle.layout.specs.CachedNodes.{CachedNode}
 
 abbrev pub key_at : Keyed ℕ → ℕ → ℕ

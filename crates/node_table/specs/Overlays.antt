@@ -1,7 +1,7 @@
 -- Cached nodes in place of some of a table's.
 use Rattle.std.specs.Prelude.{◌≡◌, ◌≢◌, ◌<◌, ℕ, List, [], ◌∷◌, Option, Some, None, set}
 use Rattle.std.specs.Prelude.{slice_index_or}
-use Rattle.model.specs.Trees.Keyed.{Keyed, at}
+use Rattle.model_tree.specs.Trees.Keyed.{Keyed, at}
 use Rattle.layout.specs.CachedNodes.{CachedNode}
 use Rattle.node_table.specs.Tables.{node_number_at, AreBelow}
 

@@ -1,7 +1,7 @@
 -- A table of cached nodes, and what is kept beside it.
 use Rattle.std.specs.Prelude.{◌≡◌, ◌≢◌, ◌≤◌, ◌<◌, ◌+◌, ℕ, zero, suc, List, [], ◌∷◌, Option, Some, None, length, slice_index_or}
-use Rattle.model.specs.Trees.Charge.{charge_of_blocks}
-use Rattle.model.specs.Trees.Keyed.{Keyed, at, IsAbove}
+use Rattle.model_tree.specs.Trees.Charge.{charge_of_blocks}
+use Rattle.model_tree.specs.Trees.Keyed.{Keyed, at, IsAbove}
 use Rattle.layout.specs.CachedNodes.{CachedNode}
 use Rattle.layout.specs.Marks.{times}
 use Rattle.layout.specs.SumLaws.{sum_over}

@@ -16,7 +16,7 @@ pub struct Changes {
 
 impl Model for Changes {
     ghost use Rattle.std.specs.Prelude.{Option};
-    ghost use Rattle.model.specs.Trees.Keyed.{Keyed};
+    ghost use Rattle.model_tree.specs.Trees.Keyed.{Keyed};
     ghost use Rattle.layout.specs.CachedNodes as layout;
     ghost use Rattle.node_table.specs.Overlays.{HaveOwnPlace};
 

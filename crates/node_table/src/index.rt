@@ -2,7 +2,7 @@
 
 ghost use Rattle.std.specs.Prelude.{◌≡◌, ◌≤◌, ◌↔◌, None, IsTrue, length, vec_capacity, IfOk, IfSome, IfNone};
 ghost use Rattle.std.specs.List.Sorted.{IsPermutation, IsNonDecreasingBy};
-ghost use Rattle.model.specs.Trees.Keyed.{at, IsAbove};
+ghost use Rattle.model_tree.specs.Trees.Keyed.{at, IsAbove};
 ghost use Rattle.node_table.specs.Index.{IsAt, entries_from, AreDifferent};
 
 use crate::cached_node::CachedNode;

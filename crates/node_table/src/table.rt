@@ -3,7 +3,7 @@
 ghost use Rattle.std.specs.Prelude.{◌≡◌, ◌≤◌, ◌<◌, ◌+◌, ℕ, List, [], ◌∷◌, Some, None, length, vec_capacity, replicate, set, slice_index_or, IfOk, IfSome, IfNone, OnOk, IsErrOf};
 ghost use Rattle.layout.specs.Marks.{times};
 ghost use Rattle.node_table.specs.Tables.{node_number_at, HasNoNode, HaveOwnPlaces, AreNumbered, AreBelow, IsFree, AreFew, charge_there, charge_of_all, count_of_all, vacant};
-ghost use Rattle.model.specs.Trees.Charge.{charge_of_blocks};
+ghost use Rattle.model_tree.specs.Trees.Charge.{charge_of_blocks};
 
 use crate::cached_node::CachedNode;
 use crate::fault::TableFault;

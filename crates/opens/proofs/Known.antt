@@ -4,7 +4,7 @@ use Rattle.std.specs.List.{All, AllPairs, list_any}
 use Rattle.std.specs.Result.{is_ok, is_err}
 use Rattle.std.proofs.lemmas.List.Elements.{All-filter}
 use Rattle.std.proofs.lemmas.List.Kept.{AllPairs-filter}
-use Rattle.model.specs.Trees.Keyed.{Keyed, with, without, kept_or_not}
+use Rattle.model_tree.specs.Trees.Keyed.{Keyed, with, without, kept_or_not}
 
 module _ {A B : Type 0} (f : A → ℕ × B) where
   behind : (entry : ℕ × B) (rest : Keyed B) (key : ℕ) (value : B) → entry.0 < key → with (entry ∷ rest) key value ≡ entry ∷ with rest key value

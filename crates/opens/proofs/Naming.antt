@@ -2,7 +2,7 @@
 use Rattle.std.proofs.Common.{ℕ, Bool, true, false, ◌||◌, ◌-◌, ◌^◌, ◌≤◌, ◌≢◌, nat_le, List, [], ◌∷◌, length, map, take, Option, Some, None, ◌≡◌, ◌==◌, ◌&&◌, ◌∙◌, refl, ap, sym, arith, Bor, bytes_eq, ne_eqb}
 use Rattle.std.specs.Prelude.{IfSome, find, is_none, if◌then◌else◌}
 use Rattle.std.specs.Int.{w32, to_be_bytes}
-use Rattle.model.specs.Trees.Keyed.{at}
+use Rattle.model_tree.specs.Trees.Keyed.{at}
 use Rattle.model.specs.Sessions.Opens.{Open, Opens}
 use Rattle.model.specs.Sessions.StateIds.{is_like, is_table_full, open_like, open_named}
 use Rattle.opens.specs.declared.open.Entry.{Entry}

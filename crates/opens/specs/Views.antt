@@ -4,7 +4,7 @@ use Rattle.std.specs.Int.{w64, from_be_bytes}
 use Rattle.std.specs.Option.{option_map}
 use Rattle.std.specs.Vec.{vec_len, vec_capacity}
 use Rattle.model.specs.Operations.Context.{Context, current_number}
-use Rattle.model.specs.Trees.Keyed.{at}
+use Rattle.model_tree.specs.Trees.Keyed.{at}
 use Rattle.model.specs.Sessions.Opens as model
 use Rattle.model.specs.Operations.Operation.{StateId}
 use Rattle.model.specs.Sessions.StateIds as states

@@ -3,7 +3,7 @@
 ghost use Rattle.std.specs.Prelude.{◌≡◌};
 ghost use Rattle.std.specs.Option.{option_map};
 ghost use Rattle.model.specs.Operations.Context.{Context};
-ghost use Rattle.model.specs.Operations.Refusal.{first_refusal};
+ghost use Rattle.model_tree.specs.Refusals.Refusal.{first_refusal};
 ghost use Rattle.model.specs.Sessions.StateIds.{access_refusals, by_seqid, close_refusals, is_anonymous, is_current, meant, open_stateid};
 ghost use Rattle.wire.specs.SmallViews.{state_view};
 ghost use Rattle.opens.specs.Views.{found_of, open_of, serial_in, StandsAt};
@@ -11,7 +11,7 @@ ghost use Rattle.opens.specs.Views.{found_of, open_of, serial_in, StandsAt};
 use crate::access::Access;
 use crate::open::Entry;
 use bitflags::Flags;
-use model::status::Status;
+use model_tree::status::Status;
 use wire::StateId;
 
 /// Where a stateid is used.

@@ -6,7 +6,7 @@ ghost use Rattle.std.specs.List.{AllPairs};
 use crate::found::{Found, StateIdContext, by_seqid, is_anonymous, state_id};
 use crate::open::{Entry, Open};
 use byteorder::{BigEndian, ByteOrder};
-use model::status::Status;
+use model_tree::status::Status;
 use std::alloc::{AllocError, Global};
 use wire::StateId;
 
@@ -23,7 +23,7 @@ pub struct Opens {
 impl Opens {
     ghost use Rattle.std.specs.Prelude.{◌≡◌, ◌≤◌, ◌-◌, ◌^◌, ◌||◌, nat_le, None, length, map, IfOk, OnOk, IfSome, IfNone};
     ghost use Rattle.model.specs.Operations.Context.{Context};
-    ghost use Rattle.model.specs.Trees.Keyed.{at};
+    ghost use Rattle.model_tree.specs.Trees.Keyed.{at};
     ghost use Rattle.model.specs.Sessions.Opens as model;
     ghost use Rattle.model.specs.Sessions.Opens.{no_opens};
     ghost use Rattle.model.specs.Sessions.StateIds.{found, is_table_full, open_like, open_named, opened, without_clients, without_number, without_open};

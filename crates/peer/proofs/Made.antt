@@ -3,7 +3,7 @@ use Rattle.std.proofs.Common.{◌≡◌, ◌↔◌, ℕ, List, [], ◌∷◌, �
 use Rattle.std.specs.Global.{Vec}
 use Rattle.disk.specs.declared.device.Device.{Ghosts}
 use Rattle.model.specs.Server.Runs.{Event, Arrives, Turns, HangsUp, Takes}
-use Rattle.model.specs.Trees.Tree.{Tree}
+use Rattle.model_tree.specs.Trees.Tree.{Tree}
 use Rattle.server.specs.Connections.{turn_view}
 use Rattle.server.specs.Refused.{IsUntouched, HasTurned, RefusesTurn, RefusesHangUp, connection_at, view}
 use Rattle.server.specs.Seen.{Seen, Said, ServerCall, Did, Done, Took, Turned, Does, IsServed, IsTurned, Stays}

@@ -2,7 +2,7 @@
 use Rattle.std.specs.Prelude.{ℕ, List, [], ◌∷◌, false, true, ◌≡◌, ◌⊎◌, Option, None, Result, Ok, Err}
 use Rattle.disk.specs.declared.device.Device.{Ghosts}
 use Rattle.model.specs.Server.Runs.{Arrives, Turns, HangsUp}
-use Rattle.model.specs.Trees.Tree.{Tree}
+use Rattle.model_tree.specs.Trees.Tree.{Tree}
 use Rattle.model.specs.Server.World.{Connection}
 use Rattle.server.specs.Refused.{IsUntouched, connection_at, view}
 use Rattle.server.specs.Seen.{ServerCall, Did, Failed, Took, Done, IsServed}

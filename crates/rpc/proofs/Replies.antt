@@ -7,9 +7,9 @@ use Rattle.std.proofs.lemmas.List.{length-replicate}
 use Rattle.xdr.specs.Grammar.{number}
 use Rattle.xdr.specs.Forms.{padding, padded, counted}
 use Rattle.xdr.proofs.Numbers.{length-number_32}
-use Rattle.model.specs.Operations.Status.{code_of}
+use Rattle.model_tree.specs.Refusals.Status.{code_of}
 use Rattle.rpc.specs.declared.reply.CompoundResult.{CompoundResult}
-use Rattle.model.specs.declared.status.Status.{Status}
+use Rattle.model_tree.specs.declared.status.Status.{Status}
 use Rattle.model.specs.Wire.Record.{framed}
 use Rattle.model.specs.Wire.Rpc.{Success, compound_text, reply_text}
 use Rattle.rpc.specs.declared.reply.Reply.{Reply}

@@ -3,8 +3,8 @@ use Rattle.std.specs.Prelude.{◌≡◌, ℕ, ◌+◌, ◌^◌, List, [], ◌∷
 use Rattle.std.specs.Int.{w32}
 use Rattle.xdr.specs.Grammar.{number}
 use Rattle.xdr.specs.Forms.{counted}
-use Rattle.model.specs.declared.status.Status.{Status}
-use Rattle.model.specs.Operations.Status.{code_of}
+use Rattle.model_tree.specs.declared.status.Status.{Status}
+use Rattle.model_tree.specs.Refusals.Status.{code_of}
 use Rattle.model.specs.Wire.Rpc as spec
 use Rattle.rpc.specs.declared.call.Call.{Call}
 use Rattle.rpc.specs.declared.call.CallRead.{CallRead}

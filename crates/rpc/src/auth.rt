@@ -4,7 +4,7 @@ ghost use Rattle.std.specs.Prelude.{◌≡◌, Some, None, MatchOption};
 ghost use Rattle.model.specs.Wire.Rpc.{cred_told, credential_in};
 ghost use Rattle.wire.specs.SmallViews.{credential_view};
 
-use model::acl::Cred;
+use model_tree::acl::Cred;
 use wire::SystemCredential;
 use xdr::Reader;
 

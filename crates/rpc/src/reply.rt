@@ -12,7 +12,7 @@ ghost use Rattle.rpc.specs.Views.{reply_view, result_text, success_head, compoun
 
 use crate::numbers::{LAST_FRAGMENT, NFS_VERSION, REPLY, RPC_VERSION};
 use crate::tag::Tag;
-use model::status::Status;
+use model_tree::status::Status;
 use xdr::{Refusal, Writer, opaque_size};
 
 /// Why a caller's authentication is refused.

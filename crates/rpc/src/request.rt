@@ -12,8 +12,8 @@ use crate::compound::Compound;
 use crate::numbers::{AUTH_NONE, AUTH_SYS, COMPOUND, MINOR_VERSION, NFS_VERSION, NULL, PROGRAM};
 use crate::reply::{AuthStat, CompoundResult, Reply};
 use crate::tag::{MAX_TAG_BYTES, Tag};
-use model::acl::Cred;
-use model::status::Status;
+use model_tree::acl::Cred;
+use model_tree::status::Status;
 use xdr::{Reader, Refusal};
 
 /// What a call asks for.

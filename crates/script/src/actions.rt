@@ -8,7 +8,7 @@ use crate::operation::{Operation, arguments_of};
 use crate::user::{Known, User};
 use callers::{Caller, Refused, Results, connect};
 use disk::Device;
-use model::status::Status;
+use model_tree::status::Status;
 use server::{Server, Turn};
 use std::alloc::Global;
 use std::io::{Read, Write};

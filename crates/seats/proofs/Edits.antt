@@ -4,8 +4,8 @@ use Rattle.std.proofs.Common.{◌≡◌, ◌≢◌, ◌≤◌, ◌<◌, ◌-◌,
 use Rattle.std.specs.Prelude.{codes}
 use Rattle.std.specs.Int.{w32, to_be_bytes}
 use Rattle.std.proofs.lemmas.List.{get_or-set_same, get_or-set_other, length-append, length-drop, length-replicate, length-set, length-take}
-use Rattle.model.specs.Sessions.Seats.{HeldReply, Seat, with_held}
-use Rattle.model.specs.Sessions.SeatEdits.{Holds, HasSlot, edited_seat}
+use Rattle.model_tree.specs.Seats.Seats.{HeldReply, Seat, with_held}
+use Rattle.model_tree.specs.Seats.SeatEdits.{Holds, HasSlot, edited_seat}
 use Rattle.seats.specs.Spelling.{IsSeatPlace, IsSeat, head_sector, part_of, seat_sector, slot_at, slot_text}
 use Rattle.seats.proofs.Parts.{free_sector, first_sector, slot_sector_at}
 use Rattle.seats.proofs.Sectors.{head_apart, numbers_of, owner_on, length-slot_text, slot_is}

@@ -3,10 +3,10 @@ use Rattle.std.proofs.Common.{List, [], ◌∷◌, Option, Some, None, map, ◌�
 use Rattle.std.specs.Option.{option_map}
 use Rattle.std.specs.List.{AllByRecursion}
 use Rattle.std.proofs.lemmas.List.{length-map}
-use Rattle.model.specs.Sessions.SeatViews.{held_view, seat_view, place_view, seats_view}
-use Rattle.model.specs.declared.seats.HeldReply.{HeldReply}
-use Rattle.model.specs.declared.seats.Seat.{Seat}
-use Rattle.model.specs.declared.seats.Seats.{Seats}
+use Rattle.model_tree.specs.Seats.SeatViews.{held_view, seat_view, place_view, seats_view}
+use Rattle.model_tree.specs.declared.seats.HeldReply.{HeldReply}
+use Rattle.model_tree.specs.declared.seats.Seat.{Seat}
+use Rattle.model_tree.specs.declared.seats.Seats.{Seats}
 use Rattle.seats.specs.Spelling.{ArePlaces, IsHeld, IsSeatPlace, IsSeat, IsSlot}
 
 pub every_held : (held : HeldReply) → IsHeld (held_view held)

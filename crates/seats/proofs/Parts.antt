@@ -3,7 +3,7 @@ use Rattle.std.proofs.Common.{◌≡◌, ◌≤◌, ◌<◌, ◌+◌, ◌-◌, �
 use Rattle.std.proofs.lemmas.List.{length-drop, take_all, drop_all, take-replicate, drop-replicate, replicate-append-replicate}
 use Rattle.std.proofs.lemmas.Bool.{ne_eqb}
 use Rattle.std.proofs.Math.Seq.{drop-append-add}
-use Rattle.model.specs.Sessions.Seats.{HeldReply, Seat}
+use Rattle.model_tree.specs.Seats.Seats.{HeldReply, Seat}
 use Rattle.seats.specs.Padding.{padded}
 use Rattle.seats.specs.Spelling.{head_front, head_sector, held_front, part_of, seat_sector, slot_at, slot_text}
 

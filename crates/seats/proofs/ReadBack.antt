@@ -6,7 +6,7 @@ use Rattle.std.specs.List.{AllByRecursion}
 use Rattle.std.proofs.lemmas.Bool.{ne_eqb}
 use Rattle.std.proofs.lemmas.List.{take_at}
 use Rattle.std.proofs.lemmas.Nat.{from_be_bytes-to_be_bytes_4}
-use Rattle.model.specs.Sessions.Seats.{HeldReply, Seat, Seats}
+use Rattle.model_tree.specs.Seats.Seats.{HeldReply, Seat, Seats}
 use Rattle.seats.specs.declared.fault.SeatFault.{SeatFault}
 use Rattle.seats.specs.Spelling.{AreSectorsOf, ArePlaces, IsHeld, IsSeatPlace, IsSeat, IsSlot, held_front, seat_sector, seats_sector, slot_text}
 use Rattle.seats.specs.Reading.{SeatsReadBack, held_in, seat_from, seat_in, seats_in, slot_in, slots_in, taken_from, text_from}

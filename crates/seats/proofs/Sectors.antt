@@ -5,7 +5,7 @@ use Rattle.std.specs.Int.{w32, to_be_bytes, from_be_bytes}
 use Rattle.std.specs.List.{AllByRecursion, flat_map}
 use Rattle.std.proofs.lemmas.List.{append-nil, length-append, length-drop, length-replicate, get_or-drop, get_or_append_left, get_or-replicate, take_all, take_at, drop_at, drop-drop, drop_more, take-append-drop}
 use Rattle.std.proofs.lemmas.Nat.{from_be_bytes-to_be_bytes_4}
-use Rattle.model.specs.Sessions.Seats.{HeldReply, Seat}
+use Rattle.model_tree.specs.Seats.Seats.{HeldReply, Seat}
 use Rattle.seats.specs.Spelling.{AreSectorsOf, IsSeat, IsSlot, head_sector, held_front, part_of, sector_of, slot_at, slot_text}
 use Rattle.seats.specs.Reading.{text_from}
 use Rattle.seats.proofs.Parts.{body_of, first_sector, slot_sector_at}

@@ -2,7 +2,7 @@
 -- spelled it is these seats: so they spell one list of seats at most.
 use Rattle.std.specs.Prelude.{◌≡◌, ◌<◌, ◌+◌, ◌==◌, ◌++◌, ℕ, List, [], ◌∷◌, Option, Some, None, drop, slice_index, take, if◌then◌else◌}
 use Rattle.std.specs.Int.{w32, from_be_bytes}
-use Rattle.model.specs.Sessions.Seats.{HeldReply, Seat, Seats}
+use Rattle.model_tree.specs.Seats.Seats.{HeldReply, Seat, Seats}
 use Rattle.seats.specs.Spelling.{ArePlaces, seats_sector}
 
 abbrev pub held_in : List ℕ → HeldReply

@@ -3,7 +3,7 @@
 use Rattle.std.specs.Prelude.{◌≡◌, ◌≤◌, ◌<◌, ◌-◌, ◌*◌, ◌/◌, ◌%◌, ◌^◌, ◌==◌, ◌++◌, ℕ, List, [], Option, Some, None, codes, drop, length, replicate, slice_index_or, take, if◌then◌else◌}
 use Rattle.std.specs.Int.{w32, to_be_bytes}
 use Rattle.std.specs.List.{AllByRecursion}
-use Rattle.model.specs.Sessions.Seats.{HeldReply, Seat, Seats}
+use Rattle.model_tree.specs.Seats.Seats.{HeldReply, Seat, Seats}
 
 -- What can be spelled
 

@@ -2,15 +2,15 @@
 
 ghost use Rattle.std.specs.Prelude.{◌≡◌, ◌<◌, ◌+◌, ◌≤◌, ℕ, length, map, vec_len, Option, Some, IfOk, IsErrOf, IsTrue, ◌↔◌};
 ghost use Rattle.std.specs.Option.{option_map};
-ghost use Rattle.model.specs.Sessions.Seats as kept;
-ghost use Rattle.model.specs.Sessions.SeatViews.{held_view, seat_view, place_view};
+ghost use Rattle.model_tree.specs.Seats.Seats as kept;
+ghost use Rattle.model_tree.specs.Seats.SeatViews.{held_view, seat_view, place_view};
 ghost use Rattle.seats.specs.Spelling.{AreSectorsOf, IsSeatPlace, IsSeat, IsSlot, sector_of, slot_text};
 ghost use Rattle.seats.specs.Reading.{taken_from, text_from, seat_in};
 ghost use Rattle.seats.specs.Reading as total;
 
 use crate::fault::SeatFault;
 use crate::writing::{OWNER, RESULT, SLOT_SECTORS, seat_sector};
-use model::seats::{HeldReply, MAX_HELD_RESULT, Seat};
+use model_tree::seats::{HeldReply, MAX_HELD_RESULT, Seat};
 use sector::{SIZE, u32_at};
 use std::alloc::Global;
 

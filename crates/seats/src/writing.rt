@@ -2,12 +2,12 @@
 
 ghost use Rattle.std.specs.Prelude.{◌≡◌, ◌≤◌, ◌<◌, ◌-◌, ◌++◌, Some, length, replicate, take};
 ghost use Rattle.std.specs.Option.{option_map};
-ghost use Rattle.model.specs.Sessions.SeatViews.{held_view, seat_view, place_view};
+ghost use Rattle.model_tree.specs.Seats.SeatViews.{held_view, seat_view, place_view};
 ghost use Rattle.seats.specs.Padding.{padded};
 ghost use Rattle.seats.specs.Spelling.{head_front, held_front, part_of, slot_at, slot_text};
 ghost use Rattle.seats.specs.Spelling as spelled;
 
-use model::seats::{HeldReply, Seat};
+use model_tree::seats::{HeldReply, Seat};
 use sector::{SIZE, put_bytes, put_u32, put_zeros};
 
 /// Where the owner begins in the first sector, and the result in a slot's.

@@ -12,12 +12,12 @@ use Rattle.volume.proofs.FrontLaws.{among_more}
 use Rattle.layout.specs.Stands.{Kept}
 use Rattle.volume.specs.Changes.{Stays}
 use Rattle.volume.specs.VolumeState.{VolumeState, IsSameVolume, IsRecent, KeepsRecent, AddsTrees, StandsForOne, IsLeft, MayAdd, kept_of}
-use Rattle.model.specs.Trees.Keyed.{Keyed}
+use Rattle.model_tree.specs.Trees.Keyed.{Keyed}
 use Rattle.model.specs.Sessions.Opens.{Opens}
 use Rattle.model.specs.Server.Runs.{Serving, Event}
-use Rattle.model.specs.Sessions.Seats.{Seats}
+use Rattle.model_tree.specs.Seats.Seats.{Seats}
 use Rattle.model.specs.Sessions.Session.{Table}
-use Rattle.model.specs.Trees.Tree.{Tree}
+use Rattle.model_tree.specs.Trees.Tree.{Tree}
 use Rattle.model.specs.Server.World.{World, Connection}
 use Rattle.server.specs.Seen.{MayKeepDuring, Checkpoints, Breaks}
 use Rattle.server.specs.Views.{world_by, serving_by}

@@ -1,8 +1,8 @@
 -- The turns of a hang-up.
 use Rattle.std.proofs.Common.{◌≡◌, ◌<◌, ◌+◌, ◌-◌, ℕ, true, suc, Option, Some, None, sym, subst, arith}
 use Rattle.slab.specs.Slab.{Slab}
-use Rattle.model.specs.Trees.Keyed.{at}
-use Rattle.model.specs.declared.status.Status.{Status}
+use Rattle.model_tree.specs.Trees.Keyed.{at}
+use Rattle.model_tree.specs.declared.status.Status.{Status}
 use Rattle.model.specs.Server.Runs.{Turns}
 use Rattle.model.specs.Server.World as world
 use Rattle.model.specs.Server.World.{InProgress, Busy, is_busy}

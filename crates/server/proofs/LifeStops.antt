@@ -7,7 +7,7 @@ use Rattle.disk.specs.Moments.{seen}
 use Rattle.layout.specs.Stands.{Kept}
 use Rattle.model.specs.Server.Runs.{Serving, Stored, MayHoldSeats, IsSeatedAfter, IsRun, effect_of, mounted}
 use Rattle.model.specs.Sessions.SeatRuns.{Stop, AreSeats, HoldsFrom, IsFreed}
-use Rattle.model.specs.Sessions.Seats.{Seats, SeatsApart, has_seat, held_at, held_in, run_of}
+use Rattle.model_tree.specs.Seats.Seats.{Seats, SeatsApart, has_seat, held_at, held_in, run_of}
 use Rattle.model.specs.Server.ServedOnce.{numbers_in}
 use Rattle.model.specs.Sessions.SessionRuns.{CountsFrom}
 use Rattle.model.specs.Server.World.{ServerLimits}

@@ -2,12 +2,12 @@
 use Rattle.std.proofs.Common.{◌≡◌, ◌<◌, ◌≤◌, ◌+◌, ◌^◌, ℕ, List, [], ◌∷◌, length, Bool, false, None, refl, sym, ap, ap₂, ◌∙◌, subst, inl, ⊎_elim, arith}
 use Rattle.std.specs.List.{IsAmong}
 use Rattle.std.proofs.Math.Logic.{∥∥₁_elim, ∥∥₁_map, ∥∥₁_prop}
-use Rattle.model.specs.declared.limits.Limits.{Limits}
-use Rattle.model.specs.Trees.Limits.{limits_of}
+use Rattle.model_tree.specs.declared.limits.Limits.{Limits}
+use Rattle.model_tree.specs.Trees.Limits.{limits_of}
 use Rattle.model.specs.Server.SoundRuns.{IsStart}
-use Rattle.model.specs.Trees.Stamp.{stamp, next_stamp}
-use Rattle.model.specs.Trees.WellFormed.{IsWellFormed, IsBefore}
-use Rattle.model.proofs.Trees.ChangeLaws.{was_before}
+use Rattle.model_tree.specs.Trees.Stamp.{stamp, next_stamp}
+use Rattle.model_tree.specs.Trees.WellFormed.{IsWellFormed, IsBefore}
+use Rattle.model_tree.proofs.Trees.ChangeLaws.{was_before}
 use Rattle.volume.specs.MountAnswers.{FindsSeats}
 use Rattle.volume.specs.Remounts.{IsFound}
 use Rattle.disk.specs.Moments as moments
@@ -21,9 +21,9 @@ use Rattle.volume.specs.Stands.{StandsFor}
 use Rattle.model.specs.Server.Runs.{Serving, Event, executed_of, effect_of}
 use Rattle.model.specs.Sessions.Opens.{Opens, no_opens}
 use Rattle.model.specs.Sessions.SeatRuns.{AreSeats}
-use Rattle.model.specs.Sessions.Seats.{Seats}
-use Rattle.model.specs.Trees.Tree.{Tree}
-use Rattle.model.specs.Trees.Keyed.{Keyed}
+use Rattle.model_tree.specs.Seats.Seats.{Seats}
+use Rattle.model_tree.specs.Trees.Tree.{Tree}
+use Rattle.model_tree.specs.Trees.Keyed.{Keyed}
 use Rattle.model.specs.Sessions.Session.{Table, loaded_table}
 use Rattle.model.specs.Server.World.{World, Connection, mounted_world}
 use Rattle.server.specs.Headline.{IsMounted}

@@ -2,7 +2,7 @@
 use Rattle.std.proofs.Common.{◌≡◌, ◌<◌, ◌≤◌, ℕ, true, List, length, refl, ap, sym, subst, ◌∙◌}
 use Rattle.compound.specs.Steps.{stepped_on}
 use Rattle.compound.specs.Views.{Asked, IsBegin, asks, resumed, fits_operations}
-use Rattle.model.specs.declared.acl.Cred.{Cred}
+use Rattle.model_tree.specs.declared.acl.Cred.{Cred}
 use Rattle.model.specs.Wire.Record.{framed}
 use Rattle.model.specs.Wire.Rpc.{Call, Calls, OtherVersion, VersionRefused, Reply, Compound, Answers, Runs, read_call, request_of, reply_text}
 use Rattle.model.specs.Server.World.{World, InProgress, called, in_progress}

@@ -1,11 +1,11 @@
 -- Whether sessions may be persistent stays as it was said when the run began.
 use Rattle.std.proofs.Common.{◌≡◌, ℕ, Bool, List, Option, None, Some, Result, Ok, Err, find, ◌==◌, ◌∙◌, bytes_eq, refl}
-use Rattle.model.specs.declared.status.Status.{Status}
-use Rattle.model.specs.declared.status.Status.TheVariants as status
+use Rattle.model_tree.specs.declared.status.Status.{Status}
+use Rattle.model_tree.specs.declared.status.Status.TheVariants as status
 use Rattle.model.specs.Operations.Answer.{Answer, Outcome, Done, Refused, CreateSessionAnswer, ExchangeIdAnswer}
 use Rattle.model.specs.Operations.Operation.{Argument, CreateSessionArguments, ExchangeIdArguments, SequenceArguments, operation_of}
-use Rattle.model.specs.Operations.Refusal.{first_refusal}
-use Rattle.model.specs.Sessions.Seats.{has_seat}
+use Rattle.model_tree.specs.Refusals.Refusal.{first_refusal}
+use Rattle.model_tree.specs.Seats.Seats.{has_seat}
 use Rattle.model.specs.Sessions.Session as sessions
 use Rattle.model.specs.Sessions.Session.{SessionLimits, Client, Session, Table, CreateSessionOutcome}
 use Rattle.model.specs.Operations.Step.{current_refusals}

@@ -1,7 +1,7 @@
 -- How a connection's refusals are told.
 use Rattle.std.proofs.Common.{◌≡◌, ◌≤◌, ℕ, true, false, Result, Ok, Err, None, inr, ⊎_elim, refl, sym, ap, ◌∙◌}
 use Rattle.disk.specs.Cause.{IsCounted}
-use Rattle.model.specs.Trees.Keyed.{at}
+use Rattle.model_tree.specs.Trees.Keyed.{at}
 use Rattle.model.specs.Server.World.{World, is_busy}
 use Rattle.std.specs.Result.{IsErrAnd}
 use Rattle.volume.specs.VolumeState.{VolumeState, IsSameVolume}

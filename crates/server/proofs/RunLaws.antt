@@ -2,13 +2,13 @@ use Rattle.std.proofs.Common.{◌≡◌, ℕ, List, ◌∷◌, Option, Some, Non
 use Rattle.std.specs.List.{IsAmong}
 use Rattle.volume.proofs.RemountLaws.{seen_left}
 use Rattle.model.specs.Operations.Answer.{Answer, Outcome}
-use Rattle.model.specs.declared.status.Status.{Status}
-use Rattle.model.specs.declared.status.Status.TheVariants as status
-use Rattle.model.specs.Trees.Keyed.{at}
+use Rattle.model_tree.specs.declared.status.Status.{Status}
+use Rattle.model_tree.specs.declared.status.Status.TheVariants as status
+use Rattle.model_tree.specs.Trees.Keyed.{at}
 use Rattle.model.specs.Operations.Operation.{Argument, operation_of}
 use Rattle.model.specs.Wire.Rpc.{CallRead, NoCall, OtherVersion, Calls, Request, Answers, Runs, read_call, request_of}
 use Rattle.model.specs.Server.Runs as runs
-use Rattle.model.specs.Trees.Tree.{Tree}
+use Rattle.model_tree.specs.Trees.Tree.{Tree}
 use Rattle.model.specs.Server.World as world
 use Rattle.model.specs.Server.World.{World, Idle, InProgress, Next, Refuses, Reads, HasRun, Gives, Replays, Entry, Connection, Quiet, Waiting, Busy, Replied, Closed, one, turned, called, further, operates, behind, closes, has_run, is_last, is_to_hold, next_operation, in_room, run}
 use Rattle.disk.specs.Moments.{seen}

@@ -12,10 +12,10 @@ use Rattle.layout.specs.Stands.{Kept}
 use Rattle.volume.specs.Changes.{Given}
 use Rattle.volume.specs.VolumeState.{VolumeState, IsSameVolume, AddsTrees, StandsForOne, IsRecent}
 use Rattle.volume.specs.VolumeState.{MayAdd}
-use Rattle.model.specs.declared.limits.Limits.{Limits}
-use Rattle.model.specs.Trees.Tree.{Tree}
-use Rattle.model.specs.Trees.Keyed.{Keyed, at, with}
-use Rattle.model.proofs.Trees.KeyedLaws.{at-with_same}
+use Rattle.model_tree.specs.declared.limits.Limits.{Limits}
+use Rattle.model_tree.specs.Trees.Tree.{Tree}
+use Rattle.model_tree.specs.Trees.Keyed.{Keyed, at, with}
+use Rattle.model_tree.proofs.Trees.KeyedLaws.{at-with_same}
 use Rattle.model.specs.Server.Runs as runs
 use Rattle.model.specs.Server.Runs.{Serving}
 use Rattle.model.specs.Sessions.Session.{Table}

@@ -7,9 +7,9 @@ use Rattle.std.proofs.Common.{◌≤◌, inl, inr, Bool, true, false, IsTrue, Is
 use Rattle.std.proofs.lemmas.List.Sums.{sum_by-set}
 use Rattle.slab.specs.Slab.{Slab, get, ContainsKey, slab_len, with_value, Updates, entries_from, entries}
 use Rattle.slab.proofs.SlabLemmas.{length-entries, Updates-with_value, ContainsKey-within}
-use Rattle.model.specs.Trees.Keyed.{Keyed, at, with, without, IsAbove}
+use Rattle.model_tree.specs.Trees.Keyed.{Keyed, at, with, without, IsAbove}
 use Rattle.model.specs.Server.World as world
-use Rattle.model.proofs.Trees.KeyedLaws.{at-below, at-first, at-rest}
+use Rattle.model_tree.proofs.Trees.KeyedLaws.{at-below, at-first, at-rest}
 use Rattle.server.specs.Connections.{connection_view, numbered, connections_of, IsRising}
 use Rattle.server.specs.declared.connection.Connection.{Connection}
 

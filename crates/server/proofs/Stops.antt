@@ -5,7 +5,7 @@ use Rattle.std.proofs.Math.Logic.{∥∥₁_elim, ∥∥₁_map}
 use Rattle.std.proofs.Props.{props}
 use Rattle.disk.specs.Moments.{Image, History, LeftSince, moment, seen}
 use Rattle.layout.specs.Stands.{Kept, bare}
-use Rattle.model.specs.Trees.Fresh.{fresh_tree}
+use Rattle.model_tree.specs.Trees.Fresh.{fresh_tree}
 use Rattle.volume.specs.MountAnswers.{NoTree}
 use Rattle.volume.specs.VolumeState.{VolumeState, IsSameVolume, kept_of}
 use Rattle.volume.specs.Stands.{StandsFor, IsBase}

@@ -17,8 +17,8 @@ use Rattle.fs.specs.FileSystem.{FileSystem}
 use Rattle.fs.proofs.ChangeLaws.{changes_by}
 use Rattle.compound.proofs.QuietLaws.{answers_quietly}
 use Rattle.compound.proofs.Rooms.{state_same}
-use Rattle.model.proofs.Trees.KeyedLaws.{at-below, at-first, at-rest, some≢none}
-use Rattle.model.specs.Trees.Keyed.{Keyed, at, with, IsAbove}
+use Rattle.model_tree.proofs.Trees.KeyedLaws.{at-below, at-first, at-rest, some≢none}
+use Rattle.model_tree.specs.Trees.Keyed.{Keyed, at, with, IsAbove}
 use Rattle.model.specs.Wire.Rpc.{read_call}
 use Rattle.model.specs.Sessions.Session.{Table}
 use Rattle.model.specs.Server.World as world

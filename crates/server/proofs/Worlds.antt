@@ -3,15 +3,15 @@ use Rattle.std.proofs.Common.{◌≡◌, ◌+◌, ◌<◌, ◌≤◌, ℕ, zero,
 use Rattle.std.specs.List.{IsAmong}
 use Rattle.std.proofs.lemmas.Bool.{cases_eq}
 use Rattle.layout.specs.Stands.{Kept}
-use Rattle.model.specs.Trees.Keyed.{Keyed, at, with, without}
+use Rattle.model_tree.specs.Trees.Keyed.{Keyed, at, with, without}
 use Rattle.model.specs.Wire.Record.{RecordLimits, Front, Partial, Refused, Whole, front}
 use Rattle.model.specs.Wire.Rpc.{is_call_read, read_call}
 use Rattle.model.specs.Server.Runs.{Event, Happens, DeviceFails, StaysDown, MayLeave, MayHoldSeats, IsSeatedAfter, effect_of, executed_of, executed_by}
-use Rattle.model.specs.Sessions.Seats.{Seats}
-use Rattle.model.specs.Trees.Tree.{Tree}
+use Rattle.model_tree.specs.Seats.Seats.{Seats}
+use Rattle.model_tree.specs.Trees.Tree.{Tree}
 use Rattle.model.specs.Server.World as world
 use Rattle.model.specs.Server.World.{World, Quiet, Closed, arrives, arrives_at, arrived, takes, without_reply, connects, can_connect, connection_changed, with_connection, hangs_up, is_busy}
-use Rattle.model.proofs.Trees.KeyedLaws.{at-with_same, at-with_other, at-without_same, at-without_other}
+use Rattle.model_tree.proofs.Trees.KeyedLaws.{at-with_same, at-with_other, at-without_same, at-without_other}
 use Rattle.compound.specs.States.{SharedState}
 use Rattle.compound.specs.Volumes.{lasts}
 use Rattle.volume.specs.Changes.{LeavesOnCrash}

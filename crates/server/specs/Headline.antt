@@ -3,12 +3,12 @@
 use Rattle.std.specs.Prelude.{ℕ, Bool, List, [], ◌∷◌, slice_get, Some, ◌≡◌, ◌≢◌, ◌<◌, ◌≤◌, ◌+◌, ◌^◌}
 use Rattle.disk.specs.Moments.{Image, History, LeftSince, at_rest, moment, seen}
 use Rattle.layout.specs.Stands.{Kept, bare}
-use Rattle.model.specs.Trees.Fresh.{fresh_tree}
+use Rattle.model_tree.specs.Trees.Fresh.{fresh_tree}
 use Rattle.model.specs.Server.Runs.{Event, MayHoldSeats, IsGoodPrefix, AreStamped, mounted, executed, done_with, before, stamp_in}
 use Rattle.model.specs.Sessions.SeatRuns.{AreSeats}
 use Rattle.model.specs.Server.SoundRuns.{IsStart}
 use Rattle.model.specs.Server.StampRuns.{AreGiven}
-use Rattle.model.specs.Trees.Tree.{Tree}
+use Rattle.model_tree.specs.Trees.Tree.{Tree}
 use Rattle.model.specs.Server.World.{Entry}
 use Rattle.volume.specs.Formats.{IsFresh, LeavesFresh}
 use Rattle.volume.specs.VolumeState.{VolumeState, IsRecent, kept_of}

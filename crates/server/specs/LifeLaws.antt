@@ -5,12 +5,12 @@ use Rattle.std.specs.Prelude.{ℕ, false, true, ◌↔◌, List, [], ◌∷◌, 
 use Rattle.disk.specs.Moments.{Image, History}
 use Rattle.layout.specs.Stands.{Kept}
 use Rattle.model.specs.Operations.Answer.{CreateSessionAnswer}
-use Rattle.model.specs.Trees.Keyed.{at}
+use Rattle.model_tree.specs.Trees.Keyed.{at}
 use Rattle.model.specs.Operations.Operation.{SequenceArguments}
 use Rattle.model.specs.Server.Runs.{Event, Stored, effect_of, executed_of}
 use Rattle.model.specs.Server.Runs as runs
 use Rattle.model.specs.Sessions.SeatRuns.{AreSeats, AnswersBySeats, GivesHeld, HoldsFrom, IsFreed, IsFreedBy, MakesSession, storing, freeing, request_in}
-use Rattle.model.specs.Sessions.Seats.{Seat, Seats, seat_of, has_seat}
+use Rattle.model_tree.specs.Seats.Seats.{Seat, Seats, seat_of, has_seat}
 use Rattle.model.specs.Server.ServedOnce.{numbers_in}
 use Rattle.model.specs.Sessions.Session.{Table, Replays, begin}
 use Rattle.model.specs.Sessions.SessionRuns.{CountsFrom, OthersBetween}

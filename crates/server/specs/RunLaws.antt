@@ -1,7 +1,7 @@
 -- What follows of every run.
 use Rattle.std.specs.Prelude.{ℕ, Bool, List, [], Option, Some, ◌≡◌, ◌↔◌}
 use Rattle.layout.specs.Stands.{Kept}
-use Rattle.model.specs.Trees.Keyed.{at}
+use Rattle.model_tree.specs.Trees.Keyed.{at}
 use Rattle.model.specs.Wire.Rpc.{NoCall, read_call}
 use Rattle.model.specs.Server.World.{World, Connection, Waiting, Busy, Idle, one}
 use Rattle.volume.specs.VolumeState.{IsRecent}

@@ -5,7 +5,7 @@ use Rattle.std.specs.List.{IsAmong}
 use Rattle.disk.specs.Moments.{Image, AddsOnly, Left}
 use Rattle.layout.specs.Stands.{Kept}
 use Rattle.volume.specs.VolumeState.{VolumeState, IsSameVolume, StandsForOne, IsRecent}
-use Rattle.model.specs.Trees.Keyed.{at}
+use Rattle.model_tree.specs.Trees.Keyed.{at}
 use Rattle.model.specs.Server.Runs.{Serving, Event, Arrives, Turns, HangsUp, Connects, Takes, Happens, DeviceFails, StaysDown, MayLeave, MayHoldSeats, RunHistory, no_history, history_after, history_failing, effect_of}
 use Rattle.model.specs.Server.World as world
 use Rattle.model.specs.Server.World.{World, Turn, one, taken_at, reply_at, is_busy}

@@ -3,7 +3,7 @@
 use compound::{Fault, Progress, Running, Stepped};
 use disk::Device;
 use fs::Fs;
-use model::acl::Cred;
+use model_tree::acl::Cred;
 use opens::Opens;
 use rpc::CompoundPlace;
 use session::Table;

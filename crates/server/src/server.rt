@@ -4,7 +4,7 @@ ghost use Rattle.std.specs.Prelude.{◌≡◌, ◌≤◌, ℕ, false, Some};
 ghost use Rattle.slab.specs.Slab.{slab_len};
 ghost use Rattle.compound.specs.States.{Agrees};
 ghost use Rattle.fs.specs.Views.{fs_of};
-ghost use Rattle.model.specs.Trees.Keyed.{at};
+ghost use Rattle.model_tree.specs.Trees.Keyed.{at};
 ghost use Rattle.model.specs.Server.World as world;
 ghost use Rattle.session.specs.Views.{table_of};
 ghost use Rattle.server.specs.Connections.{connections_of, IsOfRun};
@@ -44,8 +44,8 @@ pub struct Server<D: Device> {
 impl<D: Device> Server<D> {
     ghost use Rattle.std.specs.Prelude.{◌≢◌, ◌≡◌, ◌≤◌, ◌↔◌, List, true, false, Some, None, length, OnOk, OnErr, IfOk, IfErr, IsErrOf};
     ghost use Rattle.model.specs.Server.Runs as runs;
-    ghost use Rattle.model.specs.Sessions.Seats.{Seats};
-    ghost use Rattle.model.specs.Trees.Tree.{Tree};
+    ghost use Rattle.model_tree.specs.Seats.Seats.{Seats};
+    ghost use Rattle.model_tree.specs.Trees.Tree.{Tree};
     ghost use Rattle.model.specs.Server.World.{Closed, is_busy, can_connect};
     ghost use Rattle.server.specs.Connections.{turn_view};
     ghost use Rattle.server.specs.Refused.{view, IsUntouched, connection_at, HasKept, HasTurned, RefusesCheckpoint, RefusesTurn, RefusesHangUp};

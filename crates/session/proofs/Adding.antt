@@ -1,9 +1,9 @@
 -- EXCHANGE_ID's new record, by what the records answer.
 use Rattle.std.proofs.Common.{◌≡◌, ℕ, Bool, ◌+◌, List, [], ◌∷◌, ◌++◌, Option, Result, Ok, Err, sym, ap, ◌∙◌}
-use Rattle.model.specs.declared.status.Status.{Status}
+use Rattle.model_tree.specs.declared.status.Status.{Status}
 use Rattle.model.specs.Operations.Operation.{ExchangeIdArguments}
 use Rattle.model.specs.Operations.Answer.{ExchangeIdAnswer as Answered}
-use Rattle.model.specs.Sessions.Seats.{Seats}
+use Rattle.model_tree.specs.Seats.Seats.{Seats}
 use Rattle.model.specs.Sessions.Session.{Client, Session, Table, new_record, exchange_answer, use_non_pnfs}
 use Rattle.session.specs.Calls.{Exchanged}
 use Rattle.session.specs.Limits.{served}

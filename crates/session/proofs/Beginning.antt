@@ -1,10 +1,10 @@
 -- What SEQUENCE does, by what its slot does.
 use Rattle.std.proofs.Common.{◌≡◌, ℕ, Bool, true, false, cond, ◌&&◌, ◌==◌, nat_lt, List, length, Option, None, Some, Ok, Err, refl, ap}
 use Rattle.std.specs.Option.{option_map}
-use Rattle.model.specs.declared.status.Status.{Status}
-use Rattle.model.specs.declared.status.Status.TheVariants as status
+use Rattle.model_tree.specs.declared.status.Status.{Status}
+use Rattle.model_tree.specs.declared.status.Status.TheVariants as status
 use Rattle.model.specs.Operations.Operation.{SequenceArguments}
-use Rattle.model.specs.Sessions.Seats.{HeldReply, Seat, Seats, held_in}
+use Rattle.model_tree.specs.Seats.Seats.{HeldReply, Seat, Seats, held_in}
 use Rattle.model.specs.Sessions.Session.{Begun, Refuses, Replays, Runs, SlotState, Free, Running, Kept, Slot, Session, begin_by, begin_slot, begin_new, begin_held, begin_dead, slot_at, next_number}
 use Rattle.session.specs.declared.slot.Next.TheVariants as next
 use Rattle.session.specs.Slots.{next_of, refusal_of, kept_reply}

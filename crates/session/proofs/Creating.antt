@@ -1,13 +1,13 @@
 -- CREATE_SESSION by its cases.
 use Rattle.std.proofs.Common.{◌≡◌, ℕ, ◌-◌, ◌<◌, ◌^◌, Bool, true, false, cond, ◌&&◌, ◌==◌, nat_le, [], ◌∷◌, ◌++◌, length, Option, None, Some, Ok, refl, ap, ◌∙◌, find, leb-false}
 use Rattle.std.specs.Option.{option_map}
-use Rattle.model.specs.declared.status.Status.{Status}
-use Rattle.model.specs.declared.status.Status.TheVariants as status
+use Rattle.model_tree.specs.declared.status.Status.{Status}
+use Rattle.model_tree.specs.declared.status.Status.TheVariants as status
 use Rattle.model.specs.Operations.Operation.{CreateSessionArguments}
 use Rattle.model.specs.Operations.Answer.{CreateSessionAnswer}
-use Rattle.model.specs.Operations.Refusal.{Refusals, first_refusal, refused_or}
+use Rattle.model_tree.specs.Refusals.Refusal.{Refusals, first_refusal, refused_or}
 use Rattle.model.specs.Sessions.Session.{Client, Table, CreateSessionOutcome, create_session, create_by, create_again, create_unless, create_refused, create_refusals, is_client, next_number, is_full_of_sessions, staying, replaced_by, is_of_clients, is_running}
-use Rattle.model.proofs.Facts.BooleanLaws.{second_of_neither}
+use Rattle.model_tree.proofs.Facts.BooleanLaws.{second_of_neither}
 use Rattle.std.specs.List.{list_any}
 use Rattle.session.specs.Limits.{served}
 use Rattle.session.specs.Rooms.{argument_refusals, room_refusals}

@@ -3,8 +3,8 @@ use Rattle.std.proofs.Common.{◌≡◌, ℕ, zero, suc, ◌<◌, Bool, true, fa
 use Rattle.std.proofs.lemmas.Bool.{true≢false, false_from_ne_true, and_parts}
 use Rattle.std.proofs.lemmas.List.Quantifiers.{position-Some}
 use Rattle.std.proofs.lemmas.Slice.Eq.{bytes_eq-Decides}
-use Rattle.model.specs.Sessions.Seats.{HeldReply, Seat, Seats, SeatsApart, is_seat_of, seat_of, has_seat, freed, with_held, holding}
-use Rattle.model.specs.Sessions.SeatEdits.{SeatEdit, Stays, Frees, Takes, Holds, edited_seat, edited_all, stays, all_stay, CanEdit, CanEditAll}
+use Rattle.model_tree.specs.Seats.Seats.{HeldReply, Seat, Seats, SeatsApart, is_seat_of, seat_of, has_seat, freed, with_held, holding}
+use Rattle.model_tree.specs.Seats.SeatEdits.{SeatEdit, Stays, Frees, Takes, Holds, edited_seat, edited_all, stays, all_stay, CanEdit, CanEditAll}
 use Rattle.session.specs.Seating.{EditsOne, is_place_of, edited_if}
 use Rattle.session.proofs.Lists.{position-None}
 

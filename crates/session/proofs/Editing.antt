@@ -2,9 +2,9 @@
 use Rattle.std.proofs.Common.{◌≡◌, ℕ, ◌+◌, ◌<◌, ◌&&◌, List, [], ◌∷◌, ◌++◌, length, map, get_or, set, Option, refl, sym, ap, ◌∙◌, arith}
 use Rattle.std.specs.List.{list_all, enumerate_from}
 use Rattle.std.proofs.lemmas.List.FromFn.{get_or-enumerate_from}
-use Rattle.model.specs.declared.seats.SeatEdit.{SeatEdit as Edit}
-use Rattle.model.specs.Sessions.Seats.{Seat, Seats}
-use Rattle.model.specs.Sessions.SeatEdits.{SeatEdit, edited_seat, edited_all, edit_view, stays, all_stay}
+use Rattle.model_tree.specs.declared.seats.SeatEdit.{SeatEdit as Edit}
+use Rattle.model_tree.specs.Seats.Seats.{Seat, Seats}
+use Rattle.model_tree.specs.Seats.SeatEdits.{SeatEdit, edited_seat, edited_all, edit_view, stays, all_stay}
 
 pub all_stay_is : (edits : List Edit) → all_stay (map edit_view edits) ≡ list_all (λ edit. stays (edit_view edit)) edits
 all_stay_is [] = refl

@@ -3,7 +3,7 @@ use Rattle.std.proofs.Common.{◌≡◌, ℕ, ◌<◌, not, ◌&&◌, ◌==◌, 
 use Rattle.std.proofs.lemmas.List.{get_or_default}
 use Rattle.std.proofs.lemmas.Bool.{eqb-true, ne_eqb, eq-eqb}
 use Rattle.model.specs.Sessions.Session.{is_client, is_replaced_by, without_where, Client as Known}
-use Rattle.model.proofs.Facts.BooleanLaws.{and_false, and_true}
+use Rattle.model_tree.proofs.Facts.BooleanLaws.{and_false, and_true}
 use Rattle.model.proofs.Operations.NodeAttributeLaws.{filter-map}
 use Rattle.session.specs.declared.client.Client.{Client}
 use Rattle.session.specs.Views.{client_of, among}

@@ -1,12 +1,12 @@
 -- EXCHANGE_ID by its cases.
 use Rattle.std.proofs.Common.{◌≡◌, ℕ, ◌+◌, Bool, true, false, cond, not, ◌==◌, List, Option, None, Some, Result, Ok, Err, sym, ap, ◌∙◌, find, bytes_eq, if◌then◌else◌}
 use Rattle.std.proofs.lemmas.List.Elements.{filter_agree}
-use Rattle.model.specs.declared.status.Status.{Status}
-use Rattle.model.specs.declared.status.Status.TheVariants as status
+use Rattle.model_tree.specs.declared.status.Status.{Status}
+use Rattle.model_tree.specs.declared.status.Status.TheVariants as status
 use Rattle.model.specs.Operations.Operation.{ExchangeIdArguments}
 use Rattle.model.specs.Operations.Answer.{ExchangeIdAnswer}
 use Rattle.model.specs.Sessions.Session.{Client, Table, exchange_id, exchange_by, new_record, exchange_answer, exchange_flags, has_only, is_confirmed_of, is_unconfirmed_of, is_client, is_full_of_clients, without_unconfirmed, without_client, with_clients, with_new_client, has_state, client_number, use_non_pnfs, confirmed_flag}
-use Rattle.model.proofs.Facts.BooleanLaws.{and_true}
+use Rattle.model_tree.proofs.Facts.BooleanLaws.{and_true}
 use Rattle.session.specs.Limits.{served}
 use Rattle.session.specs.Rooms.{stays, records_staying, is_full_beside}
 use Rattle.session.specs.Views.{cleared_of}

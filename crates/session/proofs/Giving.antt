@@ -4,7 +4,7 @@ use Rattle.std.specs.Int.{w64, to_be_bytes, from_be_bytes}
 use Rattle.std.proofs.lemmas.Bool.{false_from_ne_true}
 use Rattle.std.proofs.lemmas.Nat.{from_be_bytes-to_be_bytes_8}
 use Rattle.std.proofs.lemmas.Slice.Eq.{bytes_eq-Decides}
-use Rattle.model.specs.Sessions.Seats.{HeldReply, Seat, Seats, AreOfRuns, run_of, has_seat, freed, seated, holding}
+use Rattle.model_tree.specs.Seats.Seats.{HeldReply, Seat, Seats, AreOfRuns, run_of, has_seat, freed, seated, holding}
 use Rattle.model.specs.Sessions.Session.{Session, session_id, slot_at, held_reply, held_by}
 use Rattle.model.proofs.Sessions.SeatLaws.{apart_freed, had_seat, has_holding, apart_holding, seated_other, apart_seated}
 use Rattle.model.proofs.Sessions.SeatTables.{id_of_run}

@@ -1,9 +1,9 @@
 -- Replies that no seat holds, and sessions that end.
 use Rattle.std.proofs.Common.{◌≡◌, ℕ, zero, suc, ◌≤◌, Bool, true, false, cond, not, nat_lt, List, [], ◌∷◌, length, filter, find, set, Option, None, Some, refl, sym, ap, ◌∙◌, subst, arith, bytes_eq, ltb-false}
 use Rattle.std.proofs.lemmas.Slice.Eq.{bytes_eq-Decides}
-use Rattle.model.specs.declared.status.Status.{Status}
-use Rattle.model.specs.declared.status.Status.TheVariants as status
-use Rattle.model.specs.Sessions.Seats.{HeldReply, Seat, Seats, SeatsApart, seat_of, has_seat, with_held, holding}
+use Rattle.model_tree.specs.declared.status.Status.{Status}
+use Rattle.model_tree.specs.declared.status.Status.TheVariants as status
+use Rattle.model_tree.specs.Seats.Seats.{HeldReply, Seat, Seats, SeatsApart, seat_of, has_seat, with_held, holding}
 use Rattle.model.specs.Sessions.Session.{Session, Table, is_session, is_running, without_where, without_seat, with_sessions, destroy_by, destroy_session, held_by, held_reply, slot_at}
 use Rattle.model.proofs.Sessions.SeatLaws.{holding_none}
 use Rattle.session.specs.Seating.{has_held_slot}

@@ -7,7 +7,7 @@ use Rattle.std.proofs.lemmas.List.Quantifiers.{position-Some}
 use Rattle.std.proofs.lemmas.List.Sums.{fails_before_first}
 use Rattle.std.proofs.lemmas.Bool.{cases_eq, cases_lt, ltb-false, false_from_ne_true}
 use Rattle.model.specs.Sessions.Session.{changed_where}
-use Rattle.model.proofs.Facts.BooleanLaws.{and_false, and_true, or_same}
+use Rattle.model_tree.proofs.Facts.BooleanLaws.{and_false, and_true, or_same}
 use Rattle.model.proofs.Operations.NodeAttributeLaws.{filter-map}
 
 -- Tests and filters

@@ -2,8 +2,8 @@
 use Rattle.std.proofs.Common.{◌≡◌, ℕ, ◌+◌, Bool, true, false, if◌then◌else◌, List, [], ◌∷◌, ◌++◌, replicate, Option, None, is_some, refl, sym, ap, ◌∙◌}
 use Rattle.model.specs.Operations.Operation.{Channel, CreateSessionArguments}
 use Rattle.model.specs.Operations.Answer.{CreateSessionAnswer}
-use Rattle.model.specs.Sessions.Seats.{Seat, Seats, seated}
-use Rattle.model.specs.Sessions.SeatEdits.{edited_all}
+use Rattle.model_tree.specs.Seats.Seats.{Seat, Seats, seated}
+use Rattle.model_tree.specs.Seats.SeatEdits.{edited_all}
 use Rattle.model.specs.Sessions.Session.{Client, Session, Table, session_id, limits_for, fore_channel, create_session_answer, new_session, with_new_session, gives_way, seats_after, seats_staying, persists, replaced_by, is_client, is_replaced_by, is_of_clients, confirmed_with, changed_where, without_where, no_slot}
 use Rattle.session.specs.Limits.{served}
 use Rattle.session.specs.Seating.{place_for, seat_with, edits_with}

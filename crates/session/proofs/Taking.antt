@@ -3,8 +3,8 @@ use Rattle.std.proofs.Common.{◌≡◌, ℕ, zero, suc, ◌+◌, ◌<◌, ◌�
 use Rattle.std.proofs.lemmas.Bool.{true≢false}
 use Rattle.std.proofs.lemmas.List.Quantifiers.{position-Some}
 use Rattle.model.specs.Operations.Operation.{CreateSessionArguments}
-use Rattle.model.specs.Sessions.Seats.{Seat, Seats, run_of, freed, has_free, seated}
-use Rattle.model.specs.Sessions.SeatEdits.{Stays, Frees, Takes, edited_seat, edited_all, CanEditAll}
+use Rattle.model_tree.specs.Seats.Seats.{Seat, Seats, run_of, freed, has_free, seated}
+use Rattle.model_tree.specs.Seats.SeatEdits.{Stays, Frees, Takes, edited_seat, edited_all, CanEditAll}
 use Rattle.model.specs.Sessions.Session.{Client, Table, gives_way, seats_staying, persists}
 use Rattle.session.specs.Seating.{freeing, is_left_free, place_for, edits_with}
 use Rattle.session.specs.Given.{AreGiven, serial_in}

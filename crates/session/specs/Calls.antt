@@ -1,7 +1,7 @@
 -- What the calls on a table answer, and the table that they leave.
 use Rattle.std.specs.Prelude.{◌≡◌, ℕ, ◌+◌, List, Some, Result, Ok, Err}
 use Rattle.std.specs.List.{find}
-use Rattle.model.specs.declared.status.Status.{Status}
+use Rattle.model_tree.specs.declared.status.Status.{Status}
 use Rattle.model.specs.Operations.Answer as answer
 use Rattle.model.specs.Operations.Operation.{SequenceArguments}
 use Rattle.model.specs.Sessions.Session as model

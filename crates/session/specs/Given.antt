@@ -2,7 +2,7 @@
 use Rattle.std.specs.Prelude.{◌≡◌, ◌≤◌, ℕ, true, List, [], ◌∷◌, drop, None, Some}
 use Rattle.std.specs.Int.{w64, from_be_bytes}
 use Rattle.std.proofs.Props.{props}
-use Rattle.model.specs.Sessions.Seats.{Seats, SeatsApart, has_seat, run_of}
+use Rattle.model_tree.specs.Seats.Seats.{Seats, SeatsApart, has_seat, run_of}
 
 -- the serial in the id of a session
 abbrev pub serial_in : List ℕ → ℕ

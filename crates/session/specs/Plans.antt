@@ -5,9 +5,9 @@ use Rattle.std.specs.Prelude.{◌≡◌, ◌<◌, ℕ, ◌+◌, List, [], ◌∷
 use Rattle.std.specs.List.{find}
 use Rattle.model.specs.declared.not_done.NotDone.{NotDone}
 use Rattle.model.specs.declared.not_done.NotDone.TheVariants as refusal
-use Rattle.model.specs.declared.seats.SeatEdits.{SeatEdits}
-use Rattle.model.specs.Sessions.Seats.{is_seat_of, freed}
-use Rattle.model.specs.Sessions.SeatEdits.{AreEdits, edited_all, edits_view}
+use Rattle.model_tree.specs.declared.seats.SeatEdits.{SeatEdits}
+use Rattle.model_tree.specs.Seats.Seats.{is_seat_of, freed}
+use Rattle.model_tree.specs.Seats.SeatEdits.{AreEdits, edited_all, edits_view}
 use Rattle.model.specs.Sessions.Session as model
 use Rattle.model.specs.Sessions.Session.{CreateSessionOutcome, create_refused, confirmed_with, is_client, is_of_clients, is_replaced_by, is_session, changed_where, without_where, destroy_session, held_by}
 use Rattle.wire.specs.AnswerViews.{create_session_view}

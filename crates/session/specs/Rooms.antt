@@ -1,8 +1,8 @@
 -- What a new record or session finds where others give way to it.
 use Rattle.std.specs.Prelude.{◌==◌, ◌≡◌, ◌<◌, ◌≤◌, ℕ, ◌+◌, ◌*◌, ◌-◌, ◌^◌, Bool, true, false, not, ◌&&◌, ◌||◌, nat_le, List, [], ◌∷◌, ◌++◌, length, map, filter, Option, None, Some, Result, Ok, Err}
-use Rattle.model.specs.declared.status.Status.TheVariants as status
+use Rattle.model_tree.specs.declared.status.Status.TheVariants as status
 use Rattle.model.specs.Operations.Operation.{ExchangeIdArguments, CreateSessionArguments}
-use Rattle.model.specs.Operations.Refusal.{Refusals}
+use Rattle.model_tree.specs.Refusals.Refusal.{Refusals}
 use Rattle.std.specs.List.{list_any}
 use Rattle.model.specs.Sessions.Session as model
 use Rattle.model.specs.Sessions.Session.{is_client, is_unconfirmed_of, is_replaced_by, is_of_clients, client_number, is_running, is_too_small, has_only, session_flags, replaced_by, is_full_of_sessions}

@@ -2,8 +2,8 @@
 use Rattle.std.specs.Prelude.{◌≡◌, ℕ, ◌%◌, Bool, true, false, ◌&&◌, ◌==◌, if◌then◌else◌, List, map, position, replicate, slice_set, length, nat_lt, Option, None, Some}
 use Rattle.std.specs.Option.{option_map}
 use Rattle.model.specs.Operations.Operation.{CreateSessionArguments}
-use Rattle.model.specs.Sessions.Seats.{Seat, Seats, is_seat_of, held_in}
-use Rattle.model.specs.Sessions.SeatEdits.{SeatEdit, Stays, Frees, Takes, edited_seat, edited_all, CanEditAll}
+use Rattle.model_tree.specs.Seats.Seats.{Seat, Seats, is_seat_of, held_in}
+use Rattle.model_tree.specs.Seats.SeatEdits.{SeatEdit, Stays, Frees, Takes, edited_seat, edited_all, CanEditAll}
 use Rattle.model.specs.Sessions.Session.{Client, Table, gives_way}
 
 -- The seat of one session

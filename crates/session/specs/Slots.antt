@@ -1,7 +1,7 @@
 -- What the code's slots stand for.
 use Rattle.std.specs.Prelude.{ℕ, List, Option, None, Some, Result, Ok, Err}
 use Rattle.model.specs.Sessions.Session as model
-use Rattle.model.specs.declared.status.Status.{Status}
+use Rattle.model_tree.specs.declared.status.Status.{Status}
 use Rattle.session.specs.declared.slot.SlotState.{SlotState}
 use Rattle.session.specs.declared.slot.SlotState.TheVariants as slot_state
 use Rattle.session.specs.declared.slot.Slot.{Slot}

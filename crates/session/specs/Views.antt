@@ -2,8 +2,8 @@
 use Rattle.std.specs.Prelude.{ℕ, Bool, List, map, Option, None, Some, ◌==◌}
 use Rattle.std.specs.List.{find, list_any}
 use Rattle.std.specs.Option.{option_map}
-use Rattle.model.specs.Sessions.Seats.{Seats, seat_of}
-use Rattle.model.specs.Sessions.SeatViews.{seats_view}
+use Rattle.model_tree.specs.Seats.Seats.{Seats, seat_of}
+use Rattle.model_tree.specs.Seats.SeatViews.{seats_view}
 use Rattle.model.specs.Sessions.Session as model
 use Rattle.model.specs.Sessions.Session.{is_session, slot_at}
 use Rattle.wire.specs.AnswerViews.{create_session_view}

@@ -6,7 +6,7 @@ ghost use Rattle.std.specs.List.{AllPairs};
 use crate::client::Client;
 use crate::limits::MAX_CLIENTS;
 use model::not_done::NotDone;
-use model::status::Status;
+use model_tree::status::Status;
 use std::alloc::{AllocError, Global};
 use wire::{CreateSessionAnswer, ExchangeIdArguments};
 

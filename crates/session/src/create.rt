@@ -2,7 +2,7 @@
 
 ghost use Rattle.std.specs.Prelude.{◌≡◌, ◌≢◌, ◌<◌, ◌+◌, ◌^◌, if◌then◌else◌, None, IfOk, IfErr};
 ghost use Rattle.std.specs.Result.{result_err};
-ghost use Rattle.model.specs.Operations.Refusal.{first_refusal};
+ghost use Rattle.model_tree.specs.Refusals.Refusal.{first_refusal};
 ghost use Rattle.model.specs.Sessions.Session.{CreateSessionOutcome, create_session, create_unless, limits_for, fore_channel, is_too_small, is_full_of_sessions};
 ghost use Rattle.wire.specs.ArgumentViews.{create_session_view};
 ghost use Rattle.wire.specs.SmallViews.{channel_view};
@@ -22,7 +22,7 @@ use crate::session::{Session, session_id};
 use crate::table::Table;
 use bitflags::Flags;
 use model::not_done::NotDone;
-use model::status::Status;
+use model_tree::status::Status;
 use std::alloc::AllocError;
 use wire::{Channel, CreateSessionAnswer, CreateSessionArguments};
 

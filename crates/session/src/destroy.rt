@@ -3,8 +3,8 @@
 
 ghost use Rattle.std.specs.Prelude.{◌≡◌, None, IfErr};
 ghost use Rattle.std.specs.Result.{result_err};
-ghost use Rattle.model.specs.Sessions.SeatEdits.{edited_all, edits_view};
-ghost use Rattle.model.specs.Sessions.Seats.{is_seat_of, freed};
+ghost use Rattle.model_tree.specs.Seats.SeatEdits.{edited_all, edits_view};
+ghost use Rattle.model_tree.specs.Seats.Seats.{is_seat_of, freed};
 ghost use Rattle.model.specs.Sessions.Session.{destroy_session, destroy_client_id, reclaim_complete};
 ghost use Rattle.wire.specs.Short.{IsRefusal};
 ghost use Rattle.session.specs.Calls.{Refuses};
@@ -14,8 +14,8 @@ ghost use Rattle.session.specs.Views.{table_of, among};
 use crate::edits::edit_seats;
 use crate::table::Table;
 use model::not_done::NotDone;
-use model::seats::{SeatEdit, SeatEdits};
-use model::status::Status;
+use model_tree::seats::{SeatEdit, SeatEdits};
+use model_tree::status::Status;
 
 #[tactic(auto, unfolding(crate::specs::Views::table_of, model::specs::Sessions::Session::destroy_session, model::specs::Sessions::Session::destroy_client_id, model::specs::Sessions::Session::reclaim_complete))]
 impl Table {

@@ -1,11 +1,11 @@
 //! Edits of seats: those that change nothing, and how they are made.
 
 ghost use Rattle.std.specs.Prelude.{◌≡◌, replicate, IfOk};
-ghost use Rattle.model.specs.Sessions.SeatEdits.{Stays, edited_seat, edited_all, edit_view, edits_view, all_stay};
-ghost use Rattle.model.specs.Sessions.Seats.{with_held};
-ghost use Rattle.model.specs.Sessions.SeatViews.{held_view, seat_view, place_view, seats_view};
+ghost use Rattle.model_tree.specs.Seats.SeatEdits.{Stays, edited_seat, edited_all, edit_view, edits_view, all_stay};
+ghost use Rattle.model_tree.specs.Seats.Seats.{with_held};
+ghost use Rattle.model_tree.specs.Seats.SeatViews.{held_view, seat_view, place_view, seats_view};
 
-use model::seats::{HeldReply, SEATS, Seat, SeatEdit, SeatEdits, Seats};
+use model_tree::seats::{HeldReply, SEATS, Seat, SeatEdit, SeatEdits, Seats};
 use std::alloc::{AllocError, Global};
 
 /// Whether each place stays as it is.

@@ -14,7 +14,7 @@ use crate::flags::ExchangeFlags;
 use crate::table::Table;
 use bitflags::Flags;
 use model::not_done::NotDone;
-use model::status::Status;
+use model_tree::status::Status;
 use wire::{ExchangeIdAnswer, ExchangeIdArguments};
 
 const SERVER_NAME: &[u8] = b"nfs41srv";

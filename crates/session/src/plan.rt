@@ -1,7 +1,7 @@
 //! What CREATE_SESSION is to do, before it does it.
 
 use crate::session::Session;
-use model::seats::SeatEdits;
+use model_tree::seats::SeatEdits;
 use wire::CreateSessionAnswer;
 
 /// What CREATE_SESSION answers, and the clients that ended with it: their opens are to end.

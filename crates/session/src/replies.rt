@@ -3,8 +3,8 @@
 ghost use Rattle.std.specs.Prelude.{◌≡◌, ◌≤◌, false, length, IfOk, IfSome};
 ghost use Rattle.std.specs.List.{find};
 ghost use Rattle.std.specs.Option.{option_map};
-ghost use Rattle.model.specs.Sessions.SeatEdits.{edited_all, edits_view};
-ghost use Rattle.model.specs.Sessions.Seats.{seat_of, has_seat};
+ghost use Rattle.model_tree.specs.Seats.SeatEdits.{edited_all, edits_view};
+ghost use Rattle.model_tree.specs.Seats.Seats.{seat_of, has_seat};
 ghost use Rattle.model.specs.Sessions.Session.{is_session, held_by, finish};
 ghost use Rattle.session.specs.Plans.{IsHoldPlanned};
 ghost use Rattle.session.specs.Seating.{reply_held, has_held_slot};
@@ -14,7 +14,7 @@ use crate::edits::{edit_seats, idle_edits};
 use crate::limits::MAX_RECORD_BYTES;
 use crate::seating::{find_seat, held_of};
 use crate::table::Table;
-use model::seats::{HeldReply, SeatEdit, SeatEdits};
+use model_tree::seats::{HeldReply, SeatEdit, SeatEdits};
 use std::alloc::AllocError;
 
 #[tactic(auto, unfolding(crate::specs::Views::table_of, crate::specs::Views::reply_kept, model::specs::Sessions::Session::finish))]

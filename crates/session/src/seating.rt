@@ -4,9 +4,9 @@
 ghost use Rattle.std.specs.Prelude.{◌≡◌, ◌≤◌, ◌<◌, map, position, replicate, None, Some, IfSome, IfOk};
 ghost use Rattle.std.specs.List.{list_any};
 ghost use Rattle.std.specs.Option.{option_map, option_copied};
-ghost use Rattle.model.specs.Sessions.SeatEdits.{edit_view, edits_view, CanEdit};
-ghost use Rattle.model.specs.Sessions.Seats.{Seat as KnownSeat, seat_of, has_seat, held_in};
-ghost use Rattle.model.specs.Sessions.SeatViews.{held_view, seat_view, place_view, seats_view};
+ghost use Rattle.model_tree.specs.Seats.SeatEdits.{edit_view, edits_view, CanEdit};
+ghost use Rattle.model_tree.specs.Seats.Seats.{Seat as KnownSeat, seat_of, has_seat, held_in};
+ghost use Rattle.model_tree.specs.Seats.SeatViews.{held_view, seat_view, place_view, seats_view};
 ghost use Rattle.model.specs.Sessions.Session.{gives_way, is_session, staying};
 ghost use Rattle.wire.specs.ArgumentViews.{create_session_view};
 ghost use Rattle.session.specs.Seating.{EditsOne, is_place_of, freeing, is_left_free, place_for, seat_with, edits_with};
@@ -17,7 +17,7 @@ use crate::edits::idle_edits;
 use crate::flags::SessionFlags;
 use crate::table::Table;
 use bitflags::Flags;
-use model::seats::{HeldReply, Seat, SeatEdit, SeatEdits, Seats};
+use model_tree::seats::{HeldReply, Seat, SeatEdit, SeatEdits, Seats};
 use std::alloc::{AllocError, Global};
 use wire::CreateSessionArguments;
 

@@ -2,7 +2,7 @@
 
 ghost use Rattle.std.specs.Prelude.{◌≡◌, IfErr};
 ghost use Rattle.std.specs.Result.{result_err};
-ghost use Rattle.model.specs.Sessions.Seats.{seat_of};
+ghost use Rattle.model_tree.specs.Seats.Seats.{seat_of};
 ghost use Rattle.model.specs.Sessions.Session.{begin_dead};
 ghost use Rattle.wire.specs.ArgumentViews.{sequence_view};
 ghost use Rattle.wire.specs.Short.{IsRefusal};
@@ -13,7 +13,7 @@ ghost use Rattle.session.specs.Views.{table_of};
 use crate::seating::{find_seat, held_of};
 use crate::slot::Next;
 use crate::table::Table;
-use model::status::Status;
+use model_tree::status::Status;
 use wire::{SequenceAnswer, SequenceArguments};
 
 /// What a SEQUENCE that is not refused does.

@@ -7,7 +7,7 @@ ghost use Rattle.session.specs.declared.limits.TheConstants.{MAX_SLOTS};
 
 use crate::limits::{MAX_RECORD_BYTES, MAX_SLOTS};
 use crate::slot::{Next, Slot, SlotState, free_slots};
-use model::status::Status;
+use model_tree::status::Status;
 use std::alloc::{AllocError, Global};
 use wire::{Channel, SequenceArguments};
 
@@ -35,7 +35,7 @@ impl Session {
     ghost use Rattle.std.specs.Prelude.{◌≡◌, ◌≤◌, ◌-◌, Some, IfOk, IfSome, IfErr, length, replicate};
     ghost use Rattle.std.specs.Option.{option_map};
     ghost use Rattle.std.specs.Vec.{vec_len};
-    ghost use Rattle.model.specs.Sessions.Seats.{no_seats};
+    ghost use Rattle.model_tree.specs.Seats.Seats.{no_seats};
     ghost use Rattle.model.specs.Sessions.Session.{is_session, is_of_clients, is_running, no_slot, slot_at, begin_by, begin_new, with_slot, finished_slot};
     ghost use Rattle.wire.specs.ArgumentViews.{sequence_view};
     ghost use Rattle.wire.specs.Short.{IsRefusal};

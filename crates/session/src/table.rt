@@ -1,12 +1,12 @@
 //! What a server knows of its clients in one run, beside the seats of its volume.
 
 ghost use Rattle.std.specs.Prelude.{◌≤◌};
-ghost use Rattle.model.specs.Sessions.SeatViews.{seats_view};
+ghost use Rattle.model_tree.specs.Seats.SeatViews.{seats_view};
 ghost use Rattle.session.specs.Given.{AreGiven, AreGiven-prop};
 
 use crate::clients::Clients;
 use crate::sessions::Sessions;
-use model::seats::Seats;
+use model_tree::seats::Seats;
 use std::alloc::Global;
 
 /// The client records and the sessions of one run, and the seats.
@@ -24,8 +24,8 @@ pub struct Table {
 
 impl Table {
     ghost use Rattle.std.specs.Prelude.{◌≡◌, ◌+◌, ℕ};
-    ghost use Rattle.model.specs.Sessions.Seats.{AreOfRuns};
-    ghost use Rattle.model.specs.Sessions.SeatViews.{seats_view};
+    ghost use Rattle.model_tree.specs.Seats.Seats.{AreOfRuns};
+    ghost use Rattle.model_tree.specs.Seats.SeatViews.{seats_view};
     ghost use Rattle.model.specs.Sessions.Session.{loaded_table, has_state};
     ghost use Rattle.session.specs.Views.{table_of, among};
 

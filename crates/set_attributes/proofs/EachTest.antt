@@ -4,8 +4,8 @@ use Rattle.std.specs.Prelude.{Option, Some, None}
 use Rattle.std.specs.List.{flat_map}
 use Rattle.std.proofs.lemmas.List.{drop_more}
 use Rattle.std.proofs.lemmas.List.Concat.{flat_map-cons}
-use Rattle.model.specs.declared.status.Status.{Status}
-use Rattle.model.specs.Operations.Refusal.{Refusals, first_refusal}
+use Rattle.model_tree.specs.declared.status.Status.{Status}
+use Rattle.model_tree.specs.Refusals.Refusal.{Refusals, first_refusal}
 use Rattle.model.proofs.Operations.RefusalLaws.{first-append, or_else}
 
 module _ {X V : Type 0} (view : X → V) (tests : V → Refusals) where

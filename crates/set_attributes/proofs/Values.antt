@@ -3,13 +3,13 @@ use Rattle.std.proofs.Common.{ℕ, List, [], ◌∷◌, ◌≡◌, ◌≤◌, So
 use Rattle.std.proofs.lemmas.Bool.{ltb-false}
 use Rattle.std.specs.List.{flat_map}
 use Rattle.std.specs.Prelude.{unwrap_or}
-use Rattle.model.specs.declared.node.NodeKind.{NodeKind}
-use Rattle.model.specs.declared.limits.Limits.{Limits}
-use Rattle.model.specs.declared.status.Status.TheVariants as status
+use Rattle.model_tree.specs.declared.node.NodeKind.{NodeKind}
+use Rattle.model_tree.specs.declared.limits.Limits.{Limits}
+use Rattle.model_tree.specs.declared.status.Status.TheVariants as status
 use Rattle.model.specs.Attributes.Attribute.{attribute_refusals, attributes_of, first_said, has_one_outside, mode_given, mode_said, supported, value_refusals, values_of}
 use Rattle.model.specs.Attributes.AttributeValue.{Value, Mode}
 use Rattle.model.specs.Operations.Operation as operation
-use Rattle.model.specs.Operations.Refusal.{first_refusal}
+use Rattle.model_tree.specs.Refusals.Refusal.{first_refusal}
 use Rattle.model.proofs.Operations.AttributeLaws.{first_passed, given_lists_fit}
 use Rattle.model.proofs.Operations.FileStepLaws.{size_within}
 use Rattle.model.proofs.Operations.RefusalLaws.{none_in_front}

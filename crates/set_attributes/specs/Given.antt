@@ -2,14 +2,14 @@
 -- them says.
 use Rattle.std.specs.Prelude.{ℕ, List, length, Some, None, Result, ◌≡◌, ◌≤◌, ◌==◌, MatchResult, IsTrue}
 use Rattle.std.specs.Option.{ForSome}
-use Rattle.model.specs.declared.limits.Limits.{Limits}
-use Rattle.model.specs.declared.node.NodeKind.{NodeKind}
-use Rattle.model.specs.declared.status.Status.{Status}
-use Rattle.model.specs.Rights.Acl.{is_list_for}
+use Rattle.model_tree.specs.declared.limits.Limits.{Limits}
+use Rattle.model_tree.specs.declared.node.NodeKind.{NodeKind}
+use Rattle.model_tree.specs.declared.status.Status.{Status}
+use Rattle.model_tree.specs.Rights.Acl.{is_list_for}
 use Rattle.model.specs.Attributes.Attribute.{first_said, size_said, acl_said, mode_said, owner_said, group_said, is_empty, size_given, acl_given, mode_given, owner_given, group_given}
 use Rattle.model.specs.Attributes.AttributeValue as value
 use Rattle.model.specs.Operations.Operation as operation
-use Rattle.model.specs.Operations.Refusal.{Refusals, first_refusal}
+use Rattle.model_tree.specs.Refusals.Refusal.{Refusals, first_refusal}
 use Rattle.set_attributes.specs.declared.attributes.GivenAttributes.{GivenAttributes}
 use Rattle.model.specs.declared.not_done.NotDone.{NotDone}
 use Rattle.model.specs.declared.not_done.NotDone.TheVariants as refusal

@@ -2,7 +2,7 @@
 
 ghost use Rattle.std.specs.Prelude.{◌≡◌, ◌≤◌, ◌+◌, not, length, map, IfOk};
 ghost use Rattle.std.specs.List.{flat_map};
-ghost use Rattle.model.specs.Rights.Acl.{every_right, inheritance, is_within};
+ghost use Rattle.model_tree.specs.Rights.Acl.{every_right, inheritance, is_within};
 ghost use Rattle.model.specs.Attributes.AclText.{identifier_group};
 ghost use Rattle.model.specs.Attributes.Attribute.{attribute_refusals, entry_refusals, value_refusals};
 ghost use Rattle.model.specs.Attributes.AttributeValue.{Acl};
@@ -14,11 +14,11 @@ use crate::numbers::{SUPPORTED, has_one_outside};
 use crate::said::{Settings, settings_in};
 use acl_set::are_flags_for;
 use bitflags::Flags;
-use model::acl::{AceFlags, Mask};
-use model::limits::Limits;
-use model::node::NodeKind;
 use model::not_done::NotDone;
-use model::status::Status;
+use model_tree::acl::{AceFlags, Mask};
+use model_tree::limits::Limits;
+use model_tree::node::NodeKind;
+use model_tree::status::Status;
 use std::alloc::Global;
 use wire_attributes::{AclEntry, Value, number_of, numbers_of, read_values, who_of};
 

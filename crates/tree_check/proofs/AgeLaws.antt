@@ -2,9 +2,9 @@
 use Rattle.std.proofs.Common.{◌≡◌, ◌≤◌, ◌<◌, ◌↔◌, ℕ, zero, suc, List, [], ◌∷◌, Option, Some, None, length, get_or, refl, sym, ap, subst, ◌∙◌, arith, inl, inr, ne_eqb}
 use Rattle.std.proofs.lemmas.Bool.{cases_eq}
 use Rattle.disk.specs.Moments.{Image}
-use Rattle.model.specs.Trees.Keyed.{at, here_or}
-use Rattle.model.specs.Trees.Tree.{Tree, Node, DirEntry, names_of}
-use Rattle.model.specs.Trees.WellFormed.{IsBefore}
+use Rattle.model_tree.specs.Trees.Keyed.{at, here_or}
+use Rattle.model_tree.specs.Trees.Tree.{Tree, Node, DirEntry, names_of}
+use Rattle.model_tree.specs.Trees.WellFormed.{IsBefore}
 use Rattle.directory.specs.Records.{Record}
 use Rattle.layout.specs.CachedNodes.{CachedNode, tree_of, node_of}
 use Rattle.layout.specs.Known.{AreCards}

@@ -5,13 +5,13 @@ use Rattle.std.proofs.lemmas.List.FromFn.{length-map-range_with_len}
 use Rattle.std.proofs.lemmas.Slice.Eq.{bytes_eq-Decides}
 use Rattle.std.specs.List.{AllByRecursion}
 use Rattle.disk.specs.Moments.{Image}
-use Rattle.model.specs.declared.limits.Limits.{Limits}
-use Rattle.model.specs.declared.node.NodeKind.{NodeKind}
-use Rattle.model.specs.declared.node.NodeKind.TheVariants as kind
-use Rattle.model.specs.Rights.Acl.{is_list_for}
-use Rattle.model.specs.Trees.Keyed.{at, here_or}
-use Rattle.model.specs.Trees.Tree.{Tree, DirEntry, root, kind_of, is_directory, is_directory_node, is_directory_at}
-use Rattle.model.specs.Trees.WellFormed.{one_if, times_named, AreNames, IsContent, IsNode}
+use Rattle.model_tree.specs.declared.limits.Limits.{Limits}
+use Rattle.model_tree.specs.declared.node.NodeKind.{NodeKind}
+use Rattle.model_tree.specs.declared.node.NodeKind.TheVariants as kind
+use Rattle.model_tree.specs.Rights.Acl.{is_list_for}
+use Rattle.model_tree.specs.Trees.Keyed.{at, here_or}
+use Rattle.model_tree.specs.Trees.Tree.{Tree, DirEntry, root, kind_of, is_directory, is_directory_node, is_directory_at}
+use Rattle.model_tree.specs.Trees.WellFormed.{one_if, times_named, AreNames, IsContent, IsNode}
 use Rattle.directory.specs.Listing.{by_stamp}
 use Rattle.directory.specs.Records.{Record, name_of, NamesApart, NamesStamped}
 use Rattle.directory.proofs.ByStamp.{at-by_stamp}

@@ -8,7 +8,7 @@ use Rattle.layout.specs.CachedNodes.{CachedNode}
 use Rattle.layout.specs.Marks.{once_if, times}
 use Rattle.layout.specs.SumLaws.{entry_numbers, other_numbers, numbers_of}
 use Rattle.layout.proofs.NumberLaws.{place-of, once-here, once-off, times-append, times-at}
-use Rattle.model.specs.Trees.Tree.{root}
+use Rattle.model_tree.specs.Trees.Tree.{root}
 use Rattle.tree_check.specs.Trees.{led_at, led_by, IsReached, Root, Named, IsOneTree}
 use Rattle.tree_check.specs.Walks.{number_or, number_in, numbers_at, led_from, IsWalk, IsStuck}
 use Rattle.tree_check.proofs.Sums.{sum_below, sum_of, many, sum-same, sum-zero, sum-ones, sum-each, AreBelow, sum_of-below, sum_of-le, sum_of-all, length-sum, times-split, sum_of-at}

@@ -4,14 +4,14 @@ use Rattle.std.proofs.lemmas.Bool.{le-leb}
 use Rattle.std.specs.Prelude.{nat_le}
 use Rattle.node_table.specs.Tables.{charge_of_all, count_of_all}
 use Rattle.disk.specs.Moments.{Image}
-use Rattle.model.specs.declared.limits.Limits.{Limits}
-use Rattle.model.specs.declared.node.NodeKind.{NodeKind}
-use Rattle.model.specs.declared.node.NodeKind.TheVariants as kind
-use Rattle.model.specs.Trees.Charge.{fits, few_names}
-use Rattle.model.specs.Trees.Keyed.{at, IsAbove}
-use Rattle.model.specs.Trees.Tree.{Tree, Node, names_of}
-use Rattle.model.proofs.Trees.KeyedLaws.{at-above, at-first, at-rest}
-use Rattle.model.proofs.Sessions.OpensLaws.{total-ones}
+use Rattle.model_tree.specs.declared.limits.Limits.{Limits}
+use Rattle.model_tree.specs.declared.node.NodeKind.{NodeKind}
+use Rattle.model_tree.specs.declared.node.NodeKind.TheVariants as kind
+use Rattle.model_tree.specs.Trees.Charge.{fits, few_names}
+use Rattle.model_tree.specs.Trees.Keyed.{at, IsAbove}
+use Rattle.model_tree.specs.Trees.Tree.{Tree, Node, names_of}
+use Rattle.model_tree.proofs.Trees.KeyedLaws.{at-above, at-first, at-rest}
+use Rattle.model_tree.proofs.Trees.KeyedParts.{total-ones}
 use Rattle.directory.specs.declared.names.TheConstants.Names.{MAX_NAMES}
 use Rattle.directory.specs.Listing.{by_stamp}
 use Rattle.layout.specs.CachedNodes.{CachedNode, tree_of, node_of, content_of}

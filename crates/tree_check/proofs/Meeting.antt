@@ -7,7 +7,7 @@ use Rattle.node_table.proofs.TableLaws.{within-numbered}
 use Rattle.layout.specs.CachedNodes.{CachedNode}
 use Rattle.layout.specs.Marks.{once_if, times}
 use Rattle.layout.proofs.NumberLaws.{place-of, times-append, times-at}
-use Rattle.model.specs.Trees.Tree.{root}
+use Rattle.model_tree.specs.Trees.Tree.{root}
 use Rattle.tree_check.specs.Trees.{IsReached, Root}
 use Rattle.tree_check.specs.Walks.{number_or, number_in, numbers_at, IsWalk, Meets}
 

@@ -5,11 +5,11 @@ use Rattle.std.proofs.lemmas.List.{get_or-map, length-map}
 use Rattle.std.specs.Prelude.{is_some}
 use Rattle.std.proofs.lemmas.Option.{same_Some, none-some}
 use Rattle.disk.specs.Moments.{Image}
-use Rattle.model.specs.declared.node.NodeKind.{NodeKind}
-use Rattle.model.specs.declared.node.NodeKind.TheVariants as kind
-use Rattle.model.specs.Trees.Keyed.{at, here_or, is_key}
-use Rattle.model.specs.Trees.Tree.{Tree, Node, DirEntry, root, names_of, names_of_node, names_at}
-use Rattle.model.specs.Trees.WellFormed.{one_if, is_stamped, stamped_in, IsFrom, Start, Named}
+use Rattle.model_tree.specs.declared.node.NodeKind.{NodeKind}
+use Rattle.model_tree.specs.declared.node.NodeKind.TheVariants as kind
+use Rattle.model_tree.specs.Trees.Keyed.{at, here_or, is_key}
+use Rattle.model_tree.specs.Trees.Tree.{Tree, Node, DirEntry, root, names_of, names_of_node, names_at}
+use Rattle.model_tree.specs.Trees.WellFormed.{one_if, is_stamped, stamped_in, IsFrom, Start, Named}
 use Rattle.directory.specs.Records.{Record, NamesStamped}
 use Rattle.directory.proofs.ByStamp.{at-by_stamp}
 use Rattle.node_table.specs.Tables.{node_number, node_number_at}

@@ -5,7 +5,7 @@ use Rattle.node_table.specs.Tables.{node_number_at}
 use Rattle.directory.specs.Records.{Record}
 use Rattle.layout.specs.CachedNodes.{CachedNode}
 use Rattle.layout.specs.SumLaws.{numbers_of}
-use Rattle.model.specs.Trees.Tree.{root}
+use Rattle.model_tree.specs.Trees.Tree.{root}
 use Rattle.tree_check.specs.Trees.{led_at, led_by, IsReached, Named}
 use Rattle.tree_check.specs.Walks.{numbers_at, led_from, IsMissing, IsStuck, Meets}
 use Rattle.tree_check.proofs.Sums.{take-one}

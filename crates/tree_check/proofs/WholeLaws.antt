@@ -3,10 +3,10 @@ use Rattle.std.proofs.Common.{◌≡◌, ◌≤◌, ◌↔◌, ◌&&◌, ℕ, tr
 use Rattle.std.proofs.lemmas.Bool.{and_parts, le-leb, leb-true}
 use Rattle.std.specs.Prelude.{is_some, nat_le}
 use Rattle.disk.specs.Moments.{Image}
-use Rattle.model.specs.declared.limits.Limits.{Limits}
-use Rattle.model.specs.Trees.Keyed.{at}
-use Rattle.model.specs.Trees.Tree.{Node, root, is_directory_node}
-use Rattle.model.specs.Trees.WellFormed.{IsBefore, IsWellFormed}
+use Rattle.model_tree.specs.declared.limits.Limits.{Limits}
+use Rattle.model_tree.specs.Trees.Keyed.{at}
+use Rattle.model_tree.specs.Trees.Tree.{Node, root, is_directory_node}
+use Rattle.model_tree.specs.Trees.WellFormed.{IsBefore, IsWellFormed}
 use Rattle.directory.specs.declared.names.TheConstants.Names.{MAX_NAMES}
 use Rattle.node_table.specs.Tables.{charge_of_all, count_of_all}
 use Rattle.layout.specs.CachedNodes.{CachedNode, tree_of}

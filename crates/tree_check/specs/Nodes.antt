@@ -1,13 +1,13 @@
 -- The nodes at the places of a table are ones that the limits allow, and the root is a directory.
 use Rattle.std.specs.Prelude.{◌≡◌, ◌≤◌, ℕ, List, Option, Some, None, IsTrue, slice_index_or}
 use Rattle.std.specs.List.{AllByRecursion}
-use Rattle.model.specs.declared.limits.Limits.{Limits}
-use Rattle.model.specs.declared.node.NodeKind.{NodeKind}
-use Rattle.model.specs.declared.node.NodeKind.TheVariants as kind
-use Rattle.model.specs.Rights.Acl.{is_list_for}
-use Rattle.model.specs.Attributes.Name.{name_refusals}
-use Rattle.model.specs.Operations.Refusal.{first_refusal}
-use Rattle.model.specs.Trees.Tree.{root}
+use Rattle.model_tree.specs.declared.limits.Limits.{Limits}
+use Rattle.model_tree.specs.declared.node.NodeKind.{NodeKind}
+use Rattle.model_tree.specs.declared.node.NodeKind.TheVariants as kind
+use Rattle.model_tree.specs.Rights.Acl.{is_list_for}
+use Rattle.model_tree.specs.Refusals.Name.{name_refusals}
+use Rattle.model_tree.specs.Refusals.Refusal.{first_refusal}
+use Rattle.model_tree.specs.Trees.Tree.{root}
 use Rattle.directory.specs.Records.{Record, name_of}
 use Rattle.layout.specs.CachedNodes.{CachedNode}
 

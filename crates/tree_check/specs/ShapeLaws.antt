@@ -2,11 +2,11 @@
 use Rattle.std.specs.Prelude.{◌≡◌, ◌≤◌, ◌↔◌, ◌<◌, ◌&&◌, nat_le, ℕ, List, [], Option, Some, All, IsTrue}
 use Rattle.disk.specs.Moments.{Image}
 use Rattle.node_table.specs.Tables.{charge_of_all, count_of_all}
-use Rattle.model.specs.declared.limits.Limits.{Limits}
-use Rattle.model.specs.Trees.Charge.{fits}
-use Rattle.model.specs.Trees.Keyed.{at, is_key}
-use Rattle.model.specs.Trees.Tree.{Tree, Node, root, is_directory_at}
-use Rattle.model.specs.Trees.WellFormed.{links_to, links_owed, stamped_in, IsBefore, IsFrom, IsNode, IsWellFormed}
+use Rattle.model_tree.specs.declared.limits.Limits.{Limits}
+use Rattle.model_tree.specs.Trees.Charge.{fits}
+use Rattle.model_tree.specs.Trees.Keyed.{at, is_key}
+use Rattle.model_tree.specs.Trees.Tree.{Tree, Node, root, is_directory_at}
+use Rattle.model_tree.specs.Trees.WellFormed.{links_to, links_owed, stamped_in, IsBefore, IsFrom, IsNode, IsWellFormed}
 use Rattle.directory.specs.declared.names.TheConstants.Names.{MAX_NAMES}
 use Rattle.layout.specs.CachedNodes.{CachedNode, tree_of}
 use Rattle.layout.specs.Known.{AreCards}

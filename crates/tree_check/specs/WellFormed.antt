@@ -1,7 +1,7 @@
 -- The nodes at the places of a table are a well-formed tree, from before a stamp.
 use Rattle.std.specs.Prelude.{◌≤◌, ℕ, List, Option}
 use Rattle.node_table.specs.Tables.{charge_of_all, count_of_all}
-use Rattle.model.specs.declared.limits.Limits.{Limits}
+use Rattle.model_tree.specs.declared.limits.Limits.{Limits}
 use Rattle.layout.specs.CachedNodes.{CachedNode}
 use Rattle.tree_check.specs.Ages.{AreBefore}
 use Rattle.tree_check.specs.Nodes.{AreNodesAllowed}

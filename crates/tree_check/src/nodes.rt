@@ -6,8 +6,8 @@ ghost use Rattle.tree_check.specs.Nodes.{HasRootDirectory, IsNameAllowed, IsNode
 
 use acl_set::is_list_for;
 use directory::{Names, check_name};
-use model::limits::Limits;
-use model::node::{NodeKind, ROOT};
+use model_tree::limits::Limits;
+use model_tree::node::{NodeKind, ROOT};
 use node_table::{CachedNode, Table};
 
 fn is_name_allowed(name: &[u8], limits: &Limits) -> bool

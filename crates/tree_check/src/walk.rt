@@ -3,7 +3,7 @@
 ghost use Rattle.std.specs.Prelude.{◌≡◌, true, IfOk};
 ghost use Rattle.tree_check.specs.Trees.{IsOneTree};
 
-use model::node::ROOT;
+use model_tree::node::ROOT;
 use node_table::Table;
 use std::alloc::{AllocError, Global};
 

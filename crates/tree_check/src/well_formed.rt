@@ -7,7 +7,7 @@ use crate::ages::are_before;
 use crate::nodes::are_nodes_allowed;
 use crate::stamps::are_stamps_apart;
 use crate::walk::is_one_tree;
-use model::limits::Limits;
+use model_tree::limits::Limits;
 use node_table::Table;
 use std::alloc::{AllocError, Global};
 

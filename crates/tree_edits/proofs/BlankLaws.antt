@@ -8,13 +8,13 @@ use Rattle.disk.specs.Moments.{Image}
 use Rattle.layout.specs.CachedNodes.{CachedNode, byte_at, bytes_in, content_at, content_of, node_of}
 use Rattle.layout.specs.CachedNodes.{tree_of}
 use Rattle.layout.proofs.StepLaws.{length-bytes_in}
-use Rattle.model.specs.declared.node.NodeKind.{NodeKind}
-use Rattle.model.specs.declared.node.NodeKind.TheVariants as kind
-use Rattle.model.specs.Trees.Charge.{charge, charge_of_blocks, blocks, blocks_of, few_names}
-use Rattle.model.specs.Trees.Edit.{Edit, PutNode, DropNode, Show, PutName, DropName, PutBytes, SetSize, done, edited, altered, altered_at, showing, with_content, name_put, name_dropped, resized, overwritten}
-use Rattle.model.specs.Trees.Keyed.{Keyed, at, with, without, is_key, total, here_or, before_or_behind, in_place_of, kept_or_not}
-use Rattle.model.specs.Trees.Tree.{Tree, Node, Content, File, Directory, DirEntry, names_of, names_at, names_of_node, bytes_of, is_directory_at, is_directory, is_directory_node}
-use Rattle.model.proofs.Trees.NodeChangeLaws.{length-resized}
+use Rattle.model_tree.specs.declared.node.NodeKind.{NodeKind}
+use Rattle.model_tree.specs.declared.node.NodeKind.TheVariants as kind
+use Rattle.model_tree.specs.Trees.Charge.{charge, charge_of_blocks, blocks, blocks_of, few_names}
+use Rattle.model_tree.specs.Trees.Edit.{Edit, PutNode, DropNode, Show, PutName, DropName, PutBytes, SetSize, done, edited, altered, altered_at, showing, with_content, name_put, name_dropped, resized, overwritten}
+use Rattle.model_tree.specs.Trees.Keyed.{Keyed, at, with, without, is_key, total, here_or, before_or_behind, in_place_of, kept_or_not}
+use Rattle.model_tree.specs.Trees.Tree.{Tree, Node, Content, File, Directory, DirEntry, names_of, names_at, names_of_node, bytes_of, is_directory_at, is_directory, is_directory_node}
+use Rattle.model_tree.proofs.Trees.NodeChangeLaws.{length-resized}
 use Rattle.tree_edits.specs.Edits.{size_of}
 use Rattle.tree_edits.specs.Outlines.{zeros, blank, blank_node, without_data, EachOutline}
 use Rattle.tree_edits.specs.Outlines.{EditsBlanked}

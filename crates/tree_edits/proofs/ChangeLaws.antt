@@ -2,12 +2,12 @@
 use Rattle.std.proofs.Common.{◌≡◌, ◌≢◌, ◌≤◌, ◌<◌, ◌+◌, ℕ, Bool, true, false, List, [], ◌∷◌, Option, Some, None, length, refl, sym, ap, arith, inl, inr, eqb, le-leb}
 use Rattle.std.proofs.lemmas.Bool.{cases_eq}
 use Rattle.std.specs.Prelude.{option_map, nat_le, IsTrue, bytes_eq, ◌&&◌}
-use Rattle.model.specs.Trees.Charge.{few_names}
-use Rattle.model.specs.Trees.Edit.{altered, altered_at}
-use Rattle.model.specs.Trees.Keyed.{Keyed, at, with, without, here_or, total, worth_at, IsAbove}
-use Rattle.model.specs.Trees.Tree.{Tree, Node, DirEntry, names_of, names_at, names_of_node, entry_of, found_or}
+use Rattle.model_tree.specs.Trees.Charge.{few_names}
+use Rattle.model_tree.specs.Trees.Edit.{altered, altered_at}
+use Rattle.model_tree.specs.Trees.Keyed.{Keyed, at, with, without, here_or, total, worth_at, IsAbove}
+use Rattle.model_tree.specs.Trees.Tree.{Tree, Node, DirEntry, names_of, names_at, names_of_node, entry_of, found_or}
 use Rattle.tree_edits.proofs.NamedLaws.{few-at}
-use Rattle.model.proofs.Trees.KeyedLaws.{at-below, at-first, at-rest, at-above, at-with_same, at-with_other, at-without_same, at-without_other, IsAbove-with, IsAbove-without, total-with, total-without}
+use Rattle.model_tree.proofs.Trees.KeyedLaws.{at-below, at-first, at-rest, at-above, at-with_same, at-with_other, at-without_same, at-without_other, IsAbove-with, IsAbove-without, total-with, total-without}
 
 -- every other node stays, the numbers rise, and what the nodes are worth changes by what this one is
 pub record ChangesOne (number : ℕ) (old new : Tree) : Type 0 where

@@ -7,12 +7,12 @@ use Rattle.tree_edits.specs.Edits.{edit_of, size_of, CanDo, DoableAlike, FewAlik
 use Rattle.tree_edits.specs.Making.{IsMaking}
 use Rattle.tree_edits.specs.Outlines.{without_data}
 use Rattle.tree_edits.proofs.BlankLaws.{key-without_data, directory-without_data, names-without_data, size-without_data, few-without_data, done-without_data}
-use Rattle.model.specs.Trees.Charge.{few_names}
-use Rattle.model.specs.declared.node.NodeKind.{NodeKind}
-use Rattle.model.specs.Trees.Edit.{done}
-use Rattle.model.specs.Trees.Edit as model
-use Rattle.model.specs.Trees.Keyed.{at, is_key}
-use Rattle.model.specs.Trees.Tree.{Tree, Node, names_at, is_directory_at, entry_of}
+use Rattle.model_tree.specs.Trees.Charge.{few_names}
+use Rattle.model_tree.specs.declared.node.NodeKind.{NodeKind}
+use Rattle.model_tree.specs.Trees.Edit.{done}
+use Rattle.model_tree.specs.Trees.Edit as model
+use Rattle.model_tree.specs.Trees.Keyed.{at, is_key}
+use Rattle.model_tree.specs.Trees.Tree.{Tree, Node, names_at, is_directory_at, entry_of}
 use Rattle.directory.specs.declared.names.TheConstants.Names.{MAX_NAMES}
 
 module _ (tree other : Tree) (alike : without_data other ≡ without_data tree) where

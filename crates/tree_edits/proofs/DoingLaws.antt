@@ -25,13 +25,13 @@ use Rattle.layout.specs.Known.{IsCard}
 use Rattle.layout.specs.Marks.{mark_by}
 use Rattle.layout.specs.Stands.{HaveCurrentForms}
 use Rattle.layout.proofs.StepLaws.{length-bytes_in}
-use Rattle.model.specs.declared.node.NodeKind.{NodeKind}
-use Rattle.model.specs.declared.node.NodeKind.TheVariants as kind
-use Rattle.model.specs.Trees.Edit.{Shown, done, altered, altered_at, showing, with_content, resized, overwritten, name_put, name_dropped}
-use Rattle.model.specs.Trees.Edit as model
-use Rattle.model.specs.Trees.Keyed.{Keyed, with, without}
-use Rattle.model.specs.Trees.Tree.{Tree, Node, File, Directory, DirEntry, bytes_of, names_of}
-use Rattle.model.proofs.Trees.NodeChangeLaws.{length-resized}
+use Rattle.model_tree.specs.declared.node.NodeKind.{NodeKind}
+use Rattle.model_tree.specs.declared.node.NodeKind.TheVariants as kind
+use Rattle.model_tree.specs.Trees.Edit.{Shown, done, altered, altered_at, showing, with_content, resized, overwritten, name_put, name_dropped}
+use Rattle.model_tree.specs.Trees.Edit as model
+use Rattle.model_tree.specs.Trees.Keyed.{Keyed, with, without}
+use Rattle.model_tree.specs.Trees.Tree.{Tree, Node, File, Directory, DirEntry, bytes_of, names_of}
+use Rattle.model_tree.proofs.Trees.NodeChangeLaws.{length-resized}
 use Rattle.directory.specs.Listing.{by_stamp}
 use Rattle.directory.specs.Records.{Record, place_of, with_record, without_place}
 

@@ -8,12 +8,12 @@ use Rattle.tree_edits.proofs.PlaceLaws.{IsThere, there_is, file_there}
 use Rattle.layout.specs.CachedNodes.{CachedNode, bytes_in, content_of, node_of}
 use Rattle.layout.specs.Known.{AreCards}
 use Rattle.layout.proofs.StepLaws.{length-bytes_in}
-use Rattle.model.specs.declared.node.NodeKind.{NodeKind}
-use Rattle.model.specs.declared.node.NodeKind.TheVariants as kind
-use Rattle.model.specs.Trees.Charge.{charge, charge_of_blocks, blocks_of}
-use Rattle.model.specs.Trees.Edit.{with_content, overwritten}
-use Rattle.model.specs.Trees.Keyed.{at}
-use Rattle.model.specs.Trees.Tree.{File, bytes_of}
+use Rattle.model_tree.specs.declared.node.NodeKind.{NodeKind}
+use Rattle.model_tree.specs.declared.node.NodeKind.TheVariants as kind
+use Rattle.model_tree.specs.Trees.Charge.{charge, charge_of_blocks, blocks_of}
+use Rattle.model_tree.specs.Trees.Edit.{with_content, overwritten}
+use Rattle.model_tree.specs.Trees.Keyed.{at}
+use Rattle.model_tree.specs.Trees.Tree.{File, bytes_of}
 
 module _ (cards : List (Option CachedNode)) (nodes : ℕ) (mark : ℕ → ℕ) (known : AreCards nodes mark cards) (place number end : ℕ) (it : IsThere cards place number) (file : IsFileTo (tree_without_data cards) number end) where
   pub is_file : it.cached.fields.kind ≡ kind.File

@@ -6,11 +6,11 @@ use Rattle.tree_edits.specs.Outlines.{without_data}
 use Rattle.tree_edits.specs.Sizes.{FitsAlike}
 use Rattle.tree_edits.proofs.BlankLaws.{charge-without_data, length-without_data, few-without_data}
 use Rattle.tree_edits.proofs.BlankLaws.{edits_blanked}
-use Rattle.model.specs.Trees.Charge.{charge, few_names, fits}
-use Rattle.model.specs.Trees.Edit.{edited}
-use Rattle.model.specs.Trees.Keyed.{total}
-use Rattle.model.specs.declared.limits.Limits.{Limits}
-use Rattle.model.specs.Trees.Tree.{Tree}
+use Rattle.model_tree.specs.Trees.Charge.{charge, few_names, fits}
+use Rattle.model_tree.specs.Trees.Edit.{edited}
+use Rattle.model_tree.specs.Trees.Keyed.{total}
+use Rattle.model_tree.specs.declared.limits.Limits.{Limits}
+use Rattle.model_tree.specs.Trees.Tree.{Tree}
 
 pub fits-without_data : (limits : Limits) (tree : Tree)
     → fits limits (without_data tree) ≡ fits limits tree

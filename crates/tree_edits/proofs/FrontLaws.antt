@@ -16,13 +16,13 @@ use Rattle.layout.specs.Known.{AreCards, HasContent}
 use Rattle.layout.proofs.Changing.{tree-above}
 use Rattle.layout.proofs.ChargeLaws.{length-by_stamp, above_by_stamp}
 use Rattle.layout.proofs.StepLaws.{length-bytes_in}
-use Rattle.model.specs.declared.node.NodeKind.{NodeKind}
-use Rattle.model.specs.declared.node.NodeKind.TheVariants as kind
-use Rattle.model.specs.Trees.Charge.{charge}
-use Rattle.model.specs.Trees.Edit.{done, edited}
-use Rattle.model.specs.Trees.Keyed.{at, with, total, IsAbove}
-use Rattle.model.specs.Trees.Tree.{Tree, Node, names_of, names_at, names_of_node}
-use Rattle.model.proofs.Trees.KeyedLaws.{at-with_same, at-with_other}
+use Rattle.model_tree.specs.declared.node.NodeKind.{NodeKind}
+use Rattle.model_tree.specs.declared.node.NodeKind.TheVariants as kind
+use Rattle.model_tree.specs.Trees.Charge.{charge}
+use Rattle.model_tree.specs.Trees.Edit.{done, edited}
+use Rattle.model_tree.specs.Trees.Keyed.{at, with, total, IsAbove}
+use Rattle.model_tree.specs.Trees.Tree.{Tree, Node, names_of, names_at, names_of_node}
+use Rattle.model_tree.proofs.Trees.KeyedLaws.{at-with_same, at-with_other}
 use Rattle.directory.specs.declared.names.TheConstants.Names.{MAX_NAMES}
 
 -- the tree after so many of the edits

@@ -15,11 +15,11 @@ use Rattle.tree_edits.proofs.BlankLaws.{edits_blanked, charge-without_data, leng
 use Rattle.tree_edits.proofs.DoableLaws.{doable_alike, few_alike}
 use Rattle.tree_edits.proofs.DoingLaws.{outline_fixed}
 use Rattle.layout.specs.Stands.{HaveCurrentForms}
-use Rattle.model.specs.Trees.Charge.{charge}
-use Rattle.model.specs.Trees.Edit.{done, edited}
-use Rattle.model.specs.Trees.Edit as model
-use Rattle.model.specs.Trees.Keyed.{total}
-use Rattle.model.specs.Trees.Tree.{Tree}
+use Rattle.model_tree.specs.Trees.Charge.{charge}
+use Rattle.model_tree.specs.Trees.Edit.{done, edited}
+use Rattle.model_tree.specs.Trees.Edit as model
+use Rattle.model_tree.specs.Trees.Keyed.{total}
+use Rattle.model_tree.specs.Trees.Tree.{Tree}
 
 -- Numbers of nodes that are made
 

@@ -9,14 +9,14 @@ use Rattle.tree_edits.proofs.BlankLaws.{length-zeros}
 use Rattle.tree_edits.proofs.ChangeLaws.{ChangesOne, change_with, change_altered, at_altered, few_each, few_over}
 use Rattle.tree_edits.proofs.SizeLaws.{IsRising, charge_there, names_there}
 use Rattle.layout.proofs.ChargeLaws.{length-with}
-use Rattle.model.specs.declared.node.NodeKind.{NodeKind}
-use Rattle.model.specs.declared.node.NodeKind.TheVariants as kind
-use Rattle.model.specs.Trees.Charge.{charge, few_names}
-use Rattle.model.specs.Trees.Edit.{Edit, Shown, altered, edited, name_put, showing}
-use Rattle.model.specs.Trees.Keyed.{Keyed, at, with, total, worth_at, IsAbove}
-use Rattle.model.specs.Trees.Tree.{Tree, Node, Content, File, Directory, DirEntry, is_directory_at, is_directory_node, names_of, names_at, names_of_node}
-use Rattle.model.proofs.Trees.KeyedLaws.{at-with_same, total-without}
-use Rattle.model.proofs.Sessions.OpensLaws.{total-ones}
+use Rattle.model_tree.specs.declared.node.NodeKind.{NodeKind}
+use Rattle.model_tree.specs.declared.node.NodeKind.TheVariants as kind
+use Rattle.model_tree.specs.Trees.Charge.{charge, few_names}
+use Rattle.model_tree.specs.Trees.Edit.{Edit, Shown, altered, edited, name_put, showing}
+use Rattle.model_tree.specs.Trees.Keyed.{Keyed, at, with, total, worth_at, IsAbove}
+use Rattle.model_tree.specs.Trees.Tree.{Tree, Node, Content, File, Directory, DirEntry, is_directory_at, is_directory_node, names_of, names_at, names_of_node}
+use Rattle.model_tree.proofs.Trees.KeyedLaws.{at-with_same, total-without}
+use Rattle.model_tree.proofs.Trees.KeyedParts.{total-ones}
 
 -- A node takes no more than the tree that has it
 pub charge_within : (tree : Tree) (number : ℕ) → IsAbove 0 tree → charge_of_size (size_at tree number) ≤ total charge tree

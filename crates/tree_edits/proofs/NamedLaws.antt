@@ -16,13 +16,13 @@ use Rattle.tree_edits.proofs.PlaceLaws.{IsThere, there_is, names_there}
 use Rattle.layout.specs.CachedNodes.{CachedNode, node_of, content_of}
 use Rattle.layout.specs.Known.{AreCards, HasContent, HasNames}
 use Rattle.layout.proofs.ChargeLaws.{length-by_stamp, length-with, above_by_stamp}
-use Rattle.model.specs.declared.node.NodeKind.{NodeKind}
-use Rattle.model.specs.declared.node.NodeKind.TheVariants as kind
-use Rattle.model.specs.Trees.Charge.{charge, charge_of_blocks, blocks_of, few_names}
-use Rattle.model.specs.Trees.Edit.{altered, altered_at, name_put}
-use Rattle.model.specs.Trees.Keyed.{Keyed, at, here_or, with, without}
-use Rattle.model.proofs.Trees.KeyedLaws.{at-with_same}
-use Rattle.model.specs.Trees.Tree.{Tree, Node, DirEntry, entry_of, names_at, names_of, found_or}
+use Rattle.model_tree.specs.declared.node.NodeKind.{NodeKind}
+use Rattle.model_tree.specs.declared.node.NodeKind.TheVariants as kind
+use Rattle.model_tree.specs.Trees.Charge.{charge, charge_of_blocks, blocks_of, few_names}
+use Rattle.model_tree.specs.Trees.Edit.{altered, altered_at, name_put}
+use Rattle.model_tree.specs.Trees.Keyed.{Keyed, at, here_or, with, without}
+use Rattle.model_tree.proofs.Trees.KeyedLaws.{at-with_same}
+use Rattle.model_tree.specs.Trees.Tree.{Tree, Node, DirEntry, entry_of, names_at, names_of, found_or}
 
 -- a name that is not among records stands after the last
 pub place_behind : (name : List ℕ) (names : List Record) → entry_of name names ≡ None → place_of name names ≡ length names

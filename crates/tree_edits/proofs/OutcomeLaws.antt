@@ -20,8 +20,8 @@ use Rattle.layout.specs.Known.{AreCards}
 use Rattle.layout.specs.Laid.{AreLaid}
 use Rattle.layout.specs.Marks.{mark_by}
 use Rattle.layout.specs.Stands.{current_version, HaveCurrentForms, IsLaid}
-use Rattle.model.specs.Sessions.Seats.{Seats}
-use Rattle.model.specs.Trees.Edit.{edited}
+use Rattle.model_tree.specs.Seats.Seats.{Seats}
+use Rattle.model_tree.specs.Trees.Edit.{edited}
 
 -- a transaction that has changed nothing of a table and its places
 pub record IsBegun (transaction : Transaction) (table : List (Option CachedNode))

@@ -12,13 +12,13 @@ use Rattle.layout.specs.ChangeLaws.{IsOwnNumber, IsSameNumber}
 use Rattle.layout.specs.Known.{AreCards}
 use Rattle.layout.specs.Laid.{AreNumbered}
 use Rattle.layout.specs.Stands.{current_version, HaveCurrentForms}
-use Rattle.model.specs.Sessions.Seats.{no_seats}
+use Rattle.model_tree.specs.Seats.Seats.{no_seats}
 use Rattle.layout.proofs.Answering.{tree-has}
 use Rattle.layout.proofs.Changing.{AreAbove, tree-lacks, tree-put, tree-drop}
-use Rattle.model.specs.declared.node.NodeKind.{NodeKind}
-use Rattle.model.specs.declared.node.NodeKind.TheVariants as kind
-use Rattle.model.specs.Trees.Keyed.{at, with, without, is_key}
-use Rattle.model.specs.Trees.Tree.{Tree, Node, names_of, names_at, names_of_node, is_directory, is_directory_at, is_directory_node}
+use Rattle.model_tree.specs.declared.node.NodeKind.{NodeKind}
+use Rattle.model_tree.specs.declared.node.NodeKind.TheVariants as kind
+use Rattle.model_tree.specs.Trees.Keyed.{at, with, without, is_key}
+use Rattle.model_tree.specs.Trees.Tree.{Tree, Node, names_of, names_at, names_of_node, is_directory, is_directory_at, is_directory_node}
 use Rattle.tree_transaction.proofs.KnownLaws.{place-within, card_at}
 use Rattle.tree_edits.specs.Doing.{AreMade}
 use Rattle.tree_edits.specs.Outlines.{tree_without_data}

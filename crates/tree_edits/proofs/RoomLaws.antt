@@ -18,12 +18,12 @@ use Rattle.layout.proofs.Changing.{AreAbove, tree-above}
 use Rattle.layout.proofs.ChargeLaws.{charge_is, length-with}
 use Rattle.layout.proofs.Knowing.{AreEach, each_above, each_card}
 use Rattle.layout.proofs.Summing.{known_sum}
-use Rattle.model.specs.declared.node.NodeKind.{NodeKind}
-use Rattle.model.specs.Trees.Charge.{charge, charge_of_blocks}
-use Rattle.model.specs.Trees.Edit.{altered, altered_at}
-use Rattle.model.specs.Trees.Keyed.{at, total, worth_at}
-use Rattle.model.specs.Trees.Tree.{Node}
-use Rattle.model.proofs.Trees.KeyedLaws.{total-with}
+use Rattle.model_tree.specs.declared.node.NodeKind.{NodeKind}
+use Rattle.model_tree.specs.Trees.Charge.{charge, charge_of_blocks}
+use Rattle.model_tree.specs.Trees.Edit.{altered, altered_at}
+use Rattle.model_tree.specs.Trees.Keyed.{at, total, worth_at}
+use Rattle.model_tree.specs.Trees.Tree.{Node}
+use Rattle.model_tree.proofs.Trees.KeyedLaws.{total-with}
 
 pub charge_card : (card : CachedNode) → IsCard card
     → charge (node_of (λ n. []) card) ≡ charge_of card

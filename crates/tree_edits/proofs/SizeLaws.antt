@@ -11,15 +11,15 @@ use Rattle.tree_edits.specs.Sizes.{size_of_content, size_there, size_at, charge_
 use Rattle.tree_edits.proofs.BlankLaws.{overwritten-length}
 use Rattle.tree_edits.proofs.ChangeLaws.{ChangesOne, change_with, change_without, change_altered, at_altered, stamp_there}
 use Rattle.layout.proofs.ChargeLaws.{length-with}
-use Rattle.model.specs.declared.node.NodeKind.{NodeKind}
-use Rattle.model.specs.declared.node.NodeKind.TheVariants as kind
-use Rattle.model.specs.Trees.Charge.{charge}
-use Rattle.model.specs.Trees.Edit.{done, showing, name_put, name_dropped, with_content, overwritten, resized}
-use Rattle.model.specs.Trees.Keyed.{Keyed, at, with, without, total, worth_at, IsAbove}
-use Rattle.model.specs.Trees.Tree.{Tree, Node, Content, File, Directory, DirEntry, names_of, names_at, names_of_node, bytes_of, is_directory, is_directory_node}
-use Rattle.model.proofs.Trees.KeyedLaws.{at-with_same, at-without_same, IsAbove-with, IsAbove-without, total-without}
-use Rattle.model.proofs.Trees.NodeChangeLaws.{length-resized}
-use Rattle.model.proofs.Sessions.OpensLaws.{total-ones}
+use Rattle.model_tree.specs.declared.node.NodeKind.{NodeKind}
+use Rattle.model_tree.specs.declared.node.NodeKind.TheVariants as kind
+use Rattle.model_tree.specs.Trees.Charge.{charge}
+use Rattle.model_tree.specs.Trees.Edit.{done, showing, name_put, name_dropped, with_content, overwritten, resized}
+use Rattle.model_tree.specs.Trees.Keyed.{Keyed, at, with, without, total, worth_at, IsAbove}
+use Rattle.model_tree.specs.Trees.Tree.{Tree, Node, Content, File, Directory, DirEntry, names_of, names_at, names_of_node, bytes_of, is_directory, is_directory_node}
+use Rattle.model_tree.proofs.Trees.KeyedLaws.{at-with_same, at-without_same, IsAbove-with, IsAbove-without, total-without}
+use Rattle.model_tree.proofs.Trees.NodeChangeLaws.{length-resized}
+use Rattle.model_tree.proofs.Trees.KeyedParts.{total-ones}
 
 -- What a size tells of a node
 

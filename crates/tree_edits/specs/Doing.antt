@@ -13,10 +13,10 @@ use Rattle.tree_edits.specs.Outlines.{without_data, tree_without_data}
 use Rattle.tree_edits.specs.Parts.{PartsAreBytes}
 use Rattle.layout.specs.CachedNodes.{CachedNode}
 use Rattle.layout.specs.Stands.{HaveCurrentForms}
-use Rattle.model.specs.Trees.Charge.{charge}
-use Rattle.model.specs.Trees.Edit.{edited}
-use Rattle.model.specs.Trees.Keyed.{total}
-use Rattle.model.specs.Trees.Tree.{Tree}
+use Rattle.model_tree.specs.Trees.Charge.{charge}
+use Rattle.model_tree.specs.Trees.Edit.{edited}
+use Rattle.model_tree.specs.Trees.Keyed.{total}
+use Rattle.model_tree.specs.Trees.Tree.{Tree}
 
 -- the numbers of nodes that edits make
 abbrev pub made_by : List Edit → List ℕ

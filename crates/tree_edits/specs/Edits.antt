@@ -7,14 +7,14 @@ use Rattle.inode.specs.Fields.{Fields, IsAce}
 use Rattle.tree_transaction.specs.Nodes.{no_content, shown_of}
 use Rattle.tree_edits.specs.declared.edit.Edit.{Edit}
 use Rattle.tree_edits.specs.declared.edit.Edit.TheVariants as declared
-use Rattle.model.specs.declared.acl.Ace.{Ace}
-use Rattle.model.specs.declared.node.NodeKind.{NodeKind}
-use Rattle.model.specs.Trees.Charge.{few_names}
-use Rattle.model.specs.Trees.Edit.{PutNode, DropNode, Show, PutName, DropName, PutBytes, SetSize}
-use Rattle.model.specs.Trees.Edit.{Shown, done}
-use Rattle.model.specs.Trees.Edit as model
-use Rattle.model.specs.Trees.Keyed.{at, is_key}
-use Rattle.model.specs.Trees.Tree.{Tree, Node, DirEntry, bytes_of, entry_of, names_at, is_directory_at}
+use Rattle.model_tree.specs.declared.acl.Ace.{Ace}
+use Rattle.model_tree.specs.declared.node.NodeKind.{NodeKind}
+use Rattle.model_tree.specs.Trees.Charge.{few_names}
+use Rattle.model_tree.specs.Trees.Edit.{PutNode, DropNode, Show, PutName, DropName, PutBytes, SetSize}
+use Rattle.model_tree.specs.Trees.Edit.{Shown, done}
+use Rattle.model_tree.specs.Trees.Edit as model
+use Rattle.model_tree.specs.Trees.Keyed.{at, is_key}
+use Rattle.model_tree.specs.Trees.Tree.{Tree, Node, DirEntry, bytes_of, entry_of, names_at, is_directory_at}
 use Rattle.directory.specs.declared.names.TheConstants.Names.{MAX_NAMES}
 
 -- An edit of the code as the definition's

@@ -2,11 +2,11 @@
 use Rattle.std.specs.Prelude.{◌≡◌, ◌<◌, ℕ, List, [], ◌∷◌, None}
 use Rattle.tree_edits.specs.declared.room.Size.{Size}
 use Rattle.tree_edits.specs.Outlines.{zeros}
-use Rattle.model.specs.declared.node.NodeKind.{NodeKind}
-use Rattle.model.specs.declared.node.NodeKind.TheVariants as kind
-use Rattle.model.specs.Trees.Edit.{Edit, Shown, PutNode, PutName, Show}
-use Rattle.model.specs.Trees.Keyed.{at}
-use Rattle.model.specs.Trees.Tree.{Tree, Node, Content, File, Directory, DirEntry, names_at}
+use Rattle.model_tree.specs.declared.node.NodeKind.{NodeKind}
+use Rattle.model_tree.specs.declared.node.NodeKind.TheVariants as kind
+use Rattle.model_tree.specs.Trees.Edit.{Edit, Shown, PutNode, PutName, Show}
+use Rattle.model_tree.specs.Trees.Keyed.{at}
+use Rattle.model_tree.specs.Trees.Tree.{Tree, Node, Content, File, Directory, DirEntry, names_at}
 
 -- a file of so many zeros, or a directory without names
 abbrev pub first_content : NodeKind → (size : ℕ) → Content

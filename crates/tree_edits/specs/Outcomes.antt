@@ -13,9 +13,9 @@ use Rattle.layout.specs.CachedNodes.{CachedNode, tree_of}
 use Rattle.layout.specs.Known.{AreCards}
 use Rattle.layout.specs.Marks.{mark_by}
 use Rattle.layout.specs.Stands.{current_version, HaveCurrentForms, IsLaid}
-use Rattle.model.specs.Trees.Edit.{edited}
-use Rattle.model.specs.Sessions.Seats.{Seats}
-use Rattle.model.specs.Trees.Tree.{Tree}
+use Rattle.model_tree.specs.Trees.Edit.{edited}
+use Rattle.model_tree.specs.Seats.Seats.{Seats}
+use Rattle.model_tree.specs.Trees.Tree.{Tree}
 
 -- the cached nodes of a whole volume, and the places of its data region, used as the cached nodes
 -- name them

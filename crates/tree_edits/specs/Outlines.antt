@@ -1,8 +1,8 @@
 -- What memory tells of a tree on any device: all but what the bytes of its files are.
 use Rattle.std.specs.Prelude.{◌≡◌, ℕ, List, [], ◌∷◌, Option, length, replicate}
 use Rattle.disk.specs.Moments.{Image}
-use Rattle.model.specs.Trees.Edit.{Edit, edited, with_content}
-use Rattle.model.specs.Trees.Tree.{Tree, Node, Content, File, Directory}
+use Rattle.model_tree.specs.Trees.Edit.{Edit, edited, with_content}
+use Rattle.model_tree.specs.Trees.Tree.{Tree, Node, Content, File, Directory}
 use Rattle.layout.specs.CachedNodes.{CachedNode, tree_of}
 
 abbrev pub zeros : ℕ → List ℕ

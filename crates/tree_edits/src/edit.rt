@@ -1,6 +1,6 @@
 //! What an edit is.
 
-use model::node::NodeKind;
+use model_tree::node::NodeKind;
 use tree_transaction::Shown;
 
 /// One change of the tree's maps. Every change of a tree is a list of them, drops before puts.

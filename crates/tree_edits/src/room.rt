@@ -7,17 +7,17 @@ ghost use Rattle.tree_edits.specs.Outlines.{tree_without_data};
 ghost use Rattle.tree_edits.specs.Sizes.{size_at, charge_of_size, nodes_in, names_in, IsBelow};
 ghost use Rattle.tree_edits.specs.Sizes.{edited_number, resized_by};
 ghost use Rattle.layout.specs.Known.{AreCards};
-ghost use Rattle.model.specs.Trees.Charge.{charge, few_names, fits};
-ghost use Rattle.model.specs.Trees.Edit.{edited};
-ghost use Rattle.model.specs.Trees.Keyed.{total};
-ghost use Rattle.model.specs.Trees.Tree.{is_directory_at};
+ghost use Rattle.model_tree.specs.Trees.Charge.{charge, few_names, fits};
+ghost use Rattle.model_tree.specs.Trees.Edit.{edited};
+ghost use Rattle.model_tree.specs.Trees.Keyed.{total};
+ghost use Rattle.model_tree.specs.Trees.Tree.{is_directory_at};
 
 use crate::edit::Edit;
 use directory::{Names, RECORDS};
 use disk::SECTOR;
 use extents::MAX_SECTOR_RUNS;
-use model::limits::Limits;
-use model::node::NodeKind;
+use model_tree::limits::Limits;
+use model_tree::node::NodeKind;
 use node_table::Table;
 
 /// How many bytes or names a node has. Numbers here have 128 bits, so that no sum of them is too

@@ -6,10 +6,10 @@ use Rattle.disk.specs.Moments.{Image, applied}
 use Rattle.disk.specs.declared.update.Update.{Update}
 use Rattle.inode.specs.Fields.{Fields}
 use Rattle.sector.specs.Placed.{placed}
-use Rattle.model.specs.declared.node.NodeKind.{NodeKind}
-use Rattle.model.specs.declared.node.NodeKind.TheVariants as kind
-use Rattle.model.specs.Trees.Charge.{blocks_of}
-use Rattle.model.specs.Trees.Edit.{SetSize, done}
+use Rattle.model_tree.specs.declared.node.NodeKind.{NodeKind}
+use Rattle.model_tree.specs.declared.node.NodeKind.TheVariants as kind
+use Rattle.model_tree.specs.Trees.Charge.{blocks_of}
+use Rattle.model_tree.specs.Trees.Edit.{SetSize, done}
 use Rattle.layout.specs.CachedNodes.{CachedNode, content_at}
 use Rattle.layout.specs.Files.{over, below, CutsBlocks}
 use Rattle.layout.specs.Known.{IsCard}

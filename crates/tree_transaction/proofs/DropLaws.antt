@@ -8,12 +8,12 @@ use Rattle.directory.specs.declared.names.TheConstants.Names.{MAX_NAMES}
 use Rattle.directory.specs.Listing.{by_stamp}
 use Rattle.directory.specs.Records.{Record, record_from, IsDirectory, NamesStamped, without_place, place_of}
 use Rattle.directory.specs.Spelling.{directory_sector}
-use Rattle.model.specs.declared.node.NodeKind.{NodeKind}
-use Rattle.model.specs.declared.node.NodeKind.TheVariants as kind
-use Rattle.model.specs.Trees.Charge.{blocks_of}
-use Rattle.model.specs.Trees.Edit.{DropName}
-use Rattle.model.specs.Trees.Keyed.{without}
-use Rattle.model.specs.Trees.Tree.{entry_of}
+use Rattle.model_tree.specs.declared.node.NodeKind.{NodeKind}
+use Rattle.model_tree.specs.declared.node.NodeKind.TheVariants as kind
+use Rattle.model_tree.specs.Trees.Charge.{blocks_of}
+use Rattle.model_tree.specs.Trees.Edit.{DropName}
+use Rattle.model_tree.specs.Trees.Keyed.{without}
+use Rattle.model_tree.specs.Trees.Tree.{entry_of}
 use Rattle.layout.specs.CachedNodes.{CachedNode, content_at}
 use Rattle.layout.specs.Directories.{RewritesBlocks, block_of}
 use Rattle.layout.specs.Laid.{HoldsNames, HoldsContent, names_of_block}

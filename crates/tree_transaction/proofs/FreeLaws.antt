@@ -2,7 +2,7 @@
 use Rattle.std.proofs.Common.{◌≡◌, ◌≤◌, ◌<◌, ◌+◌, ◌-◌, ℕ, zero, suc, Bool, false, true, List, [], ◌∷◌, Option, Some, None, length, get_or, set, take, replicate, refl, sym, ap, ◌∙◌, arith, subst, eqb, slice_index_or, slice_set}
 use Rattle.std.proofs.lemmas.Option.{none-some}
 use Rattle.disk.specs.Moments.{Image, applied}
-use Rattle.model.specs.Trees.Edit.{DropNode}
+use Rattle.model_tree.specs.Trees.Edit.{DropNode}
 use Rattle.layout.specs.CachedNodes.{CachedNode}
 use Rattle.layout.specs.Known.{AreCards}
 use Rattle.layout.specs.Marks.{once_if, times, times_set, namings_of, mark_by}

@@ -3,10 +3,10 @@ use Rattle.std.proofs.Common.{◌≡◌, ◌≤◌, ◌+◌, ℕ, [], Some, None
 use Rattle.disk.specs.Moments.{Image, applied}
 use Rattle.inode.specs.Spelling.{inode_sector}
 use Rattle.extents.proofs.RunLemmas.{AreRising-widen}
-use Rattle.model.specs.declared.node.NodeKind.{NodeKind}
-use Rattle.model.specs.declared.node.NodeKind.TheVariants as kind
-use Rattle.model.specs.Trees.Charge.{blocks_of}
-use Rattle.model.specs.Trees.Edit.{SetSize, done}
+use Rattle.model_tree.specs.declared.node.NodeKind.{NodeKind}
+use Rattle.model_tree.specs.declared.node.NodeKind.TheVariants as kind
+use Rattle.model_tree.specs.Trees.Charge.{blocks_of}
+use Rattle.model_tree.specs.Trees.Edit.{SetSize, done}
 use Rattle.layout.specs.CachedNodes.{CachedNode}
 use Rattle.layout.specs.Known.{IsCard}
 use Rattle.layout.specs.Marks.{times_set, mark_by}

@@ -12,12 +12,12 @@ use Rattle.directory.specs.Spelling.{directory_sector}
 use Rattle.directory.proofs.Places.{with_record-push}
 use Rattle.inode.specs.Fields.{Fields}
 use Rattle.extents.specs.Runs.{AreRunsOf}
-use Rattle.model.specs.declared.node.NodeKind.{NodeKind}
-use Rattle.model.specs.declared.node.NodeKind.TheVariants as kind
-use Rattle.model.specs.Trees.Charge.{blocks_of, charge_of_blocks}
-use Rattle.model.specs.Trees.Edit.{PutName}
-use Rattle.model.specs.Trees.Keyed.{at, with}
-use Rattle.model.specs.Trees.Tree.{entry_of}
+use Rattle.model_tree.specs.declared.node.NodeKind.{NodeKind}
+use Rattle.model_tree.specs.declared.node.NodeKind.TheVariants as kind
+use Rattle.model_tree.specs.Trees.Charge.{blocks_of, charge_of_blocks}
+use Rattle.model_tree.specs.Trees.Edit.{PutName}
+use Rattle.model_tree.specs.Trees.Keyed.{at, with}
+use Rattle.model_tree.specs.Trees.Tree.{entry_of}
 use Rattle.layout.specs.CachedNodes.{CachedNode, content_at}
 use Rattle.layout.specs.Directories.{block_put}
 use Rattle.layout.specs.Known.{IsCard, HasNames}

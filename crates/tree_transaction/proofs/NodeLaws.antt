@@ -4,10 +4,10 @@ use Rattle.disk.specs.Moments.{Image, applied}
 use Rattle.inode.specs.declared.node.Form.{Form}
 use Rattle.inode.specs.Fields.{Fields, IsInode}
 use Rattle.inode.specs.Spelling.{inode_sector}
-use Rattle.model.specs.declared.node.NodeKind.{NodeKind}
-use Rattle.model.specs.declared.node.NodeKind.TheVariants as kind
-use Rattle.model.specs.Trees.Charge.{blocks_of}
-use Rattle.model.specs.Trees.Edit.{Shown, Show, PutNode, done}
+use Rattle.model_tree.specs.declared.node.NodeKind.{NodeKind}
+use Rattle.model_tree.specs.declared.node.NodeKind.TheVariants as kind
+use Rattle.model_tree.specs.Trees.Charge.{blocks_of}
+use Rattle.model_tree.specs.Trees.Edit.{Shown, Show, PutNode, done}
 use Rattle.layout.specs.CachedNodes.{CachedNode, byte_at, bytes_in, content_of, node_with, node_of}
 use Rattle.layout.specs.CachedNodes as layout
 use Rattle.layout.specs.ChangeLaws.{ChangesOwn}

@@ -8,7 +8,7 @@ use Rattle.disk.specs.Moments.{Image, applied}
 use Rattle.disk.specs.declared.update.Update.{Update}
 use Rattle.inode.specs.Fields.{Fields, IsInode, most_entries}
 use Rattle.inode.specs.Spelling.{inode_sector}
-use Rattle.model.specs.Trees.Edit.{Shown, Show}
+use Rattle.model_tree.specs.Trees.Edit.{Shown, Show}
 use Rattle.layout.specs.CachedNodes.{CachedNode}
 use Rattle.layout.specs.Marks.{times}
 use Rattle.layout.proofs.Frame.{run_sectors-kept}

@@ -5,10 +5,10 @@ use Rattle.disk.specs.declared.update.Update.{Update}
 use Rattle.freemap.specs.Kept.{free_places}
 use Rattle.inode.specs.Fields.{Fields}
 use Rattle.inode.specs.Spelling.{inode_sector}
-use Rattle.model.specs.declared.node.NodeKind.{NodeKind}
-use Rattle.model.specs.declared.node.NodeKind.TheVariants as kind
-use Rattle.model.specs.Trees.Charge.{blocks_of, charge_of_blocks}
-use Rattle.model.specs.Trees.Edit.{PutBytes}
+use Rattle.model_tree.specs.declared.node.NodeKind.{NodeKind}
+use Rattle.model_tree.specs.declared.node.NodeKind.TheVariants as kind
+use Rattle.model_tree.specs.Trees.Charge.{blocks_of, charge_of_blocks}
+use Rattle.model_tree.specs.Trees.Edit.{PutBytes}
 use Rattle.layout.specs.CachedNodes.{CachedNode, byte_at}
 use Rattle.layout.specs.Known.{IsCard}
 use Rattle.layout.specs.Marks.{times, times_set, mark_by}

@@ -4,7 +4,7 @@ use Rattle.std.proofs.lemmas.List.{length-set}
 use Rattle.disk.specs.Moments.{Image, applied}
 use Rattle.freemap.specs.Kept.{free_places}
 use Rattle.inode.specs.Fields.{IsInode}
-use Rattle.model.specs.Trees.Edit.{Shown, PutBytes}
+use Rattle.model_tree.specs.Trees.Edit.{Shown, PutBytes}
 use Rattle.layout.specs.CachedNodes.{CachedNode}
 use Rattle.layout.specs.Known.{IsCard}
 use Rattle.layout.specs.Marks.{times, times_set, mark_by}

@@ -1,8 +1,8 @@
 -- Files of other sizes.
 use Rattle.std.specs.Prelude.{◌≡◌, ◌≤◌, ℕ, List, Option, Some, None, max, slice_index_or}
 use Rattle.extents.specs.Runs.{with_holes}
-use Rattle.model.specs.declared.node.NodeKind.TheVariants as kind
-use Rattle.model.specs.Trees.Charge.{blocks_of}
+use Rattle.model_tree.specs.declared.node.NodeKind.TheVariants as kind
+use Rattle.model_tree.specs.Trees.Charge.{blocks_of}
 use Rattle.layout.specs.CachedNodes.{CachedNode}
 
 -- a file of another size, and one that reaches to an end at least

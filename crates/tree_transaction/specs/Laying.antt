@@ -9,7 +9,7 @@ use Rattle.inode.specs.Spelling.{inode_sector}
 use Rattle.extents.specs.declared.run.Run.{Run}
 use Rattle.extents.specs.Sector.{run_sector, IsRun}
 use Rattle.extents.specs.Runs.{AreRunsOf, RunsApart}
-use Rattle.model.specs.Trees.Charge.{divided_up}
+use Rattle.model_tree.specs.Trees.Charge.{divided_up}
 use Rattle.layout.specs.CachedNodes.{CachedNode}
 use Rattle.layout.specs.Marks.{times}
 use Rattle.layout.specs.Laid.{runs_of_sector, AreRunSectors}

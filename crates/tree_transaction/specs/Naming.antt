@@ -4,11 +4,11 @@ use Rattle.std.specs.Prelude.{ℕ, List, Option, Some, None, length, slice_index
 use Rattle.disk.specs.Moments.{Image}
 use Rattle.directory.specs.declared.names.TheConstants.Names.{MAX_NAMES}
 use Rattle.directory.specs.Records.{Record, place_of, with_record, without_place}
-use Rattle.model.specs.declared.node.NodeKind.TheVariants as kind
-use Rattle.model.specs.Trees.Charge.{blocks_of}
-use Rattle.model.specs.Trees.Edit.{DropName}
-use Rattle.model.specs.Trees.Keyed.{at}
-use Rattle.model.specs.Trees.Tree.{entry_of}
+use Rattle.model_tree.specs.declared.node.NodeKind.TheVariants as kind
+use Rattle.model_tree.specs.Trees.Charge.{blocks_of}
+use Rattle.model_tree.specs.Trees.Edit.{DropName}
+use Rattle.model_tree.specs.Trees.Keyed.{at}
+use Rattle.model_tree.specs.Trees.Tree.{entry_of}
 use Rattle.layout.specs.CachedNodes.{CachedNode}
 use Rattle.tree_transaction.specs.declared.transaction.Transaction.{Transaction}
 use Rattle.tree_transaction.specs.Transactions.{cards_of, MakesEdit}

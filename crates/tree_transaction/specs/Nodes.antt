@@ -2,10 +2,10 @@
 use Rattle.std.specs.Prelude.{◌≡◌, ◌<◌, ℕ, List, [], Option, Some, None, slice_index_or}
 use Rattle.inode.specs.declared.node.Form.{Form}
 use Rattle.inode.specs.Fields.{Fields, IsInode}
-use Rattle.model.specs.declared.node.NodeKind.{NodeKind}
-use Rattle.model.specs.declared.node.NodeKind.TheVariants as kind
-use Rattle.model.specs.Trees.Edit.{Shown}
-use Rattle.model.specs.Trees.Tree.{Node, Content, File, Directory}
+use Rattle.model_tree.specs.declared.node.NodeKind.{NodeKind}
+use Rattle.model_tree.specs.declared.node.NodeKind.TheVariants as kind
+use Rattle.model_tree.specs.Trees.Edit.{Shown}
+use Rattle.model_tree.specs.Trees.Tree.{Node, Content, File, Directory}
 use Rattle.layout.specs.CachedNodes.{CachedNode, node_with}
 use Rattle.tree_transaction.specs.declared.nodes.Shown as declared
 

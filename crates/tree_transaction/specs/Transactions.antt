@@ -4,9 +4,9 @@ use Rattle.std.specs.Prelude.{ℕ, Bool, List, Option, Some, None, length, set, 
 use Rattle.disk.specs.declared.update.Update.{Update}
 use Rattle.disk.specs.Moments.{Image, applied}
 use Rattle.inode.specs.Spelling.{inode_sector}
-use Rattle.model.specs.Trees.Charge.{charge_of_blocks}
-use Rattle.model.specs.Trees.Edit.{Edit, done}
-use Rattle.model.specs.Trees.Tree.{Tree}
+use Rattle.model_tree.specs.Trees.Charge.{charge_of_blocks}
+use Rattle.model_tree.specs.Trees.Edit.{Edit, done}
+use Rattle.model_tree.specs.Trees.Tree.{Tree}
 use Rattle.layout.specs.CachedNodes.{CachedNode}
 use Rattle.layout.specs.CachedNodes as layout
 use Rattle.layout.specs.Known.{AreCards}

@@ -4,7 +4,7 @@ use Rattle.disk.specs.Moments.{Image, applied}
 use Rattle.layout.specs.CachedNodes.{CachedNode}
 use Rattle.layout.specs.Known.{IsCard}
 use Rattle.layout.specs.Marks.{times}
-use Rattle.model.specs.Trees.Edit.{Shown, PutBytes, Show}
+use Rattle.model_tree.specs.Trees.Edit.{Shown, PutBytes, Show}
 use Rattle.tree_transaction.specs.declared.transaction.Transaction.{Transaction}
 use Rattle.tree_transaction.specs.Blocks.{GetSectors, ChangeBlocks, FillHoles, WritesBytes}
 use Rattle.tree_transaction.specs.Grown.{grown, reaching}

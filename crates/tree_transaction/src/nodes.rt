@@ -9,7 +9,7 @@ ghost use Rattle.tree_transaction.specs.Ranges.{IsInRange};
 
 use crate::updates::Updates;
 use layout::places::NODES;
-use model::acl::Acl;
+use model_tree::acl::Acl;
 use node_table::CachedNode;
 use std::alloc::AllocError;
 

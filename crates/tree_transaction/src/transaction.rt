@@ -8,7 +8,7 @@ ghost use Rattle.disk.specs.Moments.{Image, applied};
 ghost use Rattle.freemap.specs.Kept.{free_places};
 ghost use Rattle.inode.specs.Fields.{IsInode};
 ghost use Rattle.inode.specs.Spelling.{inode_sector};
-ghost use Rattle.model.specs.Trees.Edit.{PutNode, DropNode, Show, PutName, PutBytes, SetSize};
+ghost use Rattle.model_tree.specs.Trees.Edit.{PutNode, DropNode, Show, PutName, PutBytes, SetSize};
 ghost use Rattle.layout.specs.CachedNodes as layout;
 ghost use Rattle.layout.specs.Health.{FailsOrStays};
 ghost use Rattle.tree_transaction.specs.Blocks.{IsSectorPut, set_blocks};

@@ -17,9 +17,9 @@ use Rattle.journal.proofs.Joins.{front_moved, moved_contents}
 use Rattle.layout.specs.CachedNodes.{CachedNode, tree_of, cards_in}
 use Rattle.layout.specs.Stands.{Kept, StandsNow, seats_at}
 use Rattle.layout.proofs.KeptLaws.{now_told, same_kept, stands_now}
-use Rattle.model.specs.declared.limits.Limits.{Limits}
-use Rattle.model.specs.Sessions.Seats.{Seats}
-use Rattle.model.specs.Trees.Tree.{Tree}
+use Rattle.model_tree.specs.declared.limits.Limits.{Limits}
+use Rattle.model_tree.specs.Seats.Seats.{Seats}
+use Rattle.model_tree.specs.Trees.Tree.{Tree}
 use Rattle.volume.specs.Changes.{Given, Done, Broken, VolumeChanges, ending_of}
 use Rattle.volume.specs.VolumeState.{VolumeState, IsRecent, AddsTrees, fronts_from, with_tree}
 use Rattle.volume.specs.Known.{IsServing, kept_in_image}

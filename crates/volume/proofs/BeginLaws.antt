@@ -8,8 +8,8 @@ use Rattle.journal.specs.Log.{Log, applied_all, contents}
 use Rattle.layout.specs.CachedNodes.{CachedNode, tree_of, cards_in}
 use Rattle.layout.specs.Stands.{Kept, StandsAs, StandsNow, seats_at}
 use Rattle.layout.proofs.KeptLaws.{now_told, same_kept, stands_by, stands_now}
-use Rattle.model.specs.Sessions.Seats.{Seats}
-use Rattle.model.specs.declared.limits.Limits.{Limits}
+use Rattle.model_tree.specs.Seats.Seats.{Seats}
+use Rattle.model_tree.specs.declared.limits.Limits.{Limits}
 use Rattle.volume.specs.VolumeState.{Holds, LeavesCurrent}
 use Rattle.volume.specs.Known.{IsServing, kept_in_image}
 use Rattle.volume.specs.Loads.{IsLoaded, read_as}

@@ -1,8 +1,8 @@
 -- A walk up, step by step.
 use Rattle.std.proofs.Common.{◌≡◌, ◌≢◌, ◌<◌, ◌+◌, ◌-◌, ℕ, suc, Bool, true, false, refl, sym, ap, ◌∙◌, arith, eqb, eq-eqb, ne_eqb}
 use Rattle.std.specs.List.{list_any}
-use Rattle.model.specs.Trees.Ancestors.{ancestors_in, parent_of}
-use Rattle.model.specs.Trees.Tree.{Tree, root}
+use Rattle.model_tree.specs.Trees.Ancestors.{ancestors_in, parent_of}
+use Rattle.model_tree.specs.Trees.Tree.{Tree, root}
 
 -- whether one of so many nodes upwards is this one
 abbrev pub is_met : (steps : ℕ) → Tree → (upper number : ℕ) → Bool

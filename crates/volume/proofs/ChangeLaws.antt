@@ -27,14 +27,14 @@ use Rattle.layout.specs.Laid.{AreNumbered}
 use Rattle.layout.specs.Marks.{mark_by}
 use Rattle.layout.specs.Stands.{IsLaid, Kept, StandsNow, current_version, seats_at}
 use Rattle.layout.proofs.CachedNodeLaws.{cards-back, only_cards}
-use Rattle.model.specs.declared.limits.Limits.{Limits}
-use Rattle.model.specs.Trees.Charge.{fits}
-use Rattle.model.specs.Trees.Edit.{edited}
-use Rattle.model.specs.Trees.Limits.{limits_of}
-use Rattle.model.specs.Sessions.Seats.{Seats}
-use Rattle.model.specs.Trees.Stamp.{stamp}
-use Rattle.model.specs.Trees.Tree.{Tree}
-use Rattle.model.specs.Trees.WellFormed.{IsWellFormed, IsBefore}
+use Rattle.model_tree.specs.declared.limits.Limits.{Limits}
+use Rattle.model_tree.specs.Trees.Charge.{fits}
+use Rattle.model_tree.specs.Trees.Edit.{edited}
+use Rattle.model_tree.specs.Trees.Limits.{limits_of}
+use Rattle.model_tree.specs.Seats.Seats.{Seats}
+use Rattle.model_tree.specs.Trees.Stamp.{stamp}
+use Rattle.model_tree.specs.Trees.Tree.{Tree}
+use Rattle.model_tree.specs.Trees.WellFormed.{IsWellFormed, IsBefore}
 use Rattle.volume.specs.Edits.{IsChange, edited_by, put_by}
 use Rattle.volume.specs.Parents.{PutsParent}
 use Rattle.volume.specs.ParentIndex.{AreParents}

@@ -11,7 +11,7 @@ use Rattle.journal.specs.declared.fault.JournalFault.TheVariants as journals
 use Rattle.journal.proofs.First.{first_kept}
 use Rattle.layout.specs.CachedNodes.{CachedNode}
 use Rattle.layout.specs.Stands.{Kept}
-use Rattle.model.specs.Sessions.Seats.{Seats}
+use Rattle.model_tree.specs.Seats.Seats.{Seats}
 use Rattle.layout.proofs.KeptLaws.{stands_by}
 use Rattle.volume.specs.Checks.{IsSeen, HasChecked, FailsCheck, Checks}
 use Rattle.volume.specs.Loads.{AreLoaded, HoldsVolume, read_as}

@@ -10,9 +10,9 @@ use Rattle.journal.specs.Settled.{AreSame}
 use Rattle.journal.proofs.Fronts.{applied_keeps}
 use Rattle.layout.specs.CachedNodes.{CachedNode}
 use Rattle.layout.specs.Stands.{Kept}
-use Rattle.model.specs.declared.limits.Limits.{Limits}
-use Rattle.model.specs.Sessions.Seats.{Seats}
-use Rattle.model.specs.Trees.Tree.{Tree}
+use Rattle.model_tree.specs.declared.limits.Limits.{Limits}
+use Rattle.model_tree.specs.Seats.Seats.{Seats}
+use Rattle.model_tree.specs.Trees.Tree.{Tree}
 use Rattle.volume.specs.Changes.{Done, Stays, VolumeChanges}
 use Rattle.volume.specs.VolumeState.{VolumeState, KeepsRecent, fronts_from, with_tree}
 use Rattle.volume.specs.Known.{IsServing}

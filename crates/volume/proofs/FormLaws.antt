@@ -11,16 +11,16 @@ use Rattle.tree_edits.specs.declared.edit.Edit.TheVariants as edit
 use Rattle.tree_edits.specs.Doing.{made_by, updates_of_all}
 use Rattle.tree_edits.specs.Edits.{AreDoable, edit_of, edits_of, fresh_node}
 use Rattle.tree_edits.proofs.FitLaws.{fits-without_data}
-use Rattle.model.specs.declared.limits.Limits.{Limits}
-use Rattle.model.specs.declared.node.NodeKind.{NodeKind}
-use Rattle.model.specs.declared.node.NodeKind.TheVariants as kind
-use Rattle.model.specs.Trees.Charge.{charge, fits}
-use Rattle.model.specs.Trees.Edit.{Show, PutNode, PutName, DropName, DropNode, PutBytes, SetSize, done, edited, altered_at, showing, name_put, with_content, overwritten, resized}
-use Rattle.model.specs.Trees.Edit as model
-use Rattle.model.specs.Trees.Keyed.{at, with, IsAbove}
-use Rattle.model.specs.Trees.Tree.{Tree, Node, DirEntry, File, bytes_of, names_of, names_of_node, names_at, is_directory_at}
-use Rattle.model.proofs.Trees.EditLaws.{directory_at}
-use Rattle.model.proofs.Trees.KeyedLaws.{at-with_same, at-with_other, IsAbove-with}
+use Rattle.model_tree.specs.declared.limits.Limits.{Limits}
+use Rattle.model_tree.specs.declared.node.NodeKind.{NodeKind}
+use Rattle.model_tree.specs.declared.node.NodeKind.TheVariants as kind
+use Rattle.model_tree.specs.Trees.Charge.{charge, fits}
+use Rattle.model_tree.specs.Trees.Edit.{Show, PutNode, PutName, DropName, DropNode, PutBytes, SetSize, done, edited, altered_at, showing, name_put, with_content, overwritten, resized}
+use Rattle.model_tree.specs.Trees.Edit as model
+use Rattle.model_tree.specs.Trees.Keyed.{at, with, IsAbove}
+use Rattle.model_tree.specs.Trees.Tree.{Tree, Node, DirEntry, File, bytes_of, names_of, names_of_node, names_at, is_directory_at}
+use Rattle.model_tree.proofs.Trees.EditLaws.{directory_at}
+use Rattle.model_tree.proofs.Trees.KeyedLaws.{at-with_same, at-with_other, IsAbove-with}
 use Rattle.volume.specs.Edits.{IsAboveAll, IsChange, IsAllowed, edited_by}
 use Rattle.volume.specs.Formed.{IsFormed}
 use Rattle.volume.specs.Forms.{Change, Place, Making, Removing, Moving, Writing, Setting, edits_by, moving}

@@ -19,8 +19,8 @@ use Rattle.layout.proofs.KeptLaws.{current_stands}
 use Rattle.layout.proofs.SeatLaws.{no_seats_kept, spare_none}
 use Rattle.layout.specs.Superblock.{is_size}
 use Rattle.layout.proofs.Formatted.{fresh_stands}
-use Rattle.model.specs.Trees.Fresh.{fresh_tree}
-use Rattle.model.specs.Sessions.Seats.{no_seats}
+use Rattle.model_tree.specs.Trees.Fresh.{fresh_tree}
+use Rattle.model_tree.specs.Seats.Seats.{no_seats}
 use Rattle.volume.specs.Formats as formats
 use Rattle.volume.specs.Formats.{root_update}
 use Rattle.volume.specs.Stands.{StandsFor}

@@ -9,16 +9,16 @@ use Rattle.tree_edits.proofs.DoingLaws.{outline_fixed}
 use Rattle.journal.specs.Log.{Log}
 use Rattle.layout.specs.CachedNodes.{CachedNode, tree_of}
 use Rattle.layout.specs.Known.{AreCards}
-use Rattle.model.specs.declared.limits.Limits.{Limits}
-use Rattle.model.specs.Trees.Limits.{limits_of}
-use Rattle.model.specs.Trees.Stamp.{stamp}
-use Rattle.model.specs.Trees.Tree.{Tree}
-use Rattle.model.specs.Trees.WellFormed.{IsWellFormed, IsBefore}
-use Rattle.model.proofs.Trees.ChangeLaws.{was_before}
+use Rattle.model_tree.specs.declared.limits.Limits.{Limits}
+use Rattle.model_tree.specs.Trees.Limits.{limits_of}
+use Rattle.model_tree.specs.Trees.Stamp.{stamp}
+use Rattle.model_tree.specs.Trees.Tree.{Tree}
+use Rattle.model_tree.specs.Trees.WellFormed.{IsWellFormed, IsBefore}
+use Rattle.model_tree.proofs.Trees.ChangeLaws.{was_before}
 use Rattle.tree_check.specs.Trees.{IsOneTree}
 use Rattle.tree_check.proofs.WholeLaws.{each_known_tree}
 use Rattle.volume.specs.Formed.{IsFormed, ShowsTree}
-use Rattle.model.specs.Sessions.Seats.{Seats}
+use Rattle.model_tree.specs.Seats.Seats.{Seats}
 use Rattle.directory.specs.declared.names.TheConstants.Names.{MAX_NAMES}
 use Rattle.volume.specs.Loads.{IsLoaded}
 use Rattle.volume.specs.declared.mount.Superblock.{Superblock}

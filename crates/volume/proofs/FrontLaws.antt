@@ -13,7 +13,7 @@ use Rattle.journal.specs.Log.{Log, StandsForFront, applied_all}
 use Rattle.journal.specs.Settled.{Settles}
 use Rattle.journal.proofs.Fronts.{applied_all-push}
 use Rattle.layout.specs.Stands.{Kept}
-use Rattle.model.specs.Trees.Tree.{Tree}
+use Rattle.model_tree.specs.Trees.Tree.{Tree}
 use Rattle.volume.specs.VolumeState.{VolumeState, StandsForOne, IsRecent, MayAdd, AddsTrees, fronts_from, with_tree}
 use Rattle.volume.specs.Stands.{VolumeStands}
 

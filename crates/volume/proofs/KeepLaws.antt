@@ -9,7 +9,7 @@ use Rattle.tree_edits.specs.Outlines.{without_data}
 use Rattle.disk.proofs.MomentLemmas.{AddsOnly-join, AddsOnly-same, AddsOnly-weaken}
 use Rattle.layout.specs.Stands.{Kept}
 use Rattle.layout.proofs.KeptLaws.{same_kept}
-use Rattle.model.specs.Trees.Tree.{Tree}
+use Rattle.model_tree.specs.Trees.Tree.{Tree}
 use Rattle.volume.specs.Changes.{Given, Ending, Done, Nothing, Broken, IsTree, VolumeChanges, ending_of}
 use Rattle.volume.specs.Formed.{ShowsTree}
 use Rattle.volume.specs.VolumeState.{VolumeState, IsSameVolume, StandsForOne, IsLeft, MayAdd, AddsTrees, kept_of, with_tree}

@@ -25,14 +25,14 @@ use Rattle.layout.proofs.FirstLaws.{sized_parts}
 use Rattle.layout.proofs.KeptLaws.{version_parts}
 use Rattle.layout.proofs.MarkOnce.{first_number, one_number}
 use Rattle.layout.proofs.Rewriting.{known_as_second, laid_as_second, second_at, then_second}
-use Rattle.model.specs.declared.limits.Limits.{Limits}
-use Rattle.model.specs.declared.node.NodeKind.{NodeKind}
-use Rattle.model.specs.declared.node.NodeKind.TheVariants as kind
-use Rattle.model.specs.Trees.Charge.{blocks_of}
-use Rattle.model.specs.Trees.Limits.{limits_of}
-use Rattle.model.specs.Sessions.Seats.{Seats, no_seats}
-use Rattle.model.specs.Trees.Stamp.{stamp}
-use Rattle.model.specs.Trees.WellFormed.{IsWellFormed, IsBefore}
+use Rattle.model_tree.specs.declared.limits.Limits.{Limits}
+use Rattle.model_tree.specs.declared.node.NodeKind.{NodeKind}
+use Rattle.model_tree.specs.declared.node.NodeKind.TheVariants as kind
+use Rattle.model_tree.specs.Trees.Charge.{blocks_of}
+use Rattle.model_tree.specs.Trees.Limits.{limits_of}
+use Rattle.model_tree.specs.Seats.Seats.{Seats, no_seats}
+use Rattle.model_tree.specs.Trees.Stamp.{stamp}
+use Rattle.model_tree.specs.Trees.WellFormed.{IsWellFormed, IsBefore}
 use Rattle.volume_load.specs.Volumes.{AreFew}
 use Rattle.volume_load.specs.declared.fault.ScanFault.{ScanFault}
 use Rattle.volume_load.specs.declared.fault.ScanFault.TheVariants as scans

@@ -18,8 +18,8 @@ use Rattle.layout.specs.declared.versions.VersionNumber.TheVariants.{One, Two}
 use Rattle.layout.proofs.MarkOnce.{version_number}
 use Rattle.layout.proofs.SeatLaws.{kept_later, version_spare}
 use Rattle.layout.proofs.Rewriting.{form_stays, rewritten_cards, rewritten_stands}
-use Rattle.model.specs.Sessions.Seats.{Seats}
-use Rattle.model.specs.Trees.Tree.{Tree}
+use Rattle.model_tree.specs.Seats.Seats.{Seats}
+use Rattle.model_tree.specs.Trees.Tree.{Tree}
 use Rattle.volume.specs.Mounts.{AllHaveMoved, IsRaisedTo, StandsForEither, StandsIn}
 use Rattle.volume.specs.Superblock.{superblock}
 use Rattle.volume.specs.declared.mount.Superblock.{Superblock}

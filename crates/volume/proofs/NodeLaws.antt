@@ -9,9 +9,9 @@ use Rattle.layout.specs.Laid.{AreNumbered}
 use Rattle.layout.proofs.Answering.{tree-has}
 use Rattle.layout.proofs.Changing.{tree-lacks}
 use Rattle.node_table.specs.Tables.{node_number, node_number_at, HasNoNode}
-use Rattle.model.specs.declared.node.NodeKind.{NodeKind}
-use Rattle.model.specs.declared.node.NodeKind.TheVariants as kind
-use Rattle.model.specs.Trees.Keyed.{at}
+use Rattle.model_tree.specs.declared.node.NodeKind.{NodeKind}
+use Rattle.model_tree.specs.declared.node.NodeKind.TheVariants as kind
+use Rattle.model_tree.specs.Trees.Keyed.{at}
 use Rattle.volume.specs.Nodes.{ShowsContent, IsNodeOf}
 
 shows : (image : Image) (kind : NodeKind) (card : CachedNode) → ShowsContent kind card (content_of image kind card)

@@ -6,8 +6,8 @@ use Rattle.disk.specs.Moments.{Image}
 use Rattle.journal.proofs.Recovers.{settles_once}
 use Rattle.layout.specs.Stands.{Kept}
 use Rattle.layout.proofs.KeptLaws.{one_kept}
-use Rattle.model.specs.Sessions.Seats.{Seats}
-use Rattle.model.specs.Trees.Tree.{Tree}
+use Rattle.model_tree.specs.Seats.Seats.{Seats}
+use Rattle.model_tree.specs.Trees.Tree.{Tree}
 use Rattle.volume.specs.Stands.{VolumeStands, IsBase, IsOne, OneStands}
 use Rattle.volume.proofs.StandLaws.{sized, stands_same}
 

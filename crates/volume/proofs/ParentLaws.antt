@@ -17,14 +17,14 @@ use Rattle.tree_edits.proofs.BlankLaws.{names-without_data}
 use Rattle.layout.specs.CachedNodes.{CachedNode, tree_of}
 use Rattle.layout.specs.Known.{AreCards}
 use Rattle.layout.specs.Marks.{once_if, times}
-use Rattle.model.specs.declared.limits.Limits.{Limits}
-use Rattle.model.specs.declared.node.NodeKind.{NodeKind}
-use Rattle.model.specs.declared.node.NodeKind.TheVariants as kind
-use Rattle.model.specs.Trees.Edit.{altered, altered_at, done, edited, name_put, name_dropped, showing, with_content, overwritten, resized}
-use Rattle.model.specs.Trees.Keyed.{Keyed, at, with, without, total, here_or, before_or_behind, in_place_of, kept_or_not}
-use Rattle.model.specs.Trees.Tree.{Tree, Node, DirEntry, File, bytes_of, names_of, names_of_node, names_at}
-use Rattle.model.specs.Trees.WellFormed.{links_in, links_from, one_if}
-use Rattle.model.proofs.Trees.KeyedLaws.{at-with_same, at-with_other, at-without_same, at-without_other}
+use Rattle.model_tree.specs.declared.limits.Limits.{Limits}
+use Rattle.model_tree.specs.declared.node.NodeKind.{NodeKind}
+use Rattle.model_tree.specs.declared.node.NodeKind.TheVariants as kind
+use Rattle.model_tree.specs.Trees.Edit.{altered, altered_at, done, edited, name_put, name_dropped, showing, with_content, overwritten, resized}
+use Rattle.model_tree.specs.Trees.Keyed.{Keyed, at, with, without, total, here_or, before_or_behind, in_place_of, kept_or_not}
+use Rattle.model_tree.specs.Trees.Tree.{Tree, Node, DirEntry, File, bytes_of, names_of, names_of_node, names_at}
+use Rattle.model_tree.specs.Trees.WellFormed.{links_in, links_from, one_if}
+use Rattle.model_tree.proofs.Trees.KeyedLaws.{at-with_same, at-with_other, at-without_same, at-without_other}
 use Rattle.directory.specs.declared.names.TheConstants.Names.{MAX_NAMES}
 use Rattle.volume.specs.ParentIndex.{HasChild, AreParents}
 use Rattle.volume.proofs.ParentMoves.{KeepsNames, MovesName, each_kept, each_move}

@@ -8,8 +8,8 @@ use Rattle.layout.specs.Marks.{times}
 use Rattle.layout.specs.Laid.{AreNumbered}
 use Rattle.layout.specs.SumLaws.{entry_numbers, other_numbers, numbers_of}
 use Rattle.layout.proofs.NumberLaws.{once-off, once-at, times-append}
-use Rattle.model.specs.Trees.Tree.{root}
-use Rattle.model.proofs.Facts.OptionLaws.{some≢none}
+use Rattle.model_tree.specs.Trees.Tree.{root}
+use Rattle.model_tree.proofs.Facts.OptionLaws.{some≢none}
 use Rattle.tree_check.specs.Trees.{led_at, led_by, IsOneTree}
 use Rattle.tree_check.proofs.TreeLaws.{numbered}
 use Rattle.tree_check.proofs.Counting.{root-others}

@@ -6,7 +6,7 @@ use Rattle.std.proofs.lemmas.Option.{same_Some}
 use Rattle.node_table.specs.Tables.{node_number_at, HaveOwnPlaces}
 use Rattle.node_table.proofs.TableLaws.{within-numbered}
 use Rattle.layout.specs.CachedNodes.{CachedNode}
-use Rattle.model.specs.Trees.Tree.{root}
+use Rattle.model_tree.specs.Trees.Tree.{root}
 use Rattle.tree_check.specs.Trees.{IsOneTree}
 use Rattle.volume.specs.ParentIndex.{PlaceLeadsTo, HasChild, AreParents}
 use Rattle.volume.proofs.ParentLinks.{no_root, one_name}

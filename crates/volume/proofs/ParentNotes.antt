@@ -10,7 +10,7 @@ use Rattle.layout.specs.CachedNodes.{CachedNode}
 use Rattle.layout.specs.Marks.{once_if, times}
 use Rattle.layout.specs.SumLaws.{numbers_of}
 use Rattle.layout.proofs.NumberLaws.{times-append}
-use Rattle.model.specs.Trees.Tree.{root}
+use Rattle.model_tree.specs.Trees.Tree.{root}
 use Rattle.tree_check.specs.Trees.{led_at, IsOneTree}
 use Rattle.tree_check.proofs.Sums.{take-one}
 use Rattle.volume.specs.ParentNotes.{IsNoted}

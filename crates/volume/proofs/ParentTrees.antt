@@ -3,13 +3,13 @@ use Rattle.std.proofs.Common.{◌≡◌, ◌<◌, ℕ, List, [], ◌∷◌, Opti
 use Rattle.std.proofs.lemmas.Bool.{cases_eq, cases_lt}
 use Rattle.std.proofs.lemmas.Option.{same_Some}
 use Rattle.disk.specs.Moments.{Image}
-use Rattle.model.specs.Trees.Ancestors.{parent_of}
-use Rattle.model.specs.Trees.Keyed.{at, IsAbove}
-use Rattle.model.specs.Trees.Tree.{Tree, Node, root}
-use Rattle.model.specs.Trees.WellFormed.{links_from}
-use Rattle.model.proofs.Trees.KeyedLaws.{at-first, at-rest, at-above}
-use Rattle.model.proofs.Facts.OptionLaws.{some≢none}
-use Rattle.model.proofs.Facts.BooleanLaws.{if_true, if_false}
+use Rattle.model_tree.specs.Trees.Ancestors.{parent_of}
+use Rattle.model_tree.specs.Trees.Keyed.{at, IsAbove}
+use Rattle.model_tree.specs.Trees.Tree.{Tree, Node, root}
+use Rattle.model_tree.specs.Trees.WellFormed.{links_from}
+use Rattle.model_tree.proofs.Trees.KeyedLaws.{at-first, at-rest, at-above}
+use Rattle.model_tree.proofs.Facts.OptionLaws.{some≢none}
+use Rattle.model_tree.proofs.Facts.BooleanLaws.{if_true, if_false}
 use Rattle.node_table.specs.Tables.{node_number_at, node_number, HasNoNode, count_of_all}
 use Rattle.layout.specs.CachedNodes.{CachedNode, tree_of, node_of}
 use Rattle.layout.specs.Known.{AreCards}

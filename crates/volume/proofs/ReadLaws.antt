@@ -11,11 +11,10 @@ use Rattle.layout.proofs.Answering.{tree-has}
 use Rattle.layout.proofs.Changing.{named-at}
 use Rattle.layout.proofs.Frame.{times_set-at}
 use Rattle.layout.proofs.MarkProofs.{each_mark}
-use Rattle.model.specs.declared.node.NodeKind.{NodeKind}
-use Rattle.model.specs.declared.node.NodeKind.TheVariants as kind
-use Rattle.model.specs.Operations.Files.{bytes_at, bytes_of_node}
-use Rattle.model.specs.Trees.Keyed.{at}
-use Rattle.model.specs.Trees.Tree.{Node, kind_of, bytes_of}
+use Rattle.model_tree.specs.declared.node.NodeKind.{NodeKind}
+use Rattle.model_tree.specs.declared.node.NodeKind.TheVariants as kind
+use Rattle.model_tree.specs.Trees.Tree.{bytes_at, bytes_of_node, Node, kind_of, bytes_of}
+use Rattle.model_tree.specs.Trees.Keyed.{at}
 use Rattle.volume.specs.FileBlocks.{FileWithin}
 use Rattle.volume.specs.Known.{AreKnownNodes}
 use Rattle.volume.specs.Reading.{HasFile}

@@ -5,13 +5,13 @@ use Rattle.std.proofs.lemmas.Bool.{and_parts, cases_eq, le-leb, leb-true}
 use Rattle.std.proofs.lemmas.Option.{same_Some}
 use Rattle.tree_edits.specs.Outlines.{without_data}
 use Rattle.tree_edits.proofs.NamedLaws.{few-at}
-use Rattle.model.specs.declared.limits.Limits.{Limits}
-use Rattle.model.specs.Trees.Charge.{blocks, charge, charge_of_blocks, few_names, fits}
-use Rattle.model.specs.Trees.Edit.{Shown, Show, DropName, DropNode, PutName, SetSize, done, name_dropped, name_put, showing, altered, altered_at, with_content, resized}
-use Rattle.model.specs.Trees.Keyed.{Keyed, at, with, without, kept_or_not, before_or_behind, in_place_of, total, worth_at, IsAbove}
-use Rattle.model.specs.Trees.Tree.{Tree, Node, Content, DirEntry, File, Directory, bytes_of, names_of, is_directory, is_directory_at, is_directory_node}
-use Rattle.model.proofs.Trees.KeyedLaws.{at-with_same, at-with_other, at-without_same, at-without_other, at-above, some≢none, IsAbove-with, IsAbove-without, total-with, total-without}
-use Rattle.model.proofs.Sessions.OpensLaws.{total-ones}
+use Rattle.model_tree.specs.declared.limits.Limits.{Limits}
+use Rattle.model_tree.specs.Trees.Charge.{blocks, charge, charge_of_blocks, few_names, fits}
+use Rattle.model_tree.specs.Trees.Edit.{Shown, Show, DropName, DropNode, PutName, SetSize, done, name_dropped, name_put, showing, altered, altered_at, with_content, resized}
+use Rattle.model_tree.specs.Trees.Keyed.{Keyed, at, with, without, kept_or_not, before_or_behind, in_place_of, total, worth_at, IsAbove}
+use Rattle.model_tree.specs.Trees.Tree.{Tree, Node, Content, DirEntry, File, Directory, bytes_of, names_of, is_directory, is_directory_at, is_directory_node}
+use Rattle.model_tree.proofs.Trees.KeyedLaws.{at-with_same, at-with_other, at-without_same, at-without_other, at-above, some≢none, IsAbove-with, IsAbove-without, total-with, total-without}
+use Rattle.model_tree.proofs.Trees.KeyedParts.{total-ones}
 use Rattle.tree_check.proofs.FitLaws.{few-from}
 
 -- What a tree that fits has

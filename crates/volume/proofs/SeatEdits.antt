@@ -9,11 +9,11 @@ use Rattle.journal.specs.Layout.{targets}
 use Rattle.journal.proofs.Images.{Out, Fit, Out-join, applied_out}
 use Rattle.journal.proofs.Lists.{targets_of-Fit}
 use Rattle.layout.specs.Stands.{HoldSeats}
-use Rattle.model.specs.Sessions.SeatEdits.{SeatEdit, Stays, Frees, Takes, Holds, CanEditAll, edit_view, edits_view, edited_seat, edited_all}
-use Rattle.model.specs.Sessions.Seats.{HeldReply, Seat, Seats}
-use Rattle.model.specs.declared.seats.SeatEdit as code_edit
-use Rattle.model.specs.declared.seats.SeatEdits as code
-use Rattle.model.specs.declared.seats.SeatEdit.TheVariants as kinds
+use Rattle.model_tree.specs.Seats.SeatEdits.{SeatEdit, Stays, Frees, Takes, Holds, CanEditAll, edit_view, edits_view, edited_seat, edited_all}
+use Rattle.model_tree.specs.Seats.Seats.{HeldReply, Seat, Seats}
+use Rattle.model_tree.specs.declared.seats.SeatEdit as code_edit
+use Rattle.model_tree.specs.declared.seats.SeatEdits as code
+use Rattle.model_tree.specs.declared.seats.SeatEdit.TheVariants as kinds
 use Rattle.seats.specs.Spelling.{ArePlaces, IsHeld, IsSeatPlace, IsSeat, IsSlot, seat_sector}
 use Rattle.seats.proofs.Every.{every_held, every_seat}
 use Rattle.volume.specs.SeatTransactions.{AreUpdates}

@@ -24,10 +24,10 @@ use Rattle.layout.specs.Stands as layout
 use Rattle.layout.specs.Stands.{HoldSeats, Kept, StandsNow, current_version, seats_at, spare_by}
 use Rattle.layout.proofs.Rewriting.{current_second, form_stays, rewritten_cards, rewritten_stands}
 use Rattle.layout.proofs.SeatLaws.{spare_seats}
-use Rattle.model.specs.declared.limits.Limits.{Limits}
-use Rattle.model.specs.Sessions.SeatEdits.{SeatEdit, AreEdits, edited_all}
-use Rattle.model.specs.Sessions.Seats.{Seat, Seats}
-use Rattle.model.specs.Trees.Tree.{Tree}
+use Rattle.model_tree.specs.declared.limits.Limits.{Limits}
+use Rattle.model_tree.specs.Seats.SeatEdits.{SeatEdit, AreEdits, edited_all}
+use Rattle.model_tree.specs.Seats.Seats.{Seat, Seats}
+use Rattle.model_tree.specs.Trees.Tree.{Tree}
 use Rattle.volume.specs.SeatTransactions.{AreUpdates}
 use Rattle.seats.specs.Spelling.{ArePlaces, seat_sector, seats_sector}
 use Rattle.volume.specs.Changes.{Done, Broken, IsSeats, VolumeChanges, ending_of}

@@ -17,7 +17,7 @@ use Rattle.layout.specs.MarkLaws.{SeesSame}
 use Rattle.layout.specs.Stands.{Kept, StandsNow, Version, current_version, seats_at}
 use Rattle.layout.proofs.KeptLaws.{same_kept, stands_now}
 use Rattle.layout.proofs.MarkProofs.{kept_alone}
-use Rattle.model.specs.declared.limits.Limits.{Limits}
+use Rattle.model_tree.specs.declared.limits.Limits.{Limits}
 use Rattle.journal.specs.declared.fault.JournalFault.{JournalFault}
 use Rattle.journal.specs.declared.fault.JournalFault.TheVariants as faults
 use Rattle.volume.specs.Changes.{Given, Done, Nothing, Broken, IsTree, VolumeChanges, ending_of}

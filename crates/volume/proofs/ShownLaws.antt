@@ -7,12 +7,12 @@ use Rattle.tree_edits.specs.Outlines.{blank, blank_node, without_data}
 use Rattle.tree_edits.proofs.BlankLaws.{at-without_data, length-without_data, length-zeros}
 use Rattle.tree_edits.proofs.FitLaws.{fits_alike}
 use Rattle.layout.specs.CachedNodes.{CachedNode}
-use Rattle.model.specs.declared.node.NodeKind.{NodeKind}
-use Rattle.model.specs.declared.node.NodeKind.TheVariants as kind
-use Rattle.model.specs.Trees.Ancestors.{parent_of, ancestors_in, is_below}
-use Rattle.model.specs.Trees.Keyed.{at}
-use Rattle.model.specs.Trees.Tree.{Tree, Node, Content, File, Directory, root, bytes_of, names_of}
-use Rattle.model.specs.Trees.WellFormed.{links_from, links_in}
+use Rattle.model_tree.specs.declared.node.NodeKind.{NodeKind}
+use Rattle.model_tree.specs.declared.node.NodeKind.TheVariants as kind
+use Rattle.model_tree.specs.Trees.Ancestors.{parent_of, ancestors_in, is_below}
+use Rattle.model_tree.specs.Trees.Keyed.{at}
+use Rattle.model_tree.specs.Trees.Tree.{Tree, Node, Content, File, Directory, root, bytes_of, names_of}
+use Rattle.model_tree.specs.Trees.WellFormed.{links_from, links_in}
 use Rattle.volume.specs.Nodes.{IsNodeOf, ShowsContent}
 use Rattle.volume.specs.Shown.{ShowsAs, AnswersByShown}
 

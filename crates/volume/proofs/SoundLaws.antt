@@ -13,18 +13,18 @@ use Rattle.tree_edits.specs.Parts.{PartsAreBytes}
 use Rattle.tree_edits.proofs.BlankLaws.{length-zeros, at-without_data, key-without_data, directory-without_data, names-without_data}
 use Rattle.tree_edits.proofs.FitLaws.{fits-without_data}
 use Rattle.tree_transaction.specs.Nodes.{shown_of}
-use Rattle.model.specs.declared.limits.Limits.{Limits}
-use Rattle.model.specs.declared.node.NodeKind.{NodeKind}
-use Rattle.model.specs.declared.node.NodeKind.TheVariants as kind
-use Rattle.model.specs.Rights.Acl.{is_list_for}
-use Rattle.model.specs.Trees.Edit.{PutNode, DropNode, Show, PutName, DropName, PutBytes, SetSize, done, edited, altered, altered_at, showing, with_content, name_put, name_dropped, resized, overwritten}
-use Rattle.model.specs.Trees.Edit as model
-use Rattle.model.specs.Trees.Keyed.{Keyed, at, with, without, is_key, IsAbove, total}
-use Rattle.model.specs.Trees.Tree.{Tree, Node, Content, File, Directory, DirEntry, root, kind_of, bytes_of, names_of}
-use Rattle.model.specs.Trees.WellFormed.{one_if, links_in, links_from, links_to, links_owed, is_stamped, stamped_in, IsContent, IsNode, IsWellFormed, IsBefore}
-use Rattle.model.proofs.Trees.EditLaws.{from_more}
-use Rattle.model.proofs.Trees.KeyedLaws.{at-with_same, at-with_other, at-without_same, at-without_other}
-use Rattle.model.proofs.Trees.NodeChangeLaws.{resized_bytes, overwritten_bytes}
+use Rattle.model_tree.specs.declared.limits.Limits.{Limits}
+use Rattle.model_tree.specs.declared.node.NodeKind.{NodeKind}
+use Rattle.model_tree.specs.declared.node.NodeKind.TheVariants as kind
+use Rattle.model_tree.specs.Rights.Acl.{is_list_for}
+use Rattle.model_tree.specs.Trees.Edit.{PutNode, DropNode, Show, PutName, DropName, PutBytes, SetSize, done, edited, altered, altered_at, showing, with_content, name_put, name_dropped, resized, overwritten}
+use Rattle.model_tree.specs.Trees.Edit as model
+use Rattle.model_tree.specs.Trees.Keyed.{Keyed, at, with, without, is_key, IsAbove, total}
+use Rattle.model_tree.specs.Trees.Tree.{Tree, Node, Content, File, Directory, DirEntry, root, kind_of, bytes_of, names_of}
+use Rattle.model_tree.specs.Trees.WellFormed.{one_if, links_in, links_from, links_to, links_owed, is_stamped, stamped_in, IsContent, IsNode, IsWellFormed, IsBefore}
+use Rattle.model_tree.proofs.Trees.EditLaws.{from_more}
+use Rattle.model_tree.proofs.Trees.KeyedLaws.{at-with_same, at-with_other, at-without_same, at-without_other}
+use Rattle.model_tree.proofs.Trees.NodeChangeLaws.{resized_bytes, overwritten_bytes}
 use Rattle.volume.specs.Formed.{IsFormed}
 
 abbrev HasBytes : Content → Type 0

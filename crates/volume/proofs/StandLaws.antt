@@ -10,7 +10,7 @@ use Rattle.layout.specs.Superblock.{is_size}
 use Rattle.layout.proofs.FirstLaws.{Sized, sized_parts}
 use Rattle.layout.proofs.KeptLaws.{now_told}
 use Rattle.layout.proofs.MarkProofs.{kept_alone, stands_alone}
-use Rattle.model.specs.Trees.Tree.{Tree}
+use Rattle.model_tree.specs.Trees.Tree.{Tree}
 use Rattle.volume.specs.Stands.{VolumeStands}
 
 pub sized : (sectors nodes : ℕ) → IsTrue (is_size sectors nodes) → Sized sectors nodes

@@ -17,8 +17,8 @@ use Rattle.layout.proofs.KeptLaws.{same_kept}
 use Rattle.layout.proofs.MarkOnce.{stands_told}
 use Rattle.layout.proofs.Rewriting.{current_second}
 use Rattle.migration.specs.Migrations.{BeginsMoving, StandsStill, AddsStill, HasMovedAll, Rests}
-use Rattle.model.specs.Sessions.Seats.{Seats, no_seats}
-use Rattle.model.specs.Trees.Tree.{Tree}
+use Rattle.model_tree.specs.Seats.Seats.{Seats, no_seats}
+use Rattle.model_tree.specs.Trees.Tree.{Tree}
 use Rattle.volume.specs.Loads.{AreLoaded, HoldsVolume, read_as}
 use Rattle.volume.specs.Mounts.{AddsRaised, IsAtRest, AllHaveMoved, IsRaisedTo, RaisesSafely, StandsForEither, StandsIn, StandsOn}
 use Rattle.volume.specs.Stands.{StandsForIn}

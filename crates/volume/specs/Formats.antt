@@ -9,8 +9,8 @@ use Rattle.layout.specs.FreshLaws.{root_fields}
 use Rattle.layout.specs.CachedNodes.{node_sector}
 use Rattle.journal.specs.Settled.{Settles}
 use Rattle.layout.specs.Stands.{TreeStands, current_version}
-use Rattle.model.specs.Sessions.Seats.{no_seats}
-use Rattle.model.specs.Trees.Fresh.{fresh_tree}
+use Rattle.model_tree.specs.Seats.Seats.{no_seats}
+use Rattle.model_tree.specs.Trees.Fresh.{fresh_tree}
 
 -- the root at place 0, which alone of a new volume is not zero
 abbrev pub root_update : Update

@@ -1,9 +1,9 @@
 -- What is known of a volume's tree on any device.
 use Rattle.std.specs.Prelude.{◌≡◌, ℕ}
 use Rattle.tree_edits.specs.Outlines.{without_data}
-use Rattle.model.specs.declared.limits.Limits.{Limits}
-use Rattle.model.specs.Trees.Tree.{Tree}
-use Rattle.model.specs.Trees.WellFormed.{IsWellFormed, IsBefore}
+use Rattle.model_tree.specs.declared.limits.Limits.{Limits}
+use Rattle.model_tree.specs.Trees.Tree.{Tree}
+use Rattle.model_tree.specs.Trees.WellFormed.{IsWellFormed, IsBefore}
 
 -- Nothing is known there of what the bytes of its files are: with zeros for them it is well formed,
 -- and all its stamps are from before this one

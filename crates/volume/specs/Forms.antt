@@ -4,7 +4,7 @@ use denote.Ref.{Bor}
 use Rattle.tree_transaction.specs.declared.nodes.Shown.{Shown}
 use Rattle.tree_edits.specs.declared.edit.Edit.{Edit}
 use Rattle.tree_edits.specs.declared.edit.Edit.TheVariants as edit
-use Rattle.model.specs.declared.node.NodeKind.{NodeKind}
+use Rattle.model_tree.specs.declared.node.NodeKind.{NodeKind}
 
 -- where a name stands: its directory, and the stamp and the name of its entry
 pub record Place : Type 0 where

@@ -3,7 +3,7 @@ use Rattle.disk.specs.declared.update.Update.{Update}
 use Rattle.disk.specs.Moments.{History, AddsOnly, applied}
 use Rattle.journal.specs.Log.{Log, StandsForFront, applied_all}
 use Rattle.layout.specs.Stands.{Kept}
-use Rattle.model.specs.Trees.Tree.{Tree}
+use Rattle.model_tree.specs.Trees.Tree.{Tree}
 use Rattle.volume.specs.VolumeState.{VolumeState, IsRecent, AddsTrees, fronts_from, with_tree}
 use Rattle.volume.specs.Stands.{VolumeStands}
 

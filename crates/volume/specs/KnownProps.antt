@@ -4,8 +4,8 @@ use Rattle.std.proofs.Props.{props}
 use Rattle.layout.specs.CachedNodes.{CachedNode}
 use Rattle.layout.specs.KnownProps.{AreCards-prop}
 use Rattle.layout.specs.LaidProps.{HaveForms-prop}
-use Rattle.model.specs.declared.limits.Limits.{Limits}
-use Rattle.model.specs.Trees.Tree.{Tree}
+use Rattle.model_tree.specs.declared.limits.Limits.{Limits}
+use Rattle.model_tree.specs.Trees.Tree.{Tree}
 use Rattle.volume.specs.Formed.{IsFormed}
 use Rattle.volume.specs.Known.{AreKnownNodes}
 

@@ -6,9 +6,9 @@ use Rattle.layout.specs.CachedNodes.{CachedNode, tree_of, cards_in}
 use Rattle.layout.specs.Health.{Health, FailsOrStays}
 use Rattle.layout.specs.Rewriting.{all_second}
 use Rattle.layout.specs.Stands.{AreKept, IsMark, Kept, MayHaveSeats, mark_held}
-use Rattle.model.specs.Sessions.Seats.{Seats}
-use Rattle.model.specs.Trees.Limits.{limits_of}
-use Rattle.model.specs.Trees.Stamp.{stamp}
+use Rattle.model_tree.specs.Seats.Seats.{Seats}
+use Rattle.model_tree.specs.Trees.Limits.{limits_of}
+use Rattle.model_tree.specs.Trees.Stamp.{stamp}
 use Rattle.tree_check.specs.WellFormed.{AreWellFormed}
 use Rattle.volume.specs.Known.{AreKnownNodes}
 use Rattle.volume.specs.Mounts.{StandsIn}

@@ -1,6 +1,6 @@
 -- In which directory the name of each node of a table stands.
 use Rattle.std.specs.Prelude.{◌≡◌, ◌<◌, ℕ, List, Option, Some, length, slice_index_or}
-use Rattle.model.specs.Trees.Tree.{root}
+use Rattle.model_tree.specs.Trees.Tree.{root}
 use Rattle.node_table.specs.Tables.{node_number_at}
 use Rattle.layout.specs.CachedNodes.{CachedNode}
 use Rattle.layout.specs.Marks.{times}

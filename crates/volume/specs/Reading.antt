@@ -1,8 +1,8 @@
 -- What a call does to a volume that only reads its sectors.
 use Rattle.std.specs.Prelude.{◌≡◌, ℕ, Result, Ok, Err, Some}
-use Rattle.model.specs.declared.node.NodeKind.TheVariants as kind
-use Rattle.model.specs.Trees.Keyed.{at}
-use Rattle.model.specs.Trees.Tree.{Tree, Node, kind_of}
+use Rattle.model_tree.specs.declared.node.NodeKind.TheVariants as kind
+use Rattle.model_tree.specs.Trees.Keyed.{at}
+use Rattle.model_tree.specs.Trees.Tree.{Tree, Node, kind_of}
 use Rattle.volume.specs.declared.fault.ReadingFault.{ReadingFault}
 use Rattle.volume.specs.declared.fault.ReadingFault.TheVariants as readings
 use Rattle.volume.specs.Changes.{Ending, Nothing, Broken}

@@ -4,8 +4,8 @@ use Rattle.disk.specs.Moments.{Image, applied}
 use Rattle.disk.specs.declared.update.Update.{Update}
 use Rattle.journal.specs.Layout.{AreTargets, targets}
 use Rattle.layout.specs.Stands.{HoldSeats}
-use Rattle.model.specs.Sessions.SeatEdits.{SeatEdit, CanEditAll, edited_all}
-use Rattle.model.specs.Sessions.Seats.{Seats}
+use Rattle.model_tree.specs.Seats.SeatEdits.{SeatEdit, CanEditAll, edited_all}
+use Rattle.model_tree.specs.Seats.Seats.{Seats}
 use Rattle.seats.specs.Spelling.{ArePlaces}
 
 -- where seats stood that can be edited so, the edited ones stand, and they can be spelled

@@ -2,8 +2,8 @@
 use Rattle.std.specs.Prelude.{◌+◌, ◌*◌, ◌++◌, ℕ, suc, List, [], ◌∷◌, Option, Some, None, map, nat_lt, if◌then◌else◌}
 use Rattle.std.specs.List.{range_with_len}
 use Rattle.disk.specs.declared.update.Update.{Update}
-use Rattle.model.specs.Sessions.SeatEdits.{SeatEdit, Stays, Frees, Takes, Holds}
-use Rattle.model.specs.Sessions.Seats.{HeldReply, Seat}
+use Rattle.model_tree.specs.Seats.SeatEdits.{SeatEdit, Stays, Frees, Takes, Holds}
+use Rattle.model_tree.specs.Seats.Seats.{HeldReply, Seat}
 use Rattle.seats.specs.Spelling.{part_of, seat_sector, slot_text}
 
 -- so many sectors, from the first one on

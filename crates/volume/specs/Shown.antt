@@ -3,12 +3,12 @@
 use Rattle.std.specs.Prelude.{◌≡◌, ℕ, List, None}
 use Rattle.tree_edits.specs.Outlines.{without_data}
 use Rattle.layout.specs.CachedNodes.{CachedNode}
-use Rattle.model.specs.declared.limits.Limits.{Limits}
-use Rattle.model.specs.Trees.Ancestors.{is_below, parent_of}
-use Rattle.model.specs.Trees.Charge.{fits}
-use Rattle.model.specs.Trees.Edit.{Edit, edited}
-use Rattle.model.specs.Trees.Keyed.{at}
-use Rattle.model.specs.Trees.Tree.{Tree}
+use Rattle.model_tree.specs.declared.limits.Limits.{Limits}
+use Rattle.model_tree.specs.Trees.Ancestors.{is_below, parent_of}
+use Rattle.model_tree.specs.Trees.Charge.{fits}
+use Rattle.model_tree.specs.Trees.Edit.{Edit, edited}
+use Rattle.model_tree.specs.Trees.Keyed.{at}
+use Rattle.model_tree.specs.Trees.Tree.{Tree}
 use Rattle.volume.specs.Nodes.{IsNodeOf}
 
 -- it is shown as this tree is

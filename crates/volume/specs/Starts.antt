@@ -11,7 +11,7 @@ use Rattle.layout.specs.Stands.{AreKept, IsMark, Kept, MayHaveSeats, StandsNow, 
 use Rattle.layout.specs.declared.versions.VersionNumber.{VersionNumber}
 use Rattle.layout.specs.declared.versions.VersionNumber.TheVariants.{One, Two}
 use Rattle.migration.specs.declared.fault.MigrationFault.{MigrationFault}
-use Rattle.model.specs.Sessions.Seats.{Seats}
+use Rattle.model_tree.specs.Seats.Seats.{Seats}
 use Rattle.volume.specs.Loads.{read_as}
 use Rattle.volume.specs.Mounts.{IsAtRest, StandsIn}
 use Rattle.volume.specs.Stands.{StandsForIn}

@@ -4,7 +4,7 @@ use Rattle.journal.specs.Journal.{log_of, journal_failures}
 use Rattle.journal.specs.Log.{Log, contents}
 use Rattle.layout.specs.CachedNodes.{CachedNode, tree_of}
 use Rattle.layout.specs.Stands.{seats_at}
-use Rattle.model.specs.declared.limits.Limits.{Limits}
+use Rattle.model_tree.specs.declared.limits.Limits.{Limits}
 use Rattle.volume.specs.Changes.{Given, Ending, VolumeChanges}
 use Rattle.volume.specs.VolumeState.{VolumeState, fronts_from}
 use Rattle.volume.specs.declared.volume.Volume.{Volume}

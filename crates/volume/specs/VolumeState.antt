@@ -5,11 +5,11 @@ use Rattle.disk.specs.declared.update.Update.{Update}
 use Rattle.disk.specs.Moments.{History, Image, Left, AddsOnly, applied}
 use Rattle.journal.specs.Settled.{Settles}
 use Rattle.layout.specs.Stands.{Kept, StandsNow}
-use Rattle.model.specs.declared.limits.Limits.{Limits}
-use Rattle.model.specs.Trees.Limits.{limits_of}
-use Rattle.model.specs.Sessions.Seats.{Seats}
-use Rattle.model.specs.Trees.Stamp.{stamp}
-use Rattle.model.specs.Trees.Tree.{Tree}
+use Rattle.model_tree.specs.declared.limits.Limits.{Limits}
+use Rattle.model_tree.specs.Trees.Limits.{limits_of}
+use Rattle.model_tree.specs.Seats.Seats.{Seats}
+use Rattle.model_tree.specs.Trees.Stamp.{stamp}
+use Rattle.model_tree.specs.Trees.Tree.{Tree}
 use Rattle.volume.specs.Formed.{IsFormed}
 use Rattle.volume.specs.Stands.{VolumeStands, StandsFor}
 

@@ -2,14 +2,14 @@
 
 ghost use Rattle.std.specs.Prelude.{◌≡◌, ℕ};
 ghost use Rattle.disk.specs.Moments.{Image};
-ghost use Rattle.model.specs.Trees.Ancestors.{parent_of, is_below};
+ghost use Rattle.model_tree.specs.Trees.Ancestors.{parent_of, is_below};
 ghost use Rattle.layout.specs.CachedNodes.{tree_of};
 ghost use Rattle.layout.specs.Known.{AreCards};
 ghost use Rattle.tree_check.specs.Trees.{IsOneTree};
 ghost use Rattle.volume.specs.ParentIndex.{AreParents};
 
 use crate::parents::Parents;
-use model::node::ROOT;
+use model_tree::node::ROOT;
 use node_table::Table;
 
 /// The number of the directory that has a node's name: 0 of the root, and of what is no node's

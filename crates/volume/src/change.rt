@@ -7,7 +7,7 @@ use crate::fault::VolumeFault;
 use crate::parent_calls::{put_by, put_parent};
 use crate::volume::Volume;
 use disk::Device;
-use model::node::NodeKind;
+use model_tree::node::NodeKind;
 use tree_edits::{Edit, fits, has_room, outcome_of};
 use tree_transaction::{PreparedTransaction, TransactionFault};
 
@@ -28,9 +28,9 @@ impl<D: Device> Volume<D> {
     ghost use Rattle.std.specs.Prelude.{◌≡◌, ◌↔◌, true, false, OnOk, OnErr, IsErrOf};
     ghost use Rattle.tree_edits.specs.Edits.{AreDoable};
     ghost use Rattle.tree_edits.specs.Making.{IsMaking};
-    ghost use Rattle.model.specs.Trees.Charge.{fits};
-    ghost use Rattle.model.specs.Trees.Edit.{edited};
-    ghost use Rattle.model.specs.Trees.Tree.{is_directory_at};
+    ghost use Rattle.model_tree.specs.Trees.Charge.{fits};
+    ghost use Rattle.model_tree.specs.Trees.Edit.{edited};
+    ghost use Rattle.model_tree.specs.Trees.Tree.{is_directory_at};
     ghost use Rattle.volume.specs.Changes.{IsTree, ending_of};
     ghost use Rattle.volume.specs.Edits.{IsChange, IsEdited, edited_by};
     ghost use Rattle.volume.specs.Formed.{ShowsTree};

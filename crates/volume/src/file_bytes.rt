@@ -23,7 +23,7 @@ impl From<ReadingFault> for VolumeFault {
 impl<D: Device> Volume<D> {
     ghost use Rattle.std.specs.Prelude.{◌≡◌, ◌++◌, ◌⊎◌, ◌↔◌, true, take, drop};
     ghost use Rattle.std.specs.Prelude.{OnOk, OnErr, IfErr, IsErrOf};
-    ghost use Rattle.model.specs.Operations.Files.{bytes_at};
+    ghost use Rattle.model_tree.specs.Trees.Tree.{bytes_at};
     ghost use Rattle.volume.specs.Changes.{IsTree};
     ghost use Rattle.volume.specs.Reading.{HasFile, ending_of_reading};
     ghost use Rattle.volume.specs.Views.{volume_state, AltersVolume};

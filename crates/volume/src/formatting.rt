@@ -15,8 +15,8 @@ use inode::{Form, Inode, to_sector};
 use journal::Journal;
 use layout::places::NODES;
 use layout::versions::VersionNumber;
-use model::acl::{Ace, AceFlags, AceKind, Acl, Mask, Who};
-use model::node::{NodeKind, ROOT};
+use model_tree::acl::{Ace, AceFlags, AceKind, Acl, Mask, Who};
+use model_tree::node::{NodeKind, ROOT};
 use std::alloc::{AllocError, Global};
 use std::slice;
 

@@ -52,7 +52,7 @@ pub(crate) fn put_parent(parents: &mut Parents, table: &Table, put: Option<(u64,
 #[tactic(auto, unfolding(crate::specs::Views::volume_state))]
 impl<D: Device> Volume<D> {
     ghost use Rattle.std.specs.Prelude.{◌≡◌};
-    ghost use Rattle.model.specs.Trees.Ancestors.{is_below, parent_of};
+    ghost use Rattle.model_tree.specs.Trees.Ancestors.{is_below, parent_of};
     ghost use Rattle.volume.specs.Views.{volume_state};
 
     /// The number of the directory that has a node's name: 0 of the root, and of a number that no

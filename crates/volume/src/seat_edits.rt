@@ -4,12 +4,12 @@ use crate::fault::VolumeFault;
 use crate::seat_updates::updates_of;
 use crate::volume::Volume;
 use disk::Device;
-use model::seats::SeatEdits;
+use model_tree::seats::SeatEdits;
 
 #[tactic(auto, unfolding(crate::specs::Views::volume_state, crate::specs::Views::volume_failures))]
 impl<D: Device> Volume<D> {
     ghost use Rattle.std.specs.Prelude.{◌≡◌, ◌↔◌, ◌⊎◌, true, OnOk, IfErr, IsErrOf};
-    ghost use Rattle.model.specs.Sessions.SeatEdits.{AreEdits, edited_all, edits_view};
+    ghost use Rattle.model_tree.specs.Seats.SeatEdits.{AreEdits, edited_all, edits_view};
     ghost use Rattle.volume.specs.Changes.{IsSeats, ending_of};
     ghost use Rattle.volume.specs.Formed.{ShowsTree};
     ghost use Rattle.volume.specs.Views.{volume_state, AltersVolume};

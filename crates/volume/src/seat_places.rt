@@ -2,14 +2,14 @@
 
 ghost use Rattle.std.specs.Prelude.{◌≡◌, ◌<◌, ◌+◌, ◌*◌, ◌++◌, OnOk};
 ghost use Rattle.std.specs.Option.{option_map};
-ghost use Rattle.model.specs.Sessions.SeatEdits.{edit_view};
-ghost use Rattle.model.specs.Sessions.SeatViews.{held_view, seat_view};
+ghost use Rattle.model_tree.specs.Seats.SeatEdits.{edit_view};
+ghost use Rattle.model_tree.specs.Seats.SeatViews.{held_view, seat_view};
 ghost use Rattle.volume.specs.SeatUpdates.{edit_updates, place_updates, slot_updates};
 ghost use Rattle.seats.specs.Spelling.{seat_sector};
 
 use disk::{SECTOR, Update};
 use layout::places::{PLACE_SECTORS, SLOT_SECTORS, SPARE};
-use model::seats::{HeldReply, Seat, SeatEdit};
+use model_tree::seats::{HeldReply, Seat, SeatEdit};
 use seats::{slot_sector, taken_sector};
 use std::alloc::AllocError;
 

@@ -1,13 +1,13 @@
 //! The transaction of edits of all places.
 
 ghost use Rattle.std.specs.Prelude.{◌≡◌, IfOk};
-ghost use Rattle.model.specs.Sessions.SeatEdits.{edits_view};
+ghost use Rattle.model_tree.specs.Seats.SeatEdits.{edits_view};
 ghost use Rattle.volume.specs.SeatTransactions.{AreUpdates};
 ghost use Rattle.volume.specs.SeatUpdates.{updates_from};
 
 use crate::seat_places::push_edit;
 use disk::Update;
-use model::seats::SeatEdits;
+use model_tree::seats::SeatEdits;
 use std::alloc::{AllocError, Global};
 
 /// All that the edits write, in the order of their places.

@@ -4,7 +4,7 @@ ghost use Rattle.std.specs.Prelude.{◌≡◌, ◌≤◌, ◌<◌, ◌⊎◌, If
 ghost use Rattle.disk.specs.Cause.{IsCounted};
 ghost use Rattle.journal.specs.Journal.{log_of, journal_failures};
 ghost use Rattle.migration.specs.Plans.{clearing_updates};
-ghost use Rattle.model.specs.Sessions.SeatViews.{seats_view};
+ghost use Rattle.model_tree.specs.Seats.SeatViews.{seats_view};
 ghost use Rattle.volume.specs.Loads.{HoldsBase, IsLoaded};
 ghost use Rattle.volume.specs.Mounts.{AddsRaised, IsAtRest, IsVolumeOf};
 ghost use Rattle.volume.specs.Starts.{Clears, Counts, HasStarted, MovesNodes, is_marked};

@@ -11,7 +11,7 @@ use Rattle.layout.specs.declared.versions.VersionNumber.{VersionNumber}
 use Rattle.layout.specs.declared.versions.VersionNumber.TheVariants as numbers
 use Rattle.layout.proofs.FileLaws.{zero_sector-at}
 use Rattle.layout.proofs.SeatLaws.{spare_seats, version_spare}
-use Rattle.model.specs.Sessions.Seats.{Seats}
+use Rattle.model_tree.specs.Seats.Seats.{Seats}
 use Rattle.seats.specs.Spelling.{seat_sector, seats_sector}
 use Rattle.volume_load.specs.Sectors.{AreSpare, AreZeroFrom}
 use Rattle.volume_load.proofs.SectorLaws.{zero-all}

@@ -4,10 +4,10 @@ use Rattle.std.proofs.lemmas.Bool.{false≢true}
 use Rattle.std.proofs.lemmas.List.{ext_get_or, get_or-map, length-map, length-drop, take_all, drop-map}
 use Rattle.std.proofs.Math.Seq.{drop-cons}
 use Rattle.disk.specs.Moments.{Image}
-use Rattle.model.specs.declared.seats.Seat as seats
-use Rattle.model.specs.Sessions.SeatViews.{place_view}
-use Rattle.model.specs.Sessions.Seats.{Seat, Seats, SeatsApart, has_seat, is_seat_of, no_seats, seat_of}
-use Rattle.model.proofs.Sessions.SeatLaws.{bytes_same}
+use Rattle.model_tree.specs.declared.seats.Seat as seats
+use Rattle.model_tree.specs.Seats.SeatViews.{place_view}
+use Rattle.model_tree.specs.Seats.Seats.{Seat, Seats, SeatsApart, has_seat, is_seat_of, no_seats, seat_of}
+use Rattle.model_tree.proofs.Facts.BytesLaws.{bytes_same}
 use Rattle.seats.specs.Reading.{SeatsReadBack}
 use Rattle.seats.specs.Spelling.{ArePlaces, IsSeatPlace, seat_sector}
 use Rattle.directory.proofs.Places.{bytes_eq-true}

@@ -11,7 +11,7 @@ use Rattle.layout.specs.Laid.{AreLaid, AreNumbered}
 use Rattle.layout.specs.Marks.{named, mark_in, mark_by}
 use Rattle.layout.specs.Stands.{HoldSeats, Version, AreKept, HaveForms, IsLaid, IsMark, MayHaveSeats, mark_held, version_by}
 use Rattle.layout.specs.declared.versions.VersionNumber.{VersionNumber}
-use Rattle.model.specs.Sessions.Seats.{Seats, no_seats}
+use Rattle.model_tree.specs.Seats.Seats.{Seats, no_seats}
 use Rattle.layout.proofs.CachedNodeLaws.{cards-back}
 use Rattle.layout.proofs.MarkProofs.{mark-back, each_mark, marks_laid}
 use Rattle.volume_load.specs.CachedNodes.{FindsPlace, IsFound, CanHold}

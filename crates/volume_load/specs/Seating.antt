@@ -3,7 +3,7 @@ use Rattle.std.specs.Prelude.{◌≡◌, ◌≤◌, ◌<◌, ◌+◌, ◌*◌, �
 use Rattle.std.specs.List.{AllByRecursion}
 use Rattle.disk.specs.Moments.{Image}
 use Rattle.layout.specs.Stands.{AreKept}
-use Rattle.model.specs.Sessions.Seats.{Seat, Seats, no_seats, run_of}
+use Rattle.model_tree.specs.Seats.Seats.{Seat, Seats, no_seats, run_of}
 use Rattle.seats.specs.Spelling.{seat_sector}
 
 -- the nine sectors of a place hold its seat, or that it is free

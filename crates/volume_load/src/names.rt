@@ -3,8 +3,8 @@
 ghost use Rattle.std.specs.Prelude.{◌≡◌, ◌↔◌, ◌<◌, ◌≤◌, ◌+◌, ◌/◌, List, length, map, IfOk, OnOk};
 ghost use Rattle.std.specs.Prelude.{IsErrOf, IsTrue};
 ghost use Rattle.std.specs.List.{AllByRecursion};
-ghost use Rattle.model.specs.Trees.Charge.{blocks_of, divided_up};
-ghost use Rattle.model.specs.declared.node.NodeKind.TheVariants as kind;
+ghost use Rattle.model_tree.specs.Trees.Charge.{blocks_of, divided_up};
+ghost use Rattle.model_tree.specs.declared.node.NodeKind.TheVariants as kind;
 ghost use Rattle.directory.specs.Records.{Record, record_of, IsDirectory, NamesStamped};
 ghost use Rattle.layout.specs.Health.{FailsOrStays};
 ghost use Rattle.volume_load.specs.Names.{AreSetWithin, FindsPart, FindsRecords, FindsContent};
@@ -17,7 +17,7 @@ use directory::{Entry, Names, RECORDS, read_records};
 use disk::SECTOR;
 use extents::BlockList;
 use layout::sectors::Sectors;
-use model::node::NodeKind;
+use model_tree::node::NodeKind;
 use std::alloc::{AllocError, Global};
 
 /// The records of a sector that is to have so many.

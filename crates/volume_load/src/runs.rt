@@ -4,7 +4,7 @@ ghost use Rattle.std.specs.Prelude.{◌≡◌, ◌<◌, ◌≤◌, ◌+◌, ◌-
 ghost use Rattle.std.specs.Prelude.{min, IfOk, IfSome, IfNone, IsErrOf};
 ghost use Rattle.extents.specs.declared.run.Run.{Run};
 ghost use Rattle.extents.specs.Runs.{AreRunsOf};
-ghost use Rattle.model.specs.Trees.Charge.{blocks_of, divided_up};
+ghost use Rattle.model_tree.specs.Trees.Charge.{blocks_of, divided_up};
 ghost use Rattle.volume_load.specs.Runs.{FindsPart, FindsRuns, SectorsWithin};
 ghost use Rattle.layout.specs.Health.{FailsOrStays};
 
@@ -14,7 +14,7 @@ use directory::RECORDS;
 use disk::SECTOR;
 use extents::{BlockList, MAX_SECTOR_RUNS, Run, read_run_sector};
 use layout::sectors::Sectors;
-use model::node::NodeKind;
+use model_tree::node::NodeKind;
 use std::alloc::Global;
 
 /// The runs of a run sector that is to have so many.

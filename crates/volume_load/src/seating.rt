@@ -4,9 +4,9 @@ ghost use Rattle.std.specs.Prelude.{◌≡◌, ◌≤◌, ◌<◌, ◌+◌, ◌*
 ghost use Rattle.std.specs.Prelude.{IfOk, IsErrOf, IsTrue, length, map, slice_index_or, []};
 ghost use Rattle.layout.specs.Health.{FailsOrStays};
 ghost use Rattle.layout.specs.Stands.{HoldSeats, MayHaveSeats};
-ghost use Rattle.model.specs.Sessions.Seats as model;
-ghost use Rattle.model.specs.Sessions.Seats.{SeatsApart, AreOfRuns, has_seat, no_seats};
-ghost use Rattle.model.specs.Sessions.SeatViews.{place_view, seats_view};
+ghost use Rattle.model_tree.specs.Seats.Seats as model;
+ghost use Rattle.model_tree.specs.Seats.Seats.{SeatsApart, AreOfRuns, has_seat, no_seats};
+ghost use Rattle.model_tree.specs.Seats.SeatViews.{place_view, seats_view};
 ghost use Rattle.volume_load.specs.Seating.{AreMade, HoldPlace, IsOfRuns, MayStand};
 ghost use Rattle.seats.specs.Spelling.{ArePlaces, IsSeatPlace};
 
@@ -17,7 +17,7 @@ use disk::SECTOR;
 use layout::places::{MARK, PLACE_SECTORS, SPARE};
 use layout::sectors::Sectors;
 use layout::versions::VersionNumber;
-use model::seats::{SEATS, Seat, Seats};
+use model_tree::seats::{SEATS, Seat, Seats};
 use seats::read_seat;
 use std::alloc::Global;
 

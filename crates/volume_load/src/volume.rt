@@ -7,8 +7,8 @@ ghost use Rattle.layout.specs.CachedNodes as layout;
 ghost use Rattle.layout.specs.Health.{FailsOrStays};
 ghost use Rattle.layout.specs.Stands.{AreKept, IsLaid, IsMark, MayHaveSeats, version_by};
 ghost use Rattle.layout.specs.Superblock.{is_size};
-ghost use Rattle.model.specs.Sessions.Seats as model;
-ghost use Rattle.model.specs.Sessions.SeatViews.{seats_view};
+ghost use Rattle.model_tree.specs.Seats.Seats as model;
+ghost use Rattle.model_tree.specs.Seats.SeatViews.{seats_view};
 ghost use Rattle.volume_load.specs.Sectors.{AreBits, AreSpare};
 ghost use Rattle.volume_load.specs.Volumes.{IsRead, AreFew};
 
@@ -22,7 +22,7 @@ use freemap::{Bitmap, SECTOR_PLACES};
 use layout::places::{BEHIND_SEATS, BITMAP, MARK, NODES};
 use layout::sectors::Sectors;
 use layout::versions::VersionNumber;
-use model::seats::Seats;
+use model_tree::seats::Seats;
 use node_table::CachedNode;
 use std::alloc::Global;
 

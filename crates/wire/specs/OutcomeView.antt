@@ -2,8 +2,8 @@
 use Rattle.std.specs.Prelude.{ℕ, List, ◌++◌}
 use Rattle.std.specs.Int.{w32}
 use Rattle.xdr.specs.Grammar.{number}
-use Rattle.model.specs.declared.status.Status.{Status}
-use Rattle.model.specs.Operations.Status.{code_of}
+use Rattle.model_tree.specs.declared.status.Status.{Status}
+use Rattle.model_tree.specs.Refusals.Status.{code_of}
 use Rattle.model.specs.Operations.Answer as spec
 use Rattle.model.specs.Wire.WireAnswers.{answer_told, behind_refusal}
 use Rattle.wire.specs.declared.outcome.Answer.{Answer}

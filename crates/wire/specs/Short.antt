@@ -1,8 +1,8 @@
 -- Results whose spelling is short.
 use Rattle.std.specs.Prelude.{◌≢◌, ◌≤◌, IsTrue, length}
 use Rattle.xdr.specs.Forms.{is_trimmed}
-use Rattle.model.specs.declared.status.Status.{Status}
-use Rattle.model.specs.Operations.Status.{code_of}
+use Rattle.model_tree.specs.declared.status.Status.{Status}
+use Rattle.model_tree.specs.Refusals.Status.{code_of}
 use Rattle.model.specs.Operations.Answer as spec
 
 -- a status that refuses

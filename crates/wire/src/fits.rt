@@ -21,7 +21,7 @@ use crate::answers::{
 use crate::argument::Operation;
 use crate::outcome::{Answer, Outcome};
 use crate::small::{Bitmap, ChangeInfo, Channel, StateId};
-use model::status::Status;
+use model_tree::status::Status;
 
 fn tell_word(number: u32)
     ensures { number < 2 ^ 32 }

@@ -12,7 +12,7 @@ use crate::answers::{
 };
 use crate::argument::Operation;
 use crate::small::{Attributes, Bitmap, ChangeInfo, StateId};
-use model::status::Status;
+use model_tree::status::Status;
 use xdr::{Refusal, Writer};
 
 /// What an operation answers where its status is OK.

@@ -8,7 +8,7 @@ ghost use Rattle.model.specs.Attributes.Attribute.{trimmed};
 ghost use Rattle.model.specs.Wire.WireTypes.{state_id, attributes, change_info, channel, implementation, system_credential, callback_security};
 ghost use Rattle.wire.specs.SmallViews.{channel_rest, state_view, attributes_view, change_view, channel_view, implementation_view, credential_view, security_view};
 
-use model::acl::Gids;
+use model_tree::acl::Gids;
 use xdr::{Reader, Refusal, Words, Writer};
 
 /// Attribute n is bit n % 32 of word n / 32.

@@ -7,7 +7,7 @@ use Rattle.std.specs.Str.Parse.{AllDigits, IsNumeral, ParsesUnsigned, digits_val
 use Rattle.std.proofs.lemmas.Fmt.{decimal_is_IsNumeral, decimal_nonempty, first_decimal, IsAscii-decimal, decimal_digit, parse-decimal, decimal-digits_value}
 use Rattle.std.proofs.lemmas.Str.{IsUtf8-from_ascii}
 use Rattle.std.proofs.lemmas.Str.Parse.{IsNumeralModel, numerals_by_value, tells_digits, not_in_digits, without_leading_plus_none}
-use Rattle.model.specs.declared.acl.Who.TheVariants as who
+use Rattle.model_tree.specs.declared.acl.Who.TheVariants as who
 use Rattle.model.specs.Attributes.AclText.{number_in, numbered, who_in}
 use Rattle.model.proofs.Wire.AclTextLaws.{no_number, written_again}
 

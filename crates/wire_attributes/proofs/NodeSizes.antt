@@ -9,13 +9,13 @@ use Rattle.xdr.specs.Grammar.{number}
 use Rattle.xdr.specs.Forms.{counted, elements}
 use Rattle.xdr.proofs.Sizes.{counted_length, elements_length}
 use Rattle.xdr.proofs.Numbers.{length-number_32, length-number_64}
-use Rattle.model.specs.declared.acl.Ace.{Ace}
-use Rattle.model.specs.declared.node.NodeKind.{NodeKind}
-use Rattle.model.specs.declared.node.NodeKind.TheVariants as kind
+use Rattle.model_tree.specs.declared.acl.Ace.{Ace}
+use Rattle.model_tree.specs.declared.node.NodeKind.{NodeKind}
+use Rattle.model_tree.specs.declared.node.NodeKind.TheVariants as kind
 use Rattle.model.specs.Attributes.AclText.{entry_text, who_text, kind_number, entry_flags}
 use Rattle.model.specs.Attributes.AttributeValue.{acl_entry, file_system_id, node_kind, time}
 use Rattle.model.specs.Attributes.NodeAttributes.{supported_bitmap, time_of}
-use Rattle.model.specs.Trees.Stamp.{filehandle_of}
+use Rattle.model_tree.specs.Trees.Stamp.{filehandle_of}
 
 -- how long texts are, one more
 pub length_more : {A : Type 0} (text : A → List ℕ) (xs : List A) (i : ℕ) (x : A) → i < length xs → x ≡ get_or xs i x

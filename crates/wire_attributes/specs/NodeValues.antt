@@ -5,10 +5,10 @@ use Rattle.model.specs.Attributes.AclText.{entry_text}
 use Rattle.model.specs.Attributes.Attribute.{attributes_of, is_among, trimmed}
 use Rattle.model.specs.Attributes.AttributeValue as spec
 use Rattle.model.specs.Attributes.AttributeValue.{value_text}
-use Rattle.model.specs.Rights.Mode.{mode_of}
+use Rattle.model_tree.specs.Rights.Mode.{mode_of}
 use Rattle.model.specs.Attributes.NodeAttributes.{supported_bitmap, time_of, lease_time, acl_support, asked_values, common}
 use Rattle.model.specs.Operations.Operation as operation
-use Rattle.model.specs.Trees.Stamp.{filehandle_of}
+use Rattle.model_tree.specs.Trees.Stamp.{filehandle_of}
 use Rattle.wire_attributes.specs.declared.answer.AttributesAnswer.{AttributesAnswer}
 use Rattle.wire_attributes.specs.declared.attribute.Attribute.{Attribute}
 use Rattle.wire_attributes.specs.declared.attribute.Attribute.TheVariants as attribute

@@ -1,14 +1,14 @@
 //! Entries of the definitions as entries on the wire, and back (RFC 8881, section 6.2.1).
 
 ghost use Rattle.std.specs.Prelude.{◌≡◌};
-ghost use Rattle.model.specs.Rights.Acl.{bits_without};
+ghost use Rattle.model_tree.specs.Rights.Acl.{bits_without};
 ghost use Rattle.model.specs.Attributes.AclText.{ace_in, entry_flags, entry_text, identifier_group, kind_in, kind_number, who_text};
 ghost use Rattle.wire_attributes.specs.Views.{entry_view};
 
 use crate::entry::AclEntry;
 use crate::who::who_of;
 use bitflags::Flags;
-use model::acl::{Ace, AceFlags, AceKind, Mask, Who};
+use model_tree::acl::{Ace, AceFlags, AceKind, Mask, Who};
 
 /// The entry that one on the wire stands for, where its type is ALLOW or DENY and its text names
 /// somebody. Which flags and rights it has is not looked at.

@@ -8,7 +8,7 @@ ghost use Rattle.xdr.specs.Clauses.{Wrote};
 
 use crate::answer::AttributesAnswer;
 use crate::node::write_words;
-use model::status::Status;
+use model_tree::status::Status;
 use xdr::{Refusal, Writer, opaque_size};
 
 /// The bit of rdattr_error.

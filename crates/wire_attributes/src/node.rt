@@ -7,7 +7,7 @@ ghost use Rattle.std.specs.List.{flat_map};
 ghost use Rattle.model.specs.Attributes.AclText.{entry_text, who_text};
 ghost use Rattle.model.specs.Attributes.AttributeValue.{acl_entry, file_system_id, node_kind, time};
 ghost use Rattle.model.specs.Attributes.NodeAttributes.{time_of};
-ghost use Rattle.model.specs.declared.acl.Who.TheVariants as who;
+ghost use Rattle.model_tree.specs.declared.acl.Who.TheVariants as who;
 ghost use Rattle.wire_attributes.specs.NodeValues.{HasFewEntries, value_spelled};
 ghost use Rattle.xdr.specs.Clauses.{Wrote};
 ghost use Rattle.xdr.specs.Forms.{counted, elements};
@@ -19,8 +19,8 @@ use crate::entry::AclEntry;
 use acl_set::mode_of;
 use bitflags::Flags;
 use itoa::Buffer;
-use model::acl::{Ace, Acl, Who};
-use model::node::NodeKind;
+use model_tree::acl::{Ace, Acl, Who};
+use model_tree::node::NodeKind;
 use xdr::{Refusal, Writer, opaque_size};
 
 /// The words of the bitmap of all attributes.

@@ -6,7 +6,7 @@ ghost use Rattle.model.specs.Attributes.AttributeValue.{attribute_of, file_syste
 ghost use Rattle.wire_attributes.specs.Views.{ValueFits, file_system_view, time_view, value_spelling, value_view};
 
 use crate::entry::{AclEntry, read_entries, write_entries};
-use model::node::NodeKind;
+use model_tree::node::NodeKind;
 use std::alloc::Global;
 use wire::{ANY_LENGTH, Bitmap, MAX_HANDLE_BYTES, read_trimmed};
 use xdr::{Reader, Refusal, Writer};

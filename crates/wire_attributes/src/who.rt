@@ -4,7 +4,7 @@ ghost use Rattle.std.specs.Prelude.{◌≡◌, IfOk, IfErr, string_bytes};
 ghost use Rattle.xdr.specs.declared.refusal.Refusal.TheVariants.{Memory};
 ghost use Rattle.model.specs.Attributes.AclText.{number_in, who_in, who_text};
 
-use model::acl::Who;
+use model_tree::acl::Who;
 use std::alloc::Global;
 use xdr::Refusal;
 

@@ -1,10 +1,10 @@
 //! The statuses by their numbers (RFC 8881, section 15.1).
 
 ghost use Rattle.std.specs.Prelude.{◌≡◌, ◌==◌, find};
-ghost use Rattle.model.specs.Operations.Status.{code_of};
+ghost use Rattle.model_tree.specs.Refusals.Status.{code_of};
 ghost use Rattle.model.specs.Wire.WireAnswers.{refusal_of};
 
-use model::status::Status;
+use model_tree::status::Status;
 
 // Every status but OK, by rising number.
 const REFUSALS: [Status; 44] = [

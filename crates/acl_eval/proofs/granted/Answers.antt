@@ -1,8 +1,8 @@
 use Rattle.std.proofs.Common.{◌∙◌, sym, ap, ◌+◌, Bool, drop, arith}
 use Rattle.std.proofs.lemmas.Bool.{eq-eqb, ne_eqb}
 use Rattle.std.proofs.lemmas.List.{at_drop_more, at_drop_all}
-use Rattle.model.specs.Rights.Acl.{is_allow, matches}
-use Rattle.model.specs.declared.acl.Who.{Who}
+use Rattle.model_tree.specs.Rights.Acl.{is_allow, matches}
+use Rattle.model_tree.specs.declared.acl.Who.{Who}
 use Rattle.acl_eval.proofs.Decided.{allow_all, allow_all-nil, allow_all-skipped, allow_all-allowed, allow_all-passed, allow_all-denied, granted-owner, granted-other}
 use Rattle.acl_eval.proofs.granted.Goals as goal
 use Rattle.acl_eval.proofs.granted.Goals.{then-cred-owner, else-cred-owner, in-Allow, in-Deny+else-is_denied}

@@ -1,5 +1,5 @@
 use Rattle.std.proofs.Common.{◌≡◌, drop}
-use Rattle.model.specs.Rights.Acl.{granted, matches}
+use Rattle.model_tree.specs.Rights.Acl.{granted, matches}
 use Rattle.acl_eval.proofs.Decided.{allow_all}
 use Rattle.acl_eval.proofs.granted.Given as goal
 

@@ -1,6 +1,6 @@
 -- Worked rows over the definitions of client records and sessions, in run 1 with the limits that the server serves.
 use Rattle.std.proofs.Common.{◌≡◌, ℕ, refl, List, [], ◌∷◌, Ok, Err, None, Some, Bool, false, codes}
-use Rattle.model.specs.declared.status.Status.TheVariants as status
+use Rattle.model_tree.specs.declared.status.Status.TheVariants as status
 use Rattle.model.specs.Operations.Operation.{Channel, ExchangeIdArguments, CreateSessionArguments, SequenceArguments}
 use Rattle.model.specs.Operations.Answer.{CreateSessionAnswer}
 use Rattle.model.specs.Sessions.Session.{SessionLimits, Table, empty_table, exchange_id, exchange_answer, create_session, destroy_session, begin, started, finish, session_id, Refuses, Replays, Runs}

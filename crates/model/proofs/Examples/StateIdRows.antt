@@ -1,11 +1,11 @@
 -- Worked rows over stateids: file 9 of the first run, opened by client 5.
 use Rattle.std.proofs.Common.{◌≡◌, ℕ, true, false, refl, [], ◌∷◌, Option, None, Some, codes, replicate}
-use Rattle.model.specs.declared.status.Status.TheVariants as status
+use Rattle.model_tree.specs.declared.status.Status.TheVariants as status
 use Rattle.model.specs.Operations.Context.{Context}
 use Rattle.model.specs.Sessions.Opens.{Opens, Open, no_opens}
 use Rattle.model.specs.Operations.Operation.{StateId}
 use Rattle.model.specs.Sessions.StateIds.{Anonymous, Refused, Names, found, opened, is_table_full, without_number, without_clients, open_stateid, new_open, access_refusals, zeros, write_access}
-use Rattle.model.specs.Operations.Refusal.{first_refusal}
+use Rattle.model_tree.specs.Refusals.Refusal.{first_refusal}
 
 abbrev context : (number : ℕ) → (carried : Option StateId) → Context
 context number carried = record {

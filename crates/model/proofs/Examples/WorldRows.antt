@@ -6,23 +6,23 @@ use Rattle.xdr.specs.Grammar.{number, number_at}
 use Rattle.xdr.specs.Forms.{padded, padded_at, counted, counted_at, each_at, elements, elements_at}
 use Rattle.std.specs.Char.{encode_utf8}
 use Rattle.std.specs.Str.{is_utf8, chars}
-use Rattle.model.specs.Rights.Acl.{first_of, granted}
-use Rattle.model.specs.Rights.Inherit.{inherited}
-use Rattle.model.specs.Rights.Mode.{moded}
+use Rattle.model_tree.specs.Rights.Acl.{first_of, granted}
+use Rattle.model_tree.specs.Rights.Inherit.{inherited}
+use Rattle.model_tree.specs.Rights.Mode.{moded}
 use Rattle.model.specs.Attributes.Attribute.{attributes_of, attribute_refusals}
 use Rattle.model.specs.Attributes.AttributeValue.{value_at, values_at}
-use Rattle.model.specs.Trees.Charge.{fits}
-use Rattle.model.specs.Trees.Fresh.{fresh_tree}
-use Rattle.model.specs.Trees.Limits.{limits_of}
-use Rattle.model.specs.Attributes.Name.{name_refusals}
+use Rattle.model_tree.specs.Trees.Charge.{fits}
+use Rattle.model_tree.specs.Trees.Fresh.{fresh_tree}
+use Rattle.model_tree.specs.Trees.Limits.{limits_of}
+use Rattle.model_tree.specs.Refusals.Name.{name_refusals}
 use Rattle.model.specs.Wire.Record.{front_from, fragment, behind_header, framed}
 use Rattle.model.specs.Wire.Rpc.{words, read_call, request_of, reply_text, compound_text}
 use Rattle.model.specs.Wire.WireArguments.{arguments_at}
-use Rattle.model.specs.Sessions.Seats.{Seat, Seats, no_seats}
+use Rattle.model_tree.specs.Seats.Seats.{Seat, Seats, no_seats}
 use Rattle.model.specs.Sessions.Session.{exchange_id, create_session, destroy_session, destroy_client_id, reclaim_complete, begin, started, finish, session_id}
 use Rattle.model.specs.Sessions.StateIds as stateids
 use Rattle.model.specs.Operations.Step.{does, effect, refusals, permitted}
-use Rattle.model.specs.Trees.Tree.{Tree, root, names_at}
+use Rattle.model_tree.specs.Trees.Tree.{Tree, root, names_at}
 use Rattle.model.specs.Server.World.{World, ServerLimits, mounted_world, one, arrives, takes, connects, hung_up, hangs_up, turns, reply_at, Turn, Idle, Ran, Answered, next_operation, run, outcome_text}
 
 abbrev limits : ServerLimits

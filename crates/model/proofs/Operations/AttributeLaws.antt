@@ -5,17 +5,17 @@ use Rattle.std.specs.List.{list_all}
 use Rattle.std.proofs.lemmas.Bool.{lt-ltb, not-false}
 use Rattle.std.proofs.lemmas.List.Concat.{flat_map-cons}
 use Rattle.std.proofs.lemmas.List.Sums.{count_by-le-length}
-use Rattle.model.specs.declared.acl.Ace.{Ace}
-use Rattle.model.specs.declared.acl.Who.{Who}
-use Rattle.model.specs.declared.acl.Who.TheVariants as who
-use Rattle.model.specs.declared.node.NodeKind.{NodeKind}
-use Rattle.model.specs.declared.status.Status.TheVariants as status
-use Rattle.model.specs.Rights.Acl.{meets, bits_without, is_within, has_width, every_right, inheritance, are_flags_for, is_entry_for, is_list_for, is_plain}
+use Rattle.model_tree.specs.declared.acl.Ace.{Ace}
+use Rattle.model_tree.specs.declared.acl.Who.{Who}
+use Rattle.model_tree.specs.declared.acl.Who.TheVariants as who
+use Rattle.model_tree.specs.declared.node.NodeKind.{NodeKind}
+use Rattle.model_tree.specs.declared.status.Status.TheVariants as status
+use Rattle.model_tree.specs.Rights.Acl.{meets, bits_without, is_within, has_width, every_right, inheritance, are_flags_for, is_entry_for, is_list_for, is_plain}
 use Rattle.model.specs.Attributes.AclText.{Agrees, identifier_group, ace_in, aces_in, named_in}
 use Rattle.model.specs.Attributes.Attribute.{entry_refusals, value_refusals, attribute_refusals, first_said, acl_said, values_of, attributes_of, supported, has_one_outside, GivenListsFit}
 use Rattle.model.specs.Attributes.AttributeValue.{AclEntry, Value, Acl}
-use Rattle.model.specs.Trees.Limits.{Limits}
-use Rattle.model.specs.Operations.Refusal.{Refusals, first_refusal}
+use Rattle.model_tree.specs.declared.limits.Limits.{Limits}
+use Rattle.model_tree.specs.Refusals.Refusal.{Refusals, first_refusal}
 use Rattle.model.proofs.Wire.AclTextLaws.{reads_entries}
 use Rattle.model.proofs.Operations.RefusalLaws.{none_in_front, none_in_both}
 

@@ -5,40 +5,39 @@ use Rattle.std.proofs.lemmas.Bool.{true≢false, ltb-false, not-false}
 use Rattle.std.proofs.lemmas.List.{length-replicate}
 use Rattle.std.proofs.lemmas.List.Elements.{All-take, All-replicate, All-weaker}
 use Rattle.std.proofs.lemmas.List.Sums.{AllPass-from_list_all}
-use Rattle.model.specs.declared.acl.Ace.{Ace}
-use Rattle.model.specs.declared.node.NodeKind.{NodeKind}
-use Rattle.model.specs.declared.node.NodeKind.TheVariants as kind
-use Rattle.model.specs.declared.status.Status.TheVariants as status
-use Rattle.model.specs.Rights.Acl.{is_list_for}
-use Rattle.model.specs.Rights.AclLaws.{ModesKeepLimits, InheritanceKeepsLimits}
+use Rattle.model_tree.specs.declared.acl.Ace.{Ace}
+use Rattle.model_tree.specs.declared.node.NodeKind.{NodeKind}
+use Rattle.model_tree.specs.declared.node.NodeKind.TheVariants as kind
+use Rattle.model_tree.specs.declared.status.Status.TheVariants as status
+use Rattle.model_tree.specs.Rights.Acl.{is_list_for}
+use Rattle.model_tree.specs.Rights.AclLaws.{ModesKeepLimits, InheritanceKeepsLimits}
 use Rattle.model.specs.Attributes.Attribute.{attribute_refusals, settable_at_setattr, settable_at_open, value_refusals, supported, has_one_outside, attributes_of, values_of, is_empty, first_said, size_said, size_given, acl_given, mode_given}
 use Rattle.model.specs.Attributes.AttributeValue.{Value, Size}
-use Rattle.model.specs.Trees.Changes.{touched, touch, made_edits}
+use Rattle.model_tree.specs.Trees.Changes.{touched, touch, made_edits, acl_of}
 use Rattle.model.specs.Operations.Context.{has_current}
-use Rattle.model.specs.Operations.Directory.{number_of_entry, number_named, acl_of}
-use Rattle.model.specs.Trees.Edit.{PutBytes, SetSize, Show, showing, with_content, resized, overwritten, altered, edited}
+use Rattle.model_tree.specs.Trees.Tree.{number_of_entry, number_named, Tree, Node, Content, File, Directory, DirEntry, kind_of, names_of, names_at, bytes_of, is_directory, is_directory_node, is_directory_at, entry_of}
+use Rattle.model_tree.specs.Trees.Edit.{PutBytes, SetSize, Show, showing, with_content, resized, overwritten, altered, edited}
 use Rattle.model.specs.Operations.Files.{are_bytes, file_refusals, taken_bytes, has_bytes}
-use Rattle.model.specs.Rights.Inherit.{created_list, created_without_list, inherited}
-use Rattle.model.specs.Trees.Keyed.{at, is_key, with}
-use Rattle.model.specs.Trees.Limits.{Limits}
-use Rattle.model.specs.Attributes.Name.{name_refusals}
+use Rattle.model_tree.specs.Rights.Inherit.{created_list, created_without_list, inherited}
+use Rattle.model_tree.specs.Trees.Keyed.{at, is_key, with}
+use Rattle.model_tree.specs.declared.limits.Limits.{Limits}
+use Rattle.model_tree.specs.Refusals.Name.{name_refusals}
 use Rattle.model.specs.Operations.Open.{cuts, makes_file, cuts_file, given_by, opening_refusals, share_refusals, place_refusals, known_refusals, new_refusals, name_opening_refusals, new_file, cut_or_not, with_file, opening_done, middle_at_open}
 use Rattle.model.specs.Operations.Operation.{Argument, Attributes, WriteArguments, SetAttrArguments, OpenArguments, OpenType, NoCreate, Unchecked, Guarded, ByName, ByHandle, OtherClaim, Opening, Opens as Opening_of, Exclusive}
-use Rattle.model.specs.Operations.Refusal.{Refusals, first_refusal, refused_or}
+use Rattle.model_tree.specs.Refusals.Refusal.{Refusals, first_refusal, refused_or}
 use Rattle.model.specs.Operations.SetAttr.{kind_at, size_refusals, set_refusals, list_set, shown_set, size_edits, set_edits}
 use Rattle.model.specs.Operations.State.{State, current, stamp_of, current_refusals, named_refusals, is_name_there}
 use Rattle.model.specs.Sessions.StateIds.{state_refusals, write_access}
 use Rattle.model.specs.Operations.StepLaws.{IsSound}
-use Rattle.model.specs.Trees.Tree.{Tree, Node, Content, File, Directory, DirEntry, kind_of, names_of, names_at, bytes_of, is_directory, is_directory_node, is_directory_at, entry_of}
-use Rattle.model.specs.Trees.WellFormed.{IsContent, IsNode}
+use Rattle.model_tree.specs.Trees.WellFormed.{IsContent, IsNode}
 use Rattle.model.proofs.Operations.AttributeLaws.{given_lists_fit, first_passed}
-use Rattle.model.proofs.Trees.ChangeLaws.{IsChanged, creation_keeps, entry_found, names_in, led_to}
-use Rattle.model.proofs.Trees.EditLaws.{forest_of, kind_of_directory}
-use Rattle.model.proofs.Trees.KeyedLaws.{some≢none}
-use Rattle.model.proofs.Trees.NodeChangeLaws.{altered-once, altered-twice, resized_bytes, length-resized, overwritten_bytes, overwritten_within, replacement_keeps}
+use Rattle.model_tree.proofs.Trees.ChangeLaws.{IsChanged, creation_keeps, entry_found, names_in, led_to}
+use Rattle.model_tree.proofs.Trees.EditLaws.{forest_of, kind_of_directory}
+use Rattle.model_tree.proofs.Trees.KeyedLaws.{some≢none}
+use Rattle.model_tree.proofs.Trees.NodeChangeLaws.{altered-once, altered-twice, resized_bytes, length-resized, overwritten_bytes, overwritten_within, replacement_keeps}
 use Rattle.model.proofs.Operations.StepCases.{Passes}
 use Rattle.model.proofs.Operations.RefusalLaws.{none_in_front, none_in_both}
-use Rattle.model.proofs.Facts.BooleanLaws.{second_false}
+use Rattle.model_tree.proofs.Facts.BooleanLaws.{second_false}
 
 -- A file's node
 

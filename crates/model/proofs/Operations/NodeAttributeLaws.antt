@@ -11,7 +11,7 @@ use Rattle.std.specs.Int.Bits.{and_zero_l}
 use Rattle.model.specs.Attributes.Attribute.{attributes_of_word, attributes_from, attributes_of, is_among, trimmed, word_before}
 use Rattle.model.specs.Attributes.AttributeValue.{attribute_of}
 use Rattle.model.specs.Attributes.NodeAttributes.{supported_bitmap, node_values, common, node_attributes, AnswersAsked}
-use Rattle.model.proofs.Facts.BooleanLaws.{and_false, and_true, or_same}
+use Rattle.model_tree.proofs.Facts.BooleanLaws.{and_false, and_true, or_same}
 
 -- Lists
 

@@ -13,8 +13,8 @@ use Rattle.model.specs.Server.Served.{is_served, looks_no_further}
 use Rattle.model.specs.Wire.WireArguments.{close_arguments, commit_arguments, create_arguments, open_arguments, read_arguments, read_dir_arguments, rename_arguments, set_attr_arguments, write_arguments, exchange_id_arguments, create_session_arguments, sequence_arguments, argument_choice, arguments_at}
 use Rattle.model.specs.Wire.WireTypes.{any_opaque, file_handle, session_id}
 use Rattle.model.specs.Server.World.{InProgress, Next, Refuses, Reads, next_operation, by_number, by_arguments, first_or, first_tests, later_tests, is_last, is_no_operation, is_sequence, stands_alone, op_illegal}
-use Rattle.model.specs.declared.status.Status.TheVariants as status
-use Rattle.model.proofs.Facts.BooleanLaws.{second_of_neither}
+use Rattle.model_tree.specs.declared.status.Status.TheVariants as status
+use Rattle.model_tree.proofs.Facts.BooleanLaws.{second_of_neither}
 
 -- The number of what is read
 

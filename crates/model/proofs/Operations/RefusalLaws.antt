@@ -1,8 +1,8 @@
 -- Refusals one after the other: the first one, and what holds where there is none.
 use Rattle.std.proofs.Common.{◌≡◌, Bool, true, false, [], ◌∷◌, ◌++◌, Option, Some, None, refl}
-use Rattle.model.specs.declared.status.Status.{Status}
-use Rattle.model.specs.Operations.Refusal.{Refusals, first_refusal, refused_or}
-use Rattle.model.proofs.Facts.OptionLaws.{some≢none}
+use Rattle.model_tree.specs.declared.status.Status.{Status}
+use Rattle.model_tree.specs.Refusals.Refusal.{Refusals, first_refusal, refused_or}
+use Rattle.model_tree.proofs.Facts.OptionLaws.{some≢none}
 
 -- the first of two answers
 abbrev pub or_else : Option Status → Option Status → Option Status

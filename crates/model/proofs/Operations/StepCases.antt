@@ -3,19 +3,19 @@ use Rattle.std.proofs.Common.{ℕ, true, [], ◌∷◌, ◌++◌, ◌≡◌, ◌
 use Rattle.std.specs.Prelude.{List, Option, Some, None}
 use Rattle.std.specs.List.{list_any}
 use Rattle.std.proofs.lemmas.Bool.{not-false, and_parts, and_from}
-use Rattle.model.specs.declared.status.Status.{Status}
-use Rattle.model.specs.declared.status.Status.TheVariants as status
-use Rattle.model.specs.Trees.Charge.{fits}
-use Rattle.model.specs.Trees.Limits.{Limits}
-use Rattle.model.specs.Rights.Need.{Right, is_granted, are_granted}
+use Rattle.model_tree.specs.declared.status.Status.{Status}
+use Rattle.model_tree.specs.declared.status.Status.TheVariants as status
+use Rattle.model_tree.specs.Trees.Charge.{fits}
+use Rattle.model_tree.specs.declared.limits.Limits.{Limits}
+use Rattle.model.specs.Operations.Need.{Right, is_granted, are_granted}
 use Rattle.model.specs.Operations.Context.{Context}
 use Rattle.model.specs.Operations.Operation.{Argument}
-use Rattle.model.specs.Operations.Refusal.{first_refusal}
-use Rattle.model.specs.Trees.Stamp.{is_stamp_left}
-use Rattle.model.specs.Trees.Tree.{Tree}
+use Rattle.model_tree.specs.Refusals.Refusal.{first_refusal}
+use Rattle.model_tree.specs.Trees.Stamp.{is_stamp_left}
+use Rattle.model_tree.specs.Trees.Tree.{Tree}
 use Rattle.model.specs.Operations.Step.{State, Stepped, early, middle, late, without_rights, refusals, alters, effect, change_refusals, refused, unless_refused, does, need_first, need_then, permitted}
 use Rattle.model.proofs.Operations.RefusalLaws.{none_in_front, none_in_both}
-use Rattle.model.proofs.Facts.BooleanLaws.{second_held}
+use Rattle.model_tree.proofs.Facts.BooleanLaws.{second_held}
 
 -- What an operation passed
 pub record Passes (limits : Limits) (state : State) (now : ℕ) (operation : Argument) : Type 0 where

@@ -3,41 +3,41 @@ use Rattle.std.proofs.Common.{ℕ, Bool, true, false, List, [], ◌++◌, ◌≡
 use Rattle.std.specs.Prelude.{Option, Some, None}
 use Rattle.std.proofs.lemmas.Bool.{true≢false, cases_Bool, not-false}
 use Rattle.std.specs.Cmp.Lexicographic.{bytes_decides}
-use Rattle.model.specs.declared.node.NodeKind.TheVariants as kind
-use Rattle.model.specs.declared.status.Status.{Status}
-use Rattle.model.specs.declared.status.Status.TheVariants as status
-use Rattle.model.specs.Rights.Acl.{is_list_for}
-use Rattle.model.specs.Rights.AclLaws.{ModesKeepLimits, InheritanceKeepsLimits}
+use Rattle.model_tree.specs.declared.node.NodeKind.TheVariants as kind
+use Rattle.model_tree.specs.declared.status.Status.{Status}
+use Rattle.model_tree.specs.declared.status.Status.TheVariants as status
+use Rattle.model_tree.specs.Rights.Acl.{is_list_for}
+use Rattle.model_tree.specs.Rights.AclLaws.{ModesKeepLimits, InheritanceKeepsLimits}
 use Rattle.model.specs.Operations.Answer.{Answer, Outcome}
 use Rattle.model.specs.Attributes.Attribute.{attribute_refusals, settable_at_creation, is_empty, mode_given, acl_given}
-use Rattle.model.specs.Trees.Charge.{fits}
-use Rattle.model.specs.Operations.Directory.{new_directory, acl_of, number_named, number_of_entry, is_named}
-use Rattle.model.specs.Trees.Ancestors.{is_below}
+use Rattle.model_tree.specs.Trees.Charge.{fits}
+use Rattle.model.specs.Operations.Directory.{new_directory}
+use Rattle.model_tree.specs.Trees.Tree.{number_named, number_of_entry, is_named, Tree, Node, Content, File, Directory, DirEntry, kind_of, names_of, names_at, names_of_node, is_directory, is_directory_node, is_directory_at, entry_of}
+use Rattle.model_tree.specs.Trees.Changes.{acl_of, made_edits, removed_edits, renamed_edits}
+use Rattle.model_tree.specs.Trees.Ancestors.{is_below}
 use Rattle.model.specs.Operations.Context.{Context, is_same_name, has_saved}
-use Rattle.model.specs.Trees.Edit.{edited}
-use Rattle.model.specs.Trees.Changes.{made_edits, removed_edits, renamed_edits}
+use Rattle.model_tree.specs.Trees.Edit.{edited}
 use Rattle.model.specs.Operations.Files.{has_bytes, write}
-use Rattle.model.specs.Trees.Keyed.{Keyed, at, is_key}
-use Rattle.model.specs.Trees.Limits.{Limits}
-use Rattle.model.specs.Attributes.Name.{name_refusals}
+use Rattle.model_tree.specs.Trees.Keyed.{Keyed, at, is_key}
+use Rattle.model_tree.specs.declared.limits.Limits.{Limits}
+use Rattle.model_tree.specs.Refusals.Name.{name_refusals}
 use Rattle.model.specs.Operations.Operation.{Argument, Attributes, RenameArguments, SetAttrArguments, WriteArguments, NewDirectory, OtherType, operation_of}
-use Rattle.model.specs.Operations.Refusal.{first_refusal}
+use Rattle.model_tree.specs.Refusals.Refusal.{first_refusal}
 use Rattle.model.specs.Operations.SetAttr.{sets, set_attributes}
-use Rattle.model.specs.Trees.Stamp.{is_stamp_left}
+use Rattle.model_tree.specs.Trees.Stamp.{is_stamp_left}
 use Rattle.model.specs.Operations.Step.{State, current, saved, stamp_of, current_refusals, named_refusals, remove_refusals, rename_refusals, has_names, moved_number, target_number, late_at_rename, is_name_there, alters, effect, made, rename, refused, does}
 use Rattle.model.specs.Operations.StepLaws.{IsSound, IsLawful, EveryStepIsLawful, RunsBeginSound}
-use Rattle.model.specs.Trees.Tree.{Tree, Node, Content, File, Directory, DirEntry, kind_of, names_of, names_at, names_of_node, is_directory, is_directory_node, is_directory_at, entry_of}
-use Rattle.model.specs.Trees.WellFormed.{IsNode, IsFrom, IsWellFormed, IsBefore}
-use Rattle.model.proofs.Trees.AncestorLaws.{below_is_reached}
-use Rattle.model.proofs.Trees.ChangeLaws.{IsChanged, removal_keeps, rename_keeps, creation_keeps, entry_found, names_in}
-use Rattle.model.proofs.Trees.EditLaws.{forest_of, from_leaf, kind_of_directory, directory_at}
-use Rattle.model.proofs.Trees.FreshTree.{no_names, fresh_well_formed, fresh_before}
+use Rattle.model_tree.specs.Trees.WellFormed.{IsNode, IsFrom, IsWellFormed, IsBefore}
+use Rattle.model_tree.proofs.Trees.AncestorLaws.{below_is_reached}
+use Rattle.model_tree.proofs.Trees.ChangeLaws.{IsChanged, removal_keeps, rename_keeps, creation_keeps, entry_found, names_in}
+use Rattle.model_tree.proofs.Trees.EditLaws.{forest_of, from_leaf, kind_of_directory, directory_at}
+use Rattle.model_tree.proofs.Trees.FreshTree.{no_names, fresh_well_formed, fresh_before}
 use Rattle.model.proofs.Operations.AttributeLaws.{given_lists_fit}
 use Rattle.model.proofs.Operations.FileStepLaws.{list_given, write_changed, set_changed, opening_changed, opening_leaves}
 use Rattle.model.proofs.Operations.StepCases.{Passes, does_cases}
-use Rattle.model.proofs.Facts.BooleanLaws.{second_of_neither, second_false}
+use Rattle.model_tree.proofs.Facts.BooleanLaws.{second_of_neither, second_false}
 use Rattle.model.proofs.Operations.RefusalLaws.{none_in_front, none_in_both}
-use Rattle.model.proofs.Facts.OptionLaws.{none_by_test}
+use Rattle.model_tree.proofs.Facts.OptionLaws.{none_by_test}
 
 -- What an operation is answered with
 

@@ -3,9 +3,9 @@ use Rattle.std.proofs.Common.{◌≡◌, ℕ, zero, suc, ◌<◌, ◌≤◌, ◌
 use Rattle.std.proofs.lemmas.List.{take-append-le}
 use Rattle.std.specs.List.{IsAmong, AllByRecursion}
 use Rattle.std.proofs.lemmas.Bool.{false≢true, or_left, and_from, or_right}
-use Rattle.model.specs.Sessions.Seats.{Seats}
-use Rattle.model.specs.Trees.Keyed.{at}
-use Rattle.model.specs.Trees.Tree.{Tree}
+use Rattle.model_tree.specs.Seats.Seats.{Seats}
+use Rattle.model_tree.specs.Trees.Keyed.{at}
+use Rattle.model_tree.specs.Trees.Tree.{Tree}
 use Rattle.model.specs.Server.World.{World, ServerLimits, Entry, Turned, Turn, Idle, Ran, Answered, one, is_busy, reply_at}
 use Rattle.model.specs.Server.Runs.{Event, Arrives, Turns, HangsUp, Connects, Takes, executed_of, before, IsDurable, is_durable, RunHistory, no_history, is_slot, keeping, numbers_of, named_so_far, names_by, naming_by, turned_by, taken_by, history_after, Serving, mounted, executed, executed_by, IsAfter, MayLeave, Happens, DeviceFails, StaysDown, history_failing, IsRun, Begins, Goes_on, Fails_at, Stays_down, tree_after, IsChain, HasAllDurable, ArePermitted, IsGoodPrefix, EveryRun}
 use Rattle.model.proofs.Server.RunLaws.{LawfulEntry, EntryFits, event_fits}

@@ -2,18 +2,18 @@
 use Rattle.std.proofs.Common.{inr, ◌⊎◌, ◌≡◌, ◌≢◌, ℕ, zero, suc, ◌+◌, ◌-◌, ◌<◌, ◌≤◌, inl, Bool, true, false, cond, ◌==◌, nat_lt, List, [], ◌∷◌, ◌++◌, length, take, slice_get, find, Option, None, Some, Result, Ok, Err, refl, sym, ap, ◌∙◌, subst, arith, eq-eqb, get_or}
 use borrow.Author.Tests.{eqb-false}
 use Rattle.std.proofs.lemmas.Bool.{eqb-true, false≢true, cond-true}
-use Rattle.model.specs.Sessions.Seats.{Seats}
-use Rattle.model.specs.declared.status.Status.{Status}
-use Rattle.model.specs.declared.status.Status.TheVariants as status
+use Rattle.model_tree.specs.Seats.Seats.{Seats}
+use Rattle.model_tree.specs.declared.status.Status.{Status}
+use Rattle.model_tree.specs.declared.status.Status.TheVariants as status
 use Rattle.model.specs.Operations.Answer.{Answer, Outcome, ExchangeIdAnswer, CreateSessionAnswer}
-use Rattle.model.specs.Trees.Keyed.{at}
+use Rattle.model_tree.specs.Trees.Keyed.{at}
 use Rattle.model.specs.Operations.Operation.{Argument, SequenceArguments, operation_of}
 use Rattle.model.specs.Wire.Record.{framed}
 use Rattle.model.specs.Wire.Rpc as calls
 use Rattle.model.specs.Wire.Rpc.{CallRead, NoCall, OtherVersion, Calls, Request, Answers, read_call, request_of, reply_text, Success}
 use Rattle.model.specs.Sessions.Session as sessions
 use Rattle.model.specs.Sessions.Session.{Table, Session, Slot, Kept, Begun, Runs, begin, begin_by, begin_slot, begin_new, finish, finished_slot, changed_where, is_session, slot_at, next_number}
-use Rattle.model.specs.Trees.Tree.{Tree}
+use Rattle.model_tree.specs.Trees.Tree.{Tree}
 use Rattle.model.specs.Server.World.{World, InProgress, Connection, Quiet, Waiting, Busy, Replied, Closed, HasRun, Gives, Replays, outcome_text, exchanged, created_by, session_created, tabled, started_in, begun, reclaimed, refuses, in_room, has_room, run, Turned, Entry, executed_entry, behind, ends, goes_on, reply_with, status_of, requested, in_progress, called, with_result, is_last, has_run, operates, Next, Refuses, Reads, next_operation, turned, one, without_connection, hangs_up, hung_up, turns, operations_left, is_busy, further, closes, is_to_hold}
 use Rattle.model.specs.Server.Runs.{tree_after, executed, executed_by, executed_of, effect_of, Event, Serving, IsAfter, is_done}
 use Rattle.model.specs.Server.RuledOut.{NoSkip, NoEarlyReply, NoTakingBack, NoSecondRun, NoForgetting, NoGap, IsOutcome, IsBehind, IsOneFurther, OneATurn, HangsUpLast, request_by, request_in, request_at, after_turns, HangUpIsEvents, EachEventHappens, with_operations, EndsByHolding}
@@ -21,7 +21,7 @@ use Rattle.std.proofs.Common.{get_or-set_same, length-set, lt-ltb}
 use Rattle.std.specs.List.{IsAmong}
 use Rattle.model.proofs.Server.Headline.{every_run, only_start}
 use Rattle.model.proofs.Server.RunLaws.{EntryFits, event_fits}
-use Rattle.model.proofs.Trees.KeyedLaws.{at-with_same, at-without_same}
+use Rattle.model_tree.proofs.Trees.KeyedLaws.{at-with_same, at-without_same}
 use Rattle.model.proofs.Sessions.SlotLaw.{cond_runs, cond_never, refuses_not, replays_not, begin_runs}
 
 pub no_skip : NoSkip

@@ -1,7 +1,7 @@
 -- The headline: what a crash may leave is the tree of a good prefix of what was executed.
 use Rattle.std.proofs.Common.{◌≡◌, ◌≢◌, ℕ, Bool, true, false, not, cond, List, ◌++◌, Option, None, Some, Result, Ok, Err, refl, sym, ap, ◌||◌, find}
-use Rattle.model.specs.declared.status.Status.{Status}
-use Rattle.model.specs.declared.status.Status.TheVariants as status
+use Rattle.model_tree.specs.declared.status.Status.{Status}
+use Rattle.model_tree.specs.declared.status.Status.TheVariants as status
 use Rattle.model.specs.Operations.Answer.{Answer, Outcome}
 use Rattle.model.specs.Operations.Context.{is_same_name}
 use Rattle.model.proofs.Operations.FileStepLaws.{opening_leaves}
@@ -10,17 +10,17 @@ use Rattle.model.specs.Operations.Files.{has_bytes, write}
 use Rattle.model.specs.Operations.Open.{makes_file, cuts_file}
 use Rattle.model.specs.Operations.SetAttr.{sets, set_attributes}
 use Rattle.model.specs.Operations.Operation.{Argument, NewDirectory}
-use Rattle.model.specs.Operations.Refusal.{Refusals, first_refusal}
-use Rattle.model.specs.declared.limits.Limits.{Limits}
+use Rattle.model_tree.specs.Refusals.Refusal.{Refusals, first_refusal}
+use Rattle.model_tree.specs.declared.limits.Limits.{Limits}
 use Rattle.model.specs.Operations.Step.{State, Stepped, alters, rename, effect, refusals, change_refusals, unless_refused, does, permitted}
-use Rattle.model.specs.Trees.Tree.{Tree}
+use Rattle.model_tree.specs.Trees.Tree.{Tree}
 use Rattle.model.specs.Operations.Answer.{ExchangeIdAnswer, CreateSessionAnswer}
 use Rattle.model.specs.Operations.Operation.{SequenceArguments, operation_of}
 use Rattle.model.specs.Wire.Rpc.{CallRead, NoCall, OtherVersion, Calls, Request, Answers, Runs, read_call, request_of}
 use Rattle.model.specs.Sessions.Session as sessions
 use Rattle.model.specs.Sessions.Session.{Table, Session}
 use Rattle.model.specs.Server.World.{World, InProgress, Connection, Quiet, Waiting, Busy, Replied, Closed, HasRun, Gives, Replays, exchanged, created_by, session_created, tabled, started_in, begun, reclaimed, stepped, state_of, refuses, in_room, has_room, run, Turned, Entry, executed_entry, behind, ends, goes_on, with_result, is_last, has_run, operates, Next, Refuses, Reads, next_operation, requested, in_progress, called, turned, one, connection_changed, arrives, arrives_at, takes, without_reply, connects, can_connect, hangs_up, is_busy, closes, is_to_hold, further}
-use Rattle.model.specs.Trees.Keyed.{at}
+use Rattle.model_tree.specs.Trees.Keyed.{at}
 use Rattle.model.specs.Server.Runs.{is_done, before, Event, Arrives, Turns, HangsUp, Connects, Takes, effect_of, executed_of}
 use Rattle.model.proofs.Operations.RefusalLaws.{none_before}
 

@@ -3,11 +3,11 @@ use Rattle.std.proofs.Common.{ℕ, Bool, true, false, cond, List, [], ◌≡◌,
 use Rattle.std.specs.Prelude.{Option, Some, None}
 use Rattle.std.specs.List.{IsAmong}
 use Rattle.std.proofs.lemmas.Bool.{cases_eq}
-use Rattle.model.specs.Sessions.Seats.{Seats}
-use Rattle.model.specs.declared.status.Status.{Status}
-use Rattle.model.specs.declared.status.Status.TheVariants as status
+use Rattle.model_tree.specs.Seats.Seats.{Seats}
+use Rattle.model_tree.specs.declared.status.Status.{Status}
+use Rattle.model_tree.specs.declared.status.Status.TheVariants as status
 use Rattle.model.specs.Operations.Answer.{Answer, Outcome, ExchangeIdAnswer, CreateSessionAnswer}
-use Rattle.model.specs.Trees.Keyed.{at, with, without}
+use Rattle.model_tree.specs.Trees.Keyed.{at, with, without}
 use Rattle.model.specs.Sessions.Opens.{Opens}
 use Rattle.model.specs.Sessions.OpensLaws.{AreOpens, EveryRunKeepsOpens}
 use Rattle.model.proofs.Sessions.OpensSteps.{every_step_keeps, no_opens_are, clients_end}
@@ -17,16 +17,16 @@ use Rattle.model.specs.Wire.Rpc.{CallRead, NoCall, OtherVersion, Calls, Request,
 use Rattle.model.specs.Sessions.Session as sessions
 use Rattle.model.specs.Sessions.Session.{Table, Session}
 use Rattle.model.specs.Server.SoundRuns.{IsStart, EveryTreeIsSound}
-use Rattle.model.specs.Trees.Stamp.{next_stamp}
+use Rattle.model_tree.specs.Trees.Stamp.{next_stamp}
 use Rattle.model.specs.Operations.Step.{does}
 use Rattle.model.specs.Operations.StepLaws.{IsSound}
-use Rattle.model.specs.Trees.Tree.{Tree}
-use Rattle.model.specs.Trees.WellFormed.{IsWellFormed, IsBefore}
+use Rattle.model_tree.specs.Trees.Tree.{Tree}
+use Rattle.model_tree.specs.Trees.WellFormed.{IsWellFormed, IsBefore}
 use Rattle.model.specs.Server.World.{in_room, refuses, has_room, World, ServerLimits, InProgress, Connection, Quiet, Waiting, Busy, Replied, Closed, HasRun, Gives, Replays, with_connection, with_table, exchanged, created_by, tabled, started_in, begun, reclaimed, stepped, state_of, run as runs_operation, Turned, Entry, executed_entry, replies, behind, ends, goes_on, with_result, is_last, has_run, operates, Next, Refuses, Reads, next_operation, requested, in_progress, called, turned, one, connection_changed, arrived, arrives, arrives_at, takes, without_reply, connects, can_connect, hangs_up, is_busy, without_connection, mounted_world, closes, is_to_hold, further}
 use Rattle.model.specs.Server.Runs.{Event, Arrives, Turns, HangsUp, Connects, Takes, effect_of, executed_of, executed_by, executed, Serving, RunHistory, IsRun, Begins, Goes_on, Fails_at, Stays_down, IsAfter, MayLeave, mounted}
-use Rattle.model.proofs.Trees.FreshTree.{fresh_well_formed, fresh_before}
-use Rattle.model.proofs.Trees.KeyedLaws.{at-with_same, at-with_other, at-without_same, at-without_other, some≢none}
-use Rattle.model.proofs.Rights.LimitLaws.{modes_keep_limits, inheritance_keeps_limits}
+use Rattle.model_tree.proofs.Trees.FreshTree.{fresh_well_formed, fresh_before}
+use Rattle.model_tree.proofs.Trees.KeyedLaws.{at-with_same, at-with_other, at-without_same, at-without_other, some≢none}
+use Rattle.model_tree.proofs.Rights.LimitLaws.{modes_keep_limits, inheritance_keeps_limits}
 use Rattle.model.proofs.Server.RunLaws.{EntryFits, event_fits}
 use Rattle.model.proofs.Operations.StepProofs.{every_step, before_later}
 use Rattle.model.proofs.Server.Headline.{only_start}

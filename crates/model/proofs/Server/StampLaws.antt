@@ -1,29 +1,28 @@
 -- The stamps of a run, by induction: each change takes the next one, and no other operation does.
 use Rattle.std.proofs.Common.{◌≡◌, ◌≢◌, ℕ, ◌+◌, ◌<◌, ◌≤◌, ◌^◌, ◌⊎◌, inl, inr, Bool, true, false, not, cond, ◌&&◌, ◌||◌, List, [], ◌∷◌, ◌++◌, length, slice_get, option_to_list, Option, None, Some, Result, Ok, Err, refl, sym, ap, ◌∙◌, subst, find, arith, rules, tests, length-append}
-use Rattle.model.specs.Sessions.Seats.{Seats}
-use Rattle.model.specs.declared.limits.Limits.{Limits}
-use Rattle.model.specs.declared.status.Status.{Status}
-use Rattle.model.specs.declared.status.Status.TheVariants as status
+use Rattle.model_tree.specs.Seats.Seats.{Seats}
+use Rattle.model_tree.specs.declared.limits.Limits.{Limits}
+use Rattle.model_tree.specs.declared.status.Status.{Status}
+use Rattle.model_tree.specs.declared.status.Status.TheVariants as status
 use Rattle.model.specs.Operations.Answer.{Answer, Outcome, ExchangeIdAnswer, CreateSessionAnswer}
-use Rattle.model.specs.Trees.Charge.{fits}
-use Rattle.model.specs.Trees.Keyed.{at}
+use Rattle.model_tree.specs.Trees.Charge.{fits}
+use Rattle.model_tree.specs.Trees.Keyed.{at}
 use Rattle.model.specs.Operations.Operation.{Argument, NewDirectory, RenameArguments, SetAttrArguments, WriteArguments, SequenceArguments, OpenType, ByName, ByHandle, OtherClaim, Opening, Opens as Opening_of, Exclusive, operation_of}
 use Rattle.model.specs.Wire.Rpc.{CallRead, NoCall, OtherVersion, Calls, Request, Answers, Runs, read_call, request_of}
 use Rattle.model.specs.Server.Runs.{before, Event, Arrives, Turns, HangsUp, Connects, Takes, effect_of, executed_of, executed_by, executed, Serving, RunHistory, mounted, done_with, IsRun, Begins, Goes_on, Fails_at, Stays_down, EveryStamp}
 use Rattle.model.specs.Sessions.Session as sessions
 use Rattle.model.specs.Sessions.Session.{Table, Session}
-use Rattle.model.specs.Trees.Stamp.{is_stamp_left}
+use Rattle.model_tree.specs.Trees.Stamp.{is_stamp_left}
 use Rattle.model.specs.Operations.Context.{is_same_name}
-use Rattle.model.specs.Operations.Directory.{number_named}
+use Rattle.model_tree.specs.Trees.Tree.{number_named, Tree}
 use Rattle.model.specs.Operations.Files.{has_bytes, write}
 use Rattle.model.specs.Operations.Open.{cuts, cut_or_not, with_file, makes_file, cuts_file, opening_done}
 use Rattle.model.specs.Operations.SetAttr.{sets, set_attributes}
 use Rattle.model.specs.Operations.Step.{State, Stepped, current, is_name_there, rename, alters, effect, refusals, change_refusals, unless_refused, does}
-use Rattle.model.specs.Trees.Tree.{Tree}
 use Rattle.model.specs.Server.World.{World, ServerLimits, InProgress, Connection, Quiet, Waiting, Busy, Replied, Closed, HasRun, Gives, Replays, exchanged, created_by, session_created, tabled, started_in, begun, reclaimed, stepped, state_of, refuses, in_room, has_room, run, Turned, Entry, executed_entry, behind, ends, goes_on, with_result, is_last, has_run, operates, Next, Refuses, Reads, next_operation, requested, in_progress, called, turned, one, connection_changed, arrives, arrives_at, takes, without_reply, connects, can_connect, hangs_up, is_busy, closes, is_to_hold, further}
 use Rattle.model.proofs.Server.Headline.{slice_get-append, slice_get-within, slice_get-last, done_behind}
 use Rattle.model.proofs.Operations.RefusalLaws.{none_in_front, none_after}
-use Rattle.model.proofs.Facts.BooleanLaws.{second_held}
+use Rattle.model_tree.proofs.Facts.BooleanLaws.{second_held}
 
 abbrev Differs : Entry → Type 0
 Differs entry = before entry ≢ entry.after

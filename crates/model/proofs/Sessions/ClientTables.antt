@@ -3,22 +3,23 @@
 use Rattle.std.proofs.Common.{◌≡◌, ℕ, ◌≤◌, Bool, true, false, not, cond, ◌&&◌, ◌||◌, ◌==◌, List, [], ◌∷◌, ◌++◌, map, filter, find, Option, None, Some, Result, refl, sym, ap, ◌∙◌, bytes_eq, eqb-true, eq-eqb}
 use Rattle.std.specs.List.{list_all, list_any}
 use Rattle.std.proofs.lemmas.Bool.{true≢false, and_parts, and_from, not-false, not-true, or_parts}
-use Rattle.model.specs.Sessions.Seats.{has_seat}
-use Rattle.model.specs.declared.status.Status.{Status}
-use Rattle.model.specs.declared.status.Status.TheVariants as status
+use Rattle.model_tree.specs.Seats.Seats.{has_seat}
+use Rattle.model_tree.specs.declared.status.Status.{Status}
+use Rattle.model_tree.specs.declared.status.Status.TheVariants as status
 use Rattle.model.specs.Operations.Answer.{ExchangeIdAnswer, CreateSessionAnswer}
 use Rattle.model.specs.Operations.Operation.{ExchangeIdArguments, CreateSessionArguments, SequenceArguments}
 use Rattle.model.specs.Sessions.OpenClients.{is_confirmed_client, has_record}
 use Rattle.model.specs.Sessions.Opens.{Opens, Open}
-use Rattle.model.specs.Operations.Refusal.{first_refusal}
+use Rattle.model_tree.specs.Refusals.Refusal.{first_refusal}
 use Rattle.model.specs.Sessions.Session.{SessionLimits, Client, Slot, Running, Kept, Session, Table, slot_at, is_session, is_client, is_of_client, is_running, is_unconfirmed_of, is_confirmed_of, confirmed_with, is_replaced_by, replaced_by, is_of_clients, staying, without_unconfirmed, without_client, is_full_of_clients, with_new_client, new_client, new_record, exchange_by, exchange_id, exchange_flags, has_only, has_state, new_session, create_session_answer, create_refusals, create_unless, create_again, create_by, create_session, CreateSessionOutcome, next_number, destroy_by, destroy_session, destroy_client_by, destroy_client_id, reclaim_by, reclaim_complete, with_slot, started, finish}
 use Rattle.model.specs.Sessions.SlotsHeld.{is_slot_running}
 use Rattle.model.specs.Sessions.StateIds.{has_opens, without_clients}
 use Rattle.model.proofs.Sessions.SlotLaw.{exchange_same, destroy_client_same, reclaim_same, id_of}
 use Rattle.model.proofs.Sessions.SlotRuns.{any-map, any-none, any-append, any-filter, any-found, at_rest, told_by}
 use Rattle.model.proofs.Sessions.TableCalls.{either, found_passes, marked, mark_same, slotted}
-use Rattle.model.proofs.Sessions.TableLaws.{size, all-filter, all-append, all-map, confirms, stays}
-use Rattle.model.proofs.Facts.BooleanLaws.{and_false}
+use Rattle.model.proofs.Sessions.TableLaws.{all-filter, all-append, all-map, confirms, stays}
+use Rattle.model_tree.proofs.Facts.Counting.{size}
+use Rattle.model_tree.proofs.Facts.BooleanLaws.{and_false}
 use Rattle.model.proofs.Operations.RefusalLaws.{none_in_front}
 
 -- Tests over lists

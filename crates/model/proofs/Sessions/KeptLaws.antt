@@ -13,25 +13,25 @@ use Rattle.xdr.proofs.Sizes.{counted_length}
 use Rattle.xdr.proofs.Steps.{bind_ok, guard_ok, ok_is}
 use Rattle.xdr.proofs.Reading.{padded_len}
 use Rattle.xdr.proofs.Numbers.{length-number_32}
-use Rattle.model.specs.Sessions.Seats.{has_seat}
-use Rattle.model.specs.declared.acl.Cred.{Cred}
-use Rattle.model.specs.declared.status.Status.{Status}
-use Rattle.model.specs.declared.status.Status.TheVariants as status
+use Rattle.model_tree.specs.Seats.Seats.{has_seat}
+use Rattle.model_tree.specs.declared.acl.Cred.{Cred}
+use Rattle.model_tree.specs.declared.status.Status.{Status}
+use Rattle.model_tree.specs.declared.status.Status.TheVariants as status
 use Rattle.model.specs.Operations.Answer.{Answer, Outcome, Done, Refused, ExchangeIdAnswer, CreateSessionAnswer}
-use Rattle.model.specs.Trees.Keyed.{Keyed, at, with}
+use Rattle.model_tree.specs.Trees.Keyed.{Keyed, at, with}
 use Rattle.model.specs.Operations.Operation.{Argument, SequenceArguments, CreateSessionArguments, operation_of}
 use Rattle.model.specs.Wire.Record.{Front, Partial, Whole}
 use Rattle.model.specs.Wire.Record as marks
-use Rattle.model.specs.Operations.Refusal.{first_refusal}
+use Rattle.model_tree.specs.Refusals.Refusal.{first_refusal}
 use Rattle.model.specs.Wire.Rpc.{CallRead, NoCall, OtherVersion, Calls, Call, VersionRefused, read_call, is_call_read, Request, Answers, Runs, request_of, by_head, by_cred, compound_head, cred_of, is_empty, Success, reply_text, compound_text}
 use Rattle.model.specs.Sessions.Session as sessions
 use Rattle.model.specs.Sessions.Session.{SessionLimits, Client, Slot, Session, Table, no_slot, slot_at, is_session, is_client, destroy_by, destroy_session, create_session, create_by, create_again, create_unless, create_refusals, CreateSessionOutcome, is_of_clients, replaced_by, staying, next_number, new_session, with_slot, started, finish, is_running}
 use Rattle.model.specs.Sessions.StateIds.{has_opens}
-use Rattle.model.specs.Operations.Status.{code_of}
+use Rattle.model_tree.specs.Refusals.Status.{code_of}
 use Rattle.model.specs.Wire.WireAnswers.{behind_refusal}
 use Rattle.model.specs.Server.World.{ServerLimits, InProgress, Connection, Quiet, Waiting, Busy, Replied, Closed, World, Entry, HasRun, Gives, Replays, Next, Refuses, Reads, Turned, next_operation, exchanged, created_by, tabled, started_in, begun, reclaimed, run, outcome_text, reply_with, has_room, in_room, status_of, with_result, result_of, kept_by, ends, goes_on, behind, has_run, operates, in_progress, requested, called, turned, with_connection, executed_entry, refuses, one, arrived, arrives_at, connection_changed, arrives, without_reply, takes, can_connect, connects, is_busy, without_connection, hangs_up, operations_left, turns, hung_up, is_last, further, closes, is_to_hold}
 use Rattle.model.specs.Sessions.KeptReplies.{reply_so_far, max_kept, is_short_state, keeps_short, IsShort, HasReplyRoom, KeepsShort, IsShortSoFar}
-use Rattle.model.proofs.Trees.KeyedLaws.{at-with_same, at-with_other, at-without_same, at-without_other}
+use Rattle.model_tree.proofs.Trees.KeyedLaws.{at-with_same, at-with_other, at-without_same, at-without_other}
 use Rattle.model.proofs.Sessions.SlotLaw.{exchange_same, destroy_client_same, reclaim_same}
 use Rattle.model.proofs.Sessions.TableLaws.{all-filter, all-append, all-map}
 use Rattle.model.proofs.Sessions.TableCalls.{either}

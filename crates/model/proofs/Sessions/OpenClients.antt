@@ -3,14 +3,14 @@ use Rattle.std.proofs.Common.{◌≡◌, ◌≢◌, ℕ, ◌≤◌, ◌+◌, ◌
 use Rattle.std.specs.List.{list_all}
 use Rattle.std.proofs.lemmas.Bool.{true≢false, cases_eq, and_parts, and_from, or_left}
 use Rattle.std.proofs.lemmas.Slice.Eq.{bytes_eq-Decides}
-use Rattle.model.specs.Sessions.Seats.{Seats}
-use Rattle.model.specs.declared.status.Status.{Status}
-use Rattle.model.specs.declared.status.Status.TheVariants as status
+use Rattle.model_tree.specs.Seats.Seats.{Seats}
+use Rattle.model_tree.specs.declared.status.Status.{Status}
+use Rattle.model_tree.specs.declared.status.Status.TheVariants as status
 use Rattle.model.specs.Operations.Answer.{Answer, Outcome, Done, Refused, ExchangeIdAnswer, CreateSessionAnswer}
 use Rattle.model.specs.Operations.Context.{is_same_name}
 use Rattle.model.specs.Operations.Files.{has_bytes}
-use Rattle.model.specs.Trees.Keyed.{Keyed, at, with, without, here_or, in_place_of, before_or_behind, kept_or_not}
-use Rattle.model.specs.Trees.Limits.{Limits}
+use Rattle.model_tree.specs.Trees.Keyed.{Keyed, at, with, without, here_or, in_place_of, before_or_behind, kept_or_not}
+use Rattle.model_tree.specs.declared.limits.Limits.{Limits}
 use Rattle.model.specs.Operations.Open.{asked_open, closed_by}
 use Rattle.model.specs.Sessions.OpenClients.{has_record, RunsInSession, EveryOpenHasClient}
 use Rattle.model.specs.Sessions.Opens.{Opens, Open}
@@ -24,18 +24,19 @@ use Rattle.model.specs.Operations.SetAttr.{sets}
 use Rattle.model.specs.Sessions.SlotsHeld.{is_slot_running, is_on, is_busy_on}
 use Rattle.model.specs.Sessions.StateIds.{Found, Anonymous, Names, found, is_like, open_like, upgraded, opened, opened_by, without_clients}
 use Rattle.model.specs.Operations.Step.{State, Stepped, effect, rename, does}
-use Rattle.model.specs.Trees.Tree.{Tree}
+use Rattle.model_tree.specs.Trees.Tree.{Tree}
 use Rattle.model.specs.Server.World.{ServerLimits, InProgress, Connection, Quiet, Busy, Replied, World, HasRun, Gives, Replays, Entry, executed_entry, exchanged, created_by, tabled, started_in, begun, reclaimed, refuses, stepped, state_of, run, Turned, with_connection, with_result, result_of, kept_by, behind, ends, goes_on, is_last, stands_alone, is_sequence, one, in_progress, mounted_world, Reads, next_operation, arrives, takes, connects, hangs_up, can_connect, connection_changed, arrives_at, without_reply, is_busy, without_connection, closes, is_to_hold}
 use Rattle.model.proofs.Sessions.ClientTables.{is_of_known, Lives, StaysFor, KeepsRunning, exchange_lives, exchange_running, destroy_client_lives, destroy_client_running, reclaim_lives, reclaim_running, destroy_lives, destroy_running, create_lives, create_running, started_lives, started_stays, finish_lives, finish_stays}
-use Rattle.model.proofs.Trees.KeyedLaws.{at-with_same, at-with_other, at-without_same, at-without_other}
-use Rattle.model.proofs.Rights.LimitLaws.{modes_keep_limits, inheritance_keeps_limits}
+use Rattle.model_tree.proofs.Trees.KeyedLaws.{at-with_same, at-with_other, at-without_same, at-without_other}
+use Rattle.model_tree.proofs.Rights.LimitLaws.{modes_keep_limits, inheritance_keeps_limits}
 use Rattle.model.proofs.Sessions.OpensSteps.{set_opens, write_opens}
 use Rattle.model.proofs.Operations.ReadOperations.{is_first, first_read, alone_read}
 use Rattle.model.proofs.Sessions.SlotsHeld.{Held, run_held}
 use Rattle.model.proofs.Operations.StepCases.{does_cases}
 use Rattle.model.proofs.Operations.StepProofs.{every_step}
 use Rattle.model.proofs.Sessions.TableCalls.{either, found_given, ids_differ}
-use Rattle.model.proofs.Sessions.TableLaws.{size, all-filter}
+use Rattle.model.proofs.Sessions.TableLaws.{all-filter}
+use Rattle.model_tree.proofs.Facts.Counting.{size}
 use Rattle.model.proofs.Server.TurnCases.{GoesWith, Begun, New, IsTurn, Idles, Says, Unread, TooBig, Gave, Repeats, turn_is, read_of, arrival_only, taking_only, Closes}
 
 -- Opens as lists of entries that all pass a test

@@ -6,8 +6,8 @@ use Rattle.std.proofs.lemmas.Option.{same_Some}
 use Rattle.model.specs.Operations.Answer.{Answer, Outcome, OpenAnswer}
 use Rattle.model.specs.Operations.Context.{is_same_name}
 use Rattle.model.specs.Operations.Files.{has_bytes}
-use Rattle.model.specs.Trees.Keyed.{Keyed, at, with, without}
-use Rattle.model.specs.Trees.Limits.{Limits}
+use Rattle.model_tree.specs.Trees.Keyed.{Keyed, at, with, without}
+use Rattle.model_tree.specs.declared.limits.Limits.{Limits}
 use Rattle.model.specs.Operations.Open.{asked_open, closed_by}
 use Rattle.model.specs.Sessions.Opens.{Opens, Open}
 use Rattle.model.specs.Sessions.OpensLaws.{AreOpens}
@@ -16,8 +16,8 @@ use Rattle.model.specs.Operations.SetAttr.{sets}
 use Rattle.model.specs.Sessions.StateIds.{Found, Anonymous, Refused, Names, found, is_like, open_like, upgraded, opened, opened_by, without_number}
 use Rattle.model.specs.Sessions.StateIdLaws.{IsAnswered, OpenAnswersNewest, EachOpenGoesOn, EveryOpenGoesOn, is_open, may_end_opens, IsJoined, HasEnded}
 use Rattle.model.specs.Operations.Step.{State, Stepped, effect, rename, target_number}
-use Rattle.model.proofs.Trees.KeyedLaws.{at-with_same, at-with_other, at-without_same, at-without_other, some≢none}
-use Rattle.model.proofs.Sessions.OpensLaws.{at-filter, find-at}
+use Rattle.model_tree.proofs.Trees.KeyedLaws.{at-with_same, at-with_other, at-without_same, at-without_other, some≢none}
+use Rattle.model_tree.proofs.Trees.KeyedParts.{at-filter, find-at}
 use Rattle.model.proofs.Sessions.OpensSteps.{set_opens, write_opens}
 use Rattle.model.proofs.Operations.StepCases.{does_cases}
 

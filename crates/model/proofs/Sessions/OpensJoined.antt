@@ -6,13 +6,13 @@ use Rattle.std.proofs.lemmas.Bool.{true≢false, cases_eq, and_from, or_parts, l
 use Rattle.std.proofs.lemmas.Nat.{from_be_bytes-to_be_bytes_8}
 use Rattle.std.proofs.lemmas.Slice.Eq.{bytes_eq-Decides}
 use Rattle.std.proofs.lemmas.Option.{same_Some}
-use Rattle.model.specs.declared.status.Status.{Status}
-use Rattle.model.specs.declared.status.Status.TheVariants as status
+use Rattle.model_tree.specs.declared.status.Status.{Status}
+use Rattle.model_tree.specs.declared.status.Status.TheVariants as status
 use Rattle.model.specs.Operations.Answer.{Answer, Outcome, OpenAnswer}
 use Rattle.model.specs.Operations.Context.{is_same_name}
 use Rattle.model.specs.Operations.Files.{has_bytes}
-use Rattle.model.specs.Trees.Keyed.{at, without, IsAbove}
-use Rattle.model.specs.Trees.Limits.{Limits}
+use Rattle.model_tree.specs.Trees.Keyed.{at, without, IsAbove}
+use Rattle.model_tree.specs.declared.limits.Limits.{Limits}
 use Rattle.model.specs.Operations.Open.{asked_open, closed_by}
 use Rattle.model.specs.Sessions.Opens.{Opens, Open}
 use Rattle.model.specs.Operations.Operation.{Argument, OpenArguments, RenameArguments, NewDirectory, OtherType, StateId}
@@ -22,8 +22,8 @@ use Rattle.model.specs.Sessions.StateIds.{Found, Anonymous, Names, found, is_lik
 use Rattle.model.specs.Sessions.StateIdLaws.{IsGiven, is_open}
 use Rattle.model.specs.Sessions.StateIdRuns.{IsOpenOf, access_by, joined_by}
 use Rattle.model.specs.Operations.Step.{State, Stepped, effect, rename, does, refused}
-use Rattle.model.proofs.Trees.KeyedLaws.{at-above, at-with_same, at-with_other, at-without_same, at-without_other, IsAbove-with, IsAbove-without, some≢none}
-use Rattle.model.proofs.Sessions.OpensLaws.{IsAbove-filter, at-filter, find-at}
+use Rattle.model_tree.proofs.Trees.KeyedLaws.{at-above, at-with_same, at-with_other, at-without_same, at-without_other, IsAbove-with, IsAbove-without, some≢none}
+use Rattle.model_tree.proofs.Trees.KeyedParts.{IsAbove-filter, at-filter, find-at}
 use Rattle.model.proofs.Sessions.OpensSteps.{set_opens, write_opens}
 use Rattle.model.proofs.Operations.StepCases.{does_cases}
 use Rattle.model.proofs.Operations.RefusalLaws.{none_in_front}

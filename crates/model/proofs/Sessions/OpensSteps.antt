@@ -3,29 +3,28 @@ use Rattle.std.proofs.Common.{ℕ, Bool, true, false, List, ◌++◌, ◌≡◌,
 use Rattle.std.specs.Prelude.{Option, Some, None, is_none}
 use Rattle.std.specs.List.{list_any}
 use Rattle.std.proofs.lemmas.Bool.{true≢false, cases_eq, cases_Bool, leb-false, not-false, not-true}
-use Rattle.model.specs.declared.status.Status.TheVariants as status
-use Rattle.model.specs.Rights.AclLaws.{ModesKeepLimits, InheritanceKeepsLimits}
-use Rattle.model.specs.Trees.Changes.{touched, made_edits}
+use Rattle.model_tree.specs.declared.status.Status.TheVariants as status
+use Rattle.model_tree.specs.Rights.AclLaws.{ModesKeepLimits, InheritanceKeepsLimits}
+use Rattle.model_tree.specs.Trees.Changes.{touched, made_edits, acl_of}
 use Rattle.model.specs.Operations.Context.{is_same_name}
-use Rattle.model.specs.Operations.Directory.{number_named, acl_of}
-use Rattle.model.specs.Trees.Edit.{altered, altered_at, showing, name_put, edited}
+use Rattle.model_tree.specs.Trees.Tree.{number_named, Tree, Node, is_directory, is_directory_node, is_directory_at}
+use Rattle.model_tree.specs.Trees.Edit.{altered, altered_at, showing, name_put, edited}
 use Rattle.model.specs.Operations.Files.{has_bytes, write}
-use Rattle.model.specs.Trees.Keyed.{at, is_key, with, without, IsAbove}
-use Rattle.model.specs.Trees.Limits.{Limits}
+use Rattle.model_tree.specs.Trees.Keyed.{at, is_key, with, without, IsAbove}
+use Rattle.model_tree.specs.declared.limits.Limits.{Limits}
 use Rattle.model.specs.Operations.Open.{creates, makes_file, cuts_file, file_opened, asked_open, opening_done, with_file, opening_refusals, share_refusals, place_refusals, known_refusals, new_refusals, new_file, given_by, closed_by, middle_at_open, name_opening_refusals}
 use Rattle.model.specs.Sessions.Opens.{Opens, Open, no_opens}
 use Rattle.model.specs.Sessions.OpensLaws.{AreOpens, KeepsOpens, EveryStepKeepsOpens}
 use Rattle.model.specs.Operations.Operation.{Argument, RenameArguments, SetAttrArguments, WriteArguments, OpenArguments, OpenType, NoCreate, Unchecked, Guarded, ByName, ByHandle, OtherClaim, Opening, Opens as Opening_of, Exclusive, NewDirectory, OtherType}
-use Rattle.model.specs.Operations.Refusal.{first_refusal}
+use Rattle.model_tree.specs.Refusals.Refusal.{first_refusal}
 use Rattle.model.specs.Operations.SetAttr.{sets, set_attributes}
 use Rattle.model.specs.Sessions.StateIds.{Found, Anonymous, Refused, Names, found, is_like, open_like, upgraded, opened, opened_by, is_table_full, without_number, without_clients}
 use Rattle.model.specs.Operations.Step.{State, Stepped, current, stamp_of, current_refusals, is_name_there, alters, effect, rename, target_number}
 use Rattle.model.specs.Operations.StepLaws.{IsSound}
-use Rattle.model.specs.Trees.Tree.{Tree, Node, is_directory, is_directory_node, is_directory_at}
-use Rattle.model.proofs.Trees.ChangeLaws.{is_file_node}
+use Rattle.model_tree.proofs.Trees.ChangeLaws.{is_file_node}
 use Rattle.model.proofs.Operations.FileStepLaws.{named_key, current_key, opening_changed, opening_leaves}
-use Rattle.model.proofs.Trees.KeyedLaws.{at-above, at-with_same, at-with_other, at-without_same, at-without_other, IsAbove-with, IsAbove-without, some≢none}
-use Rattle.model.proofs.Sessions.OpensLaws.{IsAbove-filter, length-filter, at-filter, length-with_new, length-with_same, length-without, find-at}
+use Rattle.model_tree.proofs.Trees.KeyedLaws.{at-above, at-with_same, at-with_other, at-without_same, at-without_other, IsAbove-with, IsAbove-without, some≢none}
+use Rattle.model_tree.proofs.Trees.KeyedParts.{IsAbove-filter, length-filter, at-filter, length-with_new, length-with_same, length-without, find-at}
 use Rattle.model.proofs.Operations.StepCases.{Passes, does_cases}
 use Rattle.model.proofs.Operations.StepProofs.{gone_by, effect_changes, outcome_cases, effect_leaves, effect_refused}
 use Rattle.model.proofs.Operations.RefusalLaws.{none_in_front, none_in_both}

@@ -1,20 +1,12 @@
 -- Seats: what freeing, taking and holding make of the seat of a session.
 use Rattle.std.proofs.Common.{◌≡◌, ℕ, zero, suc, ◌<◌, ◌⊎◌, inl, inr, Bool, true, false, cond, List, [], ◌∷◌, ◌++◌, length, get_or, Option, None, Some, is_some, refl, sym, ap, ◌∙◌, subst, arith, bytes_eq, get_or-set_same, get_or-set_other, length-set, length-append}
 use Rattle.std.specs.List.{IsAmong}
-use Rattle.std.proofs.lemmas.Bool.{true≢false, false_from_ne_true}
+use Rattle.std.proofs.lemmas.Bool.{true≢false}
 use Rattle.std.proofs.lemmas.Slice.Eq.{bytes_eq-Decides}
 use Rattle.model.specs.Server.Runs.{Stored, freed_between}
 use Rattle.model.specs.Sessions.SeatRuns.{HoldsFrom}
-use Rattle.model.specs.Sessions.Seats.{HeldReply, Seat, Seats, this_or, seat_of, has_seat, held_in, held_at, freed_if, freed, seated, with_held, holds_if, holding, SeatsApart}
-
-pub bytes_apart : (a b : List ℕ) → (a ≡ b → ⊥) → bytes_eq a b ≡ false
-bytes_apart a b apart = false_from_ne_true (bytes_eq a b) (λ same. apart ((bytes_eq-Decides a b).0 same))
-
-pub bytes_same : (a b : List ℕ) → a ≡ b → bytes_eq a b ≡ true
-bytes_same a b same = (bytes_eq-Decides a b).1 same
-
-pub bytes_differ : (a b : List ℕ) → bytes_eq a b ≡ false → a ≡ b → ⊥
-bytes_differ a b e same = true≢false (sym (bytes_same a b same) ∙ e)
+use Rattle.model_tree.specs.Seats.Seats.{HeldReply, Seat, Seats, this_or, seat_of, has_seat, held_in, held_at, freed_if, freed, seated, with_held, holds_if, holding, SeatsApart}
+use Rattle.model_tree.proofs.Facts.BytesLaws.{bytes_apart, bytes_same, bytes_differ}
 
 -- Options
 

@@ -1,21 +1,21 @@
 -- No reply is there before the seat of its slot's session holds it.
 use Rattle.std.proofs.Common.{◌≡◌, ◌≢◌, ℕ, ◌⊎◌, inl, inr, Bool, true, false, List, find, Option, None, Some, Result, Ok, Err, refl, sym, ap, ◌∙◌, subst, arith}
 use Rattle.std.proofs.lemmas.Bool.{true≢false}
-use Rattle.model.specs.declared.status.Status.{Status}
-use Rattle.model.specs.declared.status.Status.TheVariants as status
+use Rattle.model_tree.specs.declared.status.Status.{Status}
+use Rattle.model_tree.specs.declared.status.Status.TheVariants as status
 use Rattle.model.specs.Operations.Answer.{Answer, Outcome, Done, Refused, ExchangeIdAnswer, CreateSessionAnswer}
-use Rattle.model.specs.Trees.Keyed.{at}
+use Rattle.model_tree.specs.Trees.Keyed.{at}
 use Rattle.model.specs.Operations.Operation.{Argument, SequenceArguments, operation_of}
 use Rattle.model.specs.Wire.Record.{framed}
 use Rattle.model.specs.Wire.Rpc.{Success, reply_text}
 use Rattle.model.specs.Server.Runs.{Stored, is_done}
 use Rattle.model.specs.Sessions.SeatRuns.{IsHeldReply, GivesHeld, KeepsOrNone, TakesItsSlot, request_in, EveryReplyIsStored}
-use Rattle.model.specs.Sessions.Seats.{has_seat, held_at}
+use Rattle.model_tree.specs.Seats.Seats.{has_seat, held_at}
 use Rattle.model.specs.Sessions.Session as sessions
 use Rattle.model.specs.Sessions.Session.{Table, Session, is_session, finish}
 use Rattle.model.specs.Sessions.SlotsHeld.{is_slot_running, is_on, is_busy_on}
 use Rattle.model.specs.Server.World.{ServerLimits, World, InProgress, Connection, Quiet, Busy, Waiting, Replied, Closed, HasRun, Gives, Replays, Entry, Answered, Turned, exchanged, created_by, tabled, started_in, begun, reclaimed, run, executed_entry, with_connection, with_table, with_result, result_of, kept_by, is_to_hold, closes, behind, is_last, next_operation, Reads, reply_in, reply_at, one}
-use Rattle.model.proofs.Trees.KeyedLaws.{at-with_same}
+use Rattle.model_tree.proofs.Trees.KeyedLaws.{at-with_same}
 use Rattle.model.proofs.Operations.ReadOperations.{is_first, first_read}
 use Rattle.model.proofs.Sessions.SeatRunLaws.{stop_seated}
 use Rattle.model.proofs.Sessions.SeatTables.{Seated, its_held, seats_are, stored_is, held_now, same_seats}

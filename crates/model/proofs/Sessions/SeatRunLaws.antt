@@ -2,14 +2,14 @@
 use Rattle.std.proofs.Common.{◌≡◌, ℕ, ◌&&◌, ◌==◌, zero, suc, ◌^◌, ◌<◌, inl, inr, Bool, true, false, cond, List, [], ◌∷◌, ◌++◌, length, get_or, option_to_list, slice_get, find, Option, None, Some, is_some, eq-eqb, eqb-true, refl, sym, ap, ◌∙◌, subst, arith, append-nil}
 use Rattle.std.specs.List.{IsAmong}
 use Rattle.std.proofs.lemmas.Bool.{true≢false, and_from}
-use Rattle.model.specs.declared.status.Status.TheVariants as status
-use Rattle.model.specs.Trees.Keyed.{at}
+use Rattle.model_tree.specs.declared.status.Status.TheVariants as status
+use Rattle.model_tree.specs.Trees.Keyed.{at}
 use Rattle.model.specs.Operations.Operation.{SequenceArguments}
 use Rattle.model.specs.Server.Runs.{Event, Arrives, Turns, HangsUp, Connects, Takes, effect_of, Stored, stored_of, freed_between, freed_of, RunHistory, history_after, Serving, mounted, IsSeatedAfter, MayHoldSeats, taken_by, IsRun, Begins, Goes_on, Fails_at, Stays_down}
 use Rattle.model.specs.Sessions.SeatRuns.{AreSeats, IsRetryOf, Stop, storing, freeing, EveryReplyIsHeld, EveryDeadSession}
-use Rattle.model.specs.Sessions.Seats.{HeldReply, Seat, Seats, seat_of, held_in, run_of}
+use Rattle.model_tree.specs.Seats.Seats.{HeldReply, Seat, Seats, seat_of, held_in, run_of}
 use Rattle.model.specs.Sessions.Session.{Table, Session, Refuses, Replays, is_session, begin, begin_held, begin_dead, begin_by, loaded_table}
-use Rattle.model.specs.Trees.Tree.{Tree}
+use Rattle.model_tree.specs.Trees.Tree.{Tree}
 use Rattle.model.specs.Server.World.{ServerLimits, World, one, arrives, takes, connects, hangs_up, reply_at}
 use Rattle.model.proofs.Server.Headline.{slice_get-append, slice_get-within}
 use Rattle.model.proofs.Sessions.SeatLaws.{among_left}

@@ -6,16 +6,17 @@ use Rattle.std.proofs.lemmas.Bool.{true≢false, and_parts}
 use Rattle.std.proofs.lemmas.List.{length-replicate}
 use Rattle.std.proofs.lemmas.Nat.{from_be_bytes-to_be_bytes_8}
 use Rattle.std.proofs.lemmas.Slice.Eq.{bytes_eq-Decides}
-use Rattle.model.specs.declared.status.Status.{Status}
+use Rattle.model_tree.specs.declared.status.Status.{Status}
 use Rattle.model.specs.Operations.Answer.{CreateSessionAnswer}
 use Rattle.model.specs.Operations.Operation.{CreateSessionArguments, SequenceArguments}
-use Rattle.model.specs.Operations.Refusal.{first_refusal}
+use Rattle.model_tree.specs.Refusals.Refusal.{first_refusal}
 use Rattle.model.specs.Server.Runs.{Stored, held_of_session, kept_in, kept_at, stored_as, stored_by, freed_between}
 use Rattle.model.specs.Sessions.SeatRuns.{HoldsFrom, IsFreed}
-use Rattle.model.specs.Sessions.Seats.{HeldReply, Seat, Seats, is_seat_of, seat_of, has_seat, held_in, held_at, freed, seated, holding, run_of, SeatsApart}
+use Rattle.model_tree.specs.Seats.Seats.{HeldReply, Seat, Seats, is_seat_of, seat_of, has_seat, held_in, held_at, freed, seated, holding, run_of, SeatsApart}
 use Rattle.model.specs.Sessions.Session.{SessionLimits, Client, Slot, Running, Kept, Session, Table, session_id, is_session, slot_at, no_slot, with_slot, is_client, client_number, is_of_clients, replaced_by, staying, gives_way, seats_staying, persists, limits_for, fore_channel, new_session, new_seat, create_refusals, create_unless, create_again, create_by, create_session, CreateSessionOutcome, next_number, destroy_by, is_running, started, finished_slot, held_reply, held_by, finish}
 use Rattle.model.proofs.Server.Headline.{slice_get-append, slice_get-within}
-use Rattle.model.proofs.Sessions.SeatLaws.{bytes_apart, bytes_differ, has_freed, apart_freed, was_there, had_seat, stays_or_goes, seated_other, seated_new, apart_seated, has_holding, apart_holding, holding_none, held_here, held_other, holding_was, seat_holds, holds_there, among_left, among_right, freed_listed}
+use Rattle.model.proofs.Sessions.SeatLaws.{has_freed, apart_freed, was_there, had_seat, stays_or_goes, seated_other, seated_new, apart_seated, has_holding, apart_holding, holding_none, held_here, held_other, holding_was, seat_holds, holds_there, among_left, among_right, freed_listed}
+use Rattle.model_tree.proofs.Facts.BytesLaws.{bytes_apart, bytes_differ}
 use Rattle.model.proofs.Sessions.SlotLaw.{SameSessions, session_id-serial, id_of, serial_left}
 use Rattle.model.proofs.Sessions.TableCalls.{Holds, either, found_passes, found_given}
 use Rattle.model.proofs.Sessions.TableLaws.{Clients, Sessions, given_by, given_serial}

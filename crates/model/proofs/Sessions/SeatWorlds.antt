@@ -3,12 +3,12 @@ use Rattle.std.proofs.Common.{◌≡◌, ℕ, ◌<◌, inl, inr, Bool, true, fal
 use Rattle.std.specs.List.{list_any}
 use Rattle.std.proofs.lemmas.Bool.{true≢false, false≢true, and_from, cases_lt}
 use Rattle.std.proofs.lemmas.List.{get_or_past}
-use Rattle.model.specs.declared.status.Status.{Status}
-use Rattle.model.specs.declared.status.Status.TheVariants as status
+use Rattle.model_tree.specs.declared.status.Status.{Status}
+use Rattle.model_tree.specs.declared.status.Status.TheVariants as status
 use Rattle.model.specs.Operations.Answer.{Answer, Outcome, Done, Refused, ExchangeIdAnswer, CreateSessionAnswer}
 use Rattle.model.specs.Operations.Operation.{Argument, SequenceArguments, operation_of}
 use Rattle.model.specs.Server.Runs.{Stored, stored_by, freed_between}
-use Rattle.model.specs.Sessions.Seats.{Seats, has_seat}
+use Rattle.model_tree.specs.Seats.Seats.{Seats, has_seat}
 use Rattle.model.specs.Sessions.Session as sessions
 use Rattle.model.specs.Sessions.Session.{Table, Session, Slot, SlotState, Free, Running, Kept, is_session, is_running_state, slot_at, no_slot}
 use Rattle.model.specs.Sessions.SessionRuns as calls
@@ -21,7 +21,7 @@ use Rattle.model.proofs.Sessions.SlotsHeld.{Held}
 use Rattle.model.proofs.Sessions.TableCalls.{Holds, either, ids_differ}
 use Rattle.model.proofs.Sessions.TableIds.{every_call_gives_new}
 use Rattle.model.proofs.Server.TurnCases.{IsTurn, Idles, Says, Closes, Unread, TooBig, Gave, Repeats, turn_is, read_of}
-use Rattle.model.proofs.Sessions.SeatLaws.{bytes_same}
+use Rattle.model_tree.proofs.Facts.BytesLaws.{bytes_same}
 use Rattle.model.proofs.Sessions.SeatTables.{Seated, seated_more, seated_same, seated_destroyed, seated_create, seated_started, finished_unseated, finished_seated, same_seats}
 
 pub on_itself : (id : List ℕ) (place : ℕ) → is_on (Some (id, place)) id place ≡ true

@@ -2,18 +2,19 @@
 use Rattle.std.proofs.Common.{◌≡◌, ℕ, ◌+◌, ◌^◌, ◌<◌, ◌⊎◌, inl, inr, Bool, true, false, cond, ◌==◌, List, find, Option, None, Some, is_some, Result, Ok, Err, refl, sym, ap, ◌∙◌, subst, arith, bytes_eq}
 use Rattle.std.specs.List.{AllByRecursion}
 use Rattle.std.proofs.lemmas.Slice.Eq.{bytes_eq-Decides}
-use Rattle.model.specs.declared.status.Status.{Status}
-use Rattle.model.specs.declared.status.Status.TheVariants as status
+use Rattle.model_tree.specs.declared.status.Status.{Status}
+use Rattle.model_tree.specs.declared.status.Status.TheVariants as status
 use Rattle.model.specs.Operations.Answer.{Answer, Outcome, Done, Refused, ExchangeIdAnswer, CreateSessionAnswer}
 use Rattle.model.specs.Operations.Operation.{Argument, SequenceArguments, CreateSessionArguments, operation_of}
-use Rattle.model.specs.Operations.Refusal.{first_refusal}
+use Rattle.model_tree.specs.Refusals.Refusal.{first_refusal}
 use Rattle.model.specs.Server.Runs.{Stored, Event, Arrives, Turns, HangsUp, Connects, Takes, effect_of}
-use Rattle.model.specs.Sessions.Seats.{HeldReply, Seat, Seats, is_seat_of, seat_of, has_seat, freed_if, freed, seated, with_held, holds_if, holding, run_of, SeatsApart}
+use Rattle.model_tree.specs.Seats.Seats.{HeldReply, Seat, Seats, is_seat_of, seat_of, has_seat, freed_if, freed, seated, with_held, holds_if, holding, run_of, SeatsApart}
 use Rattle.model.specs.Sessions.Session as sessions
 use Rattle.model.specs.Sessions.Session.{SessionLimits, Client, Session, Table, is_session, is_client, is_running, slot_at, gives_way, seats_staying, seats_after, new_seat, persists, create_refusals, create_unless, create_again, create_by, create_session, CreateSessionOutcome, next_number, destroy_by, destroy_session, held_reply, held_by, finish}
 use Rattle.model.specs.Sessions.StateIds.{has_opens}
 use Rattle.model.specs.Server.World.{ServerLimits, World, InProgress, HasRun, Gives, Replays, Entry, exchanged, created_by, tabled, started_in, begun, reclaimed, run, Turned, with_result, result_of, kept_by, is_to_hold, closes, behind, is_last, one, arrives, takes, connects, hangs_up}
-use Rattle.model.proofs.Sessions.SeatLaws.{bytes_apart, seat_found, freed_seat, stays_or_goes, had_seat, seated_other, holding_seat, has_holding}
+use Rattle.model.proofs.Sessions.SeatLaws.{seat_found, freed_seat, stays_or_goes, had_seat, seated_other, holding_seat, has_holding}
+use Rattle.model_tree.proofs.Facts.BytesLaws.{bytes_apart}
 use Rattle.model.proofs.Sessions.SeatTables.{Seated, id_in, in_run, id_of_run, client_in_run, same_seats, all-found}
 use Rattle.model.proofs.Server.ServedOnceLaws.{arrives_table, takes_table, connects_table, hangs_up_table}
 use Rattle.model.proofs.Sessions.SlotLaw.{id_of, exchange_same, destroy_client_same, reclaim_same}

@@ -1,17 +1,18 @@
 -- A session has a seat exactly where its CREATE_SESSION was answered with flag 1.
 use Rattle.std.proofs.Common.{◌≡◌, ◌≢◌, ◌↔◌, ℕ, ◌%◌, ◌+◌, ◌<◌, ◌^◌, ◌==◌, ◌&&◌, Bool, true, false, cond, List, [], ◌∷◌, find, Option, None, Some, is_some, Result, Ok, Err, refl, sym, ap, ◌∙◌, subst, arith}
 use Rattle.std.proofs.lemmas.Bool.{true≢false, and_parts}
-use Rattle.model.specs.declared.status.Status.{Status}
-use Rattle.model.specs.declared.status.Status.TheVariants as status
+use Rattle.model_tree.specs.declared.status.Status.{Status}
+use Rattle.model_tree.specs.declared.status.Status.TheVariants as status
 use Rattle.model.specs.Operations.Answer.{Answer, Outcome, Done, Refused, CreateSessionAnswer}
 use Rattle.model.specs.Operations.Operation.{Argument, CreateSessionArguments, operation_of}
-use Rattle.model.specs.Operations.Refusal.{first_refusal}
+use Rattle.model_tree.specs.Refusals.Refusal.{first_refusal}
 use Rattle.model.specs.Server.Runs.{Event, Arrives, Turns, HangsUp, Connects, Takes, Stored, effect_of, executed_of}
 use Rattle.model.specs.Sessions.SeatRuns.{MakesSession, EverySessionSits}
-use Rattle.model.specs.Sessions.Seats.{Seat, Seats, is_seat_of, seat_of, has_seat, has_free, seated}
+use Rattle.model_tree.specs.Seats.Seats.{Seat, Seats, is_seat_of, seat_of, has_seat, has_free, seated}
 use Rattle.model.specs.Sessions.Session.{SessionLimits, Client, Table, is_client, gives_way, seats_staying, new_seat, new_session, persists, create_refusals, create_session_answer, with_new_session, create_unless, create_again, create_by, create_session, create_refused, CreateSessionOutcome, next_number, finish}
 use Rattle.model.specs.Server.World.{ServerLimits, World, InProgress, HasRun, Gives, Replays, Entry, created_by, run, executed_entry, Turned, with_result, result_of, kept_by, is_to_hold, closes, behind, is_last, one}
-use Rattle.model.proofs.Sessions.SeatLaws.{bytes_same, has_freed}
+use Rattle.model.proofs.Sessions.SeatLaws.{has_freed}
+use Rattle.model_tree.proofs.Facts.BytesLaws.{bytes_same}
 use Rattle.model.proofs.Sessions.SeatRunLaws.{stop_seated}
 use Rattle.model.proofs.Sessions.SeatsFreed.{behind_has}
 use Rattle.model.proofs.Sessions.SeatTables.{Seated, client_in_run, all_below, new_has_none}

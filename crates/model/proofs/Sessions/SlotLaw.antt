@@ -7,15 +7,15 @@ use Rattle.std.proofs.lemmas.Nat.{from_be_bytes-to_be_bytes_8}
 use Rattle.std.specs.List.{AllByRecursion}
 use Rattle.std.specs.Int.{w64, to_be_bytes, from_be_bytes}
 use Rattle.std.proofs.lemmas.Bool.{and_parts}
-use Rattle.model.specs.Sessions.Seats.{HeldReply, Seat, Seats, is_seat_of, seat_of, has_seat, freed}
-use Rattle.model.specs.declared.status.Status.{Status}
-use Rattle.model.specs.declared.status.Status.TheVariants as status
-use Rattle.model.specs.Operations.Refusal.{Refusals, first_refusal}
+use Rattle.model_tree.specs.Seats.Seats.{HeldReply, Seat, Seats, is_seat_of, seat_of, has_seat, freed}
+use Rattle.model_tree.specs.declared.status.Status.{Status}
+use Rattle.model_tree.specs.declared.status.Status.TheVariants as status
+use Rattle.model_tree.specs.Refusals.Refusal.{Refusals, first_refusal}
 use Rattle.model.specs.Operations.Operation.{ExchangeIdArguments, CreateSessionArguments, SequenceArguments}
 use Rattle.model.specs.Operations.Answer.{CreateSessionAnswer}
 use Rattle.model.specs.Sessions.Session.{SessionLimits, Client, Slot, Session, Table, Begun, Refuses, Replays, Runs, Free, Running, Kept, SlotState, session_id, is_session, slot_at, no_slot, empty_table, has_state, without_unconfirmed, without_client, is_full_of_clients, new_record, exchange_by, exchange_id, is_confirmed_of, exchange_flags, has_only, create_refusals, create_unless, create_again, create_by, create_session, new_session, staying, is_of_clients, replaced_by, is_full_of_sessions, fore_channel, CreateSessionOutcome, next_number, destroy_by, destroy_session, is_running, destroy_client_by, destroy_client_id, is_client, reclaim_by, reclaim_complete, begin_new, begin_slot, begin_by, begin, with_slot, started, finished_slot, finish, without_where, limits_for, persists, begin_held, begin_dead}
 use Rattle.model.specs.Sessions.SessionRuns.{Call, Exchanges, Creates, Destroys, DestroysClient, Reclaims, Begins, Finishes, after, runs_on, number_on, started_by, numbers_on, CountsFrom, OthersBetween, EverySlot}
-use Rattle.model.proofs.Facts.BooleanLaws.{second_of_neither}
+use Rattle.model_tree.proofs.Facts.BooleanLaws.{second_of_neither}
 use Rattle.model.proofs.Operations.RefusalLaws.{none_in_front}
 
 -- Of both branches

@@ -3,18 +3,18 @@ use Rattle.std.proofs.Common.{◌≡◌, ℕ, zero, suc, ◌<◌, ◌≤◌, inl
 use Rattle.std.specs.List.{list_any}
 use Rattle.std.proofs.lemmas.Bool.{cases_eq, and_parts, not-false, or_parts}
 use Rattle.std.proofs.lemmas.Slice.Eq.{bytes_eq-Decides}
-use Rattle.model.specs.Sessions.Seats.{Seats, seat_of, has_seat}
-use Rattle.model.specs.declared.status.Status.{Status}
-use Rattle.model.specs.declared.status.Status.TheVariants as status
+use Rattle.model_tree.specs.Seats.Seats.{Seats, seat_of, has_seat}
+use Rattle.model_tree.specs.declared.status.Status.{Status}
+use Rattle.model_tree.specs.declared.status.Status.TheVariants as status
 use Rattle.model.specs.Operations.Answer.{CreateSessionAnswer}
 use Rattle.model.specs.Operations.Operation.{CreateSessionArguments, SequenceArguments}
-use Rattle.model.specs.Operations.Refusal.{first_refusal}
+use Rattle.model_tree.specs.Refusals.Refusal.{first_refusal}
 use Rattle.model.specs.Sessions.Session.{SessionLimits, Client, Slot, SlotState, Free, Running, Kept, Session, Table, Refuses, Runs, no_slot, slot_at, is_session, is_client, is_running, is_running_state, with_slot, destroy_by, destroy_session, create_session, create_by, create_again, create_unless, create_refusals, CreateSessionOutcome, is_of_clients, replaced_by, staying, next_number, new_session, fore_channel, begin, begin_by, begin_slot, started, finish, limits_for, persists}
 use Rattle.model.specs.Sessions.SlotsHeld.{runs_at, is_slot_running, is_on}
 use Rattle.model.proofs.Sessions.SlotLaw.{id_of, cond_runs, cond_never, refuses_not, dead_never}
 use Rattle.model.proofs.Sessions.TableCalls.{either, found_passes}
-use Rattle.model.proofs.Sessions.TableLaws.{size}
-use Rattle.model.proofs.Facts.BooleanLaws.{and_false, or_false}
+use Rattle.model_tree.proofs.Facts.Counting.{size}
+use Rattle.model_tree.proofs.Facts.BooleanLaws.{and_false, or_false}
 use Rattle.model.proofs.Operations.RefusalLaws.{none_in_front}
 
 -- Tests over lists

@@ -1,11 +1,11 @@
 -- A slot runs exactly where one connection is busy on it, at each moment of a run.
 use Rattle.std.proofs.Common.{◌≡◌, ◌≢◌, ℕ, ◌<◌, ◌≤◌, ◌⊎◌, inl, inr, Bool, true, false, not, cond, ◌&&◌, ◌||◌, nat_lt, is_some, length, List, [], ◌++◌, find, Option, None, Some, Result, Ok, Err, refl, sym, ap, ◌∙◌, subst, arith}
 use Rattle.std.proofs.lemmas.Bool.{true≢false, cases_eq, and_parts, false_from_ne_true}
-use Rattle.model.specs.Sessions.Seats.{Seats}
-use Rattle.model.specs.declared.status.Status.{Status}
-use Rattle.model.specs.declared.status.Status.TheVariants as status
+use Rattle.model_tree.specs.Seats.Seats.{Seats}
+use Rattle.model_tree.specs.declared.status.Status.{Status}
+use Rattle.model_tree.specs.declared.status.Status.TheVariants as status
 use Rattle.model.specs.Operations.Answer.{Answer, Outcome, Done, Refused, ExchangeIdAnswer, CreateSessionAnswer}
-use Rattle.model.specs.Trees.Keyed.{Keyed, at, with, without}
+use Rattle.model_tree.specs.Trees.Keyed.{Keyed, at, with, without}
 use Rattle.model.specs.Operations.Operation.{Argument, SequenceArguments, operation_of}
 use Rattle.model.specs.Wire.Record.{Front, Partial, Whole}
 use Rattle.model.specs.Wire.Record as marks
@@ -16,14 +16,14 @@ use Rattle.model.specs.Sessions.Session.{Session, Table, is_session}
 use Rattle.model.specs.Sessions.SessionRuns as calls
 use Rattle.model.specs.Sessions.SlotsHeld.{is_slot_running, is_on, is_busy_on, RunsWhereBusy, EveryRunningSlot}
 use Rattle.model.specs.Sessions.StateIds.{has_opens}
-use Rattle.model.specs.Trees.Tree.{Tree}
+use Rattle.model_tree.specs.Trees.Tree.{Tree}
 use Rattle.model.specs.Server.World.{ServerLimits, InProgress, Connection, Quiet, Waiting, Busy, Replied, Closed, World, Entry, HasRun, Gives, Replays, Next, Refuses, Reads, Turned, next_operation, exchanged, created_by, tabled, started_in, begun, reclaimed, run, has_room, in_room, with_result, result_of, kept_by, ends, goes_on, closes, is_to_hold, further, behind, has_run, operates, in_progress, requested, called, turned, with_connection, executed_entry, refuses, one, arrived, arrives_at, connection_changed, arrives, without_reply, takes, can_connect, connects, is_busy, without_connection, hangs_up, is_last, mounted_world}
-use Rattle.model.proofs.Trees.KeyedLaws.{at-with_same, at-with_other, at-without_same, at-without_other}
+use Rattle.model_tree.proofs.Trees.KeyedLaws.{at-with_same, at-with_other, at-without_same, at-without_other}
 use Rattle.model.proofs.Operations.ReadOperations.{is_first, first_read}
 use Rattle.model.proofs.Sessions.SlotLaw.{exchange_same, destroy_client_same, reclaim_same}
 use Rattle.model.proofs.Sessions.SlotRuns.{RunsSame, same_sessions, finished, created_runs, destroyed_runs, rested_before, started_runs}
 use Rattle.model.proofs.Sessions.TableCalls.{Holds, either, call_holds, begins, ids_differ}
-use Rattle.model.proofs.Sessions.TableLaws.{size}
+use Rattle.model_tree.proofs.Facts.Counting.{size}
 use Rattle.model.proofs.Server.TurnCases.{arrival_only, taking_only}
 
 -- What stands between two events

@@ -5,13 +5,13 @@ use Rattle.std.specs.Int.{w32, w64, to_be_bytes, from_be_bytes}
 use Rattle.std.proofs.lemmas.Bool.{lt-ltb, false_from_ne_true}
 use Rattle.std.proofs.lemmas.Nat.{from_be_bytes-to_be_bytes_4, from_be_bytes-to_be_bytes_8}
 use Rattle.std.proofs.lemmas.Slice.Eq.{bytes_eq-Decides}
-use Rattle.model.specs.declared.status.Status.TheVariants as status
+use Rattle.model_tree.specs.declared.status.Status.TheVariants as status
 use Rattle.model.specs.Operations.Context.{Context, current_number}
-use Rattle.model.specs.Trees.Keyed.{at}
+use Rattle.model_tree.specs.Trees.Keyed.{at}
 use Rattle.model.specs.Sessions.Opens.{Opens, Open}
 use Rattle.model.specs.Sessions.StateIds.{Anonymous, Refused, Names, found, by_meaning, by_open, by_seqid, carried, is_anonymous, is_current, upgraded, next_seqid, open_named, open_stateid, zeros}
 use Rattle.model.specs.Sessions.StateIdLaws.{IsOwn, IsGiven, OpenStands, NewestIsFound, LowerIsOld, JoinedIsOld, NotOwnIsBad, OtherRunIsBad, EndedIsBad}
-use Rattle.model.proofs.Facts.BooleanLaws.{and_false}
+use Rattle.model_tree.proofs.Facts.BooleanLaws.{and_false}
 
 -- The bytes of a stateid
 

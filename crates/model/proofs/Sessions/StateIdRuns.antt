@@ -4,12 +4,12 @@ use Rattle.std.specs.Prelude.{Option, Some, None, Result, Ok, Err, option_to_lis
 use Rattle.std.proofs.lemmas.Bool.{true≢false, cases_eq}
 use Rattle.std.proofs.lemmas.List.{append_assoc, append-nil}
 use Rattle.std.proofs.lemmas.Option.{same_Some}
-use Rattle.model.specs.Sessions.Seats.{Seats}
-use Rattle.model.specs.declared.status.Status.{Status}
-use Rattle.model.specs.declared.status.Status.TheVariants as status
+use Rattle.model_tree.specs.Seats.Seats.{Seats}
+use Rattle.model_tree.specs.declared.status.Status.{Status}
+use Rattle.model_tree.specs.declared.status.Status.TheVariants as status
 use Rattle.model.specs.Operations.Answer.{Answer, Outcome, Done, Refused, OpenAnswer, ExchangeIdAnswer, CreateSessionAnswer}
 use Rattle.model.specs.Operations.Context.{current_number}
-use Rattle.model.specs.Trees.Keyed.{Keyed, at, with, without}
+use Rattle.model_tree.specs.Trees.Keyed.{Keyed, at, with, without}
 use Rattle.model.specs.Operations.Open.{asked_open}
 use Rattle.model.specs.Sessions.Opens.{Opens, Open}
 use Rattle.model.specs.Operations.Operation.{Argument, OpenArguments, SequenceArguments, StateId, operation_of}
@@ -23,11 +23,11 @@ use Rattle.model.specs.Sessions.StateIds as stateids
 use Rattle.model.specs.Sessions.StateIdLaws.{IsOwn, IsGiven, OpenStands as StandsIn, is_open}
 use Rattle.model.specs.Sessions.StateIdRuns.{WasAnswered, IsOpenOf, access_by, accesses_in, joined_by, OpenStandsIn, HasEnded, Verdicts, EveryStateIdGoesOn, JoinsAreCounted, EveryOtherRunRefuses}
 use Rattle.model.specs.Operations.Step.{State, does}
-use Rattle.model.specs.Trees.Tree.{Tree}
+use Rattle.model_tree.specs.Trees.Tree.{Tree}
 use Rattle.model.specs.Server.World.{ServerLimits, InProgress, Connection, Quiet, Busy, Replied, World, HasRun, Gives, Replays, Entry, executed_entry, exchanged, created_by, tabled, started_in, begun, reclaimed, stepped, state_of as state_in, run as runs_operation, Turned, with_connection, with_result, result_of, behind, ends, goes_on, is_last, one, mounted_world, arrives, takes, connects, hangs_up, can_connect, connection_changed, arrives_at, without_reply, is_busy, without_connection, closes, is_to_hold}
 use Rattle.model.proofs.Server.Headline.{done_behind}
-use Rattle.model.proofs.Trees.KeyedLaws.{at-with_same, at-with_other, at-without_same, at-without_other, some≢none}
-use Rattle.model.proofs.Rights.LimitLaws.{modes_keep_limits, inheritance_keeps_limits}
+use Rattle.model_tree.proofs.Trees.KeyedLaws.{at-with_same, at-with_other, at-without_same, at-without_other, some≢none}
+use Rattle.model_tree.proofs.Rights.LimitLaws.{modes_keep_limits, inheritance_keeps_limits}
 use Rattle.model.proofs.Sessions.OpenClients.{in_place}
 use Rattle.model.proofs.Sessions.StateIdLaws.{newest, lower, own, not_own, other_run, ended}
 use Rattle.model.proofs.Operations.StepProofs.{every_step}

@@ -6,17 +6,18 @@ use Rattle.std.proofs.Math.Nat.{min-le_right}
 use Rattle.std.proofs.lemmas.Bool.{and_parts, or_parts}
 use Rattle.std.proofs.lemmas.List.{length-replicate}
 use Rattle.std.proofs.lemmas.List.Sums.{length-filter}
-use Rattle.model.specs.Sessions.Seats.{has_seat}
-use Rattle.model.specs.declared.status.Status.{Status}
-use Rattle.model.specs.declared.status.Status.TheVariants as status
-use Rattle.model.specs.Operations.Refusal.{first_refusal}
+use Rattle.model_tree.specs.Seats.Seats.{has_seat}
+use Rattle.model_tree.specs.declared.status.Status.{Status}
+use Rattle.model_tree.specs.declared.status.Status.TheVariants as status
+use Rattle.model_tree.specs.Refusals.Refusal.{first_refusal}
 use Rattle.model.specs.Operations.Operation.{ExchangeIdArguments, CreateSessionArguments, SequenceArguments}
 use Rattle.model.specs.Operations.Answer.{CreateSessionAnswer, ExchangeIdAnswer}
 use Rattle.model.specs.Sessions.Session.{SessionLimits, Client, Slot, Session, Table, Begun, Refuses, Replays, Runs, Running, Kept, slot_at, no_slot, empty_table, without_unconfirmed, without_client, is_full_of_clients, new_record, exchange_by, exchange_id, is_confirmed_of, is_unconfirmed_of, exchange_flags, has_only, has_state, is_client, is_session, create_session_answer, create_refusals, create_unless, create_again, create_by, create_session, new_session, staying, is_full_of_sessions, is_too_small, is_of_clients, replaced_by, session_flags, is_running, CreateSessionOutcome, next_number, destroy_by, destroy_session, destroy_client_by, destroy_client_id, reclaim_by, reclaim_complete, begin, with_slot, started, finish, limits_for, persists}
 use Rattle.model.specs.Sessions.SessionRuns.{Call, Exchanges, Creates, Destroys, DestroysClient, Reclaims, Begins, Finishes, after, started_by}
 use Rattle.model.specs.Sessions.SessionTables.{has_serial, IsTable, after_calls, EveryTable}
 use Rattle.model.proofs.Sessions.SlotLaw.{session_id-serial, id_of}
-use Rattle.model.proofs.Sessions.TableLaws.{size, size_changed, size-without, all_mono, map-same, keep_all, Clients, Sessions, given_serial, fewer_clients, further_client, confirmed_clients, changed_clients, fewer_sessions, further_session, changed_sessions}
+use Rattle.model.proofs.Sessions.TableLaws.{size-without, all_mono, keep_all, Clients, Sessions, given_serial, fewer_clients, further_client, confirmed_clients, changed_clients, fewer_sessions, further_session, changed_sessions}
+use Rattle.model_tree.proofs.Facts.Counting.{size, size_changed, map-same}
 use Rattle.model.proofs.Operations.RefusalLaws.{none_in_front}
 
 abbrev pub Holds : SessionLimits → Table → Type 0

@@ -2,9 +2,9 @@
 use Rattle.std.proofs.Common.{◌≡◌, ℕ, ◌<◌, Bool, true, false, not, cond, ◌||◌, ◌==◌, nat_lt, List, [], ◌∷◌, map, filter, Option, None, Some, Result, refl, ap, ◌∙◌, arith, find, eq-eqb, lt-ltb}
 use Rattle.std.specs.List.{list_all, list_any}
 use Rattle.std.proofs.lemmas.Bool.{and_from, or_right, or_left}
-use Rattle.model.specs.Sessions.Seats.{Seats, has_seat, freed, is_seat_of}
-use Rattle.model.specs.declared.status.Status.{Status}
-use Rattle.model.specs.Operations.Refusal.{first_refusal}
+use Rattle.model_tree.specs.Seats.Seats.{Seats, has_seat, freed, is_seat_of}
+use Rattle.model_tree.specs.declared.status.Status.{Status}
+use Rattle.model_tree.specs.Refusals.Refusal.{first_refusal}
 use Rattle.model.specs.Operations.Operation.{ExchangeIdArguments, CreateSessionArguments, SequenceArguments}
 use Rattle.model.specs.Operations.Answer.{CreateSessionAnswer, ExchangeIdAnswer}
 use Rattle.model.specs.Sessions.Session.{SessionLimits, Client, Slot, Session, Table, Begun, Refuses, Replays, Runs, Running, Kept, slot_at, client_number, with_clients, with_sessions, without_unconfirmed, without_client, new_client, with_new_client, is_full_of_clients, new_record, exchange_by, exchange_id, is_confirmed_of, is_unconfirmed_of, exchange_flags, has_only, has_state, is_client, is_session, confirmed_with, create_session_answer, create_refusals, create_unless, create_again, create_by, create_session, new_session, staying, is_of_clients, replaced_by, is_running, CreateSessionOutcome, next_number, destroy_by, destroy_session, destroy_client_by, destroy_client_id, reclaim_by, reclaim_complete, begin, started, finish, held_by}

@@ -8,12 +8,12 @@ use Rattle.std.proofs.lemmas.Nat.{and_assoc, and_or_self, and_or_apart}
 use Rattle.std.specs.Int.Bits.{and_zero_r}
 use Rattle.std.proofs.lemmas.Option.{same_Some}
 use Rattle.std.proofs.lemmas.Bool.{and_parts}
-use Rattle.model.specs.declared.acl.Ace.{Ace}
-use Rattle.model.specs.declared.acl.AceKind.{AceKind}
-use Rattle.model.specs.declared.acl.AceKind.TheVariants as kind
-use Rattle.model.specs.declared.acl.Who.{Who}
-use Rattle.model.specs.declared.acl.Who.TheVariants as who
-use Rattle.model.specs.Rights.Acl.{meets, bits_without}
+use Rattle.model_tree.specs.declared.acl.Ace.{Ace}
+use Rattle.model_tree.specs.declared.acl.AceKind.{AceKind}
+use Rattle.model_tree.specs.declared.acl.AceKind.TheVariants as kind
+use Rattle.model_tree.specs.declared.acl.Who.{Who}
+use Rattle.model_tree.specs.declared.acl.Who.TheVariants as who
+use Rattle.model_tree.specs.Rights.Acl.{meets, bits_without}
 use Rattle.model.specs.Attributes.AttributeValue.{AclEntry}
 use Rattle.model.specs.Attributes.AclText.{who_text, kind_number, kind_in, identifier_group, entry_flags, entry_text, written_number, number_in, numbered, who_in, named_in, is_named_group, ace_of, ace_in, ReadsNumbers, Agrees, Means, ReadsNames, StandsFor, ReadsEntries, HasWidth, WritesEntries}
 

@@ -16,7 +16,7 @@ use Rattle.xdr.proofs.Opaques.{opaque_exact}
 use Rattle.xdr.proofs.Passing.{boolean_exact}
 use Rattle.xdr.proofs.Arrays.{array_exact, trimmed_exact}
 use Rattle.xdr.proofs.Unions.{TakesBy, AgainBy, on_takes, no_other_takes, union_exact, made_again}
-use Rattle.model.specs.declared.node.NodeKind.TheVariants as kind
+use Rattle.model_tree.specs.declared.node.NodeKind.TheVariants as kind
 use Rattle.model.specs.Wire.WireTypes.{any_opaque, file_handle}
 use Rattle.model.specs.Attributes.AttributeValue.{file_system_id, time, acl_entry, entries, kind_told, node_kind, Value, SupportedAttrs, Kind, FhExpireType, Change, Size, LinkSupport, SymlinkSupport, NamedAttr, Fsid, UniqueHandles, LeaseTime, RdattrError, Acl, AclSupport, FileHandle, FileId, MaxFileSize, MaxName, MaxRead, MaxWrite, Mode, NumLinks, Owner, OwnerGroup, TimeModify, SuppattrExclcreat, value_told, value_choice, value_at, values_at, attribute_of, value_text, values, whole, ReadsWhole}
 

@@ -12,9 +12,9 @@ use Rattle.xdr.proofs.Sequences.{void_exact, then_exact, of_exact, one_spelling}
 use Rattle.xdr.proofs.Passing.{boolean_exact, always_exact}
 use Rattle.xdr.proofs.Arrays.{chain_exact, trimmed_exact}
 use Rattle.xdr.proofs.Unions.{TakesOne, TakesBy, AgainBy, on_takes, no_other_takes, union_exact, made_again}
-use Rattle.model.specs.declared.status.Status.{Status}
-use Rattle.model.specs.declared.status.Status.TheVariants as status
-use Rattle.model.specs.Operations.Status.{code_of}
+use Rattle.model_tree.specs.declared.status.Status.{Status}
+use Rattle.model_tree.specs.declared.status.Status.TheVariants as status
+use Rattle.model_tree.specs.Refusals.Status.{code_of}
 use Rattle.model.specs.Operations.Answer.{Answer, Outcome, Done, Refused}
 use Rattle.model.specs.Wire.WireTypes.{file_handle, verifier, state_id, change_info}
 use Rattle.model.specs.Wire.WireAnswers.{answered_attributes, access_answer, create_answer, open_answer, read_answer, entry, read_dir_answer, rename_answer, write_answer, exchange_id_answer, create_session_answer, sequence_answer, answer_told, answer_choice, refusals, refusal_of, behind_refusal, outcome_told, refused_by, behind_status, outcome_choice, outcome_at, outcome}

@@ -11,11 +11,11 @@ use Rattle.xdr.proofs.Numbers.{int_exact}
 use Rattle.xdr.proofs.Sequences.{then_exact, one_spelling}
 use Rattle.xdr.proofs.Opaques.{opaque_exact}
 use Rattle.xdr.proofs.Arrays.{array_exact}
-use Rattle.model.specs.declared.status.Status.{Status}
+use Rattle.model_tree.specs.declared.status.Status.{Status}
 use Rattle.model.specs.Operations.Answer.{Outcome}
 use Rattle.model.specs.Wire.Rpc.{compound_text}
 use Rattle.model.specs.Wire.Results.{compound_result, AreResults, SpellsResults}
-use Rattle.model.specs.Operations.Status.{code_of}
+use Rattle.model_tree.specs.Refusals.Status.{code_of}
 use Rattle.model.specs.Wire.WireAnswers.{outcome}
 use Rattle.model.specs.Server.World.{InProgress, outcome_text, result_of, with_result}
 use Rattle.model.proofs.Wire.ExactAnswers.{outcome_exact}

@@ -3,12 +3,12 @@
 -- OWNER@, GROUP@ and EVERYONE@ alone of the special names, are this server's profile.
 use Rattle.std.specs.Prelude.{◌≡◌, ◌↔◌, ℕ, ◌<◌, ◌^◌, ◌==◌, ◌&&◌, nat_lt, Bool, true, false, if◌then◌else◌, List, Option, Some, None, option_map, option_and_then, bit_or, bytes_eq, codes, decimal, filter_map}
 use Rattle.std.specs.Str.Parse.{digits_value}
-use Rattle.model.specs.declared.acl.Ace.{Ace}
-use Rattle.model.specs.declared.acl.AceKind.{AceKind}
-use Rattle.model.specs.declared.acl.AceKind.TheVariants as kind
-use Rattle.model.specs.declared.acl.Who.{Who}
-use Rattle.model.specs.declared.acl.Who.TheVariants as who
-use Rattle.model.specs.Rights.Acl.{meets, bits_without}
+use Rattle.model_tree.specs.declared.acl.Ace.{Ace}
+use Rattle.model_tree.specs.declared.acl.AceKind.{AceKind}
+use Rattle.model_tree.specs.declared.acl.AceKind.TheVariants as kind
+use Rattle.model_tree.specs.declared.acl.Who.{Who}
+use Rattle.model_tree.specs.declared.acl.Who.TheVariants as who
+use Rattle.model_tree.specs.Rights.Acl.{meets, bits_without}
 use Rattle.model.specs.Attributes.AttributeValue.{AclEntry}
 
 -- What is written

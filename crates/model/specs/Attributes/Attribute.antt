@@ -4,15 +4,15 @@
 use Rattle.std.specs.Prelude.{◌≡◌, ◌≤◌, IsTrue, ℕ, Bool, List, [], ◌∷◌, ◌++◌, Option, Some, None, ◌+◌, ◌==◌, not, nat_lt, nat_eq, is_none, if◌then◌else◌, length, map, filter, flat_map, unwrap_or}
 use Rattle.std.specs.List.{list_any, range_with_len}
 use Rattle.std.specs.Int.{bit_at}
-use Rattle.model.specs.declared.acl.Ace.{Ace}
-use Rattle.model.specs.declared.node.NodeKind.{NodeKind}
-use Rattle.model.specs.declared.status.Status.TheVariants as status
-use Rattle.model.specs.Rights.Acl.{bits_without, is_within, every_right, inheritance, are_flags_for, is_list_for}
+use Rattle.model_tree.specs.declared.acl.Ace.{Ace}
+use Rattle.model_tree.specs.declared.node.NodeKind.{NodeKind}
+use Rattle.model_tree.specs.declared.status.Status.TheVariants as status
+use Rattle.model_tree.specs.Rights.Acl.{bits_without, is_within, every_right, inheritance, are_flags_for, is_list_for}
 use Rattle.model.specs.Attributes.AclText.{identifier_group, aces_in, named_in, number_in}
 use Rattle.model.specs.Attributes.AttributeValue.{AclEntry, Value, Size, Acl, Mode, Owner, OwnerGroup, whole_values}
-use Rattle.model.specs.Trees.Limits.{Limits}
+use Rattle.model_tree.specs.declared.limits.Limits.{Limits}
 use Rattle.model.specs.Operations.Operation.{Attributes}
-use Rattle.model.specs.Operations.Refusal.{Refusals, first_refusal}
+use Rattle.model_tree.specs.Refusals.Refusal.{Refusals, first_refusal}
 
 -- The attributes of a bitmap, by rising number: bit m of word n stands for attribute 32 n + m
 

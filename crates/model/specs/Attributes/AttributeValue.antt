@@ -8,8 +8,8 @@ use Rattle.xdr.specs.Grammar.{Grammar, ◌>>=◌, ◌&◌, of, void, unsigned_in
 use Rattle.xdr.specs.Forms.{array, boolean, trimmed_bitmap}
 use Rattle.xdr.specs.Union.{Told, tells, Choice, on, no_other, union}
 use Rattle.xdr.specs.Laws.{IsBytes}
-use Rattle.model.specs.declared.node.NodeKind.{NodeKind}
-use Rattle.model.specs.declared.node.NodeKind.TheVariants as kind
+use Rattle.model_tree.specs.declared.node.NodeKind.{NodeKind}
+use Rattle.model_tree.specs.declared.node.NodeKind.TheVariants as kind
 use Rattle.model.specs.Wire.WireTypes.{any_opaque, file_handle}
 
 -- fsid4

@@ -2,16 +2,16 @@
 -- 5.8, 18.7 (GETATTR) and 18.23 (READDIR). Which attributes there are, and the values that are
 -- always the same, are this server's profile.
 use Rattle.std.specs.Prelude.{◌≡◌, ℕ, ◌/◌, ◌%◌, true, false, List, [], ◌∷◌, bit_and, decimal, filter, flat_map, length, map}
-use Rattle.model.specs.declared.status.Status.TheVariants as status
+use Rattle.model_tree.specs.declared.status.Status.TheVariants as status
 use Rattle.model.specs.Attributes.AclText.{entry_text}
 use Rattle.model.specs.Attributes.Attribute.{attributes_of, is_among, supported, trimmed}
 use Rattle.model.specs.Attributes.AttributeValue.{Time, Value, SupportedAttrs, Kind, FhExpireType, Change, Size, LinkSupport, SymlinkSupport, NamedAttr, Fsid, UniqueHandles, LeaseTime, RdattrError, Acl, AclSupport, FileHandle, FileId, MaxFileSize, MaxName, MaxRead, MaxWrite, Mode, NumLinks, Owner, OwnerGroup, TimeModify, SuppattrExclcreat, attribute_of, value_text}
-use Rattle.model.specs.Trees.Limits.{Limits}
-use Rattle.model.specs.Rights.Mode.{mode_of}
+use Rattle.model_tree.specs.declared.limits.Limits.{Limits}
+use Rattle.model_tree.specs.Rights.Mode.{mode_of}
 use Rattle.model.specs.Operations.Operation.{Attributes}
-use Rattle.model.specs.Trees.Stamp.{filehandle_of}
-use Rattle.model.specs.Operations.Status.{code_of}
-use Rattle.model.specs.Trees.Tree.{Node, Content, File, Directory, kind_of}
+use Rattle.model_tree.specs.Trees.Stamp.{filehandle_of}
+use Rattle.model_tree.specs.Refusals.Status.{code_of}
+use Rattle.model_tree.specs.Trees.Tree.{Node, Content, File, Directory, kind_of}
 
 -- `supported` as a bitmap
 abbrev pub supported_bitmap : List ℕ

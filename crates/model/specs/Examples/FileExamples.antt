@@ -1,16 +1,15 @@
 -- Listing, attributes, opens, reading and writing worked out by hand, on a fresh volume of 256 sectors and 16 nodes in its first run.
 use Rattle.std.specs.Prelude.{ℕ, true, false, List, [], ◌∷◌, ◌++◌, ◌^◌, None, ◌≡◌, map, replicate, codes}
-use Rattle.model.specs.declared.status.Status.{Status}
-use Rattle.model.specs.declared.status.Status.TheVariants as status
+use Rattle.model_tree.specs.declared.status.Status.{Status}
+use Rattle.model_tree.specs.declared.status.Status.TheVariants as status
 use Rattle.model.specs.Operations.Answer.{Answer, Outcome, Entry}
-use Rattle.model.specs.Operations.Files.{bytes_at}
-use Rattle.model.specs.Trees.Fresh.{fresh_tree}
-use Rattle.model.specs.Trees.Limits.{Limits}
+use Rattle.model_tree.specs.Trees.Tree.{bytes_at, names_at}
+use Rattle.model_tree.specs.Trees.Fresh.{fresh_tree}
+use Rattle.model_tree.specs.declared.limits.Limits.{Limits}
 use Rattle.model.specs.Operations.Operation.{Argument, Attributes, NewDirectory, StateId, OpenType, NoCreate, Unchecked, Guarded, Claim, ByName, ByHandle, Opens, Exclusive}
 use Rattle.model.specs.Sessions.StateIds.{zeros, closed_state}
 use Rattle.model.specs.Operations.Step.{State, does}
 use Rattle.model.specs.Examples.StepExamples.{volume, caller, begun, outcomes, state_after, nothing_given, mode_given, with_a, at_root}
-use Rattle.model.specs.Trees.Tree.{names_at}
 use Rattle.model.specs.Server.World.{status_of}
 
 abbrev pub statuses : Limits → State → List Argument → List Status

@@ -1,19 +1,19 @@
 -- Each right of each operation: who has all rights is answered, and who lacks this one alone is answered ACCESS. RFC 8881, section
 -- 6.2.1.3.1. No law can tell which rights an operation asks for, so they stand here by name.
 use Rattle.std.specs.Prelude.{ℕ, List, [], ◌∷◌, ◌-◌, Some, None, ◌≡◌, replicate}
-use Rattle.model.specs.declared.acl.Ace.{Ace}
-use Rattle.model.specs.declared.acl.AceKind.TheVariants as kind
-use Rattle.model.specs.declared.acl.Who.TheVariants as who
-use Rattle.model.specs.declared.status.Status.{Status}
-use Rattle.model.specs.declared.status.Status.TheVariants as status
-use Rattle.model.specs.Rights.Acl.{read_data, write_data, append_data, execute, delete_child, delete, read_acl, write_acl, write_owner, every_right}
-use Rattle.model.specs.Trees.Limits.{limits_of}
-use Rattle.model.specs.Rights.Mode.{entry}
+use Rattle.model_tree.specs.declared.acl.Ace.{Ace}
+use Rattle.model_tree.specs.declared.acl.AceKind.TheVariants as kind
+use Rattle.model_tree.specs.declared.acl.Who.TheVariants as who
+use Rattle.model_tree.specs.declared.status.Status.{Status}
+use Rattle.model_tree.specs.declared.status.Status.TheVariants as status
+use Rattle.model_tree.specs.Rights.Acl.{read_data, write_data, append_data, execute, delete_child, delete, read_acl, write_acl, write_owner, every_right}
+use Rattle.model_tree.specs.Trees.Limits.{limits_of}
+use Rattle.model_tree.specs.Rights.Mode.{entry}
 use Rattle.model.specs.Sessions.Opens.{no_opens}
 use Rattle.model.specs.Operations.Operation.{Argument, Attributes, NewDirectory, StateId, OpenType, NoCreate, Unchecked, Guarded, ByName, ByHandle, Claim, Opens}
 use Rattle.model.specs.Sessions.StateIds.{zeros}
 use Rattle.model.specs.Operations.Step.{does}
-use Rattle.model.specs.Trees.Tree.{Tree, Node, Content, File, Directory}
+use Rattle.model_tree.specs.Trees.Tree.{Tree, Node, Content, File, Directory}
 use Rattle.model.specs.Server.World.{status_of}
 
 -- Node 1, the root, holds the file "f", number 2, the directory "d", number 3, and the file "g", number 4. Their owner is 9, so

@@ -1,24 +1,25 @@
 -- Operations worked out by hand, on a fresh volume of 256 sectors and 16 nodes in its first run: the definitions compute to them.
 use Rattle.std.specs.Prelude.{ℕ, true, List, [], ◌∷◌, Option, Some, None, ◌≡◌, ◌-◌, ◌^◌, replicate}
-use Rattle.model.specs.declared.acl.Cred.{Cred}
-use Rattle.model.specs.declared.acl.AceKind.TheVariants as kind
-use Rattle.model.specs.declared.acl.Who.TheVariants as who
-use Rattle.model.specs.declared.status.Status.{Status}
-use Rattle.model.specs.declared.status.Status.TheVariants as status
+use Rattle.model_tree.specs.declared.acl.Cred.{Cred}
+use Rattle.model_tree.specs.declared.acl.AceKind.TheVariants as kind
+use Rattle.model_tree.specs.declared.acl.Who.TheVariants as who
+use Rattle.model_tree.specs.declared.status.Status.{Status}
+use Rattle.model_tree.specs.declared.status.Status.TheVariants as status
 use Rattle.model.specs.Operations.Answer.{Answer, Outcome}
 use Rattle.model.specs.Attributes.Attribute.{attributes_of, supported}
-use Rattle.model.specs.Trees.Charge.{charge_of_blocks, divided_up}
-use Rattle.model.specs.Operations.Directory.{acl_of}
-use Rattle.model.specs.Trees.Fresh.{fresh_root, fresh_tree}
-use Rattle.model.specs.Trees.Limits.{Limits, limits_of}
-use Rattle.model.specs.Rights.Mode.{entry}
-use Rattle.model.specs.Trees.Keyed.{at}
-use Rattle.model.specs.Attributes.Name.{name_refusals}
+use Rattle.model_tree.specs.Trees.Charge.{charge_of_blocks, divided_up}
+use Rattle.model_tree.specs.Trees.Changes.{acl_of}
+use Rattle.model_tree.specs.Trees.Fresh.{fresh_root, fresh_tree}
+use Rattle.model_tree.specs.Trees.Limits.{limits_of}
+use Rattle.model_tree.specs.declared.limits.Limits.{Limits}
+use Rattle.model_tree.specs.Rights.Mode.{entry}
+use Rattle.model_tree.specs.Trees.Keyed.{at}
+use Rattle.model_tree.specs.Refusals.Name.{name_refusals}
 use Rattle.model.specs.Sessions.Opens.{no_opens}
 use Rattle.model.specs.Operations.Operation.{Argument, Attributes, ChangeInfo, NewDirectory, OtherType}
-use Rattle.model.specs.Operations.Refusal.{first_refusal}
+use Rattle.model_tree.specs.Refusals.Refusal.{first_refusal}
 use Rattle.model.specs.Operations.Step.{State, does}
-use Rattle.model.specs.Trees.Tree.{Tree, Directory, names_at}
+use Rattle.model_tree.specs.Trees.Tree.{Tree, Directory, names_at}
 use Rattle.model.specs.Server.World.{Next, Refuses, first_or, later_tests}
 
 abbrev pub volume : Limits

@@ -1,15 +1,15 @@
 -- ACCESS: RFC 8881, section 18.1. What each of its bits asks for of a mask is this server's
 -- profile.
 use Rattle.std.specs.Prelude.{ℕ, List, [], ◌∷◌, ◌+◌, ◌&&◌, sum, map, if◌then◌else◌, Option, Some, None}
-use Rattle.model.specs.declared.acl.Cred.{Cred}
-use Rattle.model.specs.declared.node.NodeKind.{NodeKind}
-use Rattle.model.specs.declared.node.NodeKind.TheVariants as kind
-use Rattle.model.specs.Rights.Acl.{meets, granted, read_data, write_data, append_data, execute, delete_child}
+use Rattle.model_tree.specs.declared.acl.Cred.{Cred}
+use Rattle.model_tree.specs.declared.node.NodeKind.{NodeKind}
+use Rattle.model_tree.specs.declared.node.NodeKind.TheVariants as kind
+use Rattle.model_tree.specs.Rights.Acl.{meets, granted, read_data, write_data, append_data, execute, delete_child}
 use Rattle.model.specs.Operations.Answer.{Answer, AccessAnswer}
 use Rattle.model.specs.Operations.Definition.{Definition, on_current, needs_nothing}
 use Rattle.model.specs.Operations.State.{current, answered}
-use Rattle.model.specs.Trees.Keyed.{at}
-use Rattle.model.specs.Trees.Tree.{Node, kind_of}
+use Rattle.model_tree.specs.Trees.Keyed.{at}
+use Rattle.model_tree.specs.Trees.Tree.{Node, kind_of}
 
 -- ACCESS4_READ 1, LOOKUP 2, MODIFY 4, EXTEND 8, DELETE 0x10, EXECUTE 0x20, those that a kind has,
 -- each with the mask it asks for

@@ -1,7 +1,7 @@
 -- What a COMPOUND hands from one operation to the next: RFC 8881, section 16.2.3.1 (current and
 -- saved filehandle and stateid).
 use Rattle.std.specs.Prelude.{ℕ, Bool, Option, Some, None, is_some, ◌==◌, ◌&&◌, bytes_eq}
-use Rattle.model.specs.declared.acl.Cred.{Cred}
+use Rattle.model_tree.specs.declared.acl.Cred.{Cred}
 use Rattle.model.specs.Operations.Operation.{StateId, RenameArguments}
 
 -- a filehandle, as the number of its node, and the stateid that goes with it

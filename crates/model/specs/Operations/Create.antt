@@ -1,18 +1,18 @@
 -- CREATE: RFC 8881, section 18.4. It makes directories alone.
 use Rattle.std.specs.Prelude.{ℕ, true, List, [], ◌∷◌, ◌++◌}
-use Rattle.model.specs.declared.node.NodeKind.TheVariants as kind
-use Rattle.model.specs.declared.status.Status.TheVariants as status
+use Rattle.model_tree.specs.declared.node.NodeKind.TheVariants as kind
+use Rattle.model_tree.specs.declared.status.Status.TheVariants as status
 use Rattle.model.specs.Attributes.Attribute.{trimmed, attribute_refusals, settable_at_creation}
 use Rattle.model.specs.Operations.Answer.{Answer}
 use Rattle.model.specs.Operations.Definition.{Definition, on_current, needs}
-use Rattle.model.specs.Operations.Directory.{change_of, acl_of, new_directory}
+use Rattle.model.specs.Operations.Directory.{change_of, new_directory}
+use Rattle.model_tree.specs.Trees.Changes.{acl_of, made_edits}
 use Rattle.model.specs.Operations.Operation.{Argument, Attributes, CreateArguments, NewDirectory, OtherType}
-use Rattle.model.specs.Operations.Refusal.{Refusals}
+use Rattle.model_tree.specs.Refusals.Refusal.{Refusals}
 use Rattle.model.specs.Operations.State.{State, Stepped, current, stamp_of, current_refusals, named_refusals, is_name_there, answered, refused, moved_to, changed}
-use Rattle.model.specs.Rights.Acl.{append_data}
-use Rattle.model.specs.Trees.Changes.{made_edits}
-use Rattle.model.specs.Trees.Keyed.{at}
-use Rattle.model.specs.Trees.Limits.{Limits}
+use Rattle.model_tree.specs.Rights.Acl.{append_data}
+use Rattle.model_tree.specs.Trees.Keyed.{at}
+use Rattle.model_tree.specs.declared.limits.Limits.{Limits}
 
 -- Tests before the caller's rights, and after them
 

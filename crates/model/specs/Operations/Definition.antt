@@ -2,11 +2,11 @@
 -- of the tests is this server's profile.
 use Rattle.std.specs.Prelude.{ℕ, Bool, false, List, []}
 use Rattle.model.specs.Operations.Context.{Context}
-use Rattle.model.specs.Operations.Refusal.{Refusals}
+use Rattle.model_tree.specs.Refusals.Refusal.{Refusals}
 use Rattle.model.specs.Operations.State.{State, Stepped, current_refusals}
-use Rattle.model.specs.Rights.Need.{Right, here}
-use Rattle.model.specs.Trees.Limits.{Limits}
-use Rattle.model.specs.Trees.Tree.{Tree}
+use Rattle.model.specs.Operations.Need.{Right, here}
+use Rattle.model_tree.specs.declared.limits.Limits.{Limits}
+use Rattle.model_tree.specs.Trees.Tree.{Tree}
 
 pub record Definition : Type 0 where
   -- the tests and the rights, in the order in which they are looked at

@@ -1,28 +1,20 @@
 -- READ, WRITE and COMMIT: RFC 8881, sections 18.22, 18.32 and 18.3. How many bytes one of them
 -- moves is this server's profile.
-use Rattle.std.specs.Prelude.{ℕ, Bool, true, false, [], ◌∷◌, ◌++◌, List, ◌+◌, not, ◌==◌, ◌&&◌, nat_lt, nat_le, length, take, drop, min, if◌then◌else◌, Option, Some, None}
+use Rattle.std.specs.Prelude.{ℕ, Bool, true, false, [], ◌∷◌, ◌++◌, List, ◌+◌, not, ◌==◌, ◌&&◌, nat_lt, nat_le, length, take, drop, min, if◌then◌else◌}
 use Rattle.std.specs.List.{list_all}
 use Rattle.std.specs.Int.{w64, to_be_bytes}
-use Rattle.model.specs.declared.status.Status.TheVariants as status
+use Rattle.model_tree.specs.declared.status.Status.TheVariants as status
 use Rattle.model.specs.Operations.Answer.{Answer}
-use Rattle.model.specs.Trees.Changes.{touch}
-use Rattle.model.specs.Trees.Edit.{PutBytes}
-use Rattle.model.specs.Trees.Keyed.{at}
-use Rattle.model.specs.Trees.Limits.{Limits}
+use Rattle.model_tree.specs.Trees.Changes.{touch}
+use Rattle.model_tree.specs.Trees.Edit.{PutBytes}
+use Rattle.model_tree.specs.declared.limits.Limits.{Limits}
 use Rattle.model.specs.Operations.Definition.{Definition, on_current, needs_nothing, needs}
 use Rattle.model.specs.Operations.Operation.{CommitArguments, ReadArguments, WriteArguments}
-use Rattle.model.specs.Operations.Refusal.{Refusals}
+use Rattle.model_tree.specs.Refusals.Refusal.{Refusals}
 use Rattle.model.specs.Operations.State.{State, Stepped, current, stamp_of, current_refusals, answered, changed}
-use Rattle.model.specs.Rights.Acl.{read_data, write_data}
+use Rattle.model_tree.specs.Rights.Acl.{read_data, write_data}
 use Rattle.model.specs.Sessions.StateIds.{state_refusals, read_access, write_access}
-use Rattle.model.specs.Trees.Tree.{Tree, Node, bytes_of, is_directory_at}
-
-abbrev pub bytes_of_node : Option Node → List ℕ
-bytes_of_node None = []
-bytes_of_node (Some node) = bytes_of node.content
-
-abbrev pub bytes_at : Tree → (number : ℕ) → List ℕ
-bytes_at tree number = bytes_of_node (at number tree)
+use Rattle.model_tree.specs.Trees.Tree.{is_directory_at, bytes_at}
 
 -- of a file's operations
 abbrev pub file_refusals : State → Refusals

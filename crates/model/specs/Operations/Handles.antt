@@ -1,14 +1,14 @@
 -- The current and the saved filehandle: RFC 8881, sections 18.19 (PUTFH), 18.21 (PUTROOTFH), 18.8
 -- (GETFH), 18.28 (SAVEFH) and 18.27 (RESTOREFH).
 use Rattle.std.specs.Prelude.{ℕ, List, [], ◌∷◌, not}
-use Rattle.model.specs.declared.status.Status.TheVariants as status
+use Rattle.model_tree.specs.declared.status.Status.TheVariants as status
 use Rattle.model.specs.Operations.Answer.{Answer}
 use Rattle.model.specs.Operations.Context.{has_saved, saving, restored}
 use Rattle.model.specs.Operations.Definition.{Definition, only, on_current, needs_nothing}
 use Rattle.model.specs.Operations.State.{current, answered, moved_to}
-use Rattle.model.specs.Trees.Keyed.{is_key}
-use Rattle.model.specs.Trees.Stamp.{filehandle_of, is_filehandle, handle_number}
-use Rattle.model.specs.Trees.Tree.{root}
+use Rattle.model_tree.specs.Trees.Keyed.{is_key}
+use Rattle.model_tree.specs.Trees.Stamp.{filehandle_of, is_filehandle, handle_number}
+use Rattle.model_tree.specs.Trees.Tree.{root}
 
 -- PUTFH (section 18.19)
 abbrev pub PUTFH : (handle : List ℕ) → Definition

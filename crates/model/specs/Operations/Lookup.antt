@@ -1,13 +1,12 @@
 -- LOOKUP and LOOKUPP: RFC 8881, sections 18.13 and 18.14.
 use Rattle.std.specs.Prelude.{ℕ, List, [], ◌∷◌, ◌++◌, ◌==◌, not}
-use Rattle.model.specs.declared.status.Status.TheVariants as status
+use Rattle.model_tree.specs.declared.status.Status.TheVariants as status
 use Rattle.model.specs.Operations.Answer.{Answer}
 use Rattle.model.specs.Operations.Definition.{Definition, on_current, needs}
-use Rattle.model.specs.Operations.Directory.{number_named}
+use Rattle.model_tree.specs.Trees.Tree.{number_named, root, is_directory_at}
 use Rattle.model.specs.Operations.State.{current, current_refusals, named_refusals, is_name_there, answered, moved_to}
-use Rattle.model.specs.Rights.Acl.{execute}
-use Rattle.model.specs.Trees.Ancestors.{parent_of}
-use Rattle.model.specs.Trees.Tree.{root, is_directory_at}
+use Rattle.model_tree.specs.Rights.Acl.{execute}
+use Rattle.model_tree.specs.Trees.Ancestors.{parent_of}
 
 -- LOOKUP (section 18.13)
 abbrev pub LOOKUP : (name : List ℕ) → Definition

@@ -1,28 +1,28 @@
 -- OPEN and CLOSE: RFC 8881, sections 18.16 and 18.2. The order of the tests, and that a share
 -- reservation is refused, are this server's profile; so is that an open grants no right.
 use Rattle.std.specs.Prelude.{ℕ, Bool, true, false, [], ◌∷◌, ◌++◌, List, ◌==◌, ◌&&◌, ◌||◌, not, nat_lt, replicate, if◌then◌else◌, unwrap_or, Option, Some, None}
-use Rattle.model.specs.declared.acl.Ace.{Ace}
-use Rattle.model.specs.declared.acl.Cred.{Cred}
-use Rattle.model.specs.declared.node.NodeKind.TheVariants as kind
-use Rattle.model.specs.declared.status.Status.TheVariants as status
+use Rattle.model_tree.specs.declared.acl.Ace.{Ace}
+use Rattle.model_tree.specs.declared.acl.Cred.{Cred}
+use Rattle.model_tree.specs.declared.node.NodeKind.TheVariants as kind
+use Rattle.model_tree.specs.declared.status.Status.TheVariants as status
 use Rattle.model.specs.Operations.Answer.{Answer}
 use Rattle.model.specs.Attributes.Attribute.{attribute_refusals, settable_at_open, is_empty, trimmed, size_given, mode_given, acl_given}
-use Rattle.model.specs.Trees.Changes.{touch, made_edits}
+use Rattle.model_tree.specs.Trees.Changes.{touch, made_edits, acl_of}
 use Rattle.model.specs.Operations.Context.{Context, current_number, without_stateid}
 use Rattle.model.specs.Operations.Definition.{Definition, on_current, needs_nothing}
-use Rattle.model.specs.Operations.Directory.{number_named, is_named, change_of, acl_of}
-use Rattle.model.specs.Trees.Edit.{SetSize}
-use Rattle.model.specs.Rights.Acl.{meets, execute, read_data, write_data}
-use Rattle.model.specs.Rights.Inherit.{created_list}
-use Rattle.model.specs.Rights.Need.{Right, here, right_if}
-use Rattle.model.specs.Trees.Keyed.{at}
-use Rattle.model.specs.Trees.Limits.{Limits}
+use Rattle.model.specs.Operations.Directory.{change_of}
+use Rattle.model_tree.specs.Trees.Tree.{number_named, is_named, Tree, Node, File, is_directory_at}
+use Rattle.model_tree.specs.Trees.Edit.{SetSize}
+use Rattle.model_tree.specs.Rights.Acl.{meets, execute, read_data, write_data}
+use Rattle.model_tree.specs.Rights.Inherit.{created_list}
+use Rattle.model.specs.Operations.Need.{Right, here, right_if}
+use Rattle.model_tree.specs.Trees.Keyed.{at}
+use Rattle.model_tree.specs.declared.limits.Limits.{Limits}
 use Rattle.model.specs.Sessions.Opens.{Open, Opens}
 use Rattle.model.specs.Operations.Operation.{Attributes, ChangeInfo, OpenArguments, OpenType, NoCreate, Unchecked, Guarded, ByName, ByHandle, OtherClaim, Opening, Opens as Opening_of, Exclusive, StateId, CloseArguments}
-use Rattle.model.specs.Operations.Refusal.{Refusals}
+use Rattle.model_tree.specs.Refusals.Refusal.{Refusals}
 use Rattle.model.specs.Operations.State.{State, Stepped, current, stamp_of, current_refusals, named_refusals, is_name_there, answered, changed, change_to}
 use Rattle.model.specs.Sessions.StateIds.{read_access, write_access, Found, Anonymous, Refused, Names, found, close_refusals, new_open, opened, Opened, is_table_full, without_open, open_stateid, closed_state}
-use Rattle.model.specs.Trees.Tree.{Tree, Node, File, is_directory_at}
 
 -- What an opening asks
 

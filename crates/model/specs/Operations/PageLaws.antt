@@ -1,7 +1,7 @@
 -- What a page of READDIR is: RFC 8881, section 18.23.
 use Rattle.std.specs.Prelude.{ℕ, Bool, ◌≡◌, ◌≤◌, ◌<◌, List, [], ◌∷◌, ◌++◌, min, length}
 use Rattle.model.specs.Operations.Answer.{Entry}
-use Rattle.model.specs.Trees.Limits.{Limits}
+use Rattle.model_tree.specs.declared.limits.Limits.{Limits}
 use Rattle.model.specs.Operations.Operation.{ReadDirArguments}
 use Rattle.model.specs.Operations.ReadDir.{all_entries, page}
 use Rattle.model.specs.Operations.State.{State}

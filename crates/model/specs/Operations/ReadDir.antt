@@ -1,22 +1,22 @@
 -- READDIR: RFC 8881, section 18.23. A cookie is an entry's stamp; which entries fit is this
 -- server's profile, and so is that dircount is not looked at.
 use Rattle.std.specs.Prelude.{ℕ, Bool, false, List, [], ◌∷◌, ◌++◌, ◌-◌, ◌+◌, ◌==◌, ◌&&◌, not, nat_lt, nat_le, length, map, filter, min, replicate, if◌then◌else◌, bytes_eq, Option, Some, None}
-use Rattle.model.specs.declared.acl.Cred.{Cred}
-use Rattle.model.specs.declared.status.Status.TheVariants as status
-use Rattle.model.specs.Rights.Acl.{granted, read_data, read_acl}
-use Rattle.model.specs.Rights.Need.{Right}
+use Rattle.model_tree.specs.declared.acl.Cred.{Cred}
+use Rattle.model_tree.specs.declared.status.Status.TheVariants as status
+use Rattle.model_tree.specs.Rights.Acl.{granted, read_data, read_acl}
+use Rattle.model.specs.Operations.Need.{Right}
 use Rattle.model.specs.Operations.Context.{Context, current_number}
 use Rattle.model.specs.Operations.Definition.{Definition, on_current, needs}
 use Rattle.model.specs.Operations.Answer.{Answer, Entry, ReadDirAnswer}
 use Rattle.model.specs.Attributes.Attribute.{attributes_of, is_among}
-use Rattle.model.specs.Trees.Keyed.{Keyed, at}
-use Rattle.model.specs.Trees.Limits.{Limits}
+use Rattle.model_tree.specs.Trees.Keyed.{Keyed, at}
+use Rattle.model_tree.specs.declared.limits.Limits.{Limits}
 use Rattle.model.specs.Attributes.NodeAttributes.{unreadable}
 use Rattle.model.specs.Operations.Operation.{Attributes, ReadDirArguments}
-use Rattle.model.specs.Operations.Refusal.{Refusals}
+use Rattle.model_tree.specs.Refusals.Refusal.{Refusals}
 use Rattle.model.specs.Operations.SetAttr.{attributes_at, asks_lists}
 use Rattle.model.specs.Operations.State.{State, current, current_refusals, answered}
-use Rattle.model.specs.Trees.Tree.{Tree, Node, DirEntry, names_at, is_directory_at}
+use Rattle.model_tree.specs.Trees.Tree.{Tree, Node, DirEntry, names_at, is_directory_at}
 use Rattle.model.specs.Wire.WireAnswers as answers
 
 -- rdattr_error tells of an entry that its attributes may not be read

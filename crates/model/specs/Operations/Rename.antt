@@ -1,22 +1,22 @@
 -- REMOVE and RENAME: RFC 8881, sections 18.25 and 18.26. The order of their tests is this server's
 -- profile.
 use Rattle.std.specs.Prelude.{ℕ, Bool, true, false, [], ◌∷◌, ◌++◌, List, ◌&&◌, ◌||◌, not, nat_lt, length, if◌then◌else◌}
-use Rattle.model.specs.declared.status.Status.TheVariants as status
-use Rattle.model.specs.Trees.Ancestors.{is_below}
+use Rattle.model_tree.specs.declared.status.Status.TheVariants as status
+use Rattle.model_tree.specs.Trees.Ancestors.{is_below}
 use Rattle.model.specs.Operations.Answer.{Answer}
-use Rattle.model.specs.Trees.Changes.{removed_edits, renamed_edits}
+use Rattle.model_tree.specs.Trees.Changes.{removed_edits, renamed_edits}
 use Rattle.model.specs.Operations.Context.{Context, current_number, saved_number, has_saved, is_same_name}
 use Rattle.model.specs.Operations.Definition.{Definition, on_current}
-use Rattle.model.specs.Operations.Directory.{number_named, is_named, change_of}
-use Rattle.model.specs.Trees.Keyed.{at, is_key}
-use Rattle.model.specs.Trees.Limits.{Limits}
-use Rattle.model.specs.Attributes.Name.{name_refusals}
+use Rattle.model.specs.Operations.Directory.{change_of}
+use Rattle.model_tree.specs.Trees.Tree.{number_named, is_named, Tree, names_at, is_directory_at}
+use Rattle.model_tree.specs.Trees.Keyed.{at, is_key}
+use Rattle.model_tree.specs.declared.limits.Limits.{Limits}
+use Rattle.model_tree.specs.Refusals.Name.{name_refusals}
 use Rattle.model.specs.Operations.Operation.{RenameArguments}
-use Rattle.model.specs.Operations.Refusal.{Refusals}
+use Rattle.model_tree.specs.Refusals.Refusal.{Refusals}
 use Rattle.model.specs.Operations.State.{State, Stepped, current, saved, stamp_of, current_refusals, named_refusals, is_name_there, answered, changed, change_to, without_opens}
-use Rattle.model.specs.Rights.Acl.{append_data, write_data, delete, delete_child}
-use Rattle.model.specs.Rights.Need.{Right}
-use Rattle.model.specs.Trees.Tree.{Tree, names_at, is_directory_at}
+use Rattle.model_tree.specs.Rights.Acl.{append_data, write_data, delete, delete_child}
+use Rattle.model.specs.Operations.Need.{Right}
 
 -- Tests before the caller's rights
 

@@ -1,27 +1,27 @@
 -- SETATTR and GETATTR: RFC 8881, sections 18.30 and 18.7. A list that is set with a mode stands;
 -- the order of the tests is this server's profile.
 use Rattle.std.specs.Prelude.{ℕ, Bool, true, false, [], ◌∷◌, ◌++◌, List, not, ◌||◌, Option, Some, None, unwrap_or, if◌then◌else◌, is_some}
-use Rattle.model.specs.declared.acl.Ace.{Ace}
-use Rattle.model.specs.declared.node.NodeKind.{NodeKind}
-use Rattle.model.specs.declared.node.NodeKind.TheVariants as kind
-use Rattle.model.specs.declared.status.Status.TheVariants as status
+use Rattle.model_tree.specs.declared.acl.Ace.{Ace}
+use Rattle.model_tree.specs.declared.node.NodeKind.{NodeKind}
+use Rattle.model_tree.specs.declared.node.NodeKind.TheVariants as kind
+use Rattle.model_tree.specs.declared.status.Status.TheVariants as status
 use Rattle.model.specs.Operations.Answer.{Answer}
 use Rattle.model.specs.Attributes.Attribute.{attributes_of, is_among, size_number, acl_number, mode_number, owner_number, owner_group_number, attribute_refusals, settable_at_setattr, is_empty, trimmed, size_given, acl_given, mode_given, owner_given, group_given}
-use Rattle.model.specs.Trees.Changes.{touched}
-use Rattle.model.specs.Trees.Edit.{Shown, Edit, Show, SetSize}
-use Rattle.model.specs.Trees.Keyed.{at}
-use Rattle.model.specs.Trees.Limits.{Limits}
-use Rattle.model.specs.Rights.Acl.{read_acl, write_data, write_acl, write_owner}
-use Rattle.model.specs.Rights.Mode.{moded}
-use Rattle.model.specs.Rights.Need.{Right, right_if}
+use Rattle.model_tree.specs.Trees.Changes.{touched}
+use Rattle.model_tree.specs.Trees.Edit.{Shown, Edit, Show, SetSize}
+use Rattle.model_tree.specs.Trees.Keyed.{at}
+use Rattle.model_tree.specs.declared.limits.Limits.{Limits}
+use Rattle.model_tree.specs.Rights.Acl.{read_acl, write_data, write_acl, write_owner}
+use Rattle.model_tree.specs.Rights.Mode.{moded}
+use Rattle.model.specs.Operations.Need.{Right, right_if}
 use Rattle.model.specs.Attributes.NodeAttributes.{node_attributes}
 use Rattle.model.specs.Operations.Context.{Context, current_number}
 use Rattle.model.specs.Operations.Definition.{Definition, on_current}
 use Rattle.model.specs.Operations.Operation.{Attributes, SetAttrArguments}
-use Rattle.model.specs.Operations.Refusal.{Refusals}
+use Rattle.model_tree.specs.Refusals.Refusal.{Refusals}
 use Rattle.model.specs.Operations.State.{State, Stepped, current, stamp_of, current_refusals, answered, changed}
 use Rattle.model.specs.Sessions.StateIds.{state_refusals, write_access}
-use Rattle.model.specs.Trees.Tree.{Tree, Node, kind_of, is_directory_at}
+use Rattle.model_tree.specs.Trees.Tree.{Tree, Node, kind_of, is_directory_at}
 
 abbrev pub kind_at : Tree → (number : ℕ) → NodeKind
 kind_at tree number = if is_directory_at tree number then kind.Directory else kind.File

@@ -1,20 +1,20 @@
 -- What an operation of a COMPOUND works on and leaves: RFC 8881, section 16.2.3.1.
 use Rattle.std.specs.Prelude.{ℕ, Bool, true, [], ◌∷◌, List, ◌+◌, not}
-use Rattle.model.specs.declared.status.Status.{Status}
-use Rattle.model.specs.declared.status.Status.TheVariants as status
+use Rattle.model_tree.specs.declared.status.Status.{Status}
+use Rattle.model_tree.specs.declared.status.Status.TheVariants as status
 use Rattle.model.specs.Operations.Answer.{Answer, Outcome}
 use Rattle.model.specs.Operations.Context.{Context, has_current, current_number, saved_number, at_node}
-use Rattle.model.specs.Operations.Directory.{is_named, change_of}
-use Rattle.model.specs.Trees.Edit.{Edit, edited}
-use Rattle.model.specs.Trees.Keyed.{at, is_key}
-use Rattle.model.specs.Trees.Limits.{Limits}
-use Rattle.model.specs.Attributes.Name.{name_refusals}
+use Rattle.model.specs.Operations.Directory.{change_of}
+use Rattle.model_tree.specs.Trees.Tree.{is_named, Tree, is_directory_at}
+use Rattle.model_tree.specs.Trees.Edit.{Edit, edited}
+use Rattle.model_tree.specs.Trees.Keyed.{at, is_key}
+use Rattle.model_tree.specs.declared.limits.Limits.{Limits}
+use Rattle.model_tree.specs.Refusals.Name.{name_refusals}
 use Rattle.model.specs.Sessions.Opens.{Opens}
 use Rattle.model.specs.Operations.Operation.{Argument, ChangeInfo, operation_of}
-use Rattle.model.specs.Operations.Refusal.{Refusals}
-use Rattle.model.specs.Trees.Stamp.{next_stamp}
+use Rattle.model_tree.specs.Refusals.Refusal.{Refusals}
+use Rattle.model_tree.specs.Trees.Stamp.{next_stamp}
 use Rattle.model.specs.Sessions.StateIds.{without_number}
-use Rattle.model.specs.Trees.Tree.{Tree, is_directory_at}
 
 -- What an operation works on: the tree, how many changes this run had, the opens, and the
 -- COMPOUND's context

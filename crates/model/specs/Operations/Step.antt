@@ -3,8 +3,8 @@
 -- profile: what an operation looks at before the caller's rights, the rights, what it looks at
 -- after them, room on the volume, and whether a stamp is left.
 use Rattle.std.specs.Prelude.{ℕ, Bool, List, [], ◌∷◌, ◌++◌, Option, Some, None, ◌&&◌, not}
-use Rattle.model.specs.declared.status.Status.{Status}
-use Rattle.model.specs.declared.status.Status.TheVariants as status
+use Rattle.model_tree.specs.declared.status.Status.{Status}
+use Rattle.model_tree.specs.declared.status.Status.TheVariants as status
 use Rattle.model.specs.Operations.Access.{ACCESS}
 use Rattle.model.specs.Operations.Clients.{off_tree}
 use Rattle.model.specs.Operations.Context.{Context}
@@ -17,16 +17,16 @@ use Rattle.model.specs.Operations.Lookup.{LOOKUP, LOOKUPP}
 use Rattle.model.specs.Operations.Open.{OPEN, CLOSE}
 use Rattle.model.specs.Operations.Operation.{Argument}
 use Rattle.model.specs.Operations.ReadDir.{READDIR}
-use Rattle.model.specs.Operations.Refusal.{Refusals, first_refusal}
+use Rattle.model_tree.specs.Refusals.Refusal.{Refusals, first_refusal}
 use Rattle.model.specs.Operations.Rename.{REMOVE, RENAME}
 pub use Rattle.model.specs.Operations.Rename.{remove_refusals, rename_refusals, has_names, moved_number, target_number, late_at_rename, rename}
 use Rattle.model.specs.Operations.SetAttr.{GETATTR, SETATTR}
 pub use Rattle.model.specs.Operations.State.{State, Stepped, current, saved, stamp_of, current_refusals, named_refusals, is_name_there, answered, refused, moved_to, changed, change_to}
-use Rattle.model.specs.Rights.Need.{Right, are_granted}
-use Rattle.model.specs.Trees.Charge.{fits}
-use Rattle.model.specs.Trees.Limits.{Limits}
-use Rattle.model.specs.Trees.Stamp.{is_stamp_left}
-use Rattle.model.specs.Trees.Tree.{Tree}
+use Rattle.model.specs.Operations.Need.{Right, are_granted}
+use Rattle.model_tree.specs.Trees.Charge.{fits}
+use Rattle.model_tree.specs.declared.limits.Limits.{Limits}
+use Rattle.model_tree.specs.Trees.Stamp.{is_stamp_left}
+use Rattle.model_tree.specs.Trees.Tree.{Tree}
 
 abbrev pub definition_of : Argument → Definition
 definition_of (Argument.Access rights) = ACCESS rights

@@ -1,13 +1,13 @@
 -- What holds of every operation, whatever the tree and whoever asks.
 use Rattle.std.specs.Prelude.{ℕ, ◌≡◌, ◌≢◌, ◌+◌, ◌^◌, ◌<◌, ◌≤◌, IsTrue, IsFalse}
-use Rattle.model.specs.declared.status.Status.{Status}
+use Rattle.model_tree.specs.declared.status.Status.{Status}
 use Rattle.model.specs.Operations.Answer.{Answer, Outcome}
-use Rattle.model.specs.Trees.Changes.{IsStamped}
-use Rattle.model.specs.Trees.Fresh.{fresh_tree}
-use Rattle.model.specs.Trees.Limits.{Limits}
+use Rattle.model_tree.specs.Trees.Changes.{IsStamped}
+use Rattle.model_tree.specs.Trees.Fresh.{fresh_tree}
+use Rattle.model_tree.specs.declared.limits.Limits.{Limits}
 use Rattle.model.specs.Operations.Operation.{Argument}
 use Rattle.model.specs.Operations.Step.{State, Stepped, alters, stamp_of, does, permitted}
-use Rattle.model.specs.Trees.WellFormed.{IsWellFormed, IsBefore}
+use Rattle.model_tree.specs.Trees.WellFormed.{IsWellFormed, IsBefore}
 
 -- the tree is well formed, all its stamps are from before the next one, each change had one, and
 -- the limits leave a mode its five entries

@@ -2,10 +2,10 @@
 -- answered OK, a reading as well as a change, was permitted to its caller by the lists of the tree
 -- that it was answered from.
 use Rattle.std.specs.Prelude.{ℕ, ◌≡◌, Some, slice_get, IsTrue}
-use Rattle.model.specs.Sessions.Seats.{Seats}
+use Rattle.model_tree.specs.Seats.Seats.{Seats}
 use Rattle.model.specs.Operations.Step.{permitted}
 use Rattle.model.specs.Server.Runs.{Event, Serving, RunHistory, IsRun, mounted, executed, done_with, is_done}
-use Rattle.model.specs.Trees.Tree.{Tree}
+use Rattle.model_tree.specs.Trees.Tree.{Tree}
 use Rattle.model.specs.Server.World.{ServerLimits, Entry}
 
 abbrev pub IsPermittedAnswer : Entry → Type 0

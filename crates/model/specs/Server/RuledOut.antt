@@ -1,16 +1,16 @@
 -- Servers that these definitions rule out, each by one law.
 use Rattle.std.specs.Prelude.{◌≡◌, ◌≢◌, ℕ, zero, suc, ◌+◌, ◌<◌, true, false, List, [], ◌∷◌, ◌++◌, length, take, slice_get, find, Option, None, Some, ◌⊎◌}
 use Rattle.std.specs.List.{IsAmong}
-use Rattle.model.specs.Sessions.Seats.{Seats}
-use Rattle.model.specs.Trees.Keyed.{at}
+use Rattle.model_tree.specs.Seats.Seats.{Seats}
+use Rattle.model_tree.specs.Trees.Keyed.{at}
 use Rattle.model.specs.Operations.Answer.{Answer, Outcome}
 use Rattle.model.specs.Operations.Operation.{Argument, SequenceArguments}
 use Rattle.model.specs.Wire.Record.{framed}
 use Rattle.model.specs.Wire.Rpc as rpc
 use Rattle.model.specs.Wire.Rpc.{CallRead, NoCall, OtherVersion, Calls, Request, Answers, read_call, request_of, reply_text, Success}
 use Rattle.model.specs.Sessions.Session.{Table, Session, Kept, Runs, Replays, begin, finish, is_session, slot_at, next_number}
-use Rattle.model.specs.Trees.Tree.{Tree}
-use Rattle.model.specs.declared.status.Status.{Status}
+use Rattle.model_tree.specs.Trees.Tree.{Tree}
+use Rattle.model_tree.specs.declared.status.Status.{Status}
 use Rattle.model.specs.Server.World.{World, ServerLimits, Entry, InProgress, in_progress, Connection, Waiting, Busy, Replied, Next, Refuses, Reads, next_operation, state_of, outcome_text, status_of, Turned, one, ends, reply_with, hangs_up, hung_up, is_busy}
 use Rattle.model.specs.Server.Runs.{Event, Turns, HangsUp, effect_of, before, IsDurable, is_durable, is_done, RunHistory, Serving, mounted, executed, MayLeave, Happens, IsRun, IsGoodPrefix, done_with, tree_after}
 

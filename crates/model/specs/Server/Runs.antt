@@ -5,13 +5,13 @@
 use Rattle.std.specs.Prelude.{◌≡◌, ◌≢◌, ℕ, ◌+◌, ◌<◌, ◌≤◌, ◌⊎◌, Bool, true, false, not, ◌&&◌, ◌||◌, ◌==◌, List, [], ◌∷◌, ◌++◌, length, take, find, slice_get, option_to_list, Option, None, Some, if◌then◌else◌, bytes_eq}
 use Rattle.std.specs.List.{IsAmong}
 use Rattle.model.specs.Operations.Answer.{Outcome}
-use Rattle.model.specs.Trees.Keyed.{at}
+use Rattle.model_tree.specs.Trees.Keyed.{at}
 use Rattle.model.specs.Operations.Operation.{Argument}
-use Rattle.model.specs.Sessions.Seats.{HeldReply, Seats, has_seat}
+use Rattle.model_tree.specs.Seats.Seats.{HeldReply, Seats, has_seat}
 use Rattle.model.specs.Sessions.Session.{Slot, SlotState, Free, Running, Kept, Session, Table, is_session, slot_at, held_reply}
-use Rattle.model.specs.Trees.Stamp.{stamp, next_stamp}
+use Rattle.model_tree.specs.Trees.Stamp.{stamp, next_stamp}
 use Rattle.model.specs.Operations.Step.{alters, permitted}
-use Rattle.model.specs.Trees.Tree.{Tree}
+use Rattle.model_tree.specs.Trees.Tree.{Tree}
 use Rattle.model.specs.Server.World.{World, ServerLimits, mounted_world, Entry, Turned, Turn, Idle, Ran, Answered, one, arrives, takes, connects, hangs_up, reply_at, is_busy}
 
 -- Events

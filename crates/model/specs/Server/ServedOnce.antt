@@ -1,11 +1,11 @@
 -- Exactly once, over every run of the whole server: RFC 8881, section 2.10.6.1. The numbers that a
 -- slot of a session ran are those of the SEQUENCE operations that were answered OK, in their order.
 use Rattle.std.specs.Prelude.{ℕ, ◌&&◌, ◌==◌, List, [], ◌∷◌, ◌++◌, Option, None, Some, option_to_list, if◌then◌else◌, bytes_eq}
-use Rattle.model.specs.Sessions.Seats.{Seats}
+use Rattle.model_tree.specs.Seats.Seats.{Seats}
 use Rattle.model.specs.Operations.Answer.{Outcome}
 use Rattle.model.specs.Operations.Operation.{Argument, SequenceArguments}
 use Rattle.model.specs.Sessions.SessionRuns.{CountsFrom, OthersBetween}
-use Rattle.model.specs.Trees.Tree.{Tree}
+use Rattle.model_tree.specs.Trees.Tree.{Tree}
 use Rattle.model.specs.Server.World.{ServerLimits, Entry}
 use Rattle.model.specs.Server.Runs.{RunHistory, Serving, mounted, IsRun}
 

@@ -1,11 +1,11 @@
 -- Over every run: each change gives the next stamp of its own run to all that it makes or alters,
 -- whether a crash takes it away or not (RFC 8881, section 5.8.1.4).
 use Rattle.std.specs.Prelude.{ℕ, ◌≡◌, ◌≢◌, ◌≤◌, ◌+◌, List, Some, slice_get}
-use Rattle.model.specs.Trees.Changes.{IsStamped}
+use Rattle.model_tree.specs.Trees.Changes.{IsStamped}
 use Rattle.model.specs.Server.Runs.{Event, Serving, RunHistory, IsRun, mounted, executed, done_with, before, stamp_in}
 use Rattle.model.specs.Server.SoundRuns.{IsStart}
-use Rattle.model.specs.Sessions.Seats.{Seats}
-use Rattle.model.specs.Trees.Tree.{Tree}
+use Rattle.model_tree.specs.Seats.Seats.{Seats}
+use Rattle.model_tree.specs.Trees.Tree.{Tree}
 use Rattle.model.specs.Server.World.{ServerLimits, Entry}
 
 -- an operation is of this run, and where it changes the tree what it leaves is the old tree's or

@@ -2,13 +2,13 @@
 -- server's profile.
 use Rattle.std.specs.Prelude.{◌≡◌, ◌≤◌, ℕ, ◌-◌, Bool, true, IsTrue, List, Option, Some, None, length, nat_le}
 use Rattle.std.specs.List.{list_all}
-use Rattle.model.specs.Sessions.Seats.{Seats}
-use Rattle.model.specs.declared.status.Status.{Status}
-use Rattle.model.specs.declared.status.Status.TheVariants as status
-use Rattle.model.specs.Trees.Keyed.{at}
+use Rattle.model_tree.specs.Seats.Seats.{Seats}
+use Rattle.model_tree.specs.declared.status.Status.{Status}
+use Rattle.model_tree.specs.declared.status.Status.TheVariants as status
+use Rattle.model_tree.specs.Trees.Keyed.{at}
 use Rattle.model.specs.Wire.Rpc.{Success, reply_text}
 use Rattle.model.specs.Sessions.Session.{SlotState, Free, Running, Kept, Session}
-use Rattle.model.specs.Trees.Tree.{Tree}
+use Rattle.model_tree.specs.Trees.Tree.{Tree}
 use Rattle.model.specs.Server.World.{ServerLimits, InProgress, Busy, World, mounted_world, result_of, one, arrives, takes, connects, hung_up}
 
 -- the reply's record if it were made now, without the record's header

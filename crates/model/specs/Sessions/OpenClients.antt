@@ -1,12 +1,12 @@
 -- No open outlives its client: RFC 8881, sections 2.4, 8.2, 18.16, 18.35, 18.36 and 18.50.
 use Rattle.std.specs.Prelude.{ℕ, ◌≡◌, Bool, true, ◌&&◌, IsTrue, List, find, Some}
 use Rattle.std.specs.List.{list_all, list_any}
-use Rattle.model.specs.Sessions.Seats.{Seats}
-use Rattle.model.specs.Trees.Keyed.{at}
+use Rattle.model_tree.specs.Seats.Seats.{Seats}
+use Rattle.model_tree.specs.Trees.Keyed.{at}
 use Rattle.model.specs.Sessions.Opens.{Open}
 use Rattle.model.specs.Server.Runs.{Serving, RunHistory, IsRun, mounted}
 use Rattle.model.specs.Sessions.Session.{Client, Session, Table, is_client, is_session}
-use Rattle.model.specs.Trees.Tree.{Tree}
+use Rattle.model_tree.specs.Trees.Tree.{Tree}
 use Rattle.model.specs.Server.World.{ServerLimits, World, InProgress, Busy}
 
 -- the client of this id has a record, and it is confirmed

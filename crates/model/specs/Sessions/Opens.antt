@@ -1,6 +1,6 @@
 -- The opens of a run, by their serials: RFC 8881, sections 8.2 (stateids) and 18.16 (OPEN).
 use Rattle.std.specs.Prelude.{ℕ, List, []}
-use Rattle.model.specs.Trees.Keyed.{Keyed}
+use Rattle.model_tree.specs.Trees.Keyed.{Keyed}
 
 pub record Open : Type 0 where
   pub client : ℕ

@@ -1,16 +1,16 @@
 -- The opens of a run, as every operation on the tree keeps them: RFC 8881, sections 8.2 (stateids)
 -- and 18.16 (OPEN).
 use Rattle.std.specs.Prelude.{ℕ, ◌+◌, ◌≡◌, ◌≤◌, Some, IsTrue, IsFalse, length}
-use Rattle.model.specs.Sessions.Seats.{Seats}
-use Rattle.model.specs.Trees.Keyed.{at, is_key, IsAbove}
-use Rattle.model.specs.Trees.Limits.{Limits}
+use Rattle.model_tree.specs.Seats.Seats.{Seats}
+use Rattle.model_tree.specs.Trees.Keyed.{at, is_key, IsAbove}
+use Rattle.model_tree.specs.declared.limits.Limits.{Limits}
 use Rattle.model.specs.Sessions.Opens.{Opens, Open}
 use Rattle.model.specs.Operations.Operation.{Argument}
 use Rattle.model.specs.Operations.Step.{State, does}
 use Rattle.model.specs.Server.Runs.{Serving, RunHistory, IsRun, mounted}
 use Rattle.model.specs.Server.SoundRuns.{IsStart}
 use Rattle.model.specs.Operations.StepLaws.{IsSound}
-use Rattle.model.specs.Trees.Tree.{Tree, is_directory_at}
+use Rattle.model_tree.specs.Trees.Tree.{Tree, is_directory_at}
 use Rattle.model.specs.Server.World.{ServerLimits}
 
 pub record AreOpens (limits : Limits) (tree : Tree) (opens : Opens) : Type 0 where

@@ -2,19 +2,19 @@
 -- 2.10.6.5. What a seat holds outlives a crash, and a session of an earlier run runs nothing.
 use Rattle.std.specs.Prelude.{◌≡◌, ◌≢◌, ◌↔◌, ◌≤◌, ◌<◌, ◌^◌, ◌⊎◌, ℕ, Bool, true, false, List, [], ◌∷◌, ◌++◌, slice_get, option_to_list, find, Option, None, Some, if◌then◌else◌}
 use Rattle.std.specs.List.{IsAmong}
-use Rattle.model.specs.declared.status.Status.{Status}
-use Rattle.model.specs.declared.status.Status.TheVariants as status
+use Rattle.model_tree.specs.declared.status.Status.{Status}
+use Rattle.model_tree.specs.declared.status.Status.TheVariants as status
 use Rattle.model.specs.Operations.Answer.{Answer, Outcome, CreateSessionAnswer}
-use Rattle.model.specs.Trees.Keyed.{at}
+use Rattle.model_tree.specs.Trees.Keyed.{at}
 use Rattle.model.specs.Operations.Operation.{Argument, CreateSessionArguments, SequenceArguments}
 use Rattle.model.specs.Wire.Record.{framed}
 use Rattle.model.specs.Wire.Rpc.{Success, reply_text}
 use Rattle.model.specs.Server.Runs.{Event, effect_of, executed_of, is_done, Stored, RunHistory, Serving, mounted, executed, done_with, stored_by, stored_of, freed_of, MayHoldSeats, IsRun}
-use Rattle.model.specs.Sessions.Seats.{HeldReply, Seat, Seats, SeatsApart, run_of, seat_of, has_seat, held_at}
+use Rattle.model_tree.specs.Seats.Seats.{HeldReply, Seat, Seats, SeatsApart, run_of, seat_of, has_seat, held_at}
 use Rattle.model.specs.Server.ServedOnce.{numbers_in}
 use Rattle.model.specs.Sessions.Session.{Client, Table, is_client, gives_way, begin, Refuses, Replays, Runs}
 use Rattle.model.specs.Sessions.SessionRuns.{CountsFrom, OthersBetween}
-use Rattle.model.specs.Trees.Tree.{Tree}
+use Rattle.model_tree.specs.Trees.Tree.{Tree}
 use Rattle.model.specs.Server.World.{ServerLimits, InProgress, Entry, Connection, Turned, Busy, one, reply_at}
 
 -- seats that a run may begin with: of sessions of earlier runs

@@ -4,12 +4,12 @@
 use Rattle.std.specs.Prelude.{ℕ, ◌+◌, ◌-◌, ◌*◌, ◌%◌, ◌^◌, Bool, true, false, not, ◌&&◌, ◌||◌, if◌then◌else◌, ◌==◌, nat_lt, nat_le, List, [], ◌∷◌, ◌++◌, map, filter, length, replicate, slice_index_or, slice_set, find, Option, None, Some, Result, Ok, Err, min, bit_or, codes, bytes_eq}
 use Rattle.std.specs.List.{list_any}
 use Rattle.std.specs.Int.{w64, to_be_bytes}
-use Rattle.model.specs.declared.status.Status.{Status}
-use Rattle.model.specs.declared.status.Status.TheVariants as status
-use Rattle.model.specs.Operations.Refusal.{Refusals, first_refusal}
+use Rattle.model_tree.specs.declared.status.Status.{Status}
+use Rattle.model_tree.specs.declared.status.Status.TheVariants as status
+use Rattle.model_tree.specs.Refusals.Refusal.{Refusals, first_refusal}
 use Rattle.model.specs.Operations.Operation.{Channel, ExchangeIdArguments, CreateSessionArguments, SequenceArguments}
 use Rattle.model.specs.Operations.Answer.{ExchangeIdAnswer, CreateSessionAnswer, SequenceAnswer}
-use Rattle.model.specs.Sessions.Seats.{HeldReply, Seat, Seats, no_seats, is_seat_of, seat_of, has_seat, freed, has_free, seated, holding}
+use Rattle.model_tree.specs.Seats.Seats.{HeldReply, Seat, Seats, no_seats, is_seat_of, seat_of, has_seat, freed, has_free, seated, holding}
 
 -- The state
 

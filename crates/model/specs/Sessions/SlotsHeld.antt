@@ -1,11 +1,11 @@
 -- A slot runs exactly where one connection is busy on it: RFC 8881, section 2.10.6.1.
 use Rattle.std.specs.Prelude.{ℕ, ◌≡◌, Bool, true, false, ◌&&◌, List, Option, Some, None}
 use Rattle.std.specs.List.{list_any}
-use Rattle.model.specs.Sessions.Seats.{Seats}
-use Rattle.model.specs.Trees.Keyed.{at}
+use Rattle.model_tree.specs.Seats.Seats.{Seats}
+use Rattle.model_tree.specs.Trees.Keyed.{at}
 use Rattle.model.specs.Server.Runs.{Serving, RunHistory, IsRun, mounted, is_slot}
 use Rattle.model.specs.Sessions.Session.{Session, Table, is_session, is_running_state, slot_at}
-use Rattle.model.specs.Trees.Tree.{Tree}
+use Rattle.model_tree.specs.Trees.Tree.{Tree}
 use Rattle.model.specs.Server.World.{ServerLimits, World, Connection, Busy}
 
 -- the slot of this place runs a request, in a session of this id

@@ -1,11 +1,11 @@
 -- What a stateid that OPEN answered means at each later moment of its run, and in every other run:
 -- RFC 8881, sections 8.2.2 to 8.2.4, 18.2 (CLOSE) and 18.16 (OPEN).
 use Rattle.std.specs.Prelude.{ℕ, ◌+◌, ◌^◌, ◌≡◌, ◌≢◌, ◌<◌, ◌⊎◌, false, true, List, [], ◌∷◌, ◌++◌, length, Option, Some, None, option_to_list, if◌then◌else◌, bytes_eq}
-use Rattle.model.specs.Sessions.Seats.{Seats}
-use Rattle.model.specs.declared.status.Status.TheVariants as status
+use Rattle.model_tree.specs.Seats.Seats.{Seats}
+use Rattle.model_tree.specs.declared.status.Status.TheVariants as status
 use Rattle.model.specs.Operations.Answer.{Answer, Outcome, OpenAnswer}
 use Rattle.model.specs.Operations.Context.{current_number}
-use Rattle.model.specs.Trees.Keyed.{at}
+use Rattle.model_tree.specs.Trees.Keyed.{at}
 use Rattle.model.specs.Operations.Open.{asked_open}
 use Rattle.model.specs.Sessions.Opens.{Open}
 use Rattle.model.specs.Operations.Operation.{Argument, OpenArguments, StateId}
@@ -13,7 +13,7 @@ use Rattle.model.specs.Server.Runs.{Event, Serving, RunHistory, IsRun, Happens, 
 use Rattle.model.specs.Sessions.StateIdLaws.{IsOwn, IsGiven}
 use Rattle.model.specs.Sessions.StateIds.{Refused, Names, by_seqid, found, is_like, upgraded, open_stateid}
 use Rattle.model.specs.Operations.Step.{State}
-use Rattle.model.specs.Trees.Tree.{Tree}
+use Rattle.model_tree.specs.Trees.Tree.{Tree}
 use Rattle.model.specs.Server.World.{ServerLimits, Entry}
 
 -- The open of a stateid

@@ -4,13 +4,13 @@
 use Rattle.std.specs.Prelude.{ℕ, ◌+◌, ◌-◌, ◌^◌, Bool, true, not, ◌&&◌, ◌||◌, ◌==◌, nat_lt, nat_le, List, [], ◌∷◌, ◌++◌, length, take, drop, replicate, find, filter, Option, None, Some, option_and_then, is_none, if◌then◌else◌, bit_or, bit_and, bytes_eq}
 use Rattle.std.specs.List.{list_any}
 use Rattle.std.specs.Int.{w32, w64, to_be_bytes, from_be_bytes}
-use Rattle.model.specs.declared.status.Status.{Status}
-use Rattle.model.specs.declared.status.Status.TheVariants as status
+use Rattle.model_tree.specs.declared.status.Status.{Status}
+use Rattle.model_tree.specs.declared.status.Status.TheVariants as status
 use Rattle.model.specs.Operations.Context.{Context, Place, current_number}
-use Rattle.model.specs.Trees.Keyed.{at, with, without}
+use Rattle.model_tree.specs.Trees.Keyed.{at, with, without}
 use Rattle.model.specs.Sessions.Opens.{Opens, Open}
 use Rattle.model.specs.Operations.Operation.{StateId}
-use Rattle.model.specs.Operations.Refusal.{Refusals}
+use Rattle.model_tree.specs.Refusals.Refusal.{Refusals}
 
 -- OPEN4_SHARE_ACCESS_READ and OPEN4_SHARE_ACCESS_WRITE, bits of an open's access
 abbrev pub read_access : ℕ

@@ -3,15 +3,15 @@
 use Rattle.std.specs.Prelude.{◌≡◌, ℕ, ◌-◌, ◌^◌, List, [], ◌∷◌, ◌++◌, flat_map, length, Some}
 use Rattle.xdr.specs.Grammar.{Grammar, ◌&◌, unsigned_int}
 use Rattle.xdr.specs.Forms.{opaque, array}
-use Rattle.model.specs.Sessions.Seats.{Seats}
-use Rattle.model.specs.declared.acl.Cred.{Cred}
-use Rattle.model.specs.declared.status.Status.{Status}
+use Rattle.model_tree.specs.Seats.Seats.{Seats}
+use Rattle.model_tree.specs.declared.acl.Cred.{Cred}
+use Rattle.model_tree.specs.declared.status.Status.{Status}
 use Rattle.model.specs.Operations.Answer.{Outcome}
-use Rattle.model.specs.Trees.Keyed.{at}
+use Rattle.model_tree.specs.Trees.Keyed.{at}
 use Rattle.model.specs.Wire.Rpc.{Compound, tag_limit}
 use Rattle.model.specs.Server.Runs.{Serving, RunHistory, IsRun, mounted}
-use Rattle.model.specs.Operations.Status.{code_of}
-use Rattle.model.specs.Trees.Tree.{Tree}
+use Rattle.model_tree.specs.Refusals.Status.{code_of}
+use Rattle.model_tree.specs.Trees.Tree.{Tree}
 use Rattle.model.specs.Wire.WireAnswers.{outcome}
 use Rattle.model.specs.Server.World.{ServerLimits, World, InProgress, Busy, in_progress, outcome_text, result_of, with_result}
 

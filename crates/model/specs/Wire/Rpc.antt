@@ -5,10 +5,10 @@ use Rattle.std.specs.Int.{w32}
 use Rattle.xdr.specs.declared.refusal.Refusal.{Refusal}
 use Rattle.xdr.specs.Grammar.{Grammar, ◌&◌, number, unsigned_int}
 use Rattle.xdr.specs.Forms.{opaque, counted}
-use Rattle.model.specs.declared.acl.Cred.{Cred}
-use Rattle.model.specs.declared.status.Status.{Status}
-use Rattle.model.specs.declared.status.Status.TheVariants as status
-use Rattle.model.specs.Operations.Status.{code_of}
+use Rattle.model_tree.specs.declared.acl.Cred.{Cred}
+use Rattle.model_tree.specs.declared.status.Status.{Status}
+use Rattle.model_tree.specs.declared.status.Status.TheVariants as status
+use Rattle.model_tree.specs.Refusals.Status.{code_of}
 use Rattle.model.specs.Operations.Operation.{SystemCredential}
 use Rattle.model.specs.Wire.WireTypes.{system_credential}
 

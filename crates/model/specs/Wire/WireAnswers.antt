@@ -7,9 +7,9 @@ use Rattle.xdr.specs.declared.refusal.Refusal.TheVariants.{Value}
 use Rattle.xdr.specs.Grammar.{Grammar, ◌>>=◌, ◌&◌, of, void, number, number_at, unsigned_int, unsigned_hyper}
 use Rattle.xdr.specs.Forms.{always, boolean, chain, trimmed_bitmap}
 use Rattle.xdr.specs.Union.{Told, tells, Choice, made, on, no_other, union}
-use Rattle.model.specs.declared.status.Status.{Status}
-use Rattle.model.specs.declared.status.Status.TheVariants as status
-use Rattle.model.specs.Operations.Status.{code_of}
+use Rattle.model_tree.specs.declared.status.Status.{Status}
+use Rattle.model_tree.specs.declared.status.Status.TheVariants as status
+use Rattle.model_tree.specs.Refusals.Status.{code_of}
 use Rattle.model.specs.Operations.Operation.{StateId, Attributes, ChangeInfo, Channel}
 use Rattle.model.specs.Operations.OperationNumber.{OP_ACCESS, OP_CLOSE, OP_COMMIT, OP_CREATE, OP_GETATTR, OP_GETFH, OP_LOOKUP, OP_LOOKUPP, OP_OPEN, OP_PUTFH, OP_PUTROOTFH, OP_READ, OP_READDIR, OP_REMOVE, OP_RENAME, OP_RESTOREFH, OP_SAVEFH, OP_SETATTR, OP_WRITE, OP_EXCHANGE_ID, OP_CREATE_SESSION, OP_DESTROY_SESSION, OP_SEQUENCE, OP_DESTROY_CLIENTID, OP_RECLAIM_COMPLETE}
 use Rattle.model.specs.Operations.Answer.{AccessAnswer, CreateAnswer, OpenAnswer, ReadAnswer, Entry, ReadDirAnswer, RenameAnswer, WriteAnswer, ExchangeIdAnswer, CreateSessionAnswer, SequenceAnswer, Answer, Outcome, Done, Refused}

@@ -8,7 +8,7 @@ ghost use Rattle.std.specs.Prelude.{All, IfOk};
 ghost use Rattle.wire_client.specs.ArgumentFits.{ArgumentFits};
 
 use client::{Client, ClientFault};
-use model::acl::{Cred, Gids};
+use model_tree::acl::{Cred, Gids};
 use std::alloc::{AllocError, Global};
 use std::io::{Read, Write};
 use std::test::*;

@@ -6,7 +6,7 @@ ghost use Rattle.wire_attributes.specs.Views.{ValueFits};
 ghost use Rattle.wire_client.specs.ArgumentFits.{ArgumentFits};
 
 use super::asking::bytes_of;
-use model::acl::Who;
+use model_tree::acl::Who;
 use std::alloc::Global;
 use std::test::*;
 use wire::{Argument, Attributes};

@@ -1,8 +1,8 @@
 use Rattle.std.proofs.Common.{◌≡◌, ◌∙◌, refl, ap, ℕ, Bool, true, false, cond, Some, None, not, length, nat_lt}
 use Rattle.std.specs.Bool.{then_some}
-use Rattle.model.specs.Rights.Acl.{is_entry_for}
-use Rattle.model.specs.Rights.Inherit.{first_refused}
-use Rattle.model.specs.declared.acl.Ace.{Ace}
+use Rattle.model_tree.specs.Rights.Acl.{is_entry_for}
+use Rattle.model_tree.specs.Rights.Inherit.{first_refused}
+use Rattle.model_tree.specs.declared.acl.Ace.{Ace}
 use Rattle.acl_set.proofs.Kept.{first_or_limit}
 use Rattle.acl_set.proofs.inheritance.first_refused.Goals as goal
 

@@ -1,6 +1,6 @@
 use Rattle.std.proofs.Common.{arith}
 use Rattle.std.proofs.lemmas.Grind.{common_steps}
-use Rattle.model.specs.Rights.Inherit.{inherited}
+use Rattle.model_tree.specs.Rights.Inherit.{inherited}
 use Rattle.acl_set.proofs.inheritance.inherit.Goals as goal
 
 pub returns-clause-list : goal.returns-clause-list

@@ -1,5 +1,5 @@
 use Rattle.std.proofs.Common.{◌≡◌, take, filter, map}
-use Rattle.model.specs.Rights.Inherit.{as_inherited, is_inherited_by}
+use Rattle.model_tree.specs.Rights.Inherit.{as_inherited, is_inherited_by}
 use Rattle.acl_set.proofs.inheritance.inherit.Given as goal
 
 abbrev pub invariant-loop-ace : goal.invariant-loop-ace

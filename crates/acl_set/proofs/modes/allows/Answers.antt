@@ -1,8 +1,8 @@
 use Rattle.std.proofs.Common.{◌∙◌, ◌+◌, ◌&&◌, sym, drop, filter, arith}
 use Rattle.std.proofs.lemmas.List.{at_drop_more, at_drop_all}
-use Rattle.model.specs.Rights.Acl.{counts, first_of}
-use Rattle.model.specs.Rights.Mode.{allows_right}
-use Rattle.model.specs.declared.acl.Ace.{Ace}
+use Rattle.model_tree.specs.Rights.Acl.{counts, first_of}
+use Rattle.model_tree.specs.Rights.Mode.{allows_right}
+use Rattle.model_tree.specs.declared.acl.Ace.{Ace}
 use Rattle.acl_set.specs.Class.{named_by}
 use Rattle.acl_set.proofs.Kept.{allows_right-decided, allows_right-passed}
 use Rattle.acl_set.proofs.modes.allows.Goals as goal

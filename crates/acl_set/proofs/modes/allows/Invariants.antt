@@ -1,6 +1,6 @@
 use Rattle.std.proofs.Common.{◌≡◌, ◌&&◌, drop, filter}
-use Rattle.model.specs.Rights.Acl.{counts}
-use Rattle.model.specs.Rights.Mode.{allows_right}
+use Rattle.model_tree.specs.Rights.Acl.{counts}
+use Rattle.model_tree.specs.Rights.Mode.{allows_right}
 use Rattle.acl_set.specs.Class.{named_by}
 use Rattle.acl_set.proofs.modes.allows.Given as goal
 

@@ -1,5 +1,5 @@
 use Rattle.std.proofs.Common.{◌≡◌, ◌++◌, take, filter, map}
-use Rattle.model.specs.Rights.Mode.{is_handed_down, not_counting, has_rights}
+use Rattle.model_tree.specs.Rights.Mode.{is_handed_down, not_counting, has_rights}
 use Rattle.acl_set.proofs.modes.push_handed_down.Given as goal
 
 abbrev pub invariant-loop-ace : goal.invariant-loop-ace

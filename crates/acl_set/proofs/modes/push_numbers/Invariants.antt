@@ -1,6 +1,6 @@
 use Rattle.std.proofs.Common.{◌≡◌, ◌&&◌, ◌++◌, not, take, filter, map}
-use Rattle.model.specs.Rights.Acl.{counts, is_special}
-use Rattle.model.specs.Rights.Mode.{limited, has_rights}
+use Rattle.model_tree.specs.Rights.Acl.{counts, is_special}
+use Rattle.model_tree.specs.Rights.Mode.{limited, has_rights}
 use Rattle.acl_set.proofs.modes.push_numbers.Given as goal
 
 abbrev pub invariant-loop-ace : goal.invariant-loop-ace

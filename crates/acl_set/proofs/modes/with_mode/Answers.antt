@@ -1,9 +1,9 @@
 use Rattle.std.proofs.Common.{◌&&◌, [], ◌∷◌, not, filter, map}
-use Rattle.model.specs.Rights.Acl.{counts, is_special}
-use Rattle.model.specs.Rights.Mode.{entry, group_bits, has_rights, is_handed_down, limited, moded, not_counting, other_bits, owner_bits, rights_lacking, rights_of}
-use Rattle.model.specs.declared.acl.Ace.{Ace}
-use Rattle.model.specs.declared.acl.AceKind.TheVariants as kind
-use Rattle.model.specs.declared.acl.Who.TheVariants as who
+use Rattle.model_tree.specs.Rights.Acl.{counts, is_special}
+use Rattle.model_tree.specs.Rights.Mode.{entry, group_bits, has_rights, is_handed_down, limited, moded, not_counting, other_bits, owner_bits, rights_lacking, rights_of}
+use Rattle.model_tree.specs.declared.acl.Ace.{Ace}
+use Rattle.model_tree.specs.declared.acl.AceKind.TheVariants as kind
+use Rattle.model_tree.specs.declared.acl.Who.TheVariants as who
 use Rattle.acl_set.proofs.Kept.{filter-five}
 use Rattle.acl_set.proofs.modes.with_mode.Goals as goal
 

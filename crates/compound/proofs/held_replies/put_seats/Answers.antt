@@ -1,6 +1,6 @@
 use Rattle.std.proofs.Common.{sym, ◌∙◌}
 use Rattle.fs.specs.Views.{fs_of, fs_failures}
-use Rattle.model.specs.Sessions.SeatEdits.{edited_all, edits_view}
+use Rattle.model_tree.specs.Seats.SeatEdits.{edited_all, edits_view}
 use Rattle.volume.specs.Changes.{Done, Broken}
 use Rattle.compound.proofs.Storing.{all_stayed, seated_still, seats_put}
 use Rattle.compound.proofs.held_replies.put_seats.Goals as goal

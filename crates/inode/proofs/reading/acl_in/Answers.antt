@@ -1,8 +1,8 @@
 use Rattle.std.proofs.Common.{◌+◌, ◌*◌, refl}
 use Rattle.sector.specs.Written.{AreRead-more, none_there}
-use Rattle.model.specs.declared.acl.Ace.{Ace}
-use Rattle.model.specs.declared.acl.AceKind.TheVariants.{Allow}
-use Rattle.model.specs.declared.acl.Who.TheVariants.{Owner}
+use Rattle.model_tree.specs.declared.acl.Ace.{Ace}
+use Rattle.model_tree.specs.declared.acl.AceKind.TheVariants.{Allow}
+use Rattle.model_tree.specs.declared.acl.Who.TheVariants.{Owner}
 use Rattle.inode.specs.Fields.{IsAce}
 use Rattle.inode.specs.Spelling.{ace_bytes}
 use Rattle.inode.proofs.EntryLemmas.{aces_wide, some_is}

@@ -1,6 +1,6 @@
 use Rattle.std.proofs.Common.{◌∙◌, ◌++◌, List, length, take, ap}
 use Rattle.std.specs.Int.{w16, to_be_bytes}
-use Rattle.model.specs.declared.acl.Ace.{Ace}
+use Rattle.model_tree.specs.declared.acl.Ace.{Ace}
 use Rattle.inode.specs.Fields.{fields_of}
 use Rattle.inode.specs.Spelling.{inode_sector, second_count, acl_bytes, nine}
 use Rattle.inode.proofs.Parts.{inode_sector-written}

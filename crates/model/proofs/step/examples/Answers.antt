@@ -1,13 +1,13 @@
 use Rattle.xdr.specs.Forms as X
 use Rattle.std.proofs.Common.{refl}
 use Rattle.xdr.specs.Grammar.{number_at}
-use Rattle.model.specs.Rights.Acl.{first_of, granted}
+use Rattle.model_tree.specs.Rights.Acl.{first_of, granted}
 use Rattle.model.specs.Attributes.Attribute.{attributes_of, attribute_refusals}
 use Rattle.model.specs.Attributes.AttributeValue.{value_at, values_at}
-use Rattle.model.specs.Trees.Charge.{fits}
-use Rattle.model.specs.Rights.Inherit.{inherited}
-use Rattle.model.specs.Rights.Mode.{moded}
-use Rattle.model.specs.Attributes.Name.{name_refusals}
+use Rattle.model_tree.specs.Trees.Charge.{fits}
+use Rattle.model_tree.specs.Rights.Inherit.{inherited}
+use Rattle.model_tree.specs.Rights.Mode.{moded}
+use Rattle.model_tree.specs.Refusals.Name.{name_refusals}
 use Rattle.model.specs.Operations.Step.{refusals, effect, does, permitted}
 use Rattle.std.specs.Char.{encode_utf8}
 use Rattle.std.specs.Str.{is_utf8, chars}

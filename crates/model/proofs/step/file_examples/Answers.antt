@@ -2,14 +2,14 @@ use Rattle.std.proofs.Common.{refl}
 use Rattle.std.specs.Fmt.{digits}
 use Rattle.xdr.specs.Forms.{counted, padded, elements, elements_at, each_at, counted_at, padded_at}
 use Rattle.xdr.specs.Grammar.{number, number_at}
-use Rattle.model.specs.Rights.Acl.{first_of, granted}
+use Rattle.model_tree.specs.Rights.Acl.{first_of, granted}
 use Rattle.model.specs.Attributes.AclText.{number_in, who_in, ace_in}
 use Rattle.model.specs.Attributes.Attribute.{attributes_of, attribute_refusals}
 use Rattle.model.specs.Attributes.AttributeValue.{value_at, values_at}
-use Rattle.model.specs.Trees.Charge.{fits}
-use Rattle.model.specs.Rights.Inherit.{inherited}
-use Rattle.model.specs.Rights.Mode.{mode_of, moded}
-use Rattle.model.specs.Attributes.Name.{name_refusals}
+use Rattle.model_tree.specs.Trees.Charge.{fits}
+use Rattle.model_tree.specs.Rights.Inherit.{inherited}
+use Rattle.model_tree.specs.Rights.Mode.{mode_of, moded}
+use Rattle.model_tree.specs.Refusals.Name.{name_refusals}
 use Rattle.model.specs.Attributes.NodeAttributes.{node_attributes}
 use Rattle.model.specs.Operations.ReadDir.{page}
 use Rattle.model.specs.Sessions.StateIds.{found, opened}

@@ -1,6 +1,6 @@
 use Rattle.std.proofs.Common.{◌≡◌, ◌++◌, [], ◌∷◌, ℕ, Option, ap, sym, ◌∙◌, arith}
 use Rattle.std.proofs.lemmas.List.{append-nil}
-use Rattle.model.specs.Trees.Keyed.{Keyed}
+use Rattle.model_tree.specs.Trees.Keyed.{Keyed}
 use Rattle.layout.specs.CachedNodes.{CachedNode}
 use Rattle.node_table.proofs.FillingLaws.{entries-step, entry_from}
 use Rattle.node_table.proofs.index.entries.Goals as goal

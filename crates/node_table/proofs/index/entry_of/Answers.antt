@@ -1,6 +1,6 @@
 use Rattle.std.proofs.Common.{rules, None, ◌≡◌, IfSome, IfNone, ℕ, Option, subst, sym}
 use Rattle.std.proofs.lemmas.List.Sorted.{answers_always}
-use Rattle.model.specs.Trees.Keyed.{at}
+use Rattle.model_tree.specs.Trees.Keyed.{at}
 use Rattle.node_table.specs.Index.{IsAt}
 use Rattle.node_table.proofs.IndexLaws.{searched, some_of, none_of}
 use Rattle.node_table.proofs.index.entry_of.Goals as goal

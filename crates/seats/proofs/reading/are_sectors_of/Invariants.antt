@@ -1,5 +1,5 @@
 use Rattle.std.proofs.Common.{◌≡◌, ℕ, ◌<◌}
-use Rattle.model.specs.Sessions.SeatViews.{place_view}
+use Rattle.model_tree.specs.Seats.SeatViews.{place_view}
 use Rattle.seats.specs.Spelling.{sector_of, seat_sector}
 use Rattle.seats.proofs.reading.are_sectors_of.Given as goal
 

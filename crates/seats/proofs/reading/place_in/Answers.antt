@@ -1,6 +1,6 @@
 use Rattle.std.proofs.Common.{Some, sym, ap, ◌∙◌, Err}
 use Rattle.std.proofs.lemmas.Result.{err_from_is_err_and}
-use Rattle.model.specs.Sessions.Seats.{Seat}
+use Rattle.model_tree.specs.Seats.Seats.{Seat}
 use Rattle.seats.specs.Spelling.{sector_of}
 use Rattle.seats.proofs.ReadBack.{place_none, place_some, no_place, err_is}
 use Rattle.seats.proofs.reading.place_in.Goals as goal

@@ -1,6 +1,6 @@
 use Rattle.std.proofs.Common.{◌≡◌, ℕ, List, Option, sym, ap, ◌∙◌}
-use Rattle.model.specs.Sessions.Seats.{Seat}
-use Rattle.model.specs.Sessions.SeatViews.{place_view}
+use Rattle.model_tree.specs.Seats.Seats.{Seat}
+use Rattle.model_tree.specs.Seats.SeatViews.{place_view}
 use Rattle.seats.specs.Spelling.{sector_of, seat_sector}
 use Rattle.seats.proofs.Every.{every_place}
 use Rattle.seats.proofs.ReadBack.{place-back}

@@ -1,5 +1,5 @@
 use Rattle.std.proofs.Common.{ℕ, ◌++◌, List, ap₂, sym, ◌∙◌}
-use Rattle.model.specs.Sessions.SeatViews.{held_view}
+use Rattle.model_tree.specs.Seats.SeatViews.{held_view}
 use Rattle.seats.specs.Padding.{padded}
 use Rattle.seats.proofs.Parts.{first_part_is}
 use Rattle.seats.proofs.writing.first_part.Goals as goal

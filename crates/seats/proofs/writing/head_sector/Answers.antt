@@ -1,5 +1,5 @@
 use Rattle.std.proofs.Common.{ℕ, ◌++◌, List, ap₂, ◌∙◌}
-use Rattle.model.specs.Sessions.SeatViews.{seat_view}
+use Rattle.model_tree.specs.Seats.SeatViews.{seat_view}
 use Rattle.seats.specs.Padding.{padded}
 use Rattle.seats.proofs.Parts.{head_is}
 use Rattle.seats.proofs.writing.head_sector.Goals as goal

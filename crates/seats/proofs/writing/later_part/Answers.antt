@@ -1,6 +1,6 @@
 use Rattle.std.proofs.Common.{◌≡◌, ◌-◌, ◌*◌, ℕ, List, length, drop, min, ap, sym, ◌∙◌, arith}
 use Rattle.std.proofs.lemmas.List.{take_rest, drop_min}
-use Rattle.model.specs.Sessions.SeatViews.{held_view}
+use Rattle.model_tree.specs.Seats.SeatViews.{held_view}
 use Rattle.seats.specs.Padding.{padded}
 use Rattle.seats.proofs.Parts.{later_part_is}
 use Rattle.seats.proofs.writing.later_part.Goals as goal

@@ -5,9 +5,9 @@ use Rattle.std.proofs.lemmas.List.{map_push, length-map}
 use Rattle.std.proofs.lemmas.List.FromFn.{length-enumerate_from}
 use Rattle.std.proofs.lemmas.Iterator.Adapters.{YieldsList-from_vec}
 use Rattle.std.proofs.lemmas.Iterator.Consumers.{YieldsList-from_enumerate, YieldsList-turn, YieldsList-end}
-use Rattle.model.specs.Sessions.Seats.{Seats}
-use Rattle.model.specs.Sessions.SeatEdits.{edited_seat, edited_all, edit_view}
-use Rattle.model.specs.Sessions.SeatViews.{place_view, seats_view}
+use Rattle.model_tree.specs.Seats.Seats.{Seats}
+use Rattle.model_tree.specs.Seats.SeatEdits.{edited_seat, edited_all, edit_view}
+use Rattle.model_tree.specs.Seats.SeatViews.{place_view, seats_view}
 use Rattle.session.proofs.Editing.{told, told_all, place_told, edited_more}
 use Rattle.session.proofs.Lists.{mapped_set}
 use Rattle.session.proofs.edits.edit_seats.Goals as goal

@@ -1,6 +1,6 @@
 use Rattle.std.proofs.Common.{◌≡◌, map}
-use Rattle.model.specs.Sessions.SeatEdits.{edited_all, edit_view}
-use Rattle.model.specs.Sessions.SeatViews.{seats_view}
+use Rattle.model_tree.specs.Seats.SeatEdits.{edited_all, edit_view}
+use Rattle.model_tree.specs.Seats.SeatViews.{seats_view}
 use Rattle.session.proofs.edits.edit_seats.Given as goal
 
 abbrev pub invariant-loop-place : goal.invariant-loop-place

@@ -1,6 +1,6 @@
 use Rattle.std.proofs.Common.{arith, length, sym, ap, ◌∙◌}
 use Rattle.std.proofs.lemmas.List.{length-map, length-replicate}
-use Rattle.model.specs.Sessions.SeatEdits.{Stays, edit_view}
+use Rattle.model_tree.specs.Seats.SeatEdits.{Stays, edit_view}
 use Rattle.session.proofs.edits.idle_edits.Goals as goal
 
 pub invariant_of-result : goal.invariant_of-result

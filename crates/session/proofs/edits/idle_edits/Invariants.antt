@@ -1,5 +1,5 @@
 use Rattle.std.proofs.Common.{◌≡◌, map, replicate}
-use Rattle.model.specs.Sessions.SeatEdits.{Stays, edit_view}
+use Rattle.model_tree.specs.Seats.SeatEdits.{Stays, edit_view}
 use Rattle.session.proofs.edits.idle_edits.Given as goal
 
 abbrev pub invariant-loop-place : goal.invariant-loop-place

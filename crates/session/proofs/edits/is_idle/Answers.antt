@@ -1,8 +1,8 @@
 use Rattle.std.proofs.Common.{rules, tests, sym, ◌∙◌}
 use Rattle.std.proofs.lemmas.Iterator.{YieldsList-from_slice}
 use Rattle.std.proofs.lemmas.Iterator.Search.{all_from_yields_List}
-use Rattle.model.specs.declared.seats.SeatEdit.{SeatEdit}
-use Rattle.model.specs.Sessions.SeatEdits.{stays, edit_view}
+use Rattle.model_tree.specs.declared.seats.SeatEdit.{SeatEdit}
+use Rattle.model_tree.specs.Seats.SeatEdits.{stays, edit_view}
 use Rattle.session.proofs.Editing.{all_stay_is}
 use Rattle.session.proofs.edits.is_idle.Goals as goal
 

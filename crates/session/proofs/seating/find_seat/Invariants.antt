@@ -1,6 +1,6 @@
 use Rattle.std.proofs.Common.{◌≡◌, drop, map}
-use Rattle.model.specs.Sessions.Seats.{seat_of}
-use Rattle.model.specs.Sessions.SeatViews.{place_view, seats_view}
+use Rattle.model_tree.specs.Seats.Seats.{seat_of}
+use Rattle.model_tree.specs.Seats.SeatViews.{place_view, seats_view}
 use Rattle.session.proofs.seating.find_seat.Given as goal
 
 abbrev pub invariant-loop-place : goal.invariant-loop-place

@@ -1,8 +1,8 @@
 use Rattle.std.proofs.Common.{Option, None, length, ap, ◌∙◌, arith}
 use Rattle.std.specs.Option.{option_map}
 use Rattle.std.proofs.lemmas.List.{length-map, length-replicate}
-use Rattle.model.specs.Sessions.Seats.{HeldReply}
-use Rattle.model.specs.Sessions.SeatViews.{held_view}
+use Rattle.model_tree.specs.Seats.Seats.{HeldReply}
+use Rattle.model_tree.specs.Seats.SeatViews.{held_view}
 use Rattle.session.proofs.seating.new_seat.Goals as goal
 
 pub invariant_of-result-clause-owned : goal.invariant_of-result-clause-owned

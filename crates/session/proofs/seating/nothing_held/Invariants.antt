@@ -1,6 +1,6 @@
 use Rattle.std.proofs.Common.{◌≡◌, map, replicate, None}
 use Rattle.std.specs.Option.{option_map}
-use Rattle.model.specs.Sessions.SeatViews.{held_view}
+use Rattle.model_tree.specs.Seats.SeatViews.{held_view}
 use Rattle.session.proofs.seating.nothing_held.Given as goal
 
 abbrev pub invariant-loop-slot : goal.invariant-loop-slot

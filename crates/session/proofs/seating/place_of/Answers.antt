@@ -1,8 +1,8 @@
 use Rattle.std.proofs.Common.{Option, rules, tests, sym, ◌∙◌}
 use Rattle.std.proofs.lemmas.Iterator.{YieldsList-from_slice}
 use Rattle.std.proofs.lemmas.Iterator.Search.{position_from_yields_List}
-use Rattle.model.specs.declared.seats.Seat.{Seat}
-use Rattle.model.specs.Sessions.SeatViews.{place_view}
+use Rattle.model_tree.specs.declared.seats.Seat.{Seat}
+use Rattle.model_tree.specs.Seats.SeatViews.{place_view}
 use Rattle.session.specs.Seating.{is_place_of}
 use Rattle.session.proofs.Lists.{position-map}
 use Rattle.session.proofs.seating.place_of.Goals as goal

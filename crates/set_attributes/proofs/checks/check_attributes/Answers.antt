@@ -1,7 +1,7 @@
 use Rattle.std.proofs.Common.{◌≡◌, rules}
 use Rattle.std.specs.Prelude.{None}
 use Rattle.model.specs.Attributes.Attribute.{attribute_refusals}
-use Rattle.model.specs.Operations.Refusal.{first_refusal}
+use Rattle.model_tree.specs.Refusals.Refusal.{first_refusal}
 use Rattle.set_attributes.specs.Given.{given_of, AreSettings}
 use Rattle.set_attributes.proofs.Values.{within}
 use Rattle.set_attributes.proofs.checks.check_attributes.Goals as goal

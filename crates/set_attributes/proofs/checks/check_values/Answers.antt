@@ -2,7 +2,7 @@ use Rattle.std.proofs.Common.{◌≡◌, ◌<◌, length, Some, rules}
 use Rattle.std.specs.Prelude.{map}
 use Rattle.std.specs.List.{flat_map}
 use Rattle.model.specs.Attributes.Attribute.{value_refusals}
-use Rattle.model.specs.Operations.Refusal.{first_refusal}
+use Rattle.model_tree.specs.Refusals.Refusal.{first_refusal}
 use Rattle.wire_attributes.specs.Views.{value_view}
 use Rattle.set_attributes.proofs.EachTest.{refuses_here, passes_here}
 use Rattle.set_attributes.proofs.checks.check_values.Goals as goal

@@ -1,7 +1,7 @@
 use Rattle.std.proofs.Common.{◌≡◌, drop, map}
 use Rattle.std.specs.List.{flat_map}
 use Rattle.model.specs.Attributes.Attribute.{value_refusals}
-use Rattle.model.specs.Operations.Refusal.{first_refusal}
+use Rattle.model_tree.specs.Refusals.Refusal.{first_refusal}
 use Rattle.wire_attributes.specs.Views.{value_view}
 use Rattle.set_attributes.proofs.checks.check_values.Given as goal
 

@@ -1,7 +1,7 @@
 use Rattle.std.proofs.Common.{◌≡◌, ◌<◌, ◌∷◌, length, take, replicate, false, ap, subst, ◌∙◌, arith}
 use Rattle.std.proofs.lemmas.Bool.{eqb-true, eq-eqb}
 use Rattle.std.proofs.lemmas.List.{get_or_default}
-use Rattle.model.specs.Trees.Tree.{root}
+use Rattle.model_tree.specs.Trees.Tree.{root}
 use Rattle.tree_check.specs.Trees.{led_at}
 use Rattle.tree_check.specs.Walks.{led_from, IsStuck, Meets}
 use Rattle.tree_check.proofs.Counting.{all-counted, is-one-tree, order-fits, stuck-is-none}

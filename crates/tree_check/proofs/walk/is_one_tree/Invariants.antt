@@ -1,5 +1,5 @@
 use Rattle.std.proofs.Common.{◌≡◌, ◌≤◌, ◌∷◌, ◌-◌, length, take}
-use Rattle.model.specs.Trees.Tree.{root}
+use Rattle.model_tree.specs.Trees.Tree.{root}
 use Rattle.tree_check.specs.Walks.{numbers_at, led_from, IsWalk}
 use Rattle.tree_check.proofs.walk.is_one_tree.Given as goal
 

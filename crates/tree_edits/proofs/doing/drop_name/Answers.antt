@@ -3,7 +3,7 @@ use Rattle.directory.specs.Records.{record_from}
 use Rattle.tree_transaction.specs.Transactions.{cards_of, MakesOver}
 use Rattle.tree_transaction.specs.Naming.{without_name}
 use Rattle.layout.specs.Marks.{mark_by}
-use Rattle.model.specs.Trees.Edit.{DropName, name_dropped}
+use Rattle.model_tree.specs.Trees.Edit.{DropName, name_dropped}
 use Rattle.tree_edits.proofs.DoingLaws.{turned, turned_forms, turned_made, node_unnamed, all_ok}
 use Rattle.tree_edits.proofs.NamedLaws.{has_name, names_without, entry_there}
 use Rattle.tree_edits.proofs.PlaceLaws.{IsThere, there_at, directory_there, directory_key}

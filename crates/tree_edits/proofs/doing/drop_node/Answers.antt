@@ -3,7 +3,7 @@ use Rattle.tree_transaction.specs.Transactions.{cards_of}
 use Rattle.tree_edits.specs.Doing.{AreMade}
 use Rattle.layout.specs.CachedNodes.{CachedNode}
 use Rattle.layout.specs.Stands.{HaveCurrentForms}
-use Rattle.model.specs.Trees.Edit.{DropNode}
+use Rattle.model_tree.specs.Trees.Edit.{DropNode}
 use Rattle.tree_edits.proofs.DoingLaws.{over_number, dropped, all_ok}
 use Rattle.tree_edits.proofs.PlaceLaws.{IsThere, there_at, made_none, none_forms}
 use Rattle.tree_edits.proofs.doing.drop_node.Goals as goal

@@ -2,7 +2,7 @@ use Rattle.std.proofs.Common.{Option, Some, None, refl}
 use Rattle.std.specs.Prelude.{IfNone, IsSome}
 use Rattle.tree_edits.proofs.PlaceLaws.{no_number, none_key}
 use Rattle.tree_edits.specs.Outlines.{tree_without_data}
-use Rattle.model.specs.Trees.Keyed.{at}
+use Rattle.model_tree.specs.Trees.Keyed.{at}
 use Rattle.tree_edits.proofs.doing.place_of.Goals as goal
 
 some_or : {A : Type 0} {P : Type 0} (found : Option A) → IfNone found P → (P → ⊥) → IsSome found

@@ -2,8 +2,8 @@ use Rattle.std.proofs.Common.{◌+◌, [], refl, arith, length}
 use Rattle.tree_transaction.specs.Transactions.{cards_of}
 use Rattle.tree_transaction.specs.Grown.{reaching, blocks_to}
 use Rattle.layout.specs.Marks.{mark_by}
-use Rattle.model.specs.Trees.Edit.{PutBytes, with_content, overwritten}
-use Rattle.model.specs.Trees.Tree.{Node, File, bytes_of}
+use Rattle.model_tree.specs.Trees.Edit.{PutBytes, with_content, overwritten}
+use Rattle.model_tree.specs.Trees.Tree.{Node, File, bytes_of}
 use Rattle.tree_edits.proofs.DoingLaws.{over_number, turned, turned_forms, turned_made, node_written, all_four, under}
 use Rattle.tree_edits.proofs.FileLaws.{is_file, can_write, written_charge}
 use Rattle.tree_edits.proofs.PlaceLaws.{IsThere, there_at}

@@ -4,8 +4,8 @@ use Rattle.tree_transaction.specs.Grown.{reaching, blocks_to}
 use Rattle.tree_transaction.specs.Nodes.{shown_of, showing as showing_card}
 use Rattle.tree_transaction.proofs.KnownLaws.{card_at}
 use Rattle.layout.specs.Marks.{mark_by}
-use Rattle.model.specs.Trees.Edit.{PutBytes, Show, showing, with_content, overwritten}
-use Rattle.model.specs.Trees.Tree.{Node, File, bytes_of}
+use Rattle.model_tree.specs.Trees.Edit.{PutBytes, Show, showing, with_content, overwritten}
+use Rattle.model_tree.specs.Trees.Tree.{Node, File, bytes_of}
 use Rattle.tree_edits.specs.declared.edit.Edit.TheVariants as edit
 use Rattle.tree_edits.proofs.DoingLaws.{over_number, turned, turned_there, turned_forms, turned_made, node_written, node_showing, shown_fits, both_ok}
 use Rattle.tree_edits.proofs.FileLaws.{is_file, can_write, written_charge}

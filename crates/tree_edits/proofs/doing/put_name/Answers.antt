@@ -3,7 +3,7 @@ use Rattle.directory.specs.Records.{record_from}
 use Rattle.tree_transaction.specs.Transactions.{cards_of}
 use Rattle.tree_transaction.specs.Naming.{with_name, blocks_named}
 use Rattle.layout.specs.Marks.{mark_by}
-use Rattle.model.specs.Trees.Edit.{PutName, name_put}
+use Rattle.model_tree.specs.Trees.Edit.{PutName, name_put}
 use Rattle.tree_edits.proofs.DoingLaws.{over_number, turned, turned_forms, turned_made, node_named, all_ok}
 use Rattle.tree_edits.proofs.NamedLaws.{room_there, can_name, names_with, named_charge}
 use Rattle.tree_edits.proofs.PlaceLaws.{IsThere, there_at, directory_there, directory_key}

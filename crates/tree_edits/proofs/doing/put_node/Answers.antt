@@ -5,8 +5,8 @@ use Rattle.tree_transaction.specs.Nodes.{shown_of}
 use Rattle.inode.specs.Fields.{Fields, IsInode}
 use Rattle.layout.specs.CachedNodes.{CachedNode}
 use Rattle.layout.specs.Stands.{HaveCurrentForms}
-use Rattle.model.specs.Trees.Edit.{PutNode}
-use Rattle.model.specs.Trees.Tree.{Node}
+use Rattle.model_tree.specs.Trees.Edit.{PutNode}
+use Rattle.model_tree.specs.Trees.Tree.{Node}
 use Rattle.tree_edits.specs.Doing.{AreMade}
 use Rattle.tree_edits.proofs.DoingLaws.{fresh_fits, made_outline, new_is, node_is}
 use Rattle.tree_edits.proofs.PlaceLaws.{not_there, put_forms, made_put}

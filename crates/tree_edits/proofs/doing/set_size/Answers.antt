@@ -3,8 +3,8 @@ use Rattle.tree_transaction.specs.Transactions.{cards_of}
 use Rattle.tree_transaction.specs.Grown.{sized}
 use Rattle.layout.specs.CachedNodes.{CachedNode}
 use Rattle.layout.specs.Marks.{mark_by}
-use Rattle.model.specs.Trees.Edit.{SetSize, with_content, resized}
-use Rattle.model.specs.Trees.Tree.{Node, File, bytes_of}
+use Rattle.model_tree.specs.Trees.Edit.{SetSize, with_content, resized}
+use Rattle.model_tree.specs.Trees.Tree.{Node, File, bytes_of}
 use Rattle.tree_edits.proofs.DoingLaws.{over_number, turned, turned_forms, turned_made, node_sized, all_four, under}
 use Rattle.tree_edits.proofs.FileLaws.{is_file, can_grow, can_cut}
 use Rattle.tree_edits.proofs.PlaceLaws.{IsThere, there_at}

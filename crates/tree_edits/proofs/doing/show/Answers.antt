@@ -3,7 +3,7 @@ use Rattle.tree_transaction.specs.Transactions.{cards_of}
 use Rattle.tree_transaction.specs.Nodes.{shown_of, showing as showing_card}
 use Rattle.layout.specs.Marks.{mark_by}
 use Rattle.tree_transaction.proofs.KnownLaws.{card_at}
-use Rattle.model.specs.Trees.Edit.{Show, showing}
+use Rattle.model_tree.specs.Trees.Edit.{Show, showing}
 use Rattle.tree_edits.proofs.DoingLaws.{over_number, turned, turned_forms, turned_made, node_showing, all_ok, shown_fits}
 use Rattle.tree_edits.proofs.PlaceLaws.{IsThere, there_at}
 use Rattle.tree_edits.proofs.doing.show.Goals as goal

@@ -3,7 +3,7 @@ use Rattle.tree_edits.specs.Edits.{edits_of}
 use Rattle.tree_edits.specs.Outlines.{tree_without_data}
 use Rattle.tree_edits.proofs.FitLaws.{too_charged, too_many, names_decide}
 use Rattle.tree_edits.proofs.room.fits.Goals as goal
-use Rattle.model.specs.Trees.Edit.{edited}
+use Rattle.model_tree.specs.Trees.Edit.{edited}
 
 pub returns : goal.returns
 returns c =

@@ -10,12 +10,12 @@ use Rattle.tree_edits.proofs.MakingLaws.{directory_of, charge_after, nodes_after
 use Rattle.tree_edits.proofs.MakingLaws.{many_after}
 use Rattle.tree_edits.proofs.SizeLaws.{IsRising, names_there}
 use Rattle.tree_edits.proofs.room.has_room.Goals as goal
-use Rattle.model.specs.declared.limits.Limits.{Limits}
-use Rattle.model.specs.declared.node.NodeKind.{NodeKind}
-use Rattle.model.specs.Trees.Charge.{charge, few_names}
-use Rattle.model.specs.Trees.Edit.{Edit, edited}
-use Rattle.model.specs.Trees.Keyed.{at, total}
-use Rattle.model.specs.Trees.Tree.{Tree, is_directory_at, names_at}
+use Rattle.model_tree.specs.declared.limits.Limits.{Limits}
+use Rattle.model_tree.specs.declared.node.NodeKind.{NodeKind}
+use Rattle.model_tree.specs.Trees.Charge.{charge, few_names}
+use Rattle.model_tree.specs.Trees.Edit.{Edit, edited}
+use Rattle.model_tree.specs.Trees.Keyed.{at, total}
+use Rattle.model_tree.specs.Trees.Tree.{Tree, is_directory_at, names_at}
 use Rattle.std.specs.Prelude.{IsTrue}
 
 -- the sum that is asked for is that of the tree with the node

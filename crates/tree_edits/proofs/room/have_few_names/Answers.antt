@@ -6,8 +6,8 @@ use Rattle.tree_edits.proofs.ChangeLaws.{few_over, few_each}
 use Rattle.tree_edits.proofs.FrontLaws.{rising_outline, few_outline, rising_behind, few_numbers}
 use Rattle.tree_edits.proofs.SizeLaws.{names_there}
 use Rattle.tree_edits.proofs.room.have_few_names.Goals as goal
-use Rattle.model.specs.Trees.Edit.{edited}
-use Rattle.model.specs.Trees.Keyed.{at}
+use Rattle.model_tree.specs.Trees.Edit.{edited}
+use Rattle.model_tree.specs.Trees.Keyed.{at}
 
 pub returns-then-names_in-most : goal.returns-then-names_in-most
 returns-then-names_in-most c =

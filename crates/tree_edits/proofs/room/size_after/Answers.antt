@@ -5,7 +5,7 @@ use Rattle.tree_edits.proofs.FrontLaws.{behind_all, below_more, rising_outline, 
 use Rattle.tree_edits.proofs.FrontLaws.{size_other}
 use Rattle.tree_edits.proofs.room.size_after.Goals as goal
 use Rattle.tree_edits.proofs.room.size_after.Goals.{then-number_of-number, else-number_of-number}
-use Rattle.model.specs.Trees.Tree.{Tree}
+use Rattle.model_tree.specs.Trees.Tree.{Tree}
 
 pub loop-edit-preserved : goal.loop-edit-preserved
 loop-edit-preserved c =

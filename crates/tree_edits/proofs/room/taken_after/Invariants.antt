@@ -2,8 +2,8 @@ use Rattle.std.proofs.Common.{◌≡◌, ◌≤◌, ◌+◌, ◌*◌, ◌^◌, l
 use Rattle.tree_edits.specs.Outlines.{tree_without_data}
 use Rattle.tree_edits.proofs.FrontLaws.{behind_front}
 use Rattle.tree_edits.proofs.room.taken_after.Given as goal
-use Rattle.model.specs.Trees.Charge.{charge}
-use Rattle.model.specs.Trees.Keyed.{total}
+use Rattle.model_tree.specs.Trees.Charge.{charge}
+use Rattle.model_tree.specs.Trees.Keyed.{total}
 
 abbrev pub invariant-loop-i : goal.invariant-loop-i
 invariant-loop-i l = record {

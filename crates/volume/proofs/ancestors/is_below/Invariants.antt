@@ -1,7 +1,7 @@
 use Rattle.std.proofs.Common.{◌≡◌, ◌-◌}
 use Rattle.disk.specs.Moments.{Image}
 use Rattle.layout.specs.CachedNodes.{tree_of}
-use Rattle.model.specs.Trees.Ancestors.{is_below}
+use Rattle.model_tree.specs.Trees.Ancestors.{is_below}
 use Rattle.volume.proofs.BelowLaws.{is_met}
 use Rattle.volume.proofs.ancestors.is_below.Given as goal
 

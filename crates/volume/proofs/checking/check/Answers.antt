@@ -3,7 +3,7 @@ use Rattle.disk.specs.Moments.{History}
 use Rattle.journal.specs.Log.{Log}
 use Rattle.journal.specs.Viewed.{HasNoForm, HasViewed}
 use Rattle.journal.specs.Views.{view_of, view_failures, name_of}
-use Rattle.model.specs.Sessions.SeatViews.{seats_view}
+use Rattle.model_tree.specs.Seats.SeatViews.{seats_view}
 use Rattle.volume.specs.Checks.{FailsCheck}
 use Rattle.volume.proofs.CheckLaws.{check_refused, look_fails, gate_fails, view_holds, nodes_fail, has_checked}
 use Rattle.volume.proofs.StandLaws.{sized, large}

@@ -1,9 +1,9 @@
 use Rattle.std.proofs.Common.{ℕ, List, [], ◌∷◌, ap₂, ◌∙◌}
 use Rattle.bitflags.specs.Sets.{known_from}
 use Rattle.layout.specs.FreshLaws.{root_fields}
-use Rattle.model.specs.declared.acl.Ace.{Ace}
-use Rattle.model.specs.declared.acl.AceKind.TheVariants as kind
-use Rattle.model.specs.declared.acl.Who.TheVariants as who
+use Rattle.model_tree.specs.declared.acl.Ace.{Ace}
+use Rattle.model_tree.specs.declared.acl.AceKind.TheVariants as kind
+use Rattle.model_tree.specs.declared.acl.Who.TheVariants as who
 use Rattle.volume.proofs.formatting.fresh_root.Goals as goal
 
 abbrev everyone : (flags mask : ℕ) → List Ace

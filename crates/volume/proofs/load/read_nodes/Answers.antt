@@ -6,9 +6,9 @@ use Rattle.layout.specs.CachedNodes.{CachedNode, cards_in}
 use Rattle.layout.specs.Marks.{mark_by}
 use Rattle.layout.specs.Rewriting.{all_second}
 use Rattle.layout.proofs.SeatLaws.{version_spare}
-use Rattle.model.specs.Sessions.SeatViews.{seats_view}
-use Rattle.model.specs.Trees.Limits.{limits_of}
-use Rattle.model.specs.Trees.Stamp.{stamp}
+use Rattle.model_tree.specs.Seats.SeatViews.{seats_view}
+use Rattle.model_tree.specs.Trees.Limits.{limits_of}
+use Rattle.model_tree.specs.Trees.Stamp.{stamp}
 use Rattle.tree_check.specs.WellFormed.{AreWellFormed}
 use Rattle.volume.specs.Refusals.{mount_fault, table_fault}
 use Rattle.volume.specs.declared.fault.MountFault.TheVariants as mounts

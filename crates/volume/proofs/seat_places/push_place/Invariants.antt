@@ -1,6 +1,6 @@
 use Rattle.std.proofs.Common.{◌≡◌, ◌++◌}
 use Rattle.std.specs.Option.{option_map}
-use Rattle.model.specs.Sessions.SeatViews.{seat_view}
+use Rattle.model_tree.specs.Seats.SeatViews.{seat_view}
 use Rattle.seats.specs.Spelling.{seat_sector}
 use Rattle.volume.specs.SeatUpdates.{row}
 use Rattle.volume.proofs.seat_places.push_place.Given as goal

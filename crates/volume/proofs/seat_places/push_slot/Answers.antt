@@ -1,5 +1,5 @@
 use Rattle.std.proofs.Common.{◌+◌, ◌*◌, ℕ, Some, refl}
-use Rattle.model.specs.Sessions.SeatViews.{held_view}
+use Rattle.model_tree.specs.Seats.SeatViews.{held_view}
 use Rattle.seats.specs.Spelling.{part_of, slot_text}
 use Rattle.volume.proofs.SeatRows.{pushed_none, pushed_more}
 use Rattle.volume.proofs.seat_places.push_slot.Goals as goal

@@ -1,5 +1,5 @@
 use Rattle.std.proofs.Common.{List, get_or, ap, ◌∙◌, arith}
-use Rattle.model.specs.declared.seats.SeatEdit.{SeatEdit}
+use Rattle.model_tree.specs.declared.seats.SeatEdit.{SeatEdit}
 use Rattle.volume.proofs.SeatEdits.{updates_more}
 use Rattle.volume.proofs.seat_updates.all_updates.Goals as goal
 

@@ -1,5 +1,5 @@
 use Rattle.std.proofs.Common.{◌≡◌, take, map}
-use Rattle.model.specs.Sessions.SeatEdits.{edit_view}
+use Rattle.model_tree.specs.Seats.SeatEdits.{edit_view}
 use Rattle.volume.specs.SeatUpdates.{updates_from}
 use Rattle.volume.proofs.seat_updates.all_updates.Given as goal
 

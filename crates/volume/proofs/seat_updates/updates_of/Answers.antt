@@ -1,7 +1,7 @@
 use Rattle.std.proofs.Common.{◌≡◌, Vec, Global, sym, subst}
 use Rattle.std.proofs.lemmas.Result.{IfOk-weaker}
 use Rattle.disk.specs.declared.update.Update.{Update}
-use Rattle.model.specs.Sessions.SeatEdits.{edits_view}
+use Rattle.model_tree.specs.Seats.SeatEdits.{edits_view}
 use Rattle.volume.specs.SeatTransactions.{AreUpdates}
 use Rattle.volume.specs.SeatUpdates.{updates_from}
 use Rattle.volume.proofs.SeatEdits.{every_transaction}

@@ -2,7 +2,7 @@ use Rattle.std.proofs.Common.{◌≡◌, ◌∙◌, ℕ, subst}
 use Rattle.journal.specs.Journal.{log_of}
 use Rattle.journal.specs.Log.{Log}
 use Rattle.layout.specs.Stands.{moved_by}
-use Rattle.model.specs.Sessions.SeatViews.{seats_view}
+use Rattle.model_tree.specs.Seats.SeatViews.{seats_view}
 use Rattle.migration.specs.Migrations.{HasMovedAll, MovesSafely}
 use Rattle.volume.proofs.StartLaws.{begins, ends_at_rest, moved_to, moves_safely, or_else_zero, so_moves}
 use Rattle.volume.proofs.start.move_nodes.Goals as goal

@@ -2,7 +2,7 @@ use Rattle.std.proofs.Common.{◌∙◌, ◌+◌, sym}
 use Rattle.std.proofs.Math.Logic.{∥∥₁_map}
 use Rattle.journal.specs.Journal.{log_of}
 use Rattle.journal.specs.Log.{Log}
-use Rattle.model.specs.Sessions.SeatViews.{seats_view}
+use Rattle.model_tree.specs.Seats.SeatViews.{seats_view}
 use Rattle.volume.specs.Mounts.{IsRaised}
 use Rattle.volume.proofs.FormatLaws.{on_ok}
 use Rattle.volume.proofs.StartLaws.{after_moves, after_raise, after_unmark, has_moved, serves_from, then_marked}

@@ -1,7 +1,7 @@
 use Rattle.std.proofs.Common.{◌≡◌, ◌<◌, ◌+◌, ◌∙◌, true, false, length, drop, map, sym, ap, arith}
 use Rattle.std.proofs.lemmas.Bool.{false≢true}
-use Rattle.model.specs.Sessions.Seats.{has_seat}
-use Rattle.model.specs.Sessions.SeatViews.{place_view, seat_view}
+use Rattle.model_tree.specs.Seats.Seats.{has_seat}
+use Rattle.model_tree.specs.Seats.SeatViews.{place_view, seat_view}
 use Rattle.volume_load.proofs.SeatingLaws.{view_at, count_viewed, rest_viewed, apart_here, apart_free, apart_more}
 use Rattle.volume_load.proofs.seating.are_apart.Goals as goal
 use Rattle.volume_load.proofs.seating.are_apart.Goals.{in-Some+else-is_seated, in_default}

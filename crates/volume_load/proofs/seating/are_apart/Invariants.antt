@@ -1,6 +1,6 @@
 use Rattle.std.proofs.Common.{drop, map}
-use Rattle.model.specs.Sessions.Seats.{SeatsApart}
-use Rattle.model.specs.Sessions.SeatViews.{place_view}
+use Rattle.model_tree.specs.Seats.Seats.{SeatsApart}
+use Rattle.model_tree.specs.Seats.SeatViews.{place_view}
 use Rattle.volume_load.proofs.seating.are_apart.Given as goal
 
 abbrev pub invariant-loop-i : goal.invariant-loop-i

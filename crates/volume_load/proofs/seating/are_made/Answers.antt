@@ -1,6 +1,6 @@
 use Rattle.std.proofs.Common.{◌∙◌, None, map, sym, ap, subst, arith}
 use Rattle.std.proofs.lemmas.Bool.{false≢true}
-use Rattle.model.specs.Sessions.SeatViews.{place_view}
+use Rattle.model_tree.specs.Seats.SeatViews.{place_view}
 use Rattle.sector.specs.Written.{each_at}
 use Rattle.volume_load.specs.Seating.{IsMade}
 use Rattle.volume_load.proofs.SeatingLaws.{view_at, count_viewed}

@@ -1,5 +1,5 @@
 use Rattle.std.proofs.Common.{take, map}
-use Rattle.model.specs.Sessions.SeatViews.{place_view}
+use Rattle.model_tree.specs.Seats.SeatViews.{place_view}
 use Rattle.volume_load.specs.Seating.{AreMade}
 use Rattle.volume_load.proofs.seating.are_made.Given as goal
 

@@ -1,7 +1,7 @@
 use Rattle.std.proofs.Common.{List, Option, map, sym, subst}
-use Rattle.model.specs.declared.seats.Seat.{Seat}
-use Rattle.model.specs.Sessions.Seats.{SeatsApart}
-use Rattle.model.specs.Sessions.SeatViews.{place_view, seats_view}
+use Rattle.model_tree.specs.declared.seats.Seat.{Seat}
+use Rattle.model_tree.specs.Seats.Seats.{SeatsApart}
+use Rattle.model_tree.specs.Seats.SeatViews.{place_view, seats_view}
 use Rattle.volume_load.specs.Seating.{AreMade}
 use Rattle.volume_load.proofs.SeatingLaws.{each_made, made_each}
 use Rattle.volume_load.proofs.seating.are_of_runs.Goals as goal

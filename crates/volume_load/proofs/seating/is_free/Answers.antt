@@ -1,6 +1,6 @@
 use Rattle.std.proofs.Common.{◌≡◌, ◌∙◌, List, Option, None, length, get_or, map, refl, sym, ap, arith}
-use Rattle.model.specs.declared.seats.Seat.{Seat}
-use Rattle.model.specs.Sessions.SeatViews.{place_view, seats_view}
+use Rattle.model_tree.specs.declared.seats.Seat.{Seat}
+use Rattle.model_tree.specs.Seats.SeatViews.{place_view, seats_view}
 use Rattle.volume_load.proofs.SeatingLaws.{all_free, count_viewed}
 use Rattle.volume_load.proofs.seating.is_free.Goals as goal
 

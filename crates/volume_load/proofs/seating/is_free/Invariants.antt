@@ -1,5 +1,5 @@
 use Rattle.std.proofs.Common.{◌≡◌, ◌<◌, ℕ, None, get_or, map}
-use Rattle.model.specs.Sessions.SeatViews.{place_view}
+use Rattle.model_tree.specs.Seats.SeatViews.{place_view}
 use Rattle.volume_load.proofs.seating.is_free.Given as goal
 
 abbrev pub invariant-loop-place : goal.invariant-loop-place

@@ -1,5 +1,5 @@
 use Rattle.std.proofs.Common.{◌<◌, ◌∙◌, length, map, sym, ap, arith}
-use Rattle.model.specs.Sessions.SeatViews.{place_view, seat_view}
+use Rattle.model_tree.specs.Seats.SeatViews.{place_view, seat_view}
 use Rattle.volume_load.proofs.SeatingLaws.{view_at, count_viewed, seated_here, seated_free}
 use Rattle.volume_load.proofs.SeatingLaws.{seated_other}
 use Rattle.volume_load.proofs.seating.is_seated.Goals as goal

@@ -1,6 +1,6 @@
 use Rattle.std.proofs.Common.{◌≡◌, drop, map}
-use Rattle.model.specs.Sessions.Seats.{has_seat}
-use Rattle.model.specs.Sessions.SeatViews.{place_view}
+use Rattle.model_tree.specs.Seats.Seats.{has_seat}
+use Rattle.model_tree.specs.Seats.SeatViews.{place_view}
 use Rattle.volume_load.proofs.seating.is_seated.Given as goal
 
 abbrev pub invariant-loop-place : goal.invariant-loop-place

@@ -1,6 +1,6 @@
 use Rattle.std.proofs.Common.{◌≡◌, ◌<◌, ℕ, None, length, get_or, map}
 use Rattle.std.specs.List.{AllByRecursion}
-use Rattle.model.specs.Sessions.SeatViews.{place_view}
+use Rattle.model_tree.specs.Seats.SeatViews.{place_view}
 use Rattle.volume_load.specs.Seating.{HoldPlace}
 use Rattle.seats.specs.Spelling.{IsSeatPlace}
 use Rattle.volume_load.proofs.seating.read_places.Given as goal

@@ -1,7 +1,7 @@
 use Rattle.std.proofs.Common.{◌≡◌, ◌∙◌, sym, subst, inl, inr}
 use Rattle.std.proofs.lemmas.Bool.{false≢true}
-use Rattle.model.specs.Sessions.Seats.{AreOfRuns}
-use Rattle.model.specs.Sessions.SeatViews.{seats_view}
+use Rattle.model_tree.specs.Seats.Seats.{AreOfRuns}
+use Rattle.model_tree.specs.Seats.SeatViews.{seats_view}
 use Rattle.seats.proofs.ReadBack.{seats-back}
 use Rattle.volume_load.proofs.SeatingLaws.{one_seats}
 use Rattle.volume_load.proofs.seating.read_seats.Goals as goal

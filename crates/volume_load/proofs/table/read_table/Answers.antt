@@ -5,7 +5,7 @@ use Rattle.inode.specs.declared.node.Form.{Form}
 use Rattle.layout.specs.CachedNodes.{CachedNode}
 use Rattle.layout.specs.Marks.{named, namings_of, mark_by}
 use Rattle.layout.specs.Stands.{version_by}
-use Rattle.model.specs.Sessions.Seats.{no_seats}
+use Rattle.model_tree.specs.Seats.Seats.{no_seats}
 use Rattle.volume_load.specs.CachedNodes.{FindsPlace}
 use Rattle.volume_load.specs.Marking.{AreMarked, max_marks}
 use Rattle.volume_load.specs.declared.fault.ScanFault.{ScanFault}

@@ -1,7 +1,7 @@
 use Rattle.std.proofs.Common.{◌≡◌, ◌<◌, ◌+◌, ℕ, None, length, get_or}
 use Rattle.layout.specs.Marks.{named}
 use Rattle.layout.specs.Stands.{version_by}
-use Rattle.model.specs.Sessions.Seats.{no_seats}
+use Rattle.model_tree.specs.Seats.Seats.{no_seats}
 use Rattle.volume_load.specs.CachedNodes.{FindsPlace}
 use Rattle.volume_load.specs.Marking.{AreMarked}
 use Rattle.volume_load.proofs.table.read_table.Given as goal

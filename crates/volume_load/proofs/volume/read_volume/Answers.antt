@@ -7,8 +7,8 @@ use Rattle.inode.specs.declared.node.Form.{Form}
 use Rattle.layout.specs.Laid.{AreNumbered}
 use Rattle.layout.specs.Stands.{HoldSeats, IsLaid, mark_held, version_by}
 use Rattle.layout.proofs.FirstLaws.{sized_parts}
-use Rattle.model.specs.Sessions.Seats.{no_seats}
-use Rattle.model.specs.Sessions.SeatViews.{seats_view}
+use Rattle.model_tree.specs.Seats.Seats.{no_seats}
+use Rattle.model_tree.specs.Seats.SeatViews.{seats_view}
 use Rattle.volume_load.specs.declared.fault.ScanFault.{ScanFault}
 use Rattle.volume_load.specs.Seating.{MayStand}
 use Rattle.volume_load.specs.Sectors.{AreBits, AreSpare}

@@ -1,9 +1,9 @@
 use Rattle.std.proofs.Common.{◌<◌, length, get_or, ap, ◌∙◌, arith}
 use Rattle.std.specs.List.{flat_map}
 use Rattle.std.proofs.lemmas.List.{take_all, get_or_default}
-use Rattle.model.specs.declared.acl.Ace.{Ace}
-use Rattle.model.specs.declared.acl.AceKind.TheVariants as kind
-use Rattle.model.specs.declared.acl.Who.TheVariants as who
+use Rattle.model_tree.specs.declared.acl.Ace.{Ace}
+use Rattle.model_tree.specs.declared.acl.AceKind.TheVariants as kind
+use Rattle.model_tree.specs.declared.acl.Who.TheVariants as who
 use Rattle.wire_attributes.proofs.NodeSizes.{ace_text, length_more}
 use Rattle.wire_attributes.proofs.node.aces_size.Goals as goal
 

@@ -4,7 +4,7 @@ use Rattle.std.specs.Prelude.{length}
 use Rattle.model.specs.Wire.Record.{framed}
 use Rattle.model.specs.Wire.Rpc.{Success, reply_text}
 use Rattle.model.specs.Server.World.{InProgress, is_last, is_to_hold, kept_by, result_of}
-use Rattle.model.specs.declared.status.Status.{Status}
+use Rattle.model_tree.specs.declared.status.Status.{Status}
 use Rattle.session.specs.Views.{table_of}
 use Rattle.compound.specs.EncodedResult.{is_ok, told_text, told_status}
 use Rattle.compound.specs.Views.{Asked, in_progress_of, asked_of, resumed, fits_operations}

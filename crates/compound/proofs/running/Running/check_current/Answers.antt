@@ -3,7 +3,7 @@ use Rattle.model.specs.Operations.Context.{Context, has_current}
 use Rattle.fs.specs.Views.{fs_of}
 use Rattle.fs.specs.Operations.{TestsCurrent}
 use Rattle.fs.specs.declared.fault.FsFault.{FsFault}
-use Rattle.model.specs.declared.status.Status.{Status}
+use Rattle.model_tree.specs.declared.status.Status.{Status}
 use Rattle.compound.specs.Views.{in_progress_of}
 use Rattle.compound.proofs.Trees.{is_on, is_there, of_request, tests_status, current_bad, current_none}
 use Rattle.compound.proofs.running.Running.check_current.Goals as goal

@@ -6,7 +6,7 @@ use Rattle.model.specs.Operations.Answer.{Outcome, Refused}
 use Rattle.model.specs.Operations.Operation.{Argument, CommitArguments}
 use Rattle.model.specs.Sessions.Opens.{no_opens}
 use Rattle.model.specs.Operations.Step.{State}
-use Rattle.model.specs.declared.status.Status.{Status}
+use Rattle.model_tree.specs.declared.status.Status.{Status}
 use Rattle.compound.specs.Files.{committed_answer}
 use Rattle.compound.specs.Operates.{GivesIn, HasRoom, ChangesTreeAndOpens, IsAnswered, IsReplyKept}
 use Rattle.compound.specs.States.{shared}

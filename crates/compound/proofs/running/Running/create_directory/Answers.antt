@@ -4,8 +4,8 @@ use Rattle.fs.specs.Views.{fs_of, fs_failures}
 use Rattle.fs.specs.Operations.{new_directory}
 use Rattle.model.specs.Operations.Answer.{Outcome, Refused}
 use Rattle.model.specs.Operations.Context.{at_node}
-use Rattle.model.specs.declared.status.Status.{Status}
-use Rattle.model.specs.declared.status.Status.TheVariants as status
+use Rattle.model_tree.specs.declared.status.Status.{Status}
+use Rattle.model_tree.specs.declared.status.Status.TheVariants as status
 use Rattle.wire.specs.SmallViews.{attributes_view}
 use Rattle.compound.specs.Operates.{GivesIn, RunsTo, HasRoom}
 use Rattle.compound.specs.States.{shared}

@@ -3,7 +3,7 @@ use Rattle.fs.specs.Views.{fs_of, fs_failures}
 use Rattle.model.specs.Operations.Answer.{Answer, Done, Refused}
 use Rattle.model.specs.Sessions.Opens.{Opens}
 use Rattle.model.specs.Operations.Operation.{Argument}
-use Rattle.model.specs.Sessions.SeatEdits.{edited_all, edits_view}
+use Rattle.model_tree.specs.Seats.SeatEdits.{edited_all, edits_view}
 use Rattle.model.specs.Sessions.Session.{CreateSessionOutcome, Table, create_session}
 use Rattle.model.specs.Sessions.StateIds.{without_clients}
 use Rattle.opens.specs.Views.{opens_of}

@@ -2,7 +2,7 @@ use Rattle.std.proofs.Common.{refl, sym, ap, subst, ◌∙◌}
 use Rattle.fs.specs.Views.{fs_of, fs_failures}
 use Rattle.model.specs.Operations.Answer.{Answer, Done, Refused}
 use Rattle.model.specs.Operations.Operation.{Argument}
-use Rattle.model.specs.Sessions.SeatEdits.{edited_all, edits_view}
+use Rattle.model_tree.specs.Seats.SeatEdits.{edited_all, edits_view}
 use Rattle.model.specs.Sessions.Session.{destroy_session}
 use Rattle.session.specs.Views.{table_of}
 use Rattle.volume.proofs.ServeLaws.{told_err}

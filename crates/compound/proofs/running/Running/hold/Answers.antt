@@ -1,7 +1,7 @@
 use Rattle.std.proofs.Common.{Option, length, sym, ap, ◌∙◌, arith}
 use Rattle.std.specs.Option.{option_map}
 use Rattle.fs.specs.Views.{fs_of, fs_failures}
-use Rattle.model.specs.Sessions.SeatEdits.{edited_all, edits_view}
+use Rattle.model_tree.specs.Seats.SeatEdits.{edited_all, edits_view}
 use Rattle.model.specs.Server.World.{is_to_hold, kept_by, result_of}
 use Rattle.session.specs.Views.{table_of}
 use Rattle.volume.proofs.ServeLaws.{told_err}

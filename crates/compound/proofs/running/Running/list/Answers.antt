@@ -3,7 +3,7 @@ use Rattle.fs.specs.Views.{fs_of}
 use Rattle.fs.specs.Listing.{Lists, page_view}
 use Rattle.model.specs.Operations.Answer.{Answer, Refused}
 use Rattle.model.specs.Operations.Operation.{Argument, ReadDirArguments}
-use Rattle.model.specs.declared.status.Status.{Status}
+use Rattle.model_tree.specs.declared.status.Status.{Status}
 use Rattle.wire.specs.ArgumentViews.{read_dir_view}
 use Rattle.compound.specs.Operates.{GivesIn, IsAnswered, OnlyReads}
 use Rattle.compound.specs.States.{shared}

@@ -4,7 +4,7 @@ use Rattle.fs.specs.Operations.{LooksUp}
 use Rattle.fs.specs.declared.fault.FsFault.{FsFault}
 use Rattle.model.specs.Operations.Answer.{Refused}
 use Rattle.model.specs.Operations.Operation.{Argument}
-use Rattle.model.specs.declared.status.Status.{Status}
+use Rattle.model_tree.specs.declared.status.Status.{Status}
 use Rattle.compound.specs.Operates.{GivesIn}
 use Rattle.compound.specs.States.{shared}
 use Rattle.compound.specs.Views.{in_progress_of}

@@ -4,14 +4,14 @@ use Rattle.fs.specs.Opening.{current_opened}
 use Rattle.fs.specs.Operations.{IsRefused}
 use Rattle.fs.specs.Renaming.{info_of}
 use Rattle.fs.specs.declared.fault.FsFault.{FsFault}
-use Rattle.model.specs.declared.limits.Limits.{Limits}
+use Rattle.model_tree.specs.declared.limits.Limits.{Limits}
 use Rattle.model.specs.Operations.Answer.{Refused}
 use Rattle.model.specs.Operations.Open.{at_opened}
 use Rattle.model.specs.Sessions.Opens.{Open, Opens}
 use Rattle.model.specs.Operations.Operation.{Argument, ChangeInfo, NoCreate}
 use Rattle.model.specs.Sessions.StateIds.{is_table_full, new_open, opened}
-use Rattle.model.specs.declared.status.Status.{Status}
-use Rattle.model.specs.declared.status.Status.TheVariants as status
+use Rattle.model_tree.specs.declared.status.Status.{Status}
+use Rattle.model_tree.specs.declared.status.Status.TheVariants as status
 use Rattle.opens.specs.Views.{opened_stateid, open_of, opens_of}
 use Rattle.wire.specs.ArgumentViews.{open_type_view, open_view}
 use Rattle.wire.specs.SmallViews.{change_view}

@@ -5,12 +5,12 @@ use Rattle.fs.specs.Views.{fs_of, fs_failures}
 use Rattle.fs.specs.Opening.{after_open, open_effect, has_open_room, set_by, type_of}
 use Rattle.fs.specs.Operations.{does_on}
 use Rattle.fs.specs.Renaming.{info_of}
-use Rattle.model.specs.declared.limits.Limits.{Limits}
+use Rattle.model_tree.specs.declared.limits.Limits.{Limits}
 use Rattle.model.specs.Operations.Answer.{Refused}
 use Rattle.model.specs.Sessions.Opens.{Open, Opens}
 use Rattle.model.specs.Operations.Operation.{Argument, ChangeInfo, OpenType, ByName, Opens as Opens_as}
 use Rattle.model.specs.Sessions.StateIds.{is_table_full, new_open, opened}
-use Rattle.model.specs.declared.status.Status.{Status}
+use Rattle.model_tree.specs.declared.status.Status.{Status}
 use Rattle.opens.specs.Views.{open_of, opens_of}
 use Rattle.wire.specs.ArgumentViews.{open_type_view, open_view}
 use Rattle.wire.specs.SmallViews.{change_view}

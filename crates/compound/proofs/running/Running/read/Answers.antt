@@ -5,9 +5,9 @@ use Rattle.fs.specs.Views.{fs_of, fs_failures}
 use Rattle.fs.specs.Reading.{part_at}
 use Rattle.volume.specs.Changes.{IsTree}
 use Rattle.model.specs.Operations.Answer.{Answer, Refused}
-use Rattle.model.specs.Operations.Files.{bytes_at}
+use Rattle.model_tree.specs.Trees.Tree.{bytes_at}
 use Rattle.model.specs.Operations.Operation.{Argument}
-use Rattle.model.specs.declared.status.Status.{Status}
+use Rattle.model_tree.specs.declared.status.Status.{Status}
 use Rattle.opens.specs.Views.{opens_of}
 use Rattle.wire.specs.ArgumentViews.{read_view}
 use Rattle.compound.specs.Operates.{Operates, GivesIn, ChangesTreeAndOpens, IsAnswered}

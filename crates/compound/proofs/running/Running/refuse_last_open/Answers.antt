@@ -4,7 +4,7 @@ use Rattle.fs.specs.FileSystem.{FileSystem}
 use Rattle.fs.specs.Views.{fs_of, fs_failures}
 use Rattle.fs.specs.Opening.{IsFileToOpen, IsOpening, open_effect, has_open_room, set_by, type_of}
 use Rattle.fs.specs.declared.opening.Opening.{Opening as Asked}
-use Rattle.model.specs.declared.limits.Limits.{Limits}
+use Rattle.model_tree.specs.declared.limits.Limits.{Limits}
 use Rattle.model.specs.Sessions.Opens.{Open, Opens}
 use Rattle.model.specs.Operations.Operation.{Argument, OpenArguments, OpenType}
 use Rattle.model.specs.Sessions.StateIds.{is_table_full, new_open}

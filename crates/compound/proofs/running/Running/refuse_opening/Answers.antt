@@ -1,6 +1,6 @@
 use Rattle.fs.specs.Views.{fs_of}
 use Rattle.model.specs.Operations.Operation.{Argument}
-use Rattle.model.specs.declared.status.Status.TheVariants as status
+use Rattle.model_tree.specs.declared.status.Status.TheVariants as status
 use Rattle.compound.specs.States.{shared}
 use Rattle.compound.specs.Views.{in_progress_of}
 use Rattle.compound.proofs.BesideLaws.{refused_beside}

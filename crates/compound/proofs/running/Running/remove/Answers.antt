@@ -6,7 +6,7 @@ use Rattle.model.specs.Sessions.Opens.{Opens}
 use Rattle.model.specs.Operations.Operation.{Argument}
 use Rattle.model.specs.Sessions.StateIds.{without_number}
 use Rattle.wire.specs.OutcomeView.{outcome_view}
-use Rattle.model.specs.declared.status.Status.{Status}
+use Rattle.model_tree.specs.declared.status.Status.{Status}
 use Rattle.opens.specs.Views.{opens_of}
 use Rattle.compound.specs.Operates.{GivesIn, HasRoom, ChangesTreeAndOpens, IsAnswered, IsReplyKept}
 use Rattle.compound.specs.States.{shared}

@@ -7,7 +7,7 @@ use Rattle.model.specs.Operations.Answer.{Outcome, Refused}
 use Rattle.model.specs.Operations.Operation.{Argument, Attributes}
 use Rattle.model.specs.Operations.SetAttr.{was_set}
 use Rattle.model.specs.Operations.Step.{State}
-use Rattle.model.specs.declared.status.Status.{Status}
+use Rattle.model_tree.specs.declared.status.Status.{Status}
 use Rattle.opens.specs.Views.{opens_of}
 use Rattle.wire.specs.ArgumentViews.{set_attr_view}
 use Rattle.compound.specs.Operates.{GivesIn, HasRoom, ChangesTreeAndOpens, IsAnswered, IsReplyKept}

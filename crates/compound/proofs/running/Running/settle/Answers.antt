@@ -1,6 +1,6 @@
 use Rattle.std.proofs.Common.{ℕ, sym, subst, ◌∙◌}
 use Rattle.model.specs.Operations.Answer.{Refused}
-use Rattle.model.specs.declared.status.Status.TheVariants as status
+use Rattle.model_tree.specs.declared.status.Status.TheVariants as status
 use Rattle.wire.specs.OutcomeView.{answer_view}
 use Rattle.compound.specs.Operates.{GivesIn, left_by_effect}
 use Rattle.compound.specs.Views.{in_progress_of}

@@ -1,6 +1,6 @@
 use Rattle.std.proofs.Common.{ℕ, length, sym, subst, ap, ◌∙◌}
 use Rattle.model.specs.Operations.Answer.{Refused}
-use Rattle.model.specs.declared.status.Status.TheVariants as status
+use Rattle.model_tree.specs.declared.status.Status.TheVariants as status
 use Rattle.wire.specs.Numbers.{number_of}
 use Rattle.compound.specs.Operates.{GivesIn}
 use Rattle.compound.specs.Views.{in_progress_of}

@@ -1,6 +1,6 @@
 use Rattle.std.proofs.Common.{◌≡◌, ◌∙◌, [], Some, Err, sym, ap}
 use Rattle.fs.proofs.VerdictLaws.{only_possible}
-use Rattle.model.specs.Operations.Refusal.{first_refusal}
+use Rattle.model_tree.specs.Refusals.Refusal.{first_refusal}
 use Rattle.model.specs.Sessions.StateIds.{Found, access_refusals, found}
 use Rattle.opens.specs.Views.{opens_of}
 use Rattle.wire.specs.SmallViews.{state_view}

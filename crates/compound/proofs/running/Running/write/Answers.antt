@@ -6,7 +6,7 @@ use Rattle.fs.specs.Writing.{IsWriting}
 use Rattle.model.specs.Operations.Answer.{Outcome, Refused}
 use Rattle.model.specs.Operations.Operation.{Argument}
 use Rattle.model.specs.Operations.Step.{State}
-use Rattle.model.specs.declared.status.Status.{Status}
+use Rattle.model_tree.specs.declared.status.Status.{Status}
 use Rattle.opens.specs.Views.{opens_of}
 use Rattle.wire.specs.ArgumentViews.{write_view}
 use Rattle.compound.specs.Files.{written_answer}

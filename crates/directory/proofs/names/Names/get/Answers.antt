@@ -1,5 +1,5 @@
 use Rattle.std.proofs.Common.{◌≤◌, ◌<◌, length, ap, subst, sym, ◌∙◌, arith}
-use Rattle.model.specs.Trees.Tree.{entry_of}
+use Rattle.model_tree.specs.Trees.Tree.{entry_of}
 use Rattle.directory.specs.Records.{NamesApart}
 use Rattle.directory.proofs.Changes.{none_found, some_found}
 use Rattle.directory.proofs.NamedByStamp.{entry_of-by_stamp}

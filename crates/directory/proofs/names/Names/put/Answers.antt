@@ -1,5 +1,5 @@
 use Rattle.std.proofs.Common.{◌≡◌, ◌<◌, ◌≤◌, ◌++◌, ◌∷◌, [], length, set, ap, subst, sym, ◌∙◌, arith}
-use Rattle.model.specs.Trees.Tree.{entry_of}
+use Rattle.model_tree.specs.Trees.Tree.{entry_of}
 use Rattle.directory.specs.Listing.{PutsByStamp}
 use Rattle.directory.specs.Records.{Record, record_from, place_of, NamesApart}
 use Rattle.directory.proofs.Changes.{has_name}

@@ -1,5 +1,5 @@
 use Rattle.std.proofs.Common.{◌≡◌, ◌<◌, length, ap, subst, sym, ◌∙◌, arith}
-use Rattle.model.specs.Trees.Tree.{entry_of}
+use Rattle.model_tree.specs.Trees.Tree.{entry_of}
 use Rattle.directory.specs.Listing.{by_stamp, without_entry, RemovesByStamp}
 use Rattle.directory.specs.Records.{record_of, place_of, without_place, NamesApart}
 use Rattle.directory.proofs.Changes.{found_entry}

@@ -1,5 +1,5 @@
 use Rattle.std.proofs.Common.{◌≡◌, ◌∙◌, sym, ap}
-use Rattle.model.specs.Rights.Acl.{read_acl}
+use Rattle.model_tree.specs.Rights.Acl.{read_acl}
 use Rattle.model.specs.Operations.Answer.{Answer}
 use Rattle.model.specs.Attributes.Attribute.{attributes_of, is_among}
 use Rattle.model.specs.Attributes.NodeAttributes.{node_attributes}

@@ -3,11 +3,11 @@ use Rattle.std.specs.Prelude.{Some, None}
 use Rattle.std.proofs.lemmas.Result.{err_from_is_err_and}
 use Rattle.layout.specs.CachedNodes.{CachedNode}
 use Rattle.directory.specs.Records.{record_from}
-use Rattle.model.specs.declared.limits.Limits.{Limits}
-use Rattle.model.specs.Rights.Acl.{execute}
-use Rattle.model.specs.Attributes.Name.{name_refusals}
-use Rattle.model.specs.Operations.Refusal.{first_refusal}
-use Rattle.model.specs.Trees.Tree.{is_directory}
+use Rattle.model_tree.specs.declared.limits.Limits.{Limits}
+use Rattle.model_tree.specs.Rights.Acl.{execute}
+use Rattle.model_tree.specs.Refusals.Name.{name_refusals}
+use Rattle.model_tree.specs.Refusals.Refusal.{first_refusal}
+use Rattle.model_tree.specs.Trees.Tree.{is_directory}
 use Rattle.fs.proofs.LookupTests as stages
 use Rattle.fs.specs.Views.{fs_of}
 use Rattle.fs.proofs.CachedNodeViews.{granted_by, names_are, no_directory, entry_is}

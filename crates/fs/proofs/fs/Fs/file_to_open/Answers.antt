@@ -4,7 +4,7 @@ use Rattle.fs.specs.FileSystem.{FileSystem}
 use Rattle.fs.specs.Opening.{IsFileToOpen}
 use Rattle.fs.specs.Views.{fs_of}
 use Rattle.fs.proofs.fs.Fs.file_to_open.Goals as goal
-use Rattle.model.specs.Trees.Stamp.{next_stamp}
+use Rattle.model_tree.specs.Trees.Stamp.{next_stamp}
 
 pub returns-in-Some : goal.returns-in-Some
 unfolding fs_of

@@ -1,6 +1,6 @@
 use Rattle.std.proofs.Common.{sym, ap, ◌∙◌}
 use Rattle.model.specs.Operations.Answer.{Answer}
-use Rattle.model.specs.Trees.Stamp.{filehandle_of}
+use Rattle.model_tree.specs.Trees.Stamp.{filehandle_of}
 use Rattle.model.specs.Operations.Step.{answered}
 use Rattle.fs.proofs.HandleLaws.{current_gone, handle_got}
 use Rattle.fs.specs.Views.{fs_of}

@@ -6,10 +6,10 @@ use Rattle.directory.specs.Listing.{after, by_stamp}
 use Rattle.directory.specs.Records.{IsRecord}
 use Rattle.directory.specs.Rest.{rest_of}
 use Rattle.layout.specs.CachedNodes.{CachedNode}
-use Rattle.model.specs.declared.limits.Limits.{Limits}
-use Rattle.model.specs.Trees.Keyed.{Keyed}
+use Rattle.model_tree.specs.declared.limits.Limits.{Limits}
+use Rattle.model_tree.specs.Trees.Keyed.{Keyed}
 use Rattle.model.specs.Operations.ReadDir.{names_after, page_bytes, page_room}
-use Rattle.model.specs.Trees.Tree.{DirEntry, names_at}
+use Rattle.model_tree.specs.Trees.Tree.{DirEntry, names_at}
 use Rattle.fs.specs.Views.{fs_of}
 use Rattle.fs.specs.Listing.{list_arguments, page_of, page_view, shown_entry}
 use Rattle.fs.specs.declared.fault.FsFault.TheVariants as fault

@@ -1,5 +1,5 @@
 use Rattle.std.proofs.Common.{◌≡◌, ◌∙◌, ◌⊎◌, true, false, inl, inr, sym, ap}
-use Rattle.model.specs.Trees.Keyed.{at}
+use Rattle.model_tree.specs.Trees.Keyed.{at}
 use Rattle.model.specs.Operations.ReadDir.{may_read_list}
 use Rattle.model.specs.Operations.SetAttr.{attributes_at}
 use Rattle.fs.specs.Views.{fs_of}

@@ -2,9 +2,9 @@ use Rattle.std.proofs.Common.{◌≡◌, ℕ}
 use Rattle.std.specs.List.{list_all}
 use Rattle.directory.specs.Rest.{rest_of}
 use Rattle.fs.specs.Views.{fs_of}
-use Rattle.model.specs.Trees.Keyed.{at}
+use Rattle.model_tree.specs.Trees.Keyed.{at}
 use Rattle.model.specs.Operations.ReadDir.{may_read_list}
-use Rattle.model.specs.Trees.Tree.{DirEntry}
+use Rattle.model_tree.specs.Trees.Tree.{DirEntry}
 use Rattle.fs.proofs.fs.Fs.may_read_lists.Given as goal
 
 abbrev pub invariant-loop-entry : goal.invariant-loop-entry

@@ -1,5 +1,5 @@
 use Rattle.std.proofs.Common.{arith}
-use Rattle.model.specs.Trees.Stamp.{stamp, next_stamp}
+use Rattle.model_tree.specs.Trees.Stamp.{stamp, next_stamp}
 use Rattle.volume.specs.Views.{volume_state}
 use Rattle.volume.proofs.FormedLaws.{formed_later}
 use Rattle.fs.proofs.fs.Fs.mount_seated.Goals as goal

@@ -1,5 +1,5 @@
 use Rattle.std.proofs.Common.{◌≡◌, ap, sym, subst, arith, rules}
-use Rattle.model.specs.declared.limits.Limits.{Limits}
+use Rattle.model_tree.specs.declared.limits.Limits.{Limits}
 use Rattle.fs.specs.Views.{fs_of}
 use Rattle.fs.specs.Planned.{IsList, list_by}
 use Rattle.fs.proofs.EntryLaws.{small_list, given_list_fits}

@@ -1,9 +1,9 @@
 use Rattle.std.proofs.Common.{ℕ, ◌∙◌, sym, ap, true≢false}
 use Rattle.std.proofs.lemmas.Bool.{eq-eqb, ne_eqb}
-use Rattle.model.specs.Rights.Acl.{execute}
+use Rattle.model_tree.specs.Rights.Acl.{execute}
 use Rattle.model.specs.Operations.Answer.{Answer}
 use Rattle.model.specs.Operations.Step.{answered, moved_to}
-use Rattle.model.specs.Trees.Tree.{is_directory, root}
+use Rattle.model_tree.specs.Trees.Tree.{is_directory, root}
 use Rattle.fs.specs.Views.{fs_of}
 use Rattle.fs.proofs.CachedNodeViews.{granted_by, names_are, no_directory}
 use Rattle.fs.proofs.ReadingLaws.{parent_gone, parent_of_file, parent_denied, parent_of_root, parent_found}

@@ -3,13 +3,13 @@ use Rattle.std.specs.Prelude.{Option, Some, None, option_map}
 use Rattle.std.proofs.lemmas.Result.{err_from_is_err_and}
 use Rattle.layout.specs.CachedNodes.{CachedNode}
 use Rattle.directory.specs.Records.{record_from}
-use Rattle.model.specs.declared.limits.Limits.{Limits}
-use Rattle.model.specs.declared.node.NodeKind.TheVariants as kind
-use Rattle.model.specs.Rights.Acl.{append_data}
+use Rattle.model_tree.specs.declared.limits.Limits.{Limits}
+use Rattle.model_tree.specs.declared.node.NodeKind.TheVariants as kind
+use Rattle.model_tree.specs.Rights.Acl.{append_data}
 use Rattle.model.specs.Attributes.Attribute.{attribute_refusals, settable_at_creation}
-use Rattle.model.specs.Attributes.Name.{name_refusals}
-use Rattle.model.specs.Operations.Refusal.{first_refusal}
-use Rattle.model.specs.Trees.Tree.{is_directory, names_of, entry_of}
+use Rattle.model_tree.specs.Refusals.Name.{name_refusals}
+use Rattle.model_tree.specs.Refusals.Refusal.{first_refusal}
+use Rattle.model_tree.specs.Trees.Tree.{is_directory, names_of, entry_of}
 use Rattle.set_attributes.specs.Given.{given_of}
 use Rattle.fs.specs.OnTree.{new_directory_refusals}
 use Rattle.fs.proofs.Creating as creating

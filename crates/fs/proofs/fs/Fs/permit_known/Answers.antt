@@ -1,7 +1,7 @@
 use Rattle.std.proofs.Common.{◌∙◌, true, false, sym, ap, subst}
 use Rattle.std.proofs.lemmas.Result.{err_from_is_err_and}
 use Rattle.model.specs.Operations.Open.{known_refusals}
-use Rattle.model.specs.Trees.Tree.{Tree}
+use Rattle.model_tree.specs.Trees.Tree.{Tree}
 use Rattle.fs.specs.Views.{fs_of}
 use Rattle.fs.specs.Opening.{file_tests, may_use, type_of}
 use Rattle.fs.proofs.OpenTests as tests

@@ -2,15 +2,15 @@ use Rattle.std.proofs.Common.{◌≡◌, ◌∙◌, ◌==◌, ◌&&◌, true, fa
 use Rattle.std.specs.Prelude.{Option, Some}
 use Rattle.directory.specs.Listing.{after, by_stamp}
 use Rattle.layout.specs.CachedNodes.{CachedNode}
-use Rattle.model.specs.declared.acl.Cred.{Cred}
-use Rattle.model.specs.declared.status.Status.TheVariants as status
-use Rattle.model.specs.Rights.Acl.{read_data}
-use Rattle.model.specs.Trees.Keyed.{at, is_key}
-use Rattle.model.specs.Rights.Need.{granted_on}
+use Rattle.model_tree.specs.declared.acl.Cred.{Cred}
+use Rattle.model_tree.specs.declared.status.Status.TheVariants as status
+use Rattle.model_tree.specs.Rights.Acl.{read_data}
+use Rattle.model_tree.specs.Trees.Keyed.{at, is_key}
+use Rattle.model.specs.Operations.Need.{granted_on}
 use Rattle.model.specs.Operations.Operation.{ReadDirArguments}
 use Rattle.model.specs.Operations.ReadDir.{asks_errors}
-use Rattle.model.specs.Operations.Refusal.{first_refusal}
-use Rattle.model.specs.Trees.Tree.{Tree, Node, is_directory, is_directory_at, is_directory_node, names_at, names_of, names_of_node}
+use Rattle.model_tree.specs.Refusals.Refusal.{first_refusal}
+use Rattle.model_tree.specs.Trees.Tree.{Tree, Node, is_directory, is_directory_at, is_directory_node, names_at, names_of, names_of_node}
 use Rattle.fs.specs.Listing.{list_arguments, list_refusals, may_read_lists}
 use Rattle.fs.specs.Views.{fs_of}
 use Rattle.fs.proofs.CachedNodeViews.{granted_by, names_are}

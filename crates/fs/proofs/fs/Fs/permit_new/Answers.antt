@@ -1,9 +1,9 @@
 use Rattle.std.proofs.Common.{◌∙◌, true, false, Option, sym, ap}
 use Rattle.std.proofs.lemmas.Result.{err_from_is_err_and}
-use Rattle.model.specs.Rights.Acl.{write_data}
-use Rattle.model.specs.Rights.Need.{granted_on}
+use Rattle.model_tree.specs.Rights.Acl.{write_data}
+use Rattle.model.specs.Operations.Need.{granted_on}
 use Rattle.model.specs.Operations.Open.{new_refusals}
-use Rattle.model.specs.Trees.Tree.{Node}
+use Rattle.model_tree.specs.Trees.Tree.{Node}
 use Rattle.fs.specs.Views.{fs_of}
 use Rattle.fs.specs.Opening.{file_tests, type_of}
 use Rattle.fs.proofs.CachedNodeViews.{granted_by}

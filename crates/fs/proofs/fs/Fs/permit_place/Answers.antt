@@ -1,10 +1,10 @@
 use Rattle.std.proofs.Common.{◌∙◌, true, false, sym, ap}
 use Rattle.std.proofs.lemmas.Result.{err_from_is_err_and}
-use Rattle.model.specs.declared.limits.Limits.{Limits}
-use Rattle.model.specs.Rights.Acl.{execute}
-use Rattle.model.specs.Attributes.Name.{name_refusals}
-use Rattle.model.specs.Operations.Refusal.{first_refusal}
-use Rattle.model.specs.Trees.Tree.{is_directory}
+use Rattle.model_tree.specs.declared.limits.Limits.{Limits}
+use Rattle.model_tree.specs.Rights.Acl.{execute}
+use Rattle.model_tree.specs.Refusals.Name.{name_refusals}
+use Rattle.model_tree.specs.Refusals.Refusal.{first_refusal}
+use Rattle.model_tree.specs.Trees.Tree.{is_directory}
 use Rattle.fs.specs.Views.{fs_of}
 use Rattle.fs.proofs.CachedNodeViews.{granted_by, names_are}
 use Rattle.fs.proofs.OpenTests as tests

@@ -2,15 +2,15 @@ use Rattle.std.proofs.Common.{◌≡◌, ◌∙◌, ℕ, Bool, true, false, List
 use Rattle.std.specs.Prelude.{Option}
 use Rattle.std.proofs.lemmas.Result.{err_from_is_err_and}
 use Rattle.layout.specs.CachedNodes.{CachedNode}
-use Rattle.model.specs.declared.limits.Limits.{Limits}
-use Rattle.model.specs.declared.node.NodeKind.{NodeKind}
-use Rattle.model.specs.Rights.Acl.{granted}
+use Rattle.model_tree.specs.declared.limits.Limits.{Limits}
+use Rattle.model_tree.specs.declared.node.NodeKind.{NodeKind}
+use Rattle.model_tree.specs.Rights.Acl.{granted}
 use Rattle.model.specs.Attributes.Attribute.{attribute_refusals, attributes_of, settable_at_setattr}
-use Rattle.model.specs.Trees.Keyed.{at}
-use Rattle.model.specs.Rights.Need.{granted_on}
-use Rattle.model.specs.Operations.Refusal.{first_refusal}
+use Rattle.model_tree.specs.Trees.Keyed.{at}
+use Rattle.model.specs.Operations.Need.{granted_on}
+use Rattle.model_tree.specs.Refusals.Refusal.{first_refusal}
 use Rattle.model.specs.Operations.SetAttr.{kind_at, sets_size}
-use Rattle.model.specs.Trees.Tree.{Node, is_directory_at}
+use Rattle.model_tree.specs.Trees.Tree.{Node, is_directory_at}
 use Rattle.set_attributes.specs.Given.{given_of}
 use Rattle.fs.specs.Views.{fs_of}
 use Rattle.fs.specs.Setting.{may_set, setting_tests, sized_refusals}

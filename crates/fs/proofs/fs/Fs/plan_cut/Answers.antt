@@ -2,10 +2,10 @@ use Rattle.std.proofs.Common.{◌≡◌, ◌+◌, ◌^◌, ◌∙◌, Some, ap, 
 use Rattle.std.proofs.lemmas.Bool.{lt-ltb}
 use Rattle.tree_edits.specs.Edits.{AreDoable}
 use Rattle.model.specs.declared.not_done.NotDone.{NotDone}
-use Rattle.model.specs.Trees.Changes.{touched}
-use Rattle.model.specs.Trees.Charge.{fits}
-use Rattle.model.specs.Trees.Keyed.{at}
-use Rattle.model.specs.Trees.Stamp.{next_stamp}
+use Rattle.model_tree.specs.Trees.Changes.{touched}
+use Rattle.model_tree.specs.Trees.Charge.{fits}
+use Rattle.model_tree.specs.Trees.Keyed.{at}
+use Rattle.model_tree.specs.Trees.Stamp.{next_stamp}
 use Rattle.set_attributes.specs.Given.{IsRefusedBy}
 use Rattle.fs.specs.Views.{fs_of}
 use Rattle.fs.specs.Making.{room_tests}

@@ -8,9 +8,9 @@ use Rattle.fs.specs.OnTree.{new_directory_refusals}
 use Rattle.fs.proofs.Creating.{early_refusal}
 use Rattle.fs.specs.Views.{fs_of}
 use Rattle.tree_transaction.specs.Nodes.{shown_of}
-use Rattle.model.specs.declared.node.NodeKind.TheVariants as kind
-use Rattle.model.specs.Trees.Stamp.{next_stamp}
-use Rattle.model.specs.Trees.Tree.{Tree}
+use Rattle.model_tree.specs.declared.node.NodeKind.TheVariants as kind
+use Rattle.model_tree.specs.Trees.Stamp.{next_stamp}
+use Rattle.model_tree.specs.Trees.Tree.{Tree}
 use Rattle.fs.specs.Operations.{IsNotDone, created, new_directory}
 use Rattle.fs.specs.Refusals.{fault_of}
 use Rattle.fs.proofs.CreatedLaws as laws

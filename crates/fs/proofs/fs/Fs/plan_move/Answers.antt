@@ -4,8 +4,8 @@ use Rattle.std.proofs.lemmas.Result.{err_from_is_err_and}
 use Rattle.std.specs.Prelude.{unwrap_or}
 use Rattle.tree_edits.specs.Edits.{AreDoable}
 use Rattle.layout.specs.CachedNodes.{CachedNode}
-use Rattle.model.specs.Trees.Charge.{fits}
-use Rattle.model.specs.Trees.Stamp.{next_stamp}
+use Rattle.model_tree.specs.Trees.Charge.{fits}
+use Rattle.model_tree.specs.Trees.Stamp.{next_stamp}
 use Rattle.fs.specs.Views.{fs_of}
 use Rattle.fs.specs.Renaming.{arguments_of}
 use Rattle.fs.proofs.RenamePlans as plans

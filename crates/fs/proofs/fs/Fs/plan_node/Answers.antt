@@ -1,4 +1,4 @@
-use Rattle.model.specs.declared.status.Status.TheVariants as status
+use Rattle.model_tree.specs.declared.status.Status.TheVariants as status
 use Rattle.fs.specs.Views.{fs_of}
 use Rattle.fs.proofs.NodePlans as plans
 use Rattle.volume.specs.Views.{volume_state}

@@ -3,8 +3,7 @@ use Rattle.std.specs.Prelude.{Some, None}
 use Rattle.std.proofs.lemmas.Result.{err_from_is_err_and}
 use Rattle.directory.specs.Records.{record_from}
 use Rattle.layout.specs.CachedNodes.{CachedNode}
-use Rattle.model.specs.Operations.Directory.{number_of_entry}
-use Rattle.model.specs.Trees.Tree.{entry_of, names_at}
+use Rattle.model_tree.specs.Trees.Tree.{number_of_entry, entry_of, names_at}
 use Rattle.fs.specs.Views.{fs_of}
 use Rattle.fs.proofs.CachedNodeViews.{entry_at}
 use Rattle.fs.proofs.NamedOpens as laws

@@ -3,7 +3,7 @@ use Rattle.std.proofs.lemmas.Bool.{lt-ltb}
 use Rattle.std.proofs.lemmas.Result.{err_from_is_err_and}
 use Rattle.tree_edits.specs.Edits.{AreDoable}
 use Rattle.model.specs.declared.not_done.NotDone.{NotDone}
-use Rattle.model.specs.Trees.Charge.{fits}
+use Rattle.model_tree.specs.Trees.Charge.{fits}
 use Rattle.model.specs.Operations.Operation.{Argument}
 use Rattle.fs.specs.Operations.{IsNotDone}
 use Rattle.fs.specs.Refusals.{fault_of}

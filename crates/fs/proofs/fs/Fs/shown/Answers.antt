@@ -1,6 +1,6 @@
 use Rattle.std.proofs.Common.{◌∙◌, ap}
 use Rattle.layout.specs.CachedNodes.{CachedNode}
-use Rattle.model.specs.declared.limits.Limits.{Limits}
+use Rattle.model_tree.specs.declared.limits.Limits.{Limits}
 use Rattle.fs.specs.Views.{fs_of}
 use Rattle.fs.proofs.AttributeLaws.{shows}
 use Rattle.fs.proofs.fs.Fs.shown.Goals as goal

@@ -1,7 +1,7 @@
 use Rattle.std.proofs.Common.{◌+◌, ◌^◌, ◌∙◌, sym}
 use Rattle.std.proofs.lemmas.Bool.{lt-ltb}
-use Rattle.model.specs.Trees.Changes.{made_edits}
-use Rattle.model.specs.Trees.Stamp.{next_stamp}
+use Rattle.model_tree.specs.Trees.Changes.{made_edits}
+use Rattle.model_tree.specs.Trees.Stamp.{next_stamp}
 use Rattle.fs.specs.Views.{fs_of}
 use Rattle.fs.specs.Making.{tree_with}
 use Rattle.fs.proofs.NodePlans as plans

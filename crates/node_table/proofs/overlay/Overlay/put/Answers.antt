@@ -1,5 +1,5 @@
 use Rattle.std.proofs.Common.{◌≡◌, ◌<◌, ℕ, Option, None, length, get_or, set, ap, subst, ◌∙◌, arith}
-use Rattle.model.specs.Trees.Keyed.{Keyed}
+use Rattle.model_tree.specs.Trees.Keyed.{Keyed}
 use Rattle.layout.specs.CachedNodes.{CachedNode}
 use Rattle.node_table.specs.Overlays.{Overlaid, overlaid, change_at}
 use Rattle.node_table.proofs.OverlayLaws.{unchanged, changed-length, changed-exchange, own-exchange, within-exchange, changed-push, own-push, within-push}

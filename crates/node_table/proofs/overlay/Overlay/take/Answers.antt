@@ -1,6 +1,6 @@
 use Rattle.std.proofs.Common.{◌≡◌, ◌<◌, ℕ, Option, Some, None, length, get_or, set, sym, ap, subst, ◌∙◌}
 use Rattle.std.proofs.lemmas.List.{set-get_or}
-use Rattle.model.specs.Trees.Keyed.{Keyed}
+use Rattle.model_tree.specs.Trees.Keyed.{Keyed}
 use Rattle.layout.specs.CachedNodes.{CachedNode}
 use Rattle.node_table.specs.Tables.{node_number}
 use Rattle.node_table.specs.Overlays.{Overlaid, overlaid, change_at}

@@ -1,7 +1,7 @@
 use Rattle.std.proofs.Common.{◌≡◌, ℕ, List, Option, Some, get_or, sym, ap, subst, ◌∙◌}
 use Rattle.std.proofs.lemmas.List.{get_or_default}
 use Rattle.layout.specs.CachedNodes.{CachedNode}
-use Rattle.model.specs.Trees.Keyed.{Keyed, at}
+use Rattle.model_tree.specs.Trees.Keyed.{Keyed, at}
 use Rattle.node_table.specs.Index.{IsAt}
 use Rattle.node_table.specs.Tables.{node_number_at}
 use Rattle.node_table.proofs.IndexLaws.{at-entry}

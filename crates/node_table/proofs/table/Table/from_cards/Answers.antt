@@ -1,6 +1,6 @@
 use Rattle.std.proofs.Common.{◌≡◌, ◌+◌, ℕ, List, Option, length, sym, ap, subst, ◌∙◌, refl, true≢false, arith}
 use Rattle.std.specs.List.Sorted.{IsPermutation}
-use Rattle.model.specs.Trees.Keyed.{Keyed}
+use Rattle.model_tree.specs.Trees.Keyed.{Keyed}
 use Rattle.layout.specs.CachedNodes.{CachedNode}
 use Rattle.layout.specs.Marks.{times}
 use Rattle.node_table.specs.Index.{entries_from, AreDifferent}

@@ -1,7 +1,7 @@
 use Rattle.std.proofs.Common.{◌≡◌, ◌+◌, ◌-◌, ℕ, List, Option, Some, None, get_or, ap, sym, subst, ◌∙◌, arith}
 use Rattle.std.proofs.lemmas.List.{length-set}
 use Rattle.layout.specs.CachedNodes.{CachedNode}
-use Rattle.model.specs.Trees.Keyed.{Keyed}
+use Rattle.model_tree.specs.Trees.Keyed.{Keyed}
 use Rattle.node_table.specs.Index.{IsAt}
 use Rattle.node_table.specs.Tables.{node_number_at, charge_there}
 use Rattle.node_table.proofs.TableLaws.{charge-within, removed}

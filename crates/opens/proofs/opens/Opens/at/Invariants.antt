@@ -1,5 +1,5 @@
 use Rattle.std.proofs.Common.{◌≡◌, drop, map}
-use Rattle.model.specs.Trees.Keyed.{at}
+use Rattle.model_tree.specs.Trees.Keyed.{at}
 use Rattle.opens.specs.Views.{entry_of}
 use Rattle.opens.proofs.opens.Opens.at.Given as goal
 

@@ -1,6 +1,6 @@
 use Rattle.std.proofs.Common.{◌∙◌, ◌+◌, ap, sym, map, arith}
 use Rattle.std.specs.Prelude.{Some}
-use Rattle.model.specs.Trees.Keyed.{with}
+use Rattle.model_tree.specs.Trees.Keyed.{with}
 use Rattle.model.specs.Sessions.StateIds.{opened, opened_by}
 use Rattle.opens.specs.declared.open.Entry.{Entry}
 use Rattle.opens.specs.Views.{entry_of, open_of, opens_of}

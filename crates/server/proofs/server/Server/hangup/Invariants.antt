@@ -1,7 +1,7 @@
 use Rattle.std.proofs.Common.{◌≡◌, ◌≤◌, List, false}
 use Rattle.volume.specs.VolumeState.{IsRecent}
-use Rattle.model.specs.Trees.Keyed.{at}
-use Rattle.model.specs.Trees.Tree.{Tree}
+use Rattle.model_tree.specs.Trees.Keyed.{at}
+use Rattle.model_tree.specs.Trees.Tree.{Tree}
 use Rattle.server.specs.Refused.{view, HasRunOn}
 use Rattle.server.specs.Seen.{IsTurned}
 use Rattle.server.specs.Views.{world_of, volume_of, server_failures, seen_with}

@@ -3,7 +3,7 @@ use Rattle.fs.specs.Views.{fs_of}
 use Rattle.volume.specs.declared.fault.MountFault.TheVariants as mounts
 use Rattle.volume.proofs.MountedLaws.{refused_untouched}
 use Rattle.volume.proofs.ServeLaws.{told_err}
-use Rattle.model.specs.Sessions.SeatViews.{seats_view}
+use Rattle.model_tree.specs.Seats.SeatViews.{seats_view}
 use Rattle.session.specs.Views.{table_of}
 use Rattle.server.specs.Connections.{connections_of}
 use Rattle.server.specs.Views.{world_of, volume_of, server_failures}

@@ -14,8 +14,8 @@ use Rattle.server.specs.declared.fault.ServerFault.TheVariants as faults
 use Rattle.server.specs.Seen.{Turned}
 use Rattle.server.specs.Views.{world_of, volume_of, server_failures, world_by}
 use Rattle.compound.proofs.QuietLaws.{left_all, broken≢done}
-use Rattle.model.proofs.Trees.KeyedLaws.{at-with_other}
-use Rattle.model.specs.Trees.Keyed.{at}
+use Rattle.model_tree.proofs.Trees.KeyedLaws.{at-with_other}
+use Rattle.model_tree.specs.Trees.Keyed.{at}
 use Rattle.server.proofs.Moves.{broken_leaves, leaves_now}
 use Rattle.server.proofs.Refusals.{told_by, device_told, turn_refused}
 use Rattle.server.proofs.SlabLaws.{stands, stands_none, wrote, wrote_count, rewrote, numbers_rise}

@@ -1,7 +1,7 @@
 use Rattle.std.proofs.Common.{◌≡◌, ◌≤◌, ℕ, List, [], ◌∷◌, ◌++◌, sym, ap, ◌∙◌, subst, arith}
-use Rattle.model.specs.Sessions.Seats.{Seats}
-use Rattle.model.specs.Sessions.SeatEdits.{edited_all, edits_view}
-use Rattle.model.specs.Sessions.SeatViews.{seats_view}
+use Rattle.model_tree.specs.Seats.Seats.{Seats}
+use Rattle.model_tree.specs.Seats.SeatEdits.{edited_all, edits_view}
+use Rattle.model_tree.specs.Seats.SeatViews.{seats_view}
 use Rattle.model.specs.Sessions.Session.{Client as Known, Session, is_client, is_of_clients, is_replaced_by, confirmed_with, changed_where, without_where}
 use Rattle.wire.specs.AnswerViews.{create_session_view}
 use Rattle.session.specs.Given.{AreGiven}

@@ -2,8 +2,8 @@ use Rattle.std.proofs.Common.{Some, Ok, refl, sym, ap, ◌∙◌}
 use Rattle.std.specs.Option.{option_map, option_copied}
 use Rattle.std.proofs.lemmas.Result.{err_from_is_err_and}
 use Rattle.std.specs.Result.{result_err}
-use Rattle.model.specs.Sessions.Seats.{seat_of}
-use Rattle.model.specs.Sessions.SeatViews.{seats_view}
+use Rattle.model_tree.specs.Seats.Seats.{seat_of}
+use Rattle.model_tree.specs.Seats.SeatViews.{seats_view}
 use Rattle.model.specs.Sessions.Session.{begin, begin_by, started, Session as Known}
 use Rattle.wire.specs.ArgumentViews.{sequence_view}
 use Rattle.session.specs.Views.{table_of, table_by, roll_of, seating_of, session_of, reply_kept, kept_reply_in}

@@ -1,7 +1,7 @@
 use Rattle.std.proofs.Common.{List, set, sym, ap, ◌∙◌, subst}
 use Rattle.std.proofs.lemmas.List.{length-map, map-set}
-use Rattle.model.specs.Sessions.SeatEdits.{SeatEdit, edit_view}
-use Rattle.model.specs.Sessions.SeatViews.{place_view, seats_view}
+use Rattle.model_tree.specs.Seats.SeatEdits.{SeatEdit, edit_view}
+use Rattle.model_tree.specs.Seats.SeatViews.{place_view, seats_view}
 use Rattle.session.specs.Seating.{EditsOne}
 use Rattle.session.specs.Views.{table_of}
 use Rattle.session.proofs.EditLaws.{edits_found, edits_none}

@@ -1,6 +1,6 @@
 use Rattle.std.proofs.Common.{ℕ, List, sym, ap, ◌∙◌}
-use Rattle.model.specs.Sessions.Seats.{is_seat_of, freed}
-use Rattle.model.specs.Sessions.SeatViews.{seats_view}
+use Rattle.model_tree.specs.Seats.Seats.{is_seat_of, freed}
+use Rattle.model_tree.specs.Seats.SeatViews.{seats_view}
 use Rattle.model.specs.Sessions.Session.{Session, is_session, without_where}
 use Rattle.session.specs.Views.{table_of, table_by, roll_of, sessions_of}
 use Rattle.session.proofs.Giving.{given_freed, given_moved}

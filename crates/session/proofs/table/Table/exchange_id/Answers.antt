@@ -1,6 +1,6 @@
 use Rattle.std.proofs.Common.{◌≡◌, ℕ, ◌==◌, true, false, List, Result, Ok, sym, ap, ◌∙◌, subst, rules, tests, bytes_eq}
 use Rattle.std.specs.Option.{option_map, option_copied}
-use Rattle.model.specs.declared.status.Status.{Status}
+use Rattle.model_tree.specs.declared.status.Status.{Status}
 use Rattle.model.specs.Operations.Answer.{ExchangeIdAnswer as Answered}
 use Rattle.model.specs.Sessions.Session.{exchange_answer, exchange_flags, has_only, is_unconfirmed_of, without_where, Client as Known, Table}
 use Rattle.wire.specs.ArgumentViews.{exchange_id_view}

@@ -1,5 +1,5 @@
 use Rattle.std.proofs.Common.{ℕ, List, find, sym, ap, ◌∙◌}
-use Rattle.model.specs.Sessions.SeatViews.{seats_view}
+use Rattle.model_tree.specs.Seats.SeatViews.{seats_view}
 use Rattle.model.specs.Sessions.Session.{Session, is_session, changed_where, finished_slot, finish}
 use Rattle.session.specs.Views.{table_of, table_by, roll_of, sessions_of, seating_of}
 use Rattle.session.proofs.Holding.{unheld}

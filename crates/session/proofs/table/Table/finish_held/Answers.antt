@@ -1,5 +1,5 @@
 use Rattle.std.proofs.Common.{ℕ, List, find, ap, ◌∙◌}
-use Rattle.model.specs.Sessions.SeatViews.{seats_view}
+use Rattle.model_tree.specs.Seats.SeatViews.{seats_view}
 use Rattle.model.specs.Sessions.Session.{Session, is_session}
 use Rattle.session.specs.Views.{table_of, sessions_of}
 use Rattle.session.proofs.Giving.{given_held, given_moved}

@@ -1,8 +1,8 @@
 use Rattle.std.proofs.Common.{Option, rules, tests, sym, ◌∙◌}
 use Rattle.std.proofs.lemmas.Iterator.{YieldsList-from_slice}
 use Rattle.std.proofs.lemmas.Iterator.Search.{position_from_yields_List}
-use Rattle.model.specs.declared.seats.Seat.{Seat}
-use Rattle.model.specs.Sessions.SeatViews.{place_view}
+use Rattle.model_tree.specs.declared.seats.Seat.{Seat}
+use Rattle.model_tree.specs.Seats.SeatViews.{place_view}
 use Rattle.model.specs.Sessions.Session.{gives_way}
 use Rattle.session.specs.Seating.{is_left_free}
 use Rattle.session.specs.Views.{table_of, client_of}

@@ -1,6 +1,6 @@
 use Rattle.std.proofs.Common.{◌≡◌, ◌++◌, drop, map}
-use Rattle.model.specs.Sessions.SeatEdits.{edit_view}
-use Rattle.model.specs.Sessions.SeatViews.{place_view, seats_view}
+use Rattle.model_tree.specs.Seats.SeatEdits.{edit_view}
+use Rattle.model_tree.specs.Seats.SeatViews.{place_view, seats_view}
 use Rattle.model.specs.Sessions.Session.{gives_way}
 use Rattle.session.specs.Seating.{freeing}
 use Rattle.session.specs.Views.{table_of, client_of}

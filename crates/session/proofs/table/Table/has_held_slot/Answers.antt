@@ -1,7 +1,7 @@
 use Rattle.std.proofs.Common.{nat_lt, sym, ap, ◌∙◌}
 use Rattle.std.specs.Option.{option_map, option_copied}
 use Rattle.std.proofs.lemmas.List.{length-map}
-use Rattle.model.specs.Sessions.SeatViews.{held_view, seat_view}
+use Rattle.model_tree.specs.Seats.SeatViews.{held_view, seat_view}
 use Rattle.session.specs.Seating.{has_held_slot}
 use Rattle.session.specs.Views.{table_of}
 use Rattle.session.proofs.table.Table.has_held_slot.Goals as goal

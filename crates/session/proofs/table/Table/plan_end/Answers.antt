@@ -1,7 +1,7 @@
 use Rattle.std.proofs.Common.{sym, ap, ◌∙◌, subst}
 use Rattle.std.specs.Result.{result_err}
-use Rattle.model.specs.Sessions.Seats.{is_seat_of, freed, AreOfRuns}
-use Rattle.model.specs.Sessions.SeatViews.{seats_view}
+use Rattle.model_tree.specs.Seats.Seats.{is_seat_of, freed, AreOfRuns}
+use Rattle.model_tree.specs.Seats.SeatViews.{seats_view}
 use Rattle.model.specs.Sessions.Session.{Table}
 use Rattle.session.specs.Views.{table_of}
 use Rattle.session.proofs.EditLaws.{freed_one}

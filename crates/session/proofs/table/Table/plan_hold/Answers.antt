@@ -2,10 +2,10 @@ use Rattle.std.proofs.Common.{◌≡◌, ℕ, false, List, find, sym, ap, ◌∙
 use Rattle.std.specs.Option.{option_map, option_copied}
 use Rattle.std.proofs.lemmas.List.{length-map}
 use Rattle.std.proofs.lemmas.Result.{IfOk-weaker}
-use Rattle.model.specs.declared.seats.SeatEdits.{SeatEdits}
-use Rattle.model.specs.Sessions.Seats.{AreOfRuns, seat_of, holding}
-use Rattle.model.specs.Sessions.SeatEdits.{SeatEdit, AreEdits, edited_all}
-use Rattle.model.specs.Sessions.SeatViews.{place_view, seats_view}
+use Rattle.model_tree.specs.declared.seats.SeatEdits.{SeatEdits}
+use Rattle.model_tree.specs.Seats.Seats.{AreOfRuns, seat_of, holding}
+use Rattle.model_tree.specs.Seats.SeatEdits.{SeatEdit, AreEdits, edited_all}
+use Rattle.model_tree.specs.Seats.SeatViews.{place_view, seats_view}
 use Rattle.model.specs.Sessions.Session.{Session, is_session, held_by, held_reply, slot_at}
 use Rattle.session.specs.Plans.{IsHoldPlanned}
 use Rattle.session.specs.Seating.{has_held_slot}

@@ -2,9 +2,9 @@ use Rattle.std.proofs.Common.{ℕ, ◌+◌, ◌<◌, Bool, if◌then◌else◌, 
 use Rattle.std.proofs.lemmas.List.{length-map}
 use Rattle.model.specs.Operations.Operation.{Channel, CreateSessionArguments}
 use Rattle.model.specs.Operations.Answer.{CreateSessionAnswer}
-use Rattle.model.specs.Sessions.Seats.{Seats}
-use Rattle.model.specs.Sessions.SeatEdits.{SeatEdit, CanEditAll, edited_all}
-use Rattle.model.specs.Sessions.SeatViews.{place_view, seats_view}
+use Rattle.model_tree.specs.Seats.Seats.{Seats}
+use Rattle.model_tree.specs.Seats.SeatEdits.{SeatEdit, CanEditAll, edited_all}
+use Rattle.model_tree.specs.Seats.SeatViews.{place_view, seats_view}
 use Rattle.model.specs.Sessions.Session.{Client, Session, Table, limits_for, fore_channel, gives_way}
 use Rattle.wire.specs.ArgumentViews.{create_session_view}
 use Rattle.wire.specs.SmallViews.{channel_view}

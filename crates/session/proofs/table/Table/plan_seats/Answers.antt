@@ -1,9 +1,9 @@
 use Rattle.std.proofs.Common.{List, map, set, sym, ap, ◌∙◌}
 use Rattle.std.proofs.lemmas.List.{map-set}
-use Rattle.model.specs.Sessions.Seats.{Seat}
-use Rattle.model.specs.declared.seats.SeatEdit.TheVariants as edits
-use Rattle.model.specs.Sessions.SeatEdits.{SeatEdit, Takes, edit_view}
-use Rattle.model.specs.Sessions.SeatViews.{seat_view, seats_view}
+use Rattle.model_tree.specs.Seats.Seats.{Seat}
+use Rattle.model_tree.specs.declared.seats.SeatEdit.TheVariants as edits
+use Rattle.model_tree.specs.Seats.SeatEdits.{SeatEdit, Takes, edit_view}
+use Rattle.model_tree.specs.Seats.SeatViews.{seat_view, seats_view}
 use Rattle.model.specs.Sessions.Session.{gives_way}
 use Rattle.session.specs.Seating.{freeing, seat_with, edits_with}
 use Rattle.session.specs.Views.{table_of, client_of}

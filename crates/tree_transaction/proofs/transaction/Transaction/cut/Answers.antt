@@ -1,8 +1,8 @@
 use Rattle.std.proofs.Common.{◌≡◌, ◌≤◌, ◌<◌, ◌+◌, ◌∙◌, ◌^◌, ℕ, List, Option, None, set, take, ap, sym, subst, arith}
 use Rattle.disk.specs.Moments.{Image, applied}
-use Rattle.model.specs.declared.node.NodeKind.TheVariants as kind
-use Rattle.model.specs.Trees.Charge.{blocks_of}
-use Rattle.model.specs.Trees.Edit.{SetSize}
+use Rattle.model_tree.specs.declared.node.NodeKind.TheVariants as kind
+use Rattle.model_tree.specs.Trees.Charge.{blocks_of}
+use Rattle.model_tree.specs.Trees.Edit.{SetSize}
 use Rattle.layout.specs.CachedNodes.{CachedNode}
 use Rattle.layout.specs.Marks.{times_set, mark_by}
 use Rattle.node_table.specs.Seen.{seen}

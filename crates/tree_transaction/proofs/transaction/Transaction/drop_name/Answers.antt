@@ -5,10 +5,10 @@ use Rattle.disk.specs.Moments.{Image, applied}
 use Rattle.directory.specs.Listing.{by_stamp, without_entry}
 use Rattle.directory.specs.Records.{Record, NamesStamped, without_place, place_of}
 use Rattle.directory.specs.Spelling.{directory_sector}
-use Rattle.model.specs.declared.node.NodeKind.TheVariants as kind
-use Rattle.model.specs.Trees.Charge.{blocks_of}
-use Rattle.model.specs.Trees.Keyed.{without}
-use Rattle.model.specs.Trees.Tree.{entry_of}
+use Rattle.model_tree.specs.declared.node.NodeKind.TheVariants as kind
+use Rattle.model_tree.specs.Trees.Charge.{blocks_of}
+use Rattle.model_tree.specs.Trees.Keyed.{without}
+use Rattle.model_tree.specs.Trees.Tree.{entry_of}
 use Rattle.layout.specs.CachedNodes.{CachedNode}
 use Rattle.layout.specs.Laid.{names_of_block}
 use Rattle.layout.specs.Marks.{times_set, mark_by}

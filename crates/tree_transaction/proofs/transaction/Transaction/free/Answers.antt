@@ -1,5 +1,5 @@
 use Rattle.std.proofs.Common.{◌≡◌, ◌+◌, ◌∙◌, ℕ, length, take, refl, sym, ap, subst, arith}
-use Rattle.model.specs.Trees.Edit.{DropNode}
+use Rattle.model_tree.specs.Trees.Edit.{DropNode}
 use Rattle.layout.specs.CachedNodes.{CachedNode}
 use Rattle.layout.specs.Marks.{times, times_set, mark_by}
 use Rattle.tree_transaction.specs.Blocks.{HaveMarks}

@@ -1,8 +1,8 @@
 use Rattle.std.proofs.Common.{◌≡◌, ◌≤◌, ◌+◌, ◌∙◌, List, Option, Some, set, refl, sym, ap, subst, arith}
 use Rattle.disk.specs.Moments.{Image, applied}
 use Rattle.inode.specs.Spelling.{inode_sector}
-use Rattle.model.specs.declared.node.NodeKind.TheVariants as kind
-use Rattle.model.specs.Trees.Edit.{SetSize}
+use Rattle.model_tree.specs.declared.node.NodeKind.TheVariants as kind
+use Rattle.model_tree.specs.Trees.Edit.{SetSize}
 use Rattle.layout.specs.CachedNodes.{CachedNode}
 use Rattle.tree_transaction.specs.Blocks.{IsSectorPut}
 use Rattle.tree_transaction.specs.Grown.{grown, sized}

@@ -5,9 +5,9 @@ use Rattle.freemap.specs.Kept.{free_places}
 use Rattle.directory.specs.Listing.{by_stamp, without_entry}
 use Rattle.directory.specs.Records.{Record, NamesStamped, with_record, record_from, place_of}
 use Rattle.directory.specs.Spelling.{directory_sector}
-use Rattle.model.specs.Trees.Edit.{PutName}
-use Rattle.model.specs.Trees.Keyed.{at, with}
-use Rattle.model.specs.Trees.Tree.{entry_of}
+use Rattle.model_tree.specs.Trees.Edit.{PutName}
+use Rattle.model_tree.specs.Trees.Keyed.{at, with}
+use Rattle.model_tree.specs.Trees.Tree.{entry_of}
 use Rattle.layout.specs.CachedNodes.{CachedNode}
 use Rattle.layout.specs.Laid.{names_of_block}
 use Rattle.node_table.specs.Seen.{seen}

@@ -2,7 +2,7 @@ use Rattle.std.proofs.Common.{◌≡◌, ◌+◌, ◌∙◌, List, Option, Some,
 use Rattle.disk.specs.Moments.{Image, applied}
 use Rattle.inode.specs.Fields.{IsInode}
 use Rattle.inode.specs.Spelling.{inode_sector}
-use Rattle.model.specs.Trees.Edit.{Show}
+use Rattle.model_tree.specs.Trees.Edit.{Show}
 use Rattle.layout.specs.CachedNodes.{CachedNode}
 use Rattle.tree_transaction.specs.Blocks.{IsSectorPut}
 use Rattle.tree_transaction.specs.Nodes.{shown_of, fields_showing, showing}

@@ -4,11 +4,11 @@ use Rattle.tree_edits.specs.Outlines.{tree_without_data}
 use Rattle.journal.specs.Journal.{log_of}
 use Rattle.journal.specs.Log.{Log, contents}
 use Rattle.layout.specs.Stands.{Kept}
-use Rattle.model.specs.Sessions.SeatViews.{seats_view}
+use Rattle.model_tree.specs.Seats.SeatViews.{seats_view}
 use Rattle.layout.specs.Superblock.{is_size}
-use Rattle.model.specs.declared.limits.Limits.{Limits}
-use Rattle.model.specs.Trees.Limits.{limits_of}
-use Rattle.model.specs.Trees.Stamp.{stamp}
+use Rattle.model_tree.specs.declared.limits.Limits.{Limits}
+use Rattle.model_tree.specs.Trees.Limits.{limits_of}
+use Rattle.model_tree.specs.Trees.Stamp.{stamp}
 use Rattle.disk.specs.Moments.{Image}
 use Rattle.volume.specs.Known.{AreKnownNodes, IsServing}
 use Rattle.volume.specs.Loads.{AreLoaded, HoldsVolume}

@@ -9,8 +9,8 @@ use Rattle.journal.specs.Log.{Log, AnswersByDevice, contents}
 use Rattle.layout.specs.CachedNodes.{CachedNode}
 use Rattle.layout.specs.Health.{Health}
 use Rattle.layout.specs.Superblock.{is_size}
-use Rattle.model.specs.Trees.Charge.{fits}
-use Rattle.model.specs.Trees.Limits.{limits_of}
+use Rattle.model_tree.specs.Trees.Charge.{fits}
+use Rattle.model_tree.specs.Trees.Limits.{limits_of}
 use Rattle.volume.specs.Changes.{Done, VolumeChanges}
 use Rattle.volume.specs.ParentIndex.{AreParents}
 use Rattle.volume.specs.Edits.{IsEdited, edited_by, put_by}
@@ -25,7 +25,7 @@ use Rattle.volume.proofs.EditLaws.{front_room, outline_doable, outline_few}
 use Rattle.volume.proofs.FormLaws.{few}
 use Rattle.volume.proofs.FormedLaws.{tree_formed}
 use Rattle.volume.proofs.ServeLaws.{told_err}
-use Rattle.model.specs.Trees.Stamp.{stamp}
+use Rattle.model_tree.specs.Trees.Stamp.{stamp}
 use Rattle.tree_edits.specs.Outlines.{tree_without_data}
 use Rattle.volume.proofs.KeepLaws.{left}
 use Rattle.volume.proofs.volume.Volume.change.Goals as goal

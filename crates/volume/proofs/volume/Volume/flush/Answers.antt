@@ -4,7 +4,7 @@ use Rattle.journal.specs.Journal.{log_of}
 use Rattle.journal.specs.Log.{Log, contents}
 use Rattle.layout.specs.CachedNodes.{tree_of}
 use Rattle.layout.specs.Superblock.{is_size}
-use Rattle.model.specs.Trees.Limits.{limits_of}
+use Rattle.model_tree.specs.Trees.Limits.{limits_of}
 use Rattle.volume.specs.Changes.{IsTree}
 use Rattle.volume.specs.Known.{AreKnownNodes}
 use Rattle.volume.specs.Refusals.{fault_of}

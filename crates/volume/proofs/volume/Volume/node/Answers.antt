@@ -7,7 +7,7 @@ use Rattle.layout.specs.CachedNodes.{CachedNode}
 use Rattle.layout.specs.Known.{IsCard}
 use Rattle.layout.specs.Marks.{mark_by}
 use Rattle.layout.specs.Stands.{current_version}
-use Rattle.model.specs.Sessions.Seats.{no_seats}
+use Rattle.model_tree.specs.Seats.Seats.{no_seats}
 use Rattle.volume.specs.Views.{volume_state}
 use Rattle.volume.proofs.NodeLaws.{node_there, none_there}
 use Rattle.volume.proofs.ServeLaws.{if_some_so}

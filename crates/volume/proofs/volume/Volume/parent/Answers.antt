@@ -1,7 +1,7 @@
 use Rattle.std.proofs.Common.{◌+◌}
 use Rattle.journal.specs.Journal.{log_of}
 use Rattle.layout.specs.Marks.{mark_by}
-use Rattle.model.specs.Trees.Stamp.{stamp}
+use Rattle.model_tree.specs.Trees.Stamp.{stamp}
 use Rattle.volume.proofs.FormedLaws.{formed_tree, names_most}
 use Rattle.volume.proofs.volume.Volume.parent.Goals as goal
 

@@ -7,8 +7,8 @@ use Rattle.journal.specs.Layout.{targets}
 use Rattle.journal.specs.Log.{Log, contents}
 use Rattle.layout.specs.Superblock.{is_size}
 use Rattle.layout.specs.Stands.{seats_at}
-use Rattle.model.specs.Trees.Limits.{limits_of}
-use Rattle.model.specs.Sessions.SeatEdits.{edited_all, edits_view}
+use Rattle.model_tree.specs.Trees.Limits.{limits_of}
+use Rattle.model_tree.specs.Seats.SeatEdits.{edited_all, edits_view}
 use Rattle.volume.specs.Changes.{IsSeats}
 use Rattle.volume.specs.Known.{AreKnownNodes}
 use Rattle.volume.specs.Refusals.{fault_of}

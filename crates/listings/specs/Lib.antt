@@ -1,0 +1,2 @@
+pub mod ReadingExample
+pub mod Readings

@@ -1,0 +1,17 @@
+//! READDIR's laws of listings: each is the contract of a function that does nothing.
+
+ghost use Rattle.listings.specs.ReadingExample.{ReadingExample};
+ghost use Rattle.listings.specs.Readings.{EveryReading};
+
+/// The READDIRs of a listing are calls of one: over their answers no cookie is given twice, and a
+/// name that stands under one cookie at every call is answered once, with that cookie.
+pub fn every_reading()
+    ensures { EveryReading }
+{}
+
+/// A listing worked out by hand, with changes between its two calls.
+pub fn reading_example()
+    ensures { ReadingExample }
+{
+    model::step::file_examples();
+}

@@ -1,3 +1,0 @@
--- Lemmas on Booleans and options that the standard library lacks.
-pub mod BooleanLaws
-pub mod OptionLaws

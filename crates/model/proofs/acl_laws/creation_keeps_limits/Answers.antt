@@ -1,5 +1,0 @@
-use Rattle.model.proofs.Rights.LimitLaws.{creation_keeps_limits}
-use Rattle.model.proofs.acl_laws.creation_keeps_limits.Goals as goal
-
-pub returns : goal.returns
-returns c = creation_keeps_limits

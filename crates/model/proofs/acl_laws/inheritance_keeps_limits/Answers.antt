@@ -1,5 +1,0 @@
-use Rattle.model.proofs.Rights.LimitLaws.{inheritance_keeps_limits}
-use Rattle.model.proofs.acl_laws.inheritance_keeps_limits.Goals as goal
-
-pub returns : goal.returns
-returns c = inheritance_keeps_limits

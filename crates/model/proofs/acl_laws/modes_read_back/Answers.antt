@@ -1,5 +1,0 @@
-use Rattle.model.proofs.Rights.ModeLaws.{modes_read_back}
-use Rattle.model.proofs.acl_laws.modes_read_back.Goals as goal
-
-pub returns : goal.returns
-returns c = modes_read_back

@@ -1,5 +1,0 @@
-use Rattle.model.proofs.Rights.NumberLaws.{numbers_stay_within_the_group}
-use Rattle.model.proofs.acl_laws.numbers_stay_within_the_group.Goals as goal
-
-pub returns : goal.returns
-returns c = numbers_stay_within_the_group

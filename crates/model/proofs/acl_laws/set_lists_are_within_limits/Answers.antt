@@ -1,5 +1,0 @@
-use Rattle.model.proofs.Rights.LimitLaws.{set_lists_are_within_limits}
-use Rattle.model.proofs.acl_laws.set_lists_are_within_limits.Goals as goal
-
-pub returns : goal.returns
-returns c = set_lists_are_within_limits

@@ -1,0 +1,4 @@
+pub mod Rights
+pub mod Refusals
+pub mod Trees
+pub mod Seats

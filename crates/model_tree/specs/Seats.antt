@@ -1,0 +1,4 @@
+-- What a volume has of persistent sessions.
+pub mod Seats
+pub mod SeatEdits
+pub mod SeatViews
