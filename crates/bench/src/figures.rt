@@ -21,7 +21,7 @@ where
     }
     for shape in [SMALL, LARGE] {
         print_shape(rt, shape, "a file")?;
-        let device = Rows::over(alloc, FileDevice::create(rt, alloc, path, shape.sectors)?);
+        let device = Rows::over(FileDevice::create(rt, alloc, path, shape.sectors)?);
         print_volume(rt, alloc, Measure::Rate, device, shape)?;
     }
     Ok(())

@@ -8,12 +8,17 @@ ghost use Rattle.disk.specs.Moments.{at_rest};
 use disk::{Device, DiskFault, FileDevice, SECTOR};
 use std::alloc::{AllocError, Global};
 
+/// Where the sectors stand.
+#[derive(Drop)]
+enum Store {
+    Memory(Vec<[u8; SECTOR]>),
+    File(FileDevice),
+}
+
 /// Sectors in memory, without a record of the calls, or those of a file. It claims nothing.
 #[derive(Drop)]
 pub struct Rows {
-    /// Those in memory.
-    rows: Vec<[u8; SECTOR]>,
-    file: Option<FileDevice>,
+    store: Store,
     sectors: u32,
     failures: u64,
 }
@@ -24,19 +29,17 @@ impl Rows {
         ensures size { IfOk result (λ device. device.sectors ≡ sectors) }
     {
         Ok(Rows {
-            rows: Vec::from_elem(alloc, [0; SECTOR], sectors as usize)?,
-            file: None,
+            store: Store::Memory(Vec::from_elem(alloc, [0; SECTOR], sectors as usize)?),
             sectors,
             failures: 0,
         })
     }
 
     /// Those of a file.
-    pub fn over(alloc: Global, file: FileDevice) -> Rows {
+    pub fn over(file: FileDevice) -> Rows {
         Rows {
-            rows: Vec::new(alloc),
             sectors: file.sectors(),
-            file: Some(file),
+            store: Store::File(file),
             failures: 0,
         }
     }
@@ -56,14 +59,10 @@ impl Rows {
         ensures size { self.new.sectors ≡ self.old.sectors }
         ensures failures { self.new.failures ≡ self.old.failures }
     {
-        if let Some(file) = &mut self.file {
-            return file.read(n, content).is_ok();
+        match &mut self.store {
+            Store::Memory(rows) => copy_row(rows, n, content),
+            Store::File(file) => file.read(n, content).is_ok(),
         }
-        let Some(row) = self.rows.get(n as usize) else {
-            return false;
-        };
-        *content = *row;
-        true
     }
 
     /// Whether a sector was written.
@@ -71,14 +70,10 @@ impl Rows {
         ensures size { self.new.sectors ≡ self.old.sectors }
         ensures failures { self.new.failures ≡ self.old.failures }
     {
-        if let Some(file) = &mut self.file {
-            return file.write(n, content).is_ok();
+        match &mut self.store {
+            Store::Memory(rows) => set_row(rows, n, content),
+            Store::File(file) => file.write(n, content).is_ok(),
         }
-        let Some(row) = self.rows.get_mut(n as usize) else {
-            return false;
-        };
-        *row = *content;
-        true
     }
 
     /// Whether the sectors were synced.
@@ -86,10 +81,32 @@ impl Rows {
         ensures size { self.new.sectors ≡ self.old.sectors }
         ensures failures { self.new.failures ≡ self.old.failures }
     {
-        match &mut self.file {
-            Some(file) => file.sync().is_ok(),
-            None => true,
+        match &mut self.store {
+            Store::Memory(_) => true,
+            Store::File(file) => file.sync().is_ok(),
         }
+    }
+}
+
+/// Whether there is such a row, which is copied then.
+fn copy_row(rows: &[[u8; SECTOR]], n: u32, content: &mut [u8; SECTOR]) -> bool {
+    match rows.get(n as usize) {
+        Some(row) => {
+            *content = *row;
+            true
+        }
+        None => false,
+    }
+}
+
+/// Whether there is such a row, which has this content then.
+fn set_row(rows: &mut [[u8; SECTOR]], n: u32, content: &[u8; SECTOR]) -> bool {
+    match rows.get_mut(n as usize) {
+        Some(row) => {
+            *row = *content;
+            true
+        }
+        None => false,
     }
 }
 
