@@ -12,16 +12,14 @@ use crate::entries::{MOST, WIDTH, ace_at};
 use crate::fault::InodeFault;
 use crate::node::{Form, Inode};
 use crate::writing::{ENTRIES, RUN_NUMBERS, SECOND_COUNT, to_sector};
+use extents::MAX_SECTOR_RUNS;
 use model_tree::acl::Acl;
 use model_tree::node::NodeKind;
 use sector::{SIZE, u16_at, u32_at, u64_at};
 use std::alloc::Global;
 
-/// The runs that one run sector keeps.
-const SECTOR_RUNS: usize = 500;
-
 /// The most runs that nine run sectors keep.
-const MAX_RUNS: u16 = 9 * SECTOR_RUNS as u16;
+const MAX_RUNS: u16 = 9 * MAX_SECTOR_RUNS as u16;
 
 fn kind_from(byte: u8) -> Option<NodeKind>
     ensures { (kind : NodeKind) → byte ≡ kind_byte kind → result ≡ Some kind }
@@ -121,7 +119,7 @@ fn inode_in(alloc: Global, form: Form, sector: &[u8; SIZE]) -> Result<Inode, Ino
     if runs > MAX_RUNS {
         return Err(InodeFault::NotInode);
     }
-    let run_sectors = run_sectors_in(alloc, sector, usize::from(runs).div_ceil(SECTOR_RUNS))?;
+    let run_sectors = run_sectors_in(alloc, sector, usize::from(runs).div_ceil(MAX_SECTOR_RUNS))?;
     let acl = acl_in(alloc, sector, aces)?;
     Ok(Inode {
         kind,
