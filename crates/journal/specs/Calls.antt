@@ -35,31 +35,31 @@ pub record HasFlushed (keeps_word : Type 0) (old new : Log) : Type 0 where
   pub contents : keeps_word → AreSame old.size (contents old) (contents new)
 
 -- What it costs to take a list into the base: its sectors are written to the payload, with a sync,
--- and named in the gate, with a sync, once there is a way for them. Nothing costs nothing.
+-- and named in the commit record, with a sync, once there is a way for them. Nothing costs nothing.
 abbrev pub flush_cost : List ℕ → List ℕ → ℕ
 flush_cost shown [] = 0
 flush_cost shown (sector ∷ sectors) =
     way_cost shown (sector ∷ sectors) + (length (sector ∷ sectors) + 3)
 
--- The whole list went through the gate, which shows its sectors from then on.
+-- The whole list was committed: the commit record names its sectors from then on.
 pub record GoesThrough (keeps_word : Type 0) (was now : List ℕ) (old new : Log) : Type 0 where
   pub shown : now ≡ way_for was (sectors_of old.list) ++ sectors_of old.list
   pub cost : keeps_word → Costs (flush_cost was (sectors_of old.list)) old new
 
--- Where the payload has no room for a list and this transaction together, the list went through the
--- gate; else the gate is as it was.
+-- Where the payload has no room for a list and this transaction together, the list was committed;
+-- else the commit record is as it was.
 pub record GoesThroughFirst (keeps_word : Type 0) (updates : List Update) (was now : List ℕ)
     (old new : Log) : Type 0 where
   pub kept : FitTogether (list_with old updates) → now ≡ was
   pub flushed : (FitTogether (list_with old updates) → ⊥) → GoesThrough keeps_word was now old new
 
--- What it costs to copy home what the gate names: each of its sectors, a sync, the closed gate, and
--- a sync. A cleared one costs nothing.
+-- What it costs to copy home what the commit record names: each of its sectors, a sync, the cleared
+-- record, and a sync. A record that is cleared already costs nothing.
 abbrev pub checkpoint_cost : List ℕ → ℕ
 checkpoint_cost [] = 0
 checkpoint_cost (sector ∷ sectors) = length (sector ∷ sectors) + 3
 
--- What the gate named is at home. The base is as it was, and what waits still waits.
+-- What the commit record named is at home. The base is as it was, and what waits still waits.
 pub record HasCheckpointed (keeps_word : Type 0) (shown : List ℕ) (old new : Log) : Type 0 where
   pub base : keeps_word → AreSame old.size old.base new.base
   pub contents : keeps_word → AreSame old.size (contents old) (contents new)
