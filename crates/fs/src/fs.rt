@@ -33,7 +33,7 @@ pub struct Mounted<D: Device> {
 impl<D: Device> Fs<D> {
     ghost use Rattle.std.specs.Prelude.{◌≡◌, ◌⊎◌, ◌↔◌, true, IfOk, IfErr, OnOk, IsErrOf};
     ghost use Rattle.fs.specs.Changes.{fs_ending};
-    ghost use Rattle.fs.specs.Views.{fs_of, fs_failures, AltersFs};
+    ghost use Rattle.fs.specs.Views.{fs_of, fs_failures, AltersFs, MountsFs};
     ghost use Rattle.fs.specs.Formatting.{Formats};
     ghost use Rattle.volume.specs.Checks.{Checks};
     ghost use Rattle.model_tree.specs.Seats.SeatEdits.{AreEdits, edited_all, edits_view};
@@ -41,7 +41,7 @@ impl<D: Device> Fs<D> {
     ghost use Rattle.volume.specs.Changes.{IsSeats, Stays};
     ghost use Rattle.volume.specs.Formed.{ShowsTree};
     ghost use Rattle.volume.specs.VolumeState.{KeepsRecent};
-    ghost use Rattle.volume.specs.MountAnswers.{FindsSeats, MountServes, MountGivesBack};
+    ghost use Rattle.volume.specs.MountAnswers.{FindsSeats, MountGivesBack};
 
     /// Makes the device a new volume of this many nodes, with an empty root: `volume::format`.
     ///
@@ -63,8 +63,7 @@ impl<D: Device> Fs<D> {
     ///
     /// As [`Fs::mount_seated`].
     pub fn mount(alloc: Global, device: D) -> Result<Fs<D>, Unmounted<D>>
-        ensures serves { IfOk result (λ fs. MountServes D.keeps_word D.size D.failed D.history
-            device (fs_of fs).volume (fs_failures fs)) }
+        ensures serves { IfOk result (MountsFs device) }
         ensures no_change { IfOk result (λ fs. (fs_of fs).changes ≡ 0) }
         ensures gives_back { IfErr result (MountGivesBack D.keeps_word D.size D.failed D.history
             device) }
@@ -83,8 +82,7 @@ impl<D: Device> Fs<D> {
         device: D,
         cached: NonZeroUsize,
     ) -> Result<Fs<D>, Unmounted<D>>
-        ensures serves { IfOk result (λ fs. MountServes D.keeps_word D.size D.failed D.history
-            device (fs_of fs).volume (fs_failures fs)) }
+        ensures serves { IfOk result (MountsFs device) }
         ensures no_change { IfOk result (λ fs. (fs_of fs).changes ≡ 0) }
         ensures gives_back { IfErr result (MountGivesBack D.keeps_word D.size D.failed D.history
             device) }
@@ -106,8 +104,7 @@ impl<D: Device> Fs<D> {
         device: D,
         cached: Option<NonZeroUsize>,
     ) -> Result<Mounted<D>, Unmounted<D>>
-        ensures serves { IfOk result (λ mounted. MountServes D.keeps_word D.size D.failed D.history
-            device (fs_of mounted.fs).volume (fs_failures mounted.fs)) }
+        ensures serves { IfOk result (λ mounted. MountsFs device mounted.fs) }
         ensures seats { IfOk result (λ mounted. FindsSeats D.keeps_word (fs_of mounted.fs).volume
             (seats_view mounted.seats)) }
         ensures no_change { IfOk result (λ mounted. (fs_of mounted.fs).changes ≡ 0) }

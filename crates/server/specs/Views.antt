@@ -14,6 +14,7 @@ use Rattle.model.specs.Server.World as world
 use Rattle.model.specs.Server.World.{World, ServerLimits, mounted_world}
 use Rattle.rpc.specs.Assembly.{record_limits}
 use Rattle.session.specs.Limits.{served}
+use Rattle.volume.specs.MountAnswers.{MountServes}
 use Rattle.volume.specs.VolumeState.{VolumeState, IsRecent}
 use Rattle.server.specs.Connections.{connections_of}
 use Rattle.server.specs.declared.server.Server.{Server}
@@ -69,6 +70,11 @@ BeginsEmpty persistent server = world_of server
 -- how often the device has failed
 unfoldable pub server_failures : {D : Type 0} {g : Ghosts D} → Server D g → ℕ
 server_failures server = fs_failures server.fs
+
+-- what a mount of this device serves
+abbrev pub MountsServer : {D : Type 0} {g : Ghosts D} → (device : D) → Server D g → Type 0
+MountsServer {g = g} device server = MountServes g.keeps_word g.size g.failed g.history device
+    (volume_of server) (server_failures server)
 
 -- the machine of the headline: a crash may leave these trees now, each with any of these seats
 abbrev pub serving_by : World → List Tree → (held : List Seats) → (is_down : Bool) → Serving

@@ -13,9 +13,9 @@ use std::num::NonZeroUsize;
 impl<D: Device> Server<D> {
     ghost use Rattle.std.specs.Prelude.{IfOk, IfErr};
     ghost use Rattle.fs.specs.Formatting.{Formats};
-    ghost use Rattle.volume.specs.MountAnswers.{MountServes, MountGivesBack};
+    ghost use Rattle.volume.specs.MountAnswers.{MountGivesBack};
     ghost use Rattle.server.specs.Headline.{BeginsServing};
-    ghost use Rattle.server.specs.Views.{BeginsEmpty, volume_of, server_failures};
+    ghost use Rattle.server.specs.Views.{BeginsEmpty, MountsServer};
 
     /// Makes the device a new volume of this many nodes, with an empty root: `Fs::format`.
     pub fn format(alloc: Global, device: &mut D, nodes: u32) -> Result<(), FormatFault>
@@ -36,8 +36,7 @@ impl<D: Device> Server<D> {
     /// failed, and Memory.
     pub fn mount(alloc: Global, device: D, persistent: bool) -> Result<Server<D>, Unmounted<D>>
         ensures world { IfOk result (BeginsEmpty persistent) }
-        ensures serves { IfOk result (λ server. MountServes D.keeps_word D.size D.failed D.history
-            device (volume_of server) (server_failures server)) }
+        ensures serves { IfOk result (MountsServer device) }
         ensures begins { D.keeps_word → IfOk result (BeginsServing persistent) }
         ensures gives_back { IfErr result (MountGivesBack D.keeps_word D.size D.failed D.history
             device) }
@@ -57,8 +56,7 @@ impl<D: Device> Server<D> {
         persistent: bool,
     ) -> Result<Server<D>, Unmounted<D>>
         ensures world { IfOk result (BeginsEmpty persistent) }
-        ensures serves { IfOk result (λ server. MountServes D.keeps_word D.size D.failed D.history
-            device (volume_of server) (server_failures server)) }
+        ensures serves { IfOk result (MountsServer device) }
         ensures begins { D.keeps_word → IfOk result (BeginsServing persistent) }
         ensures gives_back { IfErr result (MountGivesBack D.keeps_word D.size D.failed D.history
             device) }
@@ -74,8 +72,7 @@ impl<D: Device> Server<D> {
         persistent: bool,
     ) -> Result<Server<D>, Unmounted<D>>
         ensures world { IfOk result (BeginsEmpty persistent) }
-        ensures serves { IfOk result (λ server. MountServes D.keeps_word D.size D.failed D.history
-            device (volume_of server) (server_failures server)) }
+        ensures serves { IfOk result (MountsServer device) }
         ensures begins { D.keeps_word → IfOk result (BeginsServing persistent) }
         ensures gives_back { IfErr result (MountGivesBack D.keeps_word D.size D.failed D.history
             device) }

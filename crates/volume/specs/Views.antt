@@ -1,11 +1,13 @@
 -- What contracts see of a mounted volume.
 use Rattle.std.specs.Prelude.{ℕ, List, Option}
+use Rattle.disk.specs.declared.device.Device.{Ghosts}
 use Rattle.journal.specs.Journal.{log_of, journal_failures}
 use Rattle.journal.specs.Log.{Log, contents}
 use Rattle.layout.specs.CachedNodes.{CachedNode, tree_of}
 use Rattle.layout.specs.Stands.{seats_at}
 use Rattle.model_tree.specs.declared.limits.Limits.{Limits}
 use Rattle.volume.specs.Changes.{Given, Ending, VolumeChanges}
+use Rattle.volume.specs.MountAnswers.{MountServes}
 use Rattle.volume.specs.VolumeState.{VolumeState, fronts_from}
 use Rattle.volume.specs.declared.volume.Volume.{Volume}
 
@@ -35,3 +37,8 @@ abbrev pub AltersVolume : {D : _} {g : _} → (old new : Volume D g) → Given �
 AltersVolume {D} {g} old new given ending =
     VolumeChanges g.keeps_word given (volume_state old) (volume_state new)
     (volume_failures old) (volume_failures new) ending
+
+-- what a mount of this device serves
+abbrev pub MountsVolume : {D : Type 0} {g : Ghosts D} → (device : D) → Volume D g → Type 0
+MountsVolume {D} {g} device volume = MountServes g.keeps_word g.size g.failed g.history device
+    (volume_state volume) (volume_failures volume)

@@ -79,10 +79,10 @@ impl<D: Device> Volume<D> {
     ghost use Rattle.volume.specs.Formed.{ShowsTree};
     ghost use Rattle.volume.specs.VolumeState.{IsJustMounted, KeepsRecent};
     ghost use Rattle.volume.specs.Loads.{HoldsBase};
-    ghost use Rattle.volume.specs.MountAnswers.{FindsSeats, MountServes, MountGivesBack, ComesBack};
+    ghost use Rattle.volume.specs.MountAnswers.{FindsSeats, MountGivesBack, ComesBack};
     ghost use Rattle.volume.specs.Mounts.{IsVolumeOf, IsAtRest, HasBegun, IsNotBegun};
     ghost use Rattle.volume.specs.Nodes.{IsNodeOf};
-    ghost use Rattle.volume.specs.Views.{volume_state, volume_failures, AltersVolume};
+    ghost use Rattle.volume.specs.Views.{volume_state, volume_failures, AltersVolume, MountsVolume};
 
     /// Mounts the volume: finds it by its first sector, replays the log, reads its nodes and seats,
     /// migrates one of version 1, and raises the restart count. Every map that a crash leaves from
@@ -92,8 +92,7 @@ impl<D: Device> Volume<D> {
     ///
     /// As [`Volume::mount_seated`].
     pub fn mount(alloc: Global, device: D) -> Result<Volume<D>, Unmounted<D>>
-        ensures serves { IfOk result (λ volume. MountServes D.keeps_word D.size D.failed D.history
-            device (volume_state volume) (volume_failures volume)) }
+        ensures serves { IfOk result (MountsVolume device) }
         ensures gives_back { IfErr result (MountGivesBack D.keeps_word D.size D.failed D.history
             device) }
     {
@@ -111,8 +110,7 @@ impl<D: Device> Volume<D> {
         device: D,
         cached: NonZeroUsize,
     ) -> Result<Volume<D>, Unmounted<D>>
-        ensures serves { IfOk result (λ volume. MountServes D.keeps_word D.size D.failed D.history
-            device (volume_state volume) (volume_failures volume)) }
+        ensures serves { IfOk result (MountsVolume device) }
         ensures gives_back { IfErr result (MountGivesBack D.keeps_word D.size D.failed D.history
             device) }
     {
@@ -132,8 +130,7 @@ impl<D: Device> Volume<D> {
         device: D,
         cached: Option<NonZeroUsize>,
     ) -> Result<Mounted<D>, Unmounted<D>>
-        ensures serves { IfOk result (λ mounted. MountServes D.keeps_word D.size D.failed D.history
-            device (volume_state mounted.volume) (volume_failures mounted.volume)) }
+        ensures serves { IfOk result (λ mounted. MountsVolume device mounted.volume) }
         ensures seats { IfOk result
             (λ mounted. FindsSeats D.keeps_word (volume_state mounted.volume)
             (seats_view mounted.seats)) }
