@@ -157,8 +157,8 @@ impl<S: Read + Write + Drop> Caller<S> {
     /// Runs turns until the reply is there, and takes it.
     ///
     /// # Errors
-    /// Script where no reply is to come; Garbled where a turn finds nothing to do before it is there;
-    /// else those of `turn`.
+    /// Script where no reply is to come; Garbled where a turn finds nothing to do before it is
+    /// there; else those of `turn`.
     pub fn await_reply<D: Device>(&mut self, server: &mut Server<D>) -> Result<Vec<u8>, Refused> {
         if !self.awaits_reply() {
             return Err(Refused::Script);

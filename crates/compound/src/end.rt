@@ -37,8 +37,8 @@ impl Running<'_> {
     ghost use Rattle.compound.specs.declared.fault.Fault.TheVariants.{Memory};
 
     /// The reply's whole record, once the last result is there. The slot keeps the result of the
-    /// COMPOUND, and where a seat holds it these edits are made of the seats. No memory is taken, and
-    /// what is left over goes to `results_buffer`.
+    /// COMPOUND, and where a seat holds it these edits are made of the seats. No memory is taken,
+    /// and what is left over goes to `results_buffer`.
     #[tactic(auto, unfolding(crate::specs::Views::in_progress_of), using(crate::proofs::Replies::success_length, crate::proofs::Replies::framed_length))]
     pub(crate) fn end(
         self,
@@ -77,8 +77,8 @@ impl Running<'_> {
         record
     }
 
-    /// Where a seat is to hold the reply, it does so on the volume; and what that makes of the seats
-    /// beside the table.
+    /// Where a seat is to hold the reply, it does so on the volume; and what that makes of the
+    /// seats beside the table.
     ///
     /// # Errors
     /// After `Memory` nothing changed; after `Device` the file system is down.
@@ -177,8 +177,8 @@ fn keep_by(
     }
 }
 
-/// The slot keeps the bytes of a result, in this memory, and these edits are made of the seats where
-/// one holds it. The memory of the reply before comes back.
+/// The slot keeps the bytes of a result, in this memory, and these edits are made of the seats
+/// where one holds it. The memory of the reply before comes back.
 #[tactic(auto, unfolding(model::specs::Sessions::Session::finish))]
 fn keep(
     table: &mut Table,
@@ -190,7 +190,8 @@ fn keep(
     requires room { RESULT_BUFFER ≤ memory.capacity }
     requires short { length bytes.now ≤ RESULT_BUFFER }
     requires edits { AreOfReply (Some (slot_of id.now)) bytes.now (table_of table.old) edits }
-    ensures { table_of table.new ≡ finish id.now.session id.now.slot bytes.now (table_of table.old) }
+    ensures { table_of table.new
+        ≡ finish id.now.session id.now.slot bytes.now (table_of table.old) }
 {
     let kept = copied(bytes, memory);
     match edits {

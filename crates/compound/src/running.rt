@@ -1,4 +1,4 @@
-//! A COMPOUND over its record.
+//! A COMPOUND over its record. Its turn is in `step`, each operation in a file of its own.
 
 ghost use Rattle.std.specs.Prelude.{◌≡◌, ◌≤◌, ◌<◌, ◌+◌, None, length};
 ghost use Rattle.xdr.specs.Forms.{counted};

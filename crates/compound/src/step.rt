@@ -238,8 +238,8 @@ impl Running<'_> {
         });
     }
 
-    /// The COMPOUND after this result: it goes on; or this result is the last one or not OK, and the
-    /// reply is there, unless a seat is to hold it first.
+    /// The COMPOUND after this result: it goes on; or this result is the last one or not OK, and
+    /// the reply is there, unless a seat is to hold it first.
     fn answer(
         self,
         table: &mut Table,

@@ -1,4 +1,4 @@
-//! The law of listings: the contract of a function that does nothing.
+//! The law of the pages of a listing: the contract of a function that does nothing.
 
 ghost use Rattle.directory.specs.Listing.{EveryPaging};
 

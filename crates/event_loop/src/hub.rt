@@ -20,8 +20,8 @@ const PAUSE_MILLIS: u64 = 10;
 /// How long nothing comes before the server uses the time.
 const QUIET_MILLIS: u64 = 1;
 
-/// How often it is looked at whether a peer has been quiet for so long that another one may have its
-/// place.
+/// How often it is looked at whether a peer has been quiet for so long that another one may have
+/// its place.
 const GLANCE_SECONDS: u64 = 1;
 
 /// How many of the device's sectors are kept in memory, 16 MB: sixteen peers work on more than a

@@ -1,5 +1,5 @@
-//! A server and its peers, up to 16 at a time, in one thread. No socket is waited for: the loop over
-//! them sleeps where none has anything to do.
+//! A server and its peers, up to 16 at a time, in one thread. No socket is waited for: the loop
+//! over them sleeps where none has anything to do.
 #![tactic(auto)]
 
 mod door;

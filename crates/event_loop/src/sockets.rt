@@ -106,14 +106,15 @@ impl Sockets {
         self.peers.get_mut(key)
     }
 
-    /// A peer's stream is closed, and another connection may have its place. Whether it was the last.
+    /// A peer's stream is closed, and another connection may have its place. Whether it was the
+    /// last.
     pub fn remove(&mut self, key: usize) -> bool {
         self.peers.try_remove(key);
         self.peers.is_empty()
     }
 
-    /// Ends the peer that was quiet longest, of those that were quiet for long: its sessions live on,
-    /// and its client connects again.
+    /// Ends the peer that was quiet longest, of those that were quiet for long: its sessions live
+    /// on, and its client connects again.
     pub fn dismiss_the_quietest(&mut self, now: Instant) -> Pace {
         let Some(key) = quietest(&self.peers, now) else {
             return Pace::Sleeps;

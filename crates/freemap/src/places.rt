@@ -1,4 +1,4 @@
-//! A set of used places that copies share.
+//! A bitmap that copies share.
 
 ghost use Rattle.std.specs.Prelude.{◌≡◌, ◌<◌, ◌*◌, ◌↔◌, Some, false, true, slice_index_or, slice_get, slice_set, All, IfOk, IsErrOf, OnOk, OnErr, IsTrue};
 ghost use Rattle.freemap.specs.Places.{ShowsPlaces, HaveSamePart};
@@ -28,7 +28,7 @@ impl Model for SharedBitmap {
 }
 
 impl SharedBitmap {
-    /// The places of a set.
+    /// A bitmap whose copies share its memory.
     pub fn new(alloc: Global, set: Bitmap) -> Result<SharedBitmap, AllocError>
         ensures { IfOk result (λ places. places ≡ set) }
     {
@@ -36,7 +36,7 @@ impl SharedBitmap {
         Ok(SharedBitmap { alloc, set })
     }
 
-    /// The same places, in the same memory.
+    /// A copy, in the same memory.
     pub fn try_clone(&self) -> Result<SharedBitmap, AllocError>
         ensures { IfOk result (λ places. places ≡ self.now) }
     {

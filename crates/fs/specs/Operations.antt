@@ -76,7 +76,7 @@ TestsCurrent fs state (Err fault.Down) = fs.volume.is_down ≡ true
 -- Changes
 
 -- what an operation of this caller, with the node of this number as the current one, leaves by the
--- definition
+-- definition; it has to last
 pub record MakesTree (fs : FileSystem) (cred : Cred) (number now : ℕ) (operation : Argument)
     (after : Kept) (lasts : Bool) : Type 0 where
   pub state : State

@@ -70,6 +70,7 @@ impl<D: Device> Fs<D> {
             (fs_ending result) }
         // Room, and refusals
         ensures room { MindsRoom has_room (fs_of self.old).volume.is_down result }
+        // Without a stamp no memory is taken: it is refused with SERVERFAULT or NOSPC
         ensures memory { is_stamp_left (fs_of self.old).changes ≡ false
             → ¬ IsErrOf result FsFault.Memory }
     {

@@ -1,4 +1,5 @@
-//! The definitions that every layer of the server meets, above those of trees (`model_tree`).
+//! The definitions of operations, sessions, RPC and the server, above those of trees (`model_tree`),
+//! which storage meets alone.
 //!
 //! `specs/` has one file a subject, each with the section of the public standard that it comes
 //! from.

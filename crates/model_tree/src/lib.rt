@@ -1,5 +1,5 @@
-//! The definitions of trees and rights, which storage meets as well as operations, and the plain
-//! data types that they speak of.
+//! The definitions of trees, rights and seats, which storage meets as well as operations, and the
+//! plain data types that they speak of.
 //!
 //! `specs/` has one file a subject, each with the section of the public standard that it comes
 //! from.

@@ -1,5 +1,5 @@
-//! The program `nfs41d`: it serves the volume in a file over TCP, to up to 16 connections at a time,
-//! until it is ended.
+//! The program `nfs41d`: it serves the volume in a file over TCP, to up to 16 connections at a
+//! time, until it is ended.
 #![tactic(auto)]
 
 mod words;

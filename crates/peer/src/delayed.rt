@@ -7,8 +7,9 @@ use std::fmt::{Display, Formatter, Write};
 /// The status of an operation that is to come again (RFC 8881, section 15.1.1.3).
 const DELAY: u32 = 10_008;
 
-/// Where the status of a COMPOUND stands in the record of its reply: behind the record's header, and
-/// an accepted reply's xid, type, status, verifier and status of acceptance (RFC 5531, section 9).
+/// Where the status of a COMPOUND stands in the record of its reply: behind the record's header,
+/// and an accepted reply's xid, type, status, verifier and status of acceptance (RFC 5531, section
+/// 9).
 const STATUS_PLACE: usize = 28;
 
 /// The bytes of a refused operation's result, its number and its status.

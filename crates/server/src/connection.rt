@@ -1,4 +1,4 @@
-//! What is kept of a connection.
+//! What is kept of a connection. Its bytes come and go in `receiving`, its turns are in `running`.
 
 ghost use Rattle.std.specs.Prelude.{◌≡◌, true};
 ghost use Rattle.server.specs.Stages.{is_ready};

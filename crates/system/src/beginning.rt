@@ -47,8 +47,8 @@ impl From<AllocError> for Unbegun {
     }
 }
 
-/// Reads the words of the command line. While what it answers is there, no file that is opened takes
-/// the place of a standard stream that is closed.
+/// Reads the words of the command line. While what it answers is there, no file that is opened
+/// takes the place of a standard stream that is closed.
 pub fn begin<R>(rt: &R) -> Result<Begun, Unbegun>
 where
     R: Files<File = File> + Env + AllocGlobal,

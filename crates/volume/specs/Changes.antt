@@ -31,7 +31,8 @@ ending_of (Err fault.Down) = Nothing
 abbrev pub Given : Type 1
 Given = (after : Kept) → (lasts : Bool) → Type 0
 
--- that it is this tree, and the seats as they were
+-- that it is this tree, and the seats as they were. It says nothing of `lasts`, so the tree has to
+-- last; a relation that says false lets it be lost.
 abbrev pub IsTree : VolumeState → Tree → Given
 IsTree held tree after lasts = after ≡ with_tree held tree
 

@@ -27,8 +27,8 @@ pub enum FormatFault {
 /// Why a volume was not mounted.
 #[derive(Clone, Copy, Debug, PartialEq, Eq, Error)]
 pub enum MountFault {
-    /// The device failed; a volume of version 1 may be migrated in part, and the restart count may be
-    /// raised.
+    /// The device failed; a volume of version 1 may be migrated in part, and the restart count may
+    /// be raised.
     #[error("Device")]
     Device,
     /// A volume, but no tree stands there.

@@ -34,8 +34,8 @@ pub fn every_remount()
     ensures stands { StillStands }
 {}
 
-/// What a volume answers without its device: the same of two trees that differ in the bytes of files
-/// alone.
+/// What a volume answers without its device: the same of two trees that differ in the bytes of
+/// files alone.
 #[tactic(auto, using(crate::proofs::ShownLaws::answers_by_shown))]
 pub fn answers_by_shown()
     ensures { AnswersByShown }

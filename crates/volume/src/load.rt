@@ -25,8 +25,8 @@ use std::alloc::{AllocError, Global};
 use tree_check::are_well_formed;
 use volume_load::read_volume;
 
-/// The nodes of a volume as they are once each has form two, the places of its data region that they
-/// name, and their parents.
+/// The nodes of a volume as they are once each has form two, the places of its data region that
+/// they name, and their parents.
 #[derive(Drop)]
 pub(crate) struct Loaded {
     /// How far a migration came, as its mark tells.

@@ -86,7 +86,8 @@ impl<D: Device> Volume<D> {
 
     /// Mounts the volume: finds it by its first sector, replays the log, reads its nodes and seats,
     /// migrates one of version 1, and raises the restart count. Every map that a crash leaves from
-    /// then on has the new count, which is this mount's run. Its journal keeps 64 sectors in memory.
+    /// then on has the new count, which is this mount's run. Its journal keeps 64 sectors in
+    /// memory.
     ///
     /// # Errors
     ///
@@ -239,8 +240,8 @@ impl<D: Device> Volume<D> {
         self.store.journal.is_down()
     }
 
-    /// The node of this number: all of it but the bytes of a file. Where the volume is down, that of
-    /// the tree before the call that failed or after it.
+    /// The node of this number: all of it but the bytes of a file. Where the volume is down, that
+    /// of the tree before the call that failed or after it.
     pub fn node(&self, number: u64) -> Option<&CachedNode>
         ensures some { IfSome result
             (λ cached. IsNodeOf (volume_state self.now).tree number cached.now) }

@@ -37,8 +37,8 @@ pub(super) fn formatted(alloc: Global, sectors: u32, nodes: u32) -> Result<Disk,
     Ok(disk)
 }
 
-/// Mounts a disk, whatever stands on it, by a journal that keeps one sector, and leaves it. The run,
-/// or why it was refused.
+/// Mounts a disk, whatever stands on it, by a journal that keeps one sector, and leaves it. The
+/// run, or why it was refused.
 pub(super) fn try_mount(alloc: Global, disk: &mut Disk) -> Result<u32, MountFault> {
     match Fs::mount_cached(alloc, disk, NonZeroUsize::MIN) {
         Ok(fs) => Ok(fs.restart_count()),

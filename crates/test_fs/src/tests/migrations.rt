@@ -21,8 +21,8 @@ const FEW: usize = 4;
 /// The first sector of what a tree stands on, the bitmap.
 const TREE: usize = 98;
 
-/// Where a volume is between version 1 and version 2: its version, how many places are moved, as its
-/// mark tells, and how many sectors the gate names.
+/// Where a volume is between version 1 and version 2: its version, how many places are moved, as
+/// its mark tells, and how many sectors the gate names.
 type Place = [u8; 3];
 
 /// Gives each sector that the gate names what the log has for it.

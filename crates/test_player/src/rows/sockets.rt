@@ -195,8 +195,8 @@ impl Sockets {
         Ok(())
     }
 
-    /// The loop goes on until so many bytes came, or the connection ended. What came, and whether it
-    /// ended.
+    /// The loop goes on until so many bytes came, or the connection ended. What came, and whether
+    /// it ended.
     fn receive(&mut self, connection: usize, count: usize) -> Result<(Vec<u8>, bool), Difference> {
         let mut bytes = Vec::new(self.clock.1);
         for _ in 0..MAX_ROUNDS {

@@ -70,8 +70,8 @@ fn whole(alloc: Global, unsynced: &[Unsynced]) -> Result<Vec<Landed>, AllocError
     Ok(all)
 }
 
-// The old contents and the new ones, and whether after some crash the old ones were found, a sector 0 of zeros, and the new
-// ones.
+// The old contents and the new ones, and whether after some crash the old ones were found, a sector
+// 0 of zeros, and the new ones.
 #[derive(Drop)]
 struct Trial {
     old: Contents,
@@ -114,8 +114,8 @@ impl Trial {
         Ok(())
     }
 
-    // Up to six unsynced sectors, and where all are unsynced, the landings that matter; else nothing and
-    // everything.
+    // Up to six unsynced sectors, and where all are unsynced, the landings that matter; else
+    // nothing and everything.
     fn stop(
         &mut self,
         rt: &impl Abort,
