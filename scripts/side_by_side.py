@@ -2,13 +2,14 @@
 """Drives `nfs41 serve` and nfs-ganesha in turns, and prints the median latency of each operation
 and their ratio.
 
-    scripts/side_by_side.py [ROUNDS] [SECONDS]      after `rt run` in crates/nfs41, as root
+    scripts/side_by_side.py [ROUNDS] [SECONDS] [PROCESSOR]    after `rt run` in crates/nfs41, as root
 
 Needs rustc, and nfs-ganesha with its VFS module. NFS41 in the environment names another program
 than the one that `rt run` leaves. Both servers keep their files in memory
 (/dev/shm), are asked over one connection, one request at a time (scripts/nfsload.rs), and take
 turns, so that what else runs on the machine takes from both. A process of the idle class keeps each
-processor awake, since to wake one takes longer than a request, and not as long each time. `echo` is
+processor awake, since to wake one takes longer than a request, and not as long each time. With a
+PROCESSOR (a number) all of them run on that one, where nothing waits for another to wake. `echo` is
 the time of the socket alone: a call is sent to a thread that sends it back. `echo_read` and
 `echo_write` have 8,192 bytes more in the reply, or in the call, as a READ and a WRITE have.
 """
@@ -103,6 +104,14 @@ def keep_awake():
     return [subprocess.Popen(words, preexec_fn=take_idle_class) for _ in range(count)]
 
 
+def put_on(processor, servers):
+    """Lets the servers' threads, and what this process starts from now on, run there alone."""
+    for server, _ in servers.values():
+        for thread in os.listdir(f"/proc/{server.pid}/task"):
+            os.sched_setaffinity(int(thread), {processor})
+    os.sched_setaffinity(0, {processor})
+
+
 def end(servers):
     """Ends the servers that the functions above started."""
     for server, _ in servers.values():
@@ -125,7 +134,11 @@ def main():
     load = build_load(folder)
     servers = {"nfs41": start_nfs41(folder, rounds), "nfs-ganesha": start_ganesha(folder)}
     figures = {name: [] for name in servers}
-    spinners = keep_awake()
+    if len(sys.argv) > 3:
+        put_on(int(sys.argv[3]), servers)
+        spinners = []
+    else:
+        spinners = keep_awake()
     for _ in range(rounds):
         for name, (_, port) in servers.items():
             figures[name].append(drive(load, port, seconds))
