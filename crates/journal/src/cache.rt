@@ -52,7 +52,7 @@ impl Cache {
             ⊎ ((FIRST_TARGET ≤ n) × (entry ≡ (n, content.now))) }
     {
         if n >= FIRST_TARGET {
-            let _ = self.sectors.put(n, *content);
+            let _ = self.sectors.push(n, *content);
         }
     }
 

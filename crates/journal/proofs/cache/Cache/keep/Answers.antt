@@ -6,4 +6,4 @@ pub returns-then-n-ge-FIRST_TARGET : goal.returns-then-n-ge-FIRST_TARGET
 returns-then-n-ge-FIRST_TARGET c = λ entry there. ⊎_elim
     (λ (was : Contains c.args.self.now.sectors.entries entry). inl was)
     (λ (one : entry ≡ (c.args.n, c.args.content.now)). inr (c.if-n-ge-FIRST_TARGET.true, one))
-    (kept_cases c.put.result c.args.self.now.sectors c.put.new.self c.args.n c.args.content.now c.put.ensures.entries c.put.ensures.err entry there)
+    (kept_cases c.push.result c.args.self.now.sectors c.push.new.self c.args.n c.args.content.now c.push.ensures.entries c.push.ensures.err entry there)
