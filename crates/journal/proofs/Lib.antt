@@ -15,6 +15,7 @@ pub mod Moments
 pub mod Parts
 pub mod Phases
 pub mod Recovers
+pub mod Rewrites
 pub mod Stages
 pub mod Superblocks
 pub mod Viewing

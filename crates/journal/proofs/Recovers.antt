@@ -1,19 +1,23 @@
 -- Recovery: an image settles to one image, and a mount keeps what it settles to.
-use Rattle.std.proofs.Common.{◌≡◌, ◌≤◌, ◌<◌, ◌^◌, ℕ, Bool, true, false, eqb, eq-eqb, List, [], ◌∷◌, length, refl, sym, ap, ◌∙◌, subst, inl, inr, arith, Result, Ok, Err}
-use Rattle.disk.specs.Moments.{Image, History, AddsOnly, seen, synced, moment}
+use Rattle.std.proofs.Common.{◌≡◌, ◌+◌, ◌≤◌, ◌<◌, ◌^◌, ℕ, Bool, true, false, eqb, eq-eqb, List, [], ◌∷◌, length, refl, sym, ap, ◌∙◌, subst, inl, inr, arith, Result, Ok, Err}
+use Rattle.disk.specs.declared.update.Update.{Update}
+use Rattle.disk.specs.Moments.{Image, History, AddsOnly, IsSector, seen, synced, moment}
 use Rattle.disk.specs.Cause.{IsCounted}
 use Rattle.disk.proofs.MomentLemmas.{AddsOnly-same, AddsOnly-weaken, AddsOnly-join}
 use Rattle.journal.specs.declared.fault.JournalFault.{JournalFault}
 use Rattle.journal.specs.declared.fault.JournalFault.TheVariants as faults
 use Rattle.journal.specs.Layout.{AreTargets, NamesTargets, gate, through}
+use Rattle.journal.specs.Log.{Log}
+use Rattle.journal.specs.MountAnswers.{HasRecovered}
 use Rattle.journal.specs.Settled.{AreSame, Settles, SettlesAs}
 use Rattle.journal.specs.Phase.{IsGated}
-use Rattle.journal.specs.Commit.{IsCopiedHome, KeepsShown}
-use Rattle.journal.specs.Recover.{FaultsCounted, Recovers}
+use Rattle.journal.specs.Commit.{IsCopiedHome, KeepsShown, rewritten}
+use Rattle.journal.specs.Recover.{FaultsCounted, IsClosed, Recovers, recovery_cost}
 use Rattle.journal.proofs.GateWords.{names_one}
+use Rattle.journal.proofs.Rewrites.{seen_again}
 use Rattle.journal.proofs.Stages.{gated_stage, no_targets}
 use Rattle.journal.proofs.Moments.{AddsOnly-synced}
-use Rattle.journal.proofs.Fronts.{settles_same}
+use Rattle.journal.proofs.Fronts.{settled_of, settles_same}
 
 -- an image settles to one image
 pub settles_once : (size : ℕ) (image a b : Image) → size < 2 ^ 32 → Settles size image a → Settles size image b → AreSame size a b
@@ -127,17 +131,36 @@ recovers_closed size h h2 to e none gated =
       cost = omega (arith, ap moment e);
     }
 
-pub recovers_copied : (size : ℕ) (h h2 h3 : History) (to : List ℕ) → h2 ≡ synced h → size < 2 ^ 32 → length to ≤ 96 → AreTargets size to → IsGated to h2
-    → KeepsShown size to h2 h3 → IsCopiedHome size to h2 h3 → Recovers size h h3
-recovers_copied size h h2 h3 to e small few fit gated shown copied = record {
+recovery_cost_is : (to : List ℕ) → (to ≡ [] → ⊥) → recovery_cost to ≡ length to + 6
+recovery_cost_is [] some = absurd (some refl)
+recovery_cost_is (t ∷ to) some = refl
+
+pub recovers_copied : (size : ℕ) (h h2 h3 h4 : History) (to : List ℕ) → (to ≡ [] → ⊥) → h2 ≡ synced h → size < 2 ^ 32 → length to ≤ 96 → AreTargets size to → IsGated to h2
+    → h3 ≡ rewritten to h2 → KeepsShown size to h2 h4 → IsCopiedHome size to h3 h4 → Recovers size h h4
+recovers_copied size h h2 h3 h4 to some e small few fit gated again shown copied = record {
   gated = copied.gated;
   settles = record {
     to = to;
     few = few;
     fit = fit;
     gate_is = sym (ap (λ (k : History). seen k.now 1) e) ∙ gated.gate_is;
-    same = λ n kept. sym (copied.same n kept) ∙ ap (λ (k : History). through to (seen k.now) n) e;
+    same = λ n kept. sym (copied.same n kept) ∙ (ap (λ (F : Image). through to F n) (seen_again to h2 h3 again gated.gate_is) ∙ ap (λ (k : History). through to (seen k.now) n) e);
   };
-  since_sync = recover_since size h h2 h3 to e small few fit gated shown;
-  cost = omega (arith, copied.cost, ap moment e);
+  since_sync = recover_since size h h2 h4 to e small few fit gated shown;
+  cost = omega (arith, copied.cost, ap moment again, ap moment e, recovery_cost_is to some);
 }
+
+-- the journal that a recovery makes
+pub has_recovered : (size size1 : ℕ) (h h1 : History) (to : List ℕ) (list : List (List Update)) → size1 ≡ size → to ≡ [] → AddsOnly (SettlesAs size (seen h.now)) h h1
+    → Recovers size h h1 → (IsClosed h → h1 ≡ synced h) → ((n : ℕ) → n < size1 → IsSector (seen h1.now n))
+    → (let log : Log = record { base = through to (seen h1.now); list = list; is_down = false; size = size1; history = h1 } in HasRecovered size h log)
+has_recovered size size1 h h1 to list at none moments is closed sectors =
+    subst (λ (ts : List ℕ). let log : Log = record { base = through ts (seen h1.now); list = list; is_down = false; size = size1; history = h1 } in HasRecovered size h log) (sym none) (record {
+      base = is.settles;
+      sectors = λ n within. sectors n (omega (arith, within, at));
+      settled = settled_of size1 [] h1 (omega arith) (no_targets size1) is.gated;
+      moments = moments;
+      since_sync = is.since_sync;
+      closed = closed;
+      cost = is.cost;
+    })

@@ -2,8 +2,8 @@
 use Rattle.std.specs.Prelude.{◌≡◌, ◌≤◌, ◌⊎◌, ◌+◌, ◌++◌, ℕ, List, [], length, vec_capacity}
 use Rattle.std.specs.Global.{Vec}
 use Rattle.disk.specs.declared.update.Update.{Update}
-use Rattle.disk.specs.Moments.{Image, History, AddsOnly, applied, seen, moment}
-use Rattle.journal.specs.Layout.{AreTargets, copies, payload_sectors, through, targets}
+use Rattle.disk.specs.Moments.{Image, History, AddsOnly, applied, seen, moment, wrote, synced}
+use Rattle.journal.specs.Layout.{AreTargets, copies, gate, payload_sectors, through, targets}
 use Rattle.journal.specs.Behind.{FitsGate, way_cost}
 use Rattle.journal.specs.Settled.{AreSame, Settles}
 use Rattle.journal.specs.Phase.{IsGated}
@@ -40,6 +40,10 @@ pub record IsCopiedHome (size : ℕ) (to : List ℕ) (old new : History) : Type 
   pub gated : IsGated [] new
   pub same : AreSame size (through to (seen old.now)) (seen new.now)
   pub cost : moment new ≡ moment old + (length to + 3)
+
+-- the commit record was written once more for these targets, and synced
+abbrev pub rewritten : List ℕ → History → History
+rewritten to h = synced (wrote (record { target = 1; content = gate to }) h)
 
 -- There is a way for these targets: through the gate the device reads as it did.
 pub record MakesWay (size : ℕ) (to was shown : List ℕ) (old new : History) : Type 0 where

@@ -6,7 +6,7 @@ use Rattle.journal.specs.declared.fault.JournalFault.{JournalFault}
 use Rattle.journal.specs.declared.fault.JournalFault.TheVariants as faults
 use Rattle.journal.specs.declared.fault.Unmounted.{Unmounted}
 use Rattle.journal.specs.Log.{Log, IsSettled}
-use Rattle.journal.specs.Recover.{IsClosed, LeavesOnlySynced}
+use Rattle.journal.specs.Recover.{IsClosed, LeavesOnlySynced, recovery_cost}
 use Rattle.journal.specs.Settled.{Settles, SettlesAs}
 
 -- the journal of a device of so many sectors and failures: it is up, and nothing waits
@@ -26,7 +26,7 @@ pub record HasRecovered (size : ℕ) (old : History) (log : Log) : Type 0 where
   pub moments : AddsOnly (SettlesAs size (seen old.now)) old log.history
   pub since_sync : AddsOnly (SettlesAs size (seen old.now)) (synced old) log.history
   pub closed : IsClosed old → log.history ≡ synced old
-  pub cost : moment log.history ≤ moment old + 100
+  pub cost : moment log.history ≡ moment old + recovery_cost base.to
 
 -- What a mount that is refused did. Damaged comes only where the gate has no form.
 pub record IsRecoveryRefused (size : ℕ) (old new : History) (fault : JournalFault) : Type 0 where

@@ -1,5 +1,5 @@
 -- What a mount finds and leaves.
-use Rattle.std.specs.Prelude.{◌≡◌, ◌≤◌, ◌⊎◌, ◌+◌, ℕ, [], Result, OnOk, OnErr, IfErr, IsErrOf}
+use Rattle.std.specs.Prelude.{◌≡◌, ◌≤◌, ◌⊎◌, ◌+◌, ℕ, List, [], ◌∷◌, length, Result, OnOk, OnErr, IfErr, IsErrOf}
 use Rattle.disk.specs.Moments.{Image, History, AddsOnly, seen, synced, moment}
 use Rattle.disk.specs.Cause.{IsCounted}
 use Rattle.journal.specs.declared.fault.JournalFault.{JournalFault}
@@ -8,13 +8,19 @@ use Rattle.journal.specs.Settled.{Settles, SettlesAs}
 use Rattle.journal.specs.Layout.{gate}
 use Rattle.journal.specs.Phase.{IsGated}
 
+-- What a mount costs: a sync; and where the commit record names sectors, the record again, a sync,
+-- each of these sectors, a sync, the cleared record, and a sync.
+abbrev pub recovery_cost : List ℕ → ℕ
+recovery_cost [] = 1
+recovery_cost (sector ∷ sectors) = length (sector ∷ sectors) + 6
+
 -- The commit record is cleared, and the device reads as what it settled to. From the first sync on
 -- each map left settles to that.
 pub record Recovers (size : ℕ) (old new : History) : Type 0 where
   pub gated : IsGated [] new
   pub settles : Settles size (seen old.now) (seen new.now)
   pub since_sync : AddsOnly (SettlesAs size (seen old.now)) (synced old) new
-  pub cost : moment new ≤ moment old + 100
+  pub cost : moment new ≡ moment old + recovery_cost settles.to
 
 -- the commit record of what a read gives is cleared
 abbrev pub IsClosed : History → Type 0

@@ -7,7 +7,7 @@ ghost use Rattle.journal.specs.Layout.{targets, through};
 ghost use Rattle.journal.specs.Behind.{FitsGate, way_for};
 ghost use Rattle.journal.specs.Recorded.{FitsRecorded, IsStored};
 ghost use Rattle.journal.specs.Phase.{IsGated, FailsCounted};
-ghost use Rattle.journal.specs.Commit.{AddsEither, FitsPayload, IsRecorded, KeepsShown, IsCopiedHome, MakesWay, IsCommitted, KeepsRoom};
+ghost use Rattle.journal.specs.Commit.{AddsEither, FitsPayload, IsRecorded, KeepsShown, IsCopiedHome, MakesWay, IsCommitted, KeepsRoom, rewritten};
 
 use crate::layout::{FIRST_TARGET, GATE, PAYLOAD_SECTORS};
 use crate::recorded::Recorded;
@@ -103,6 +103,23 @@ pub(crate) fn close<D: Device>(device: &mut D, recorded: &mut Recorded) -> Resul
     phase::write_homes(device, &recorded.updates)?;
     phase::write_sector(device, GATE, &gate::closed())?;
     recorded.clear();
+    Ok(())
+}
+
+/// Writes the commit record again, for the targets that it names.
+pub(crate) fn rewrite<D: Device>(device: &mut D, named: &[u32]) -> Result<(), DiskFault>
+    requires fits { FitsGate (D.size device.old) named.now }
+    requires large { FIRST_TARGET ≤ D.size device.old }
+    // On a device that keeps its word
+    ensures moments { D.keeps_word → IsGated named.now (D.history device.old)
+        → KeepsShown (D.size device.old) named.now (D.history device.old) (D.history device.new) }
+    ensures ok { D.keeps_word → OnOk result
+        (D.history device.new ≡ rewritten named.now (D.history device.old)) }
+    // On any device
+    ensures size { D.size device.new ≡ D.size device.old }
+    ensures failures { FailsCounted (D.failed device.old) (D.failed device.new) result }
+{
+    phase::write_sector(device, GATE, &gate::encode(named))?;
     Ok(())
 }
 

@@ -7,6 +7,7 @@ ghost use Rattle.journal.specs.Behind.{FitsGate};
 ghost use Rattle.journal.specs.Calls.{AddsFirst, GoesThrough, GoesThroughFirst, HasApplied, HasCheckpointed, HasFlushed, HasWritten, IsPart, IsSafe, list_with};
 ghost use Rattle.journal.specs.Format.{AddsFormats, IsFormatted};
 ghost use Rattle.journal.specs.Cached.{AreCopies};
+ghost use Rattle.journal.specs.Commit.{rewritten};
 ghost use Rattle.journal.specs.Layout.{AreTargets, copies, gate, max_updates, targets, through};
 ghost use Rattle.journal.specs.Log.{AnswersByDevice, Moved, contents};
 ghost use Rattle.journal.specs.MountAnswers.{JournalComesBack, HasRecovered, IsNewJournal, IsRecoveryRefused};
@@ -345,6 +346,35 @@ impl<D: Device> Journal<D> {
         }
         self.is_down = true;
         if commit::close(&mut self.device, &mut self.recorded).is_err() {
+            return Err(JournalFault::Fault);
+        }
+        self.is_down = false;
+        Ok(())
+    }
+
+    /// Writes the commit record again as it is, and syncs. The base and the list stay. After a sync
+    /// that failed, the record that is read may be missing on the disk until it is written again.
+    ///
+    /// # Errors
+    ///
+    /// [`JournalFault::Fault`] where the device failed, and [`JournalFault::Down`] from then on.
+    pub fn rewrite_record(&mut self) -> Result<(), JournalFault>
+        ensures safe { IsSafe D.keeps_word (log_of self.old) (log_of self.new) }
+        ensures list { (log_of self.new).list ≡ (log_of self.old).list }
+        ensures shown { recorded_sectors self.new ≡ recorded_sectors self.old }
+        ensures ok { D.keeps_word → OnOk result (log_of self.new ≡ record (log_of self.old)
+            { history = rewritten (recorded_sectors self.old) (log_of self.old).history }) }
+        // Refused
+        ensures answers { AnswersByDevice (log_of self.old) (log_of self.new)
+            (journal_failures self.old) (journal_failures self.new) result }
+        ensures refuses { IfErr result
+            (λ fault. (fault ≡ JournalFault.Fault) ⊎ (fault ≡ JournalFault.Down)) }
+    {
+        if self.is_down {
+            return Err(JournalFault::Down);
+        }
+        self.is_down = true;
+        if commit::rewrite(&mut self.device, &self.recorded.targets).is_err() {
             return Err(JournalFault::Fault);
         }
         self.is_down = false;

@@ -1,6 +1,7 @@
 //! The phases of a flush. Each writes its sectors one after the other, and then syncs.
 
 ghost use Rattle.std.specs.Prelude.{OnOk, ◌≡◌, ◌≤◌, ◌<◌, ◌+◌, [], ◌∷◌, length};
+ghost use Rattle.disk.specs.Moments.{wrote, synced};
 ghost use Rattle.journal.specs.Layout.{AreTargets, placed, targets};
 ghost use Rattle.journal.specs.Format.{fresh};
 ghost use Rattle.journal.specs.Phase.{AddsUpdates, IsFixedAs, FailsCounted};
@@ -66,6 +67,8 @@ pub(crate) fn write_sector<D: Device>(
     ensures ok { D.keeps_word → OnOk result
         (IsFixedAs ((record { target = n; content = content.now }) ∷ [])
         (D.history device.old) (D.history device.new)) }
+    ensures history { D.keeps_word → OnOk result (D.history device.new
+        ≡ synced (wrote (record { target = n; content = content.now }) (D.history device.old))) }
     ensures size { D.size device.new ≡ D.size device.old }
     ensures failures { FailsCounted (D.failed device.old) (D.failed device.new) result }
 {

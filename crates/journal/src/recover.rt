@@ -58,6 +58,8 @@ fn replay<D: Device>(device: &mut D, recorded: &mut Recorded) -> Result<(), Jour
     if recorded.targets.is_empty() {
         return Ok(());
     }
+    // the disk may have an older one: a sync may have failed before this mount
+    commit::rewrite(device, &recorded.targets)?;
     read_payload(device, &recorded.targets, &mut recorded.updates)?;
     commit::close(device, recorded)?;
     Ok(())

@@ -1,15 +1,18 @@
 use Rattle.std.proofs.Common.{◌≡◌, ℕ, List, length, arith, sym, subst, ◌∙◌, refl, ap, vec_len, inr}
 use Rattle.std.proofs.lemmas.Bool.{eqb-true}
 use Rattle.disk.specs.Moments.{History, seen, synced}
+use Rattle.journal.specs.Behind.{FitsGate}
+use Rattle.journal.specs.Commit.{KeepsShown, rewritten}
 use Rattle.journal.specs.Layout.{NamesTargets, copies}
 use Rattle.journal.specs.Phase.{IsGated}
 use Rattle.journal.specs.Recover.{IsClosed}
 use Rattle.journal.proofs.Answerings.{is_fault, is_told}
 use Rattle.journal.proofs.Journals.{same_fit}
 use Rattle.journal.proofs.Recovers.{counted_after, synced_moments, recover_moments, keeps_shown_at, gated_after, closed_none, copied_home_at, fault_counted, no_elements, none_counted, not_empty, recovers_closed, recovers_copied}
+use Rattle.journal.proofs.Rewrites.{gated_again, shown_again}
 use Rattle.journal.proofs.recover.replay.Goals as goal
 use Rattle.journal.proofs.recover.replay.Given.{Over}
-use Rattle.journal.proofs.recover.replay.Goals.{In_ok-read_gate, In_ok-read_payload}
+use Rattle.journal.proofs.recover.replay.Goals.{In_ok-read_gate, In_ok-rewrite, In_ok-read_payload}
 
 pub returns-in_err-read_gate : goal.returns-in_err-read_gate
 returns-in_err-read_gate g c =
@@ -79,95 +82,149 @@ none_named g c k before e closed =
     let none = closed_none _ _ _ c.in_ok-read_gate.ensures.small (named_by g c k) read in
     omega (arith, ap (λ (xs : List ℕ). length xs) none, c.read_gate.new.named.ok)
 
--- after the payload was read all is as the sync left it
-past_payload : (g : Over) (c : In_ok-read_payload g) (before : History) → g.D.Device.history c.read_gate.new.device ≡ synced before
-    → g.D.Device.history c.read_payload.new.device ≡ synced before
-past_payload g c before read = c.in_ok-read_payload.ensures.reads.0 ∙ read
+-- the record was written again for what was read
+again : (g : Over) (c : In_ok-rewrite g) → c.deref.result.now ≡ c.read_gate.new.named.items → g.D.Device.keeps_word
+    → g.D.Device.history c.rewrite.new.device ≡ rewritten c.read_gate.new.named.items (g.D.Device.history c.read_gate.new.device)
+again g c to k = c.in_ok-rewrite.ensures.ok k ∙ ap (λ (ts : List ℕ). rewritten ts (g.D.Device.history c.read_gate.new.device)) to
 
-size_past : (g : Over) (c : In_ok-read_payload g) → g.D.Device.size c.read_gate.new.device ≡ g.D.Device.size c.args.device.now
+-- and a crash within that leaves what it names
+kept_again : (old mid : ℕ) (shown to : List ℕ) (h h1 : History) → mid ≡ old → shown ≡ to → IsGated to h
+    → (IsGated shown h → KeepsShown mid shown h h1) → KeepsShown old to h h1
+kept_again old mid shown to h h1 size is gated keeps =
+    subst (λ (n : ℕ). KeepsShown n to h h1) size (subst (λ (ts : List ℕ). IsGated ts h → KeepsShown mid ts h h1) is keeps gated)
+
+read_past : (size : ℕ) (to : List ℕ) (h h1 h2 : History) → h2 ≡ h1 → KeepsShown size to h h1 → KeepsShown size to h h2
+read_past size to h h1 h2 same keeps = subst (λ (k : History). KeepsShown size to h k) (sym same) keeps
+
+-- it was written again, and the payload was read
+past : (g : Over) (c : In_ok-read_payload g) → c.deref.result.now ≡ c.read_gate.new.named.items → g.D.Device.keeps_word
+    → g.D.Device.history c.rewrite.new.device ≡ rewritten c.read_gate.new.named.items (g.D.Device.history c.read_gate.new.device)
+    → g.D.Device.history c.read_payload.new.device ≡ rewritten c.read_gate.new.named.items (g.D.Device.history c.read_gate.new.device)
+past g c to k written = c.in_ok-read_payload.ensures.reads.0 ∙ written
+
+size_past : (g : Over) (c : In_ok-read_payload g) → g.D.Device.size c.rewrite.new.device ≡ g.D.Device.size c.read_gate.new.device
+    → g.D.Device.size c.read_gate.new.device ≡ g.D.Device.size c.args.device.now
     → g.D.Device.size c.read_payload.new.device ≡ g.D.Device.size c.args.device.now
-size_past g c read = c.in_ok-read_payload.ensures.reads.1 ∙ read
-
-gated_past : (g : Over) (c : In_ok-read_payload g) → IsGated c.read_gate.new.named.items (g.D.Device.history c.read_gate.new.device)
-    → IsGated c.read_gate.new.named.items (g.D.Device.history c.read_payload.new.device)
-gated_past g c open_for =
-    let P : History → Type 0 = λ h. IsGated c.read_gate.new.named.items h in subst P (sym c.in_ok-read_payload.ensures.reads.0) open_for
+size_past g c written read = c.in_ok-read_payload.ensures.reads.1 ∙ (written ∙ read)
 
 -- what was read is what the device has
-payload_past : (g : Over) (c : In_ok-read_payload g) → c.deref.result.now ≡ c.read_gate.new.named.items → g.D.Device.keeps_word
+payload_past : (g : Over) (c : In_ok-read_payload g) → c.deref-2.result.now ≡ c.read_gate.new.named.items → g.D.Device.keeps_word
     → copies (seen (g.D.Device.history c.read_payload.new.device).now) 2 c.read_gate.new.named.items ≡ c.read_payload.new.updates.items
 payload_past g c to k =
     ap (λ (h : History). copies (seen h.now) 2 c.read_gate.new.named.items) c.in_ok-read_payload.ensures.reads.0
-    ∙ ap (λ (ts : List ℕ). copies (seen (g.D.Device.history c.read_gate.new.device).now) 2 ts) (sym to)
+    ∙ ap (λ (ts : List ℕ). copies (seen (g.D.Device.history c.rewrite.new.device).now) 2 ts) (sym to)
     ∙ c.in_ok-read_payload.ensures.ok k
+
+pub rewrite-requires-clause-fits : goal.rewrite-requires-clause-fits
+rewrite-requires-clause-fits g c = subst (FitsGate (g.D.Device.size c.read_gate.new.device)) (sym c.deref.ensures.value) (record {
+  few = c.in_ok-read_gate.ensures.named.0;
+  fit = same_fit (g.D.Device.size c.args.device.now) (g.D.Device.size c.read_gate.new.device) c.read_gate.new.named.items
+      c.in_ok-read_gate.ensures.reads.1 c.in_ok-read_gate.ensures.named.1;
+})
+
+pub returns-in_err-rewrite : goal.returns-in_err-rewrite
+returns-in_err-rewrite g c =
+    let read = (goal.at.returns-in_err-rewrite g c).In_ok-read_gate in
+    rw (is_fault _ c.from_residual-in_err-rewrite.ensures.1) (record {
+      replays = λ k before e.
+          let set = gated g read k before e in
+          record {
+            moments = recover_moments _ _ _ _ _ (resynced g read before e) c.in_ok-read_gate.ensures.small (named_by g read k).few (named_by g read k).fit set
+                (kept_again _ _ _ _ _ _ c.in_ok-read_gate.ensures.reads.1 c.deref.ensures.value set (c.in_err-rewrite.ensures.moments k));
+            ok = tt;
+            closed = λ closed. absurd (not_empty _ _ c.is_empty.ensures c.if-is_empty.false (none_named g read k before e closed));
+            damaged = λ is. absurd (cc);
+          };
+      none = tt;
+      size = c.in_err-rewrite.ensures.size ∙ c.in_ok-read_gate.ensures.reads.1;
+      failures = fault_counted _ _ _ (unfailed g read) c.in_err-rewrite.ensures.failures.counted;
+    })
 
 pub returns-in_err-read_payload : goal.returns-in_err-read_payload
 returns-in_err-read_payload g c =
     let read = (goal.at.returns-in_err-read_payload g c).In_ok-read_gate in
     rw (is_fault _ c.from_residual-in_err-read_payload.ensures.1) (record {
-      replays = λ k before e. record {
-        moments = synced_moments _ _ _ _ c.in_err-read_payload.ensures.reads.0 (resynced g read before e);
-        ok = tt;
-        closed = λ closed. record { ok = tt; err = inr (c.in_err-read_payload.ensures.reads.0 ∙ resynced g read before e) };
-        damaged = λ is. absurd (cc);
-      };
+      replays = λ k before e.
+          let set = gated g read k before e in
+          let shown = kept_again _ _ _ _ _ _ c.in_ok-read_gate.ensures.reads.1 c.deref.ensures.value set (c.in_ok-rewrite.ensures.moments k) in
+          record {
+            moments = recover_moments _ _ _ _ _ (resynced g read before e) c.in_ok-read_gate.ensures.small (named_by g read k).few (named_by g read k).fit set
+                (read_past _ _ _ _ _ c.in_err-read_payload.ensures.reads.0 shown);
+            ok = tt;
+            closed = λ closed. absurd (not_empty _ _ c.is_empty.ensures c.if-is_empty.false (none_named g read k before e closed));
+            damaged = λ is. absurd (cc);
+          };
       none = tt;
-      size = c.in_err-read_payload.ensures.reads.1 ∙ c.in_ok-read_gate.ensures.reads.1;
-      failures = fault_counted _ _ _ (unfailed g read) c.in_err-read_payload.ensures.failures.counted;
+      size = c.in_err-read_payload.ensures.reads.1 ∙ (c.in_ok-rewrite.ensures.size ∙ c.in_ok-read_gate.ensures.reads.1);
+      failures = fault_counted _ _ _ (c.in_ok-rewrite.ensures.failures.ok ∙ unfailed g read) c.in_err-read_payload.ensures.failures.counted;
     })
 
 pub read_payload-requires-clause-few : goal.read_payload-requires-clause-few
-read_payload-requires-clause-few g c = omega (arith, ap (λ (ts : List ℕ). length ts) c.deref.ensures.value, c.in_ok-read_gate.ensures.named.0)
+read_payload-requires-clause-few g c = omega (arith, ap (λ (ts : List ℕ). length ts) c.deref-2.ensures.value, c.in_ok-read_gate.ensures.named.0)
 
 pub close-requires-clause-fits : goal.close-requires-clause-fits
 close-requires-clause-fits g c = record {
   fits = record {
     few = c.in_ok-read_gate.ensures.named.0;
     fit = same_fit (g.D.Device.size c.args.device.now) (g.D.Device.size c.read_payload.new.device) c.read_gate.new.named.items
-        (c.in_ok-read_payload.ensures.reads.1 ∙ c.in_ok-read_gate.ensures.reads.1) c.in_ok-read_gate.ensures.named.1;
+        (c.in_ok-read_payload.ensures.reads.1 ∙ (c.in_ok-rewrite.ensures.size ∙ c.in_ok-read_gate.ensures.reads.1)) c.in_ok-read_gate.ensures.named.1;
   };
-  named = c.in_ok-read_payload.ensures.named ∙ c.deref.ensures.value;
+  named = c.in_ok-read_payload.ensures.named ∙ c.deref-2.ensures.value;
 }
 
 pub returns-in_err-close : goal.returns-in_err-close
 returns-in_err-close g c =
     let read = (goal.at.returns-in_err-close g c).In_ok-read_gate in
-    let past = (goal.at.returns-in_err-close g c).In_ok-read_payload in
-    let size_is = size_past g past c.in_ok-read_gate.ensures.reads.1 in
+    let before_it = (goal.at.returns-in_err-close g c).In_ok-rewrite in
+    let paid = (goal.at.returns-in_err-close g c).In_ok-read_payload in
+    let size_is = size_past g paid c.in_ok-rewrite.ensures.size c.in_ok-read_gate.ensures.reads.1 in
     rw (is_fault _ c.from_residual-in_err-close.ensures.1) (record {
       replays = λ k before e.
-          let open_for = gated_past g past (gated g read k before e) in
+          let set = gated g read k before e in
+          let written = past g paid c.deref.ensures.value k (again g before_it c.deref.ensures.value k) in
+          let set_again = gated_again _ _ _ written set.gate_is in
+          let first = read_past _ _ _ _ _ c.in_ok-read_payload.ensures.reads.0
+          (kept_again _ _ _ _ _ _ c.in_ok-read_gate.ensures.reads.1 c.deref.ensures.value set (c.in_ok-rewrite.ensures.moments k)) in
+          let shown = shown_again _ _ _ written set.gate_is _ _ first
+          (keeps_shown_at _ _ _ _ _ size_is
+          (c.in_err-close.ensures.moments k (record { gated = set_again; payload = payload_past g paid c.deref-2.ensures.value k }))) in
           record {
-            moments = recover_moments _ _ _ _ _ (past_payload g past before (resynced g read before e)) c.in_ok-read_gate.ensures.small (named_by g read k).few (named_by g read k).fit open_for
-                (keeps_shown_at _ _ _ _ _ size_is
-                (c.in_err-close.ensures.moments k (record { gated = open_for; payload = payload_past g past c.deref.ensures.value k })));
+            moments = recover_moments _ _ _ _ _ (resynced g read before e) c.in_ok-read_gate.ensures.small (named_by g read k).few (named_by g read k).fit set shown;
             ok = tt;
             closed = λ closed. absurd (not_empty _ _ c.is_empty.ensures c.if-is_empty.false (none_named g read k before e closed));
             damaged = λ is. absurd (cc);
           };
       none = tt;
       size = c.in_err-close.ensures.size ∙ size_is;
-      failures = fault_counted _ _ _ (c.in_ok-read_payload.ensures.failures.ok ∙ unfailed g read) c.in_err-close.ensures.failures.counted;
+      failures = fault_counted _ _ _ (c.in_ok-read_payload.ensures.failures.ok ∙ (c.in_ok-rewrite.ensures.failures.ok ∙ unfailed g read)) c.in_err-close.ensures.failures.counted;
     })
 
 pub returns : goal.returns
 returns g c =
     let read = (goal.at.returns g c).In_ok-read_gate in
-    let past = (goal.at.returns g c).In_ok-read_payload in
-    let size_is = size_past g past c.in_ok-read_gate.ensures.reads.1 in
+    let before_it = (goal.at.returns g c).In_ok-rewrite in
+    let paid = (goal.at.returns g c).In_ok-read_payload in
+    let size_is = size_past g paid c.in_ok-rewrite.ensures.size c.in_ok-read_gate.ensures.reads.1 in
     record {
       replays = λ k before e.
-          let open_for = gated_past g past (gated g read k before e) in
-          let synced_past = past_payload g past before (resynced g read before e) in
-          let shown = keeps_shown_at _ _ _ _ _ size_is (c.in_ok-close.ensures.moments k (record { gated = open_for; payload = payload_past g past c.deref.ensures.value k })) in
+          let set = gated g read k before e in
+          let written = past g paid c.deref.ensures.value k (again g before_it c.deref.ensures.value k) in
+          let set_again = gated_again _ _ _ written set.gate_is in
+          let first = read_past _ _ _ _ _ c.in_ok-read_payload.ensures.reads.0
+          (kept_again _ _ _ _ _ _ c.in_ok-read_gate.ensures.reads.1 c.deref.ensures.value set (c.in_ok-rewrite.ensures.moments k)) in
+          let shown = shown_again _ _ _ written set.gate_is _ _ first (keeps_shown_at _ _ _ _ _ size_is
+          (c.in_ok-close.ensures.moments k (record { gated = set_again; payload = payload_past g paid c.deref-2.ensures.value k }))) in
           record {
-            moments = recover_moments _ _ _ _ _ synced_past c.in_ok-read_gate.ensures.small (named_by g read k).few (named_by g read k).fit open_for shown;
-            ok = recovers_copied _ _ _ _ _ synced_past c.in_ok-read_gate.ensures.small (named_by g read k).few (named_by g read k).fit open_for shown
-                (copied_home_at _ _ _ _ _ size_is (c.in_ok-close.ensures.ok k (record { gated = open_for; payload = payload_past g past c.deref.ensures.value k })));
+            moments = recover_moments _ _ _ _ _ (resynced g read before e) c.in_ok-read_gate.ensures.small (named_by g read k).few (named_by g read k).fit set shown;
+            ok = recovers_copied _ _ _ _ _ _
+                (λ none. not_empty _ _ c.is_empty.ensures c.if-is_empty.false (c.read_gate.new.named.ok.0 ∙ ap (λ (ts : List ℕ). length ts) none))
+                (resynced g read before e) c.in_ok-read_gate.ensures.small (named_by g read k).few (named_by g read k).fit set written shown
+                (copied_home_at _ _ _ _ _ size_is
+                (c.in_ok-close.ensures.ok k (record { gated = set_again; payload = payload_past g paid c.deref-2.ensures.value k })));
             closed = λ closed. absurd (not_empty _ _ c.is_empty.ensures c.if-is_empty.false (none_named g read k before e closed));
             damaged = λ is. absurd (cc);
           };
       none = c.in_ok-close.ensures.shown;
       size = c.in_ok-close.ensures.size ∙ size_is;
-      failures = none_counted _ _ _ (c.in_ok-close.ensures.failures.ok ∙ c.in_ok-read_payload.ensures.failures.ok ∙ unfailed g read);
+      failures = none_counted _ _ _ (c.in_ok-close.ensures.failures.ok ∙ (c.in_ok-read_payload.ensures.failures.ok ∙ (c.in_ok-rewrite.ensures.failures.ok ∙ unfailed g read)));
     }
