@@ -3,6 +3,7 @@ pub mod Cause
 pub mod Calls
 pub mod Memory
 pub mod Run
+pub mod Counts
 pub mod File
 pub mod Landing
 pub mod Crash

@@ -1,19 +1,23 @@
 //! A device over a file.
 
-ghost use Rattle.std.specs.Prelude.{◌≡◌, ◌≢◌, ◌≤◌, ◌<◌, ◌*◌, ◌⊎◌, ◌↔◌, ℕ, [], Some, None, false, IsTrue, IfOk, IfSome, OnOk, OnErr, IsErrOf};
+ghost use Rattle.std.specs.Prelude.{◌≡◌, ◌≢◌, ◌≤◌, ◌<◌, ◌*◌, ◌⊎◌, ◌↔◌, ℕ, [], Some, None, false, IsTrue, IfOk, IfSome, OnOk, OnErr, IsErrOf, IsNone};
 ghost use Rattle.disk.specs.Moments.{at_rest};
 ghost use Rattle.std.specs.IoError.{error_kind};
 ghost use Rattle.disk.specs.Cause.{IsCounted, HasCause};
+ghost use Rattle.disk.specs.Counts.{Remembers};
 
 use crate::run::Run;
-use crate::{Device, DiskFault, SECTOR};
+use crate::{CallKind, Counts, Device, DiskFault, Failure, SECTOR};
 use std::alloc::Global;
 use std::fs::{File, OpenOptions, TryLockError};
 use std::io;
 use std::io::ErrorKind;
-use std::os::unix::fs::FileExt;
+use std::os::unix::fs::{FileExt, OpenOptionsExt};
 use std::path::AsPath;
 use std::rt::Files;
+
+/// The mode of a new file: a volume has the files of all its users, so only its owner may read it.
+const OWNER_ONLY: u32 = 0o600;
 
 /// A file, sector by sector.
 ///
@@ -30,6 +34,8 @@ use std::rt::Files;
 /// It holds a lock on the file from before it changes anything of it until it is dropped: one that
 /// no other shares where it may write, and else one that only others that do not write share. The
 /// lock is advisory: it keeps out those that ask for one.
+///
+/// It counts its calls, and remembers why the last one failed that did.
 #[derive(Drop)]
 pub struct FileDevice {
     file: File,
@@ -37,11 +43,14 @@ pub struct FileDevice {
     is_whole: bool,
     may_write: bool,
     failures: u64,
+    counts: Counts,
+    last_failure: Option<Failure>,
     run: Run,
+    ghost remembered: { IsNone last_failure ↔ (failures ≡ 0) },
 }
 
 impl FileDevice {
-    ghost use Rattle.disk.specs.File.{file_size, file_failures, file_is_whole, file_may_write, gathered, BeginsAnew, IsUnopened};
+    ghost use Rattle.disk.specs.File.{file_size, file_failures, file_is_whole, file_may_write, file_counts, file_last_failure, gathered, BeginsAnew, IsUnopened, IsUncalled};
     ghost use Rattle.disk.specs.Run.{newest_in};
 
     /// Opens a file that is there, for reading and writing.
@@ -57,6 +66,7 @@ impl FileDevice {
         path: P,
     ) -> Result<FileDevice, DiskFault>
         ensures failures { IfOk result (λ device. file_failures device ≡ 0) }
+        ensures uncalled { IfOk result (λ device. IsUncalled device) }
         ensures gathered { IfOk result (λ device. (n : ℕ) → gathered device n ≡ None) }
         ensures may_write { IfOk result (λ device. IsTrue (file_may_write device)) }
         ensures err { OnErr result (IsUnopened result) }
@@ -82,6 +92,7 @@ impl FileDevice {
         path: P,
     ) -> Result<FileDevice, DiskFault>
         ensures failures { IfOk result (λ device. file_failures device ≡ 0) }
+        ensures uncalled { IfOk result (λ device. IsUncalled device) }
         ensures gathered { IfOk result (λ device. (n : ℕ) → gathered device n ≡ None) }
         ensures may_write { IfOk result (λ device. file_may_write device ≡ false) }
         ensures err { OnErr result (IsUnopened result) }
@@ -93,7 +104,8 @@ impl FileDevice {
     }
 
     /// Opens a file for reading and writing, makes it where it is not there, and sets its length to
-    /// `sectors` sectors. What it held up to there stays, and what is new is zero.
+    /// `sectors` sectors. What it held up to there stays, and what is new is zero. Only its owner
+    /// may read or write a new file; one that is there keeps its mode.
     ///
     /// Refuses `Memory` for want of memory, and else `Open`: also where the length cannot be set,
     /// and where another has a lock on the file, which is then as it was.
@@ -106,6 +118,7 @@ impl FileDevice {
         ensures size { IfOk result (λ device. file_size device ≡ sectors) }
         ensures whole { IfOk result (λ device. IsTrue (file_is_whole device)) }
         ensures failures { IfOk result (λ device. file_failures device ≡ 0) }
+        ensures uncalled { IfOk result (λ device. IsUncalled device) }
         ensures gathered { IfOk result (λ device. (n : ℕ) → gathered device n ≡ None) }
         ensures may_write { IfOk result (λ device. IsTrue (file_may_write device)) }
         // Refused
@@ -113,6 +126,7 @@ impl FileDevice {
     {
         let run = Run::new(alloc)?;
         let file = OpenOptions::new()
+            .mode(OWNER_ONLY)
             .read(true)
             .write(true)
             .create(true)
@@ -127,6 +141,8 @@ impl FileDevice {
             is_whole: true,
             may_write: true,
             failures: 0,
+            counts: Counts::none(),
+            last_failure: None,
             run,
         })
     }
@@ -134,6 +150,7 @@ impl FileDevice {
     /// The device over an open file, of the sectors that it has.
     fn over(file: File, run: Run, may_write: bool) -> Result<FileDevice, DiskFault>
         ensures failures { IfOk result (λ device. file_failures device ≡ 0) }
+        ensures uncalled { IfOk result (λ device. IsUncalled device) }
         ensures gathered { IfOk result (λ device. (n : ℕ) → gathered device n ≡ newest_in run n) }
         ensures may_write { IfOk result (λ device. file_may_write device ≡ may_write) }
         ensures err { OnErr result (IsUnopened result) }
@@ -146,6 +163,8 @@ impl FileDevice {
             is_whole: len % sector == 0,
             may_write,
             failures: 0,
+            counts: Counts::none(),
+            last_failure: None,
             run,
         })
     }
@@ -157,20 +176,39 @@ impl FileDevice {
         self.is_whole
     }
 
-    fn fail(&mut self) -> DiskFault
+    /// How often each call came.
+    pub fn counts(&self) -> Counts
+        ensures { result ≡ file_counts self.now }
+    {
+        self.counts
+    }
+
+    /// The last call that failed, and why.
+    pub fn last_failure(&self) -> Option<Failure>
+        ensures value { result ≡ file_last_failure self.now }
+        ensures none { IsNone result ↔ (file_failures self.now ≡ 0) }
+    {
+        self.last_failure
+    }
+
+    /// Counts a failure of this call, and remembers it.
+    fn fail(&mut self, call: CallKind, kind: ErrorKind) -> DiskFault
         ensures fault { result ≡ DiskFault.Fault }
         ensures counted { IsCounted (file_failures self.old) (file_failures self.new) }
+        ensures last { file_last_failure self.new ≡ Some (record { call = call; kind = kind }) }
         // What stays
+        ensures counts { file_counts self.new ≡ file_counts self.old }
         ensures size { file_size self.new ≡ file_size self.old }
         ensures may_write { file_may_write self.new ≡ file_may_write self.old }
         ensures gathered { (n : ℕ) → gathered self.new n ≡ gathered self.old n }
     {
         self.failures = self.failures.saturating_add(1);
+        self.last_failure = Some(Failure { call, kind });
         DiskFault::Fault
     }
 
-    /// Hands the file what was gathered. Where the file fails, it stays gathered.
-    fn hand_over(&mut self) -> Result<(), DiskFault>
+    /// Hands the file what was gathered, within this call. Where the file fails, it stays gathered.
+    fn hand_over(&mut self, call: CallKind) -> Result<(), DiskFault>
         ensures ok { OnOk result ((n : ℕ) → gathered self.new n ≡ None) }
         ensures begins { OnOk result (BeginsAnew self.new) }
         // Refused
@@ -179,7 +217,10 @@ impl FileDevice {
         // In any case
         ensures size { file_size self.new ≡ file_size self.old }
         ensures may_write { file_may_write self.new ≡ file_may_write self.old }
+        ensures counts { file_counts self.new ≡ file_counts self.old }
         ensures cause { HasCause (file_failures self.old) (file_failures self.new) result }
+        ensures remembers { Remembers call
+            (file_last_failure self.old) (file_last_failure self.new) result }
     {
         match self
             .file
@@ -189,13 +230,13 @@ impl FileDevice {
                 self.run.clear();
                 Ok(())
             }
-            Err(_) => Err(self.fail()),
+            Err(error) => Err(self.fail(call, error.kind())),
         }
     }
 }
 
 impl Device for FileDevice {
-    ghost use Rattle.disk.specs.File.{file_size, file_failures, file_may_write, gathered, KeepsOrHandsOver};
+    ghost use Rattle.disk.specs.File.{file_size, file_failures, file_may_write, file_last_failure, gathered, KeepsOrHandsOver, Notes};
 
     ghost keeps_word = { ⊥ };
 
@@ -226,10 +267,12 @@ impl Device for FileDevice {
         ensures size { file_size self.new ≡ file_size self.old }
         ensures may_write { file_may_write self.new ≡ file_may_write self.old }
         ensures cause { HasCause (file_failures self.old) (file_failures self.new) result }
+        ensures noted { Notes CallKind.Read self.old self.new result }
     {
         if n >= self.sectors {
             return Err(DiskFault::Range);
         }
+        self.counts.add(CallKind::Read);
         if let Some(newest) = self.run.get(n) {
             *content = *newest;
             return Ok(());
@@ -239,7 +282,7 @@ impl Device for FileDevice {
             .read_exact_at(content.as_mut_slice(), offset_of(n))
         {
             Ok(()) => Ok(()),
-            Err(_) => Err(self.fail()),
+            Err(error) => Err(self.fail(CallKind::Read, error.kind())),
         }
     }
 
@@ -252,20 +295,23 @@ impl Device for FileDevice {
         ensures err { OnErr result ((m : ℕ) → gathered self.new m ≡ gathered self.old m) }
         ensures range { IsErrOf result DiskFault.Range ↔ (file_size self.old ≤ n) }
         ensures may_not { n < file_size self.old → file_may_write self.old ≡ false
-            → result ≡ Err DiskFault.Fault }
+            → (result ≡ Err DiskFault.Fault) × (file_last_failure self.new
+            ≡ Some (record { call = CallKind.Write; kind = ErrorKind.PermissionDenied })) }
         // In any case
         ensures size { file_size self.new ≡ file_size self.old }
         ensures may_write { file_may_write self.new ≡ file_may_write self.old }
         ensures cause { HasCause (file_failures self.old) (file_failures self.new) result }
+        ensures noted { Notes CallKind.Write self.old self.new result }
     {
         if n >= self.sectors {
             return Err(DiskFault::Range);
         }
+        self.counts.add(CallKind::Write);
         if !self.may_write {
-            return Err(self.fail());
+            return Err(self.fail(CallKind::Write, ErrorKind::PermissionDenied));
         }
         if !self.run.takes(n) {
-            self.hand_over()?;
+            self.hand_over(CallKind::Write)?;
         }
         self.run.put(n, content);
         Ok(())
@@ -281,11 +327,13 @@ impl Device for FileDevice {
         ensures size { file_size self.new ≡ file_size self.old }
         ensures may_write { file_may_write self.new ≡ file_may_write self.old }
         ensures cause { HasCause (file_failures self.old) (file_failures self.new) result }
+        ensures noted { Notes CallKind.Sync self.old self.new result }
     {
-        self.hand_over()?;
+        self.counts.add(CallKind::Sync);
+        self.hand_over(CallKind::Sync)?;
         match self.file.sync_data() {
             Ok(()) => Ok(()),
-            Err(_) => Err(self.fail()),
+            Err(error) => Err(self.fail(CallKind::Sync, error.kind())),
         }
     }
 

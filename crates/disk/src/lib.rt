@@ -7,6 +7,7 @@
 
 mod borrowed;
 mod call;
+mod counts;
 mod crash;
 mod device;
 mod fault;
@@ -19,6 +20,7 @@ mod trial;
 mod update;
 
 pub use call::Call;
+pub use counts::{Counts, Failure};
 pub use crash::{CrashDevice, Stop};
 pub use device::Device;
 pub use fault::DiskFault;

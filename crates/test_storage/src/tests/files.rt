@@ -1,10 +1,12 @@
 //! Volumes' files: what stands in one, and which are refused.
 
 use super::drivers::{byte_of, fill, sync};
-use disk::{Device, DiskFault, FileDevice};
+use disk::{CallKind, Counts, Device, DiskFault, Failure, FileDevice};
 use std::alloc::AllocGlobal;
 use std::fs;
 use std::fs::OpenOptions;
+use std::io::ErrorKind;
+use std::os::unix::fs::MetadataExt;
 use std::process::Abort;
 use std::test::Fail;
 
@@ -180,7 +182,7 @@ fn a_file_takes_any_number_of_neighbours(rt: HostRuntime) -> Result<(), Fail> {
 }
 
 #[test]
-fn a_file_that_shrank_fails_and_counts(rt: HostRuntime) -> Result<(), Fail> {
+fn a_file_that_shrank_fails_counts_and_remembers(rt: HostRuntime) -> Result<(), Fail> {
     let path = "disk-file-shrank.img";
     let mut device = created(&rt, path, 2)?;
     OpenOptions::new()
@@ -194,8 +196,26 @@ fn a_file_that_shrank_fails_and_counts(rt: HostRuntime) -> Result<(), Fail> {
             (Ask::Byte(0), Ok(0)),
             (Ask::Byte(1), Err(DiskFault::Fault)),
             (Ask::Failures, Ok(1)),
+            (Ask::Sync, Ok(0)),
         ],
     );
+    let (call, kind) = (CallKind::Read, ErrorKind::UnexpectedEof);
+    assert_eq!(rt; device.last_failure(), Some(Failure { call, kind }));
+    let counts = Counts {
+        reads: 2,
+        writes: 0,
+        syncs: 1,
+    };
+    assert_eq!(rt; device.counts(), counts);
+    remove(&rt, path)?;
+    Ok(())
+}
+
+#[test]
+fn only_its_owner_may_use_a_new_file(rt: HostRuntime) -> Result<(), Fail> {
+    let path = "disk-file-mode.img";
+    let _device = created(&rt, path, 1)?;
+    assert_eq!(rt; fs::metadata(&rt, path)?.mode() & 0o777, 0o600);
     remove(&rt, path)?;
     Ok(())
 }
