@@ -238,6 +238,15 @@ impl<D: Device> Journal<D> {
         self.device
     }
 
+    /// The device, to look at.
+    pub fn device(&self) -> &D
+        ensures history { D.history result.now ≡ (log_of self.now).history }
+        ensures size { D.size result.now ≡ (log_of self.now).size }
+        ensures failures { D.failed result.now ≡ journal_failures self.now }
+    {
+        &self.device
+    }
+
     /// Whether the device failed in a call: every call is refused from then on.
     pub fn is_down(&self) -> bool
         ensures { result ≡ (log_of self.now).is_down }
