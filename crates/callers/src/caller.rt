@@ -3,9 +3,9 @@
 ghost use Rattle.std.specs.Prelude.{All};
 ghost use Rattle.wire_client.specs.ArgumentFits.{ArgumentFits};
 
+use crate::fault::ScriptFault;
 use crate::link;
 use crate::loopback::Connection;
-use crate::refused::Refused;
 use client::{Client, ClientFault};
 use disk::Device;
 use model_tree::acl::{Cred, Gids};
@@ -46,7 +46,7 @@ impl<S: Read + Write + Drop> Caller<S> {
         uid: u32,
         gid: u32,
         connection: Connection<S>,
-    ) -> Result<Caller<S>, Refused> {
+    ) -> Result<Caller<S>, ScriptFault> {
         let cred = Cred {
             uid,
             gid,
@@ -59,7 +59,7 @@ impl<S: Read + Write + Drop> Caller<S> {
     }
 
     /// Ends its connection, if it has one.
-    pub fn hang_up<D: Device>(self, server: &mut Server<D>) -> Result<(), Refused> {
+    pub fn hang_up<D: Device>(self, server: &mut Server<D>) -> Result<(), ScriptFault> {
         match self.number() {
             Some(number) => link::hangup(server, number, MOMENT),
             None => Ok(()),
@@ -87,7 +87,7 @@ impl<S: Read + Write + Drop> Caller<S> {
         &mut self,
         server: &mut Server<D>,
         arguments: &[Argument<'_>],
-    ) -> Result<Vec<u8>, Refused>
+    ) -> Result<Vec<u8>, ScriptFault>
         requires { All ArgumentFits arguments.now }
     {
         self.ask(server, arguments)?;
@@ -103,11 +103,11 @@ impl<S: Read + Write + Drop> Caller<S> {
         &mut self,
         server: &mut Server<D>,
         arguments: &[Argument<'_>],
-    ) -> Result<(), Refused>
+    ) -> Result<(), ScriptFault>
         requires { All ArgumentFits arguments.now }
     {
         if self.connection.is_none() {
-            return Err(Refused::Script);
+            return Err(ScriptFault::Script);
         }
         link::request(&mut self.client, arguments)?;
         self.begin();
@@ -122,7 +122,7 @@ impl<S: Read + Write + Drop> Caller<S> {
         &mut self,
         server: &mut Server<D>,
         connection: Connection<S>,
-    ) -> Result<(), Refused> {
+    ) -> Result<(), ScriptFault> {
         self.connection = Some(connection);
         self.begin();
         self.send(server)
@@ -135,10 +135,10 @@ impl<S: Read + Write + Drop> Caller<S> {
     }
 
     /// Sends what the server did not take yet of the record whose reply is to come.
-    fn send<D: Device>(&mut self, server: &mut Server<D>) -> Result<(), Refused> {
+    fn send<D: Device>(&mut self, server: &mut Server<D>) -> Result<(), ScriptFault> {
         match &mut self.connection {
             Some(connection) => connection.send(server, link::last_record(&self.client)?),
-            None => Err(Refused::Script),
+            None => Err(ScriptFault::Script),
         }
     }
 
@@ -146,11 +146,11 @@ impl<S: Read + Write + Drop> Caller<S> {
     ///
     /// # Errors
     /// Script without a connection; else those of `ask`.
-    pub fn turn<D: Device>(&mut self, server: &mut Server<D>) -> Result<Turn, Refused> {
+    pub fn turn<D: Device>(&mut self, server: &mut Server<D>) -> Result<Turn, ScriptFault> {
         self.send(server)?;
         match self.number() {
             Some(number) => link::turn(server, number, MOMENT),
-            None => Err(Refused::Script),
+            None => Err(ScriptFault::Script),
         }
     }
 
@@ -159,9 +159,12 @@ impl<S: Read + Write + Drop> Caller<S> {
     /// # Errors
     /// Script where no reply is to come; Garbled where a turn finds nothing to do before it is
     /// there; else those of `turn`.
-    pub fn await_reply<D: Device>(&mut self, server: &mut Server<D>) -> Result<Vec<u8>, Refused> {
+    pub fn await_reply<D: Device>(
+        &mut self,
+        server: &mut Server<D>,
+    ) -> Result<Vec<u8>, ScriptFault> {
         if !self.awaits_reply() {
-            return Err(Refused::Script);
+            return Err(ScriptFault::Script);
         }
         for _ in 0..u64::MAX {
             if let Some(reply) = self.receive(server)? {
@@ -171,7 +174,7 @@ impl<S: Read + Write + Drop> Caller<S> {
                 break;
             }
         }
-        Err(Refused::Garbled)
+        Err(ScriptFault::Garbled)
     }
 
     /// Whether a reply is to come.
@@ -182,10 +185,13 @@ impl<S: Read + Write + Drop> Caller<S> {
         }
     }
 
-    fn receive<D: Device>(&mut self, server: &mut Server<D>) -> Result<Option<Vec<u8>>, Refused> {
+    fn receive<D: Device>(
+        &mut self,
+        server: &mut Server<D>,
+    ) -> Result<Option<Vec<u8>>, ScriptFault> {
         match &mut self.connection {
             Some(connection) => connection.receive(server),
-            None => Err(Refused::Script),
+            None => Err(ScriptFault::Script),
         }
     }
 
@@ -194,7 +200,7 @@ impl<S: Read + Write + Drop> Caller<S> {
     /// # Errors
     /// Garbled where the bytes are no reply to it; Rpc where the call was denied or not accepted;
     /// Memory.
-    pub fn read_reply<'a>(&mut self, reply: &'a [u8]) -> Result<Results<'a>, Refused> {
+    pub fn read_reply<'a>(&mut self, reply: &'a [u8]) -> Result<Results<'a>, ScriptFault> {
         match self.client.reply(reply) {
             Ok(done) => Ok(Results {
                 done,

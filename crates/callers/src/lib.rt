@@ -3,10 +3,10 @@
 #![tactic(auto)]
 
 mod caller;
+mod fault;
 pub mod link;
 mod loopback;
-mod refused;
 
 pub use caller::{Caller, Results};
+pub use fault::ScriptFault;
 pub use loopback::{Connection, connect};
-pub use refused::Refused;

@@ -1,13 +1,14 @@
 //! Connections between callers and the server, over the loopback interface and in one thread: what
 //! one end writes, the other reads before anything else is done.
 
+use crate::fault::ScriptFault;
 use crate::link;
-use crate::refused::Refused;
 use disk::Device;
 use server::Server;
 use std::alloc::{AllocError, Global};
 use std::io::{Read, Write};
 use std::net::{Ipv4Addr, Net, OpenListener, OpenStream, TcpListener, TcpStream};
+use system::Refused;
 
 /// The most bytes that an end writes before the other reads. A socket holds more.
 const PIECE_BYTES: usize = 4096;
@@ -32,7 +33,7 @@ pub struct Connection<S> {
 ///
 /// # Errors
 /// Io where a socket fails; Full, Device and Memory as the server answers them.
-pub fn connect<R, D>(rt: &R, server: &mut Server<D>) -> Result<Connection<R::Stream>, Refused>
+pub fn connect<R, D>(rt: &R, server: &mut Server<D>) -> Result<Connection<R::Stream>, ScriptFault>
 where
     R: Net + AllocGlobal,
     D: Device,
@@ -50,7 +51,7 @@ where
 }
 
 /// A caller's end, and the server's.
-fn ends<R: Net>(rt: &R) -> Result<(R::Stream, R::Stream), Refused> {
+fn ends<R: Net>(rt: &R) -> Result<(R::Stream, R::Stream), ScriptFault> {
     let listener = TcpListener::bind(rt, (Ipv4Addr::LOCALHOST, 0))?;
     let callers = TcpStream::connect(rt, listener.local_addr()?)?;
     let (servers, _) = listener.accept()?;
@@ -74,7 +75,7 @@ impl<S: Read + Write + Drop> Connection<S> {
         &mut self,
         server: &mut Server<D>,
         record: &[u8],
-    ) -> Result<(), Refused> {
+    ) -> Result<(), ScriptFault> {
         if !self.awaits_reply {
             return Ok(());
         }
@@ -90,7 +91,7 @@ impl<S: Read + Write + Drop> Connection<S> {
     }
 
     /// Has a piece of the record come to the server's end.
-    fn write(&mut self, piece: &[u8]) -> Result<(), Refused> {
+    fn write(&mut self, piece: &[u8]) -> Result<(), ScriptFault> {
         carry(
             &mut self.callers,
             &mut self.servers,
@@ -102,7 +103,7 @@ impl<S: Read + Write + Drop> Connection<S> {
     }
 
     /// Hands the server what came to its end. Whether it took all.
-    fn offer<D: Device>(&mut self, server: &mut Server<D>) -> Result<bool, Refused> {
+    fn offer<D: Device>(&mut self, server: &mut Server<D>) -> Result<bool, ScriptFault> {
         if !self.arrived.is_empty() {
             let taken = link::feed(server, self.number, &self.arrived)?;
             self.arrived = rest_of(self.alloc, &self.arrived, taken)?;
@@ -114,7 +115,7 @@ impl<S: Read + Write + Drop> Connection<S> {
     pub(crate) fn receive<D: Device>(
         &mut self,
         server: &mut Server<D>,
-    ) -> Result<Option<Vec<u8>>, Refused> {
+    ) -> Result<Option<Vec<u8>>, ScriptFault> {
         match link::take_output(server, self.number)? {
             Some(reply) => Ok(Some(self.read(&reply)?)),
             None => Ok(None),
@@ -122,7 +123,7 @@ impl<S: Read + Write + Drop> Connection<S> {
     }
 
     /// Has a reply come to the caller's end.
-    fn read(&mut self, reply: &[u8]) -> Result<Vec<u8>, Refused> {
+    fn read(&mut self, reply: &[u8]) -> Result<Vec<u8>, ScriptFault> {
         self.awaits_reply = false;
         carry_all(self.alloc, &mut self.servers, &mut self.callers, reply)
     }
@@ -139,7 +140,7 @@ fn carry_all<S: Read + Write>(
     from: &mut S,
     to: &mut S,
     bytes: &[u8],
-) -> Result<Vec<u8>, Refused> {
+) -> Result<Vec<u8>, ScriptFault> {
     let mut received = Vec::new(alloc);
     for piece in bytes.chunks(PIECE_BYTES) {
         carry(from, to, piece, &mut received)?;
@@ -153,11 +154,11 @@ fn carry<S: Read + Write>(
     to: &mut S,
     piece: &[u8],
     received: &mut Vec<u8>,
-) -> Result<(), Refused> {
+) -> Result<(), ScriptFault> {
     from.write_all(piece)?;
     let mut bytes = [0; PIECE_BYTES];
     let Some(room) = bytes.get_mut(..piece.len()) else {
-        return Err(Refused::Io);
+        return Err(Refused::Io.into());
     };
     to.read_exact(room)?;
     Ok(received.extend_from_slice(room)?)

@@ -1,7 +1,6 @@
 //! The listening socket, and the connection that waits for a place.
 
 use crate::timeouts::set_timeouts;
-use callers::Refused;
 use mio::net::{TcpListener, TcpStream};
 use mio::{Interest, Poll, Token};
 use os::FromRawFd;
@@ -10,6 +9,7 @@ use std::io::ErrorKind;
 use std::net::{Net, SocketAddr};
 use std::process::Process;
 use std::{env, io, net, process};
+use system::Refused;
 
 /// The socket that a service manager hands over is this descriptor; so many are told of, and which
 /// process they are for (sd_listen_fds(3)).

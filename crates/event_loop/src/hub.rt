@@ -3,16 +3,15 @@
 use crate::door::Door;
 use crate::sockets::Sockets;
 use crate::told::Told;
-use callers::{Refused, link};
 use disk::Device;
 use peer::{Pace, Step};
-use server::{MAX_CONNECTIONS, Server};
+use server::{MAX_CONNECTIONS, Server, ServerFault};
 use std::alloc::Global;
 use std::io::Write;
 use std::net::Net;
 use std::num::NonZeroUsize;
 use std::time::{Clock, Duration, Instant};
-use system::moment;
+use system::{Refused, moment};
 
 /// The pause after want of memory, or of what the system gives.
 const PAUSE_MILLIS: u64 = 10;
@@ -117,7 +116,7 @@ impl<D: Device> Hub<D> {
 
     /// How often the volume was mounted.
     pub fn restart_count(&self) -> u32 {
-        link::restart_count(&self.server)
+        self.server.restart_count()
     }
 
     /// The device, as it is now: peers are gone, and what was not kept is lost.
@@ -205,7 +204,7 @@ impl<D: Device> Hub<D> {
     /// Makes a checkpoint, if something has changed since the last one.
     fn rest(&mut self) -> Result<(), Refused> {
         if !self.is_rested {
-            link::checkpoint(&mut self.server)?;
+            self.server.checkpoint()?;
             self.is_rested = true;
         }
         Ok(())
@@ -251,15 +250,15 @@ impl<D: Device> Hub<D> {
         let Ok(inbox) = self.sockets.make_room(rt.alloc()) else {
             return Ok(Pace::Pauses);
         };
-        let conn = match link::connect(&mut self.server) {
+        let conn = match self.server.connect() {
             Ok(conn) => conn,
-            Err(Refused::Memory) => return Ok(Pace::Pauses),
-            Err(refused) => return Err(refused),
+            Err(ServerFault::Memory) => return Ok(Pace::Pauses),
+            Err(fault) => return Err(fault.into()),
         };
         if self.sockets.take_in(conn, inbox, now) {
             self.alone_since = None;
         } else {
-            link::hangup(&mut self.server, conn, moment(rt)?)?;
+            self.server.hangup(conn, moment(rt)?)?;
         }
         Ok(Pace::Goes)
     }
@@ -301,5 +300,8 @@ impl<D: Device> Hub<D> {
 
 fn mounted<D: Device>(alloc: Global, device: D, persistent: bool) -> Result<Server<D>, Refused> {
     let cached = NonZeroUsize::new(CACHED_SECTORS).unwrap_or(NonZeroUsize::MIN);
-    link::mount_cached(alloc, device, cached, persistent)
+    match Server::mount_cached(alloc, device, cached, persistent) {
+        Ok(server) => Ok(server),
+        Err(unmounted) => Err(unmounted.fault.into()),
+    }
 }

@@ -1,7 +1,6 @@
 //! The sockets of a server: the door, its peers, and what the system tells of them.
 
 use crate::door::Door;
-use callers::Refused;
 use mio::event::Event;
 use mio::net::TcpStream;
 use mio::{Events, Interest, Poll, Token};
@@ -12,6 +11,7 @@ use std::alloc::{AllocError, Global};
 use std::io;
 use std::net::{Net, SocketAddr};
 use std::time::{Duration, Instant};
+use system::Refused;
 
 /// The most changes that the system tells of at once.
 const MAX_EVENTS: usize = 64;

@@ -4,10 +4,9 @@
 
 mod words;
 
-use callers::Refused;
 use event_loop::{Door, serve};
 use std::process::ExitCode;
-use system::{Unbegun, begin, open_volume, tell_outcome, tell_usage};
+use system::{Refused, Unbegun, begin, open_volume, tell_outcome, tell_usage};
 use words::{Request, read_words};
 
 const USAGE: &str =
@@ -30,7 +29,7 @@ fn run(rt: &HostRuntime) -> u8 {
             tell_outcome(&mut err, outcome)
         }
         Ok(None) => tell_usage(&mut err, USAGE),
-        Err(error) => tell_outcome(&mut err, Err(error.into())),
+        Err(error) => tell_outcome(&mut err, Err(Refused::from(error))),
     }
 }
 

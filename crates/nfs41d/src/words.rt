@@ -3,10 +3,10 @@
 use clap::error::ErrorKind;
 use clap::{Arg, ArgAction, ArgMatches, Command};
 use event_loop::Settings;
-use script::decimal;
 use std::alloc::{AllocError, Global};
 use std::net::SocketAddr;
 use std::time::Duration;
+use system::decimal;
 
 const FILE: &str = "FILE";
 

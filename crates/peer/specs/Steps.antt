@@ -12,8 +12,8 @@ use Rattle.server.specs.Refused.{connection_at, view}
 use Rattle.server.specs.Seen.{ServerCall, Did, Failed, Took, Gave}
 use Rattle.server.specs.Views.{volume_of}
 use Rattle.server.specs.declared.server.Server.{Server}
-use Rattle.callers.specs.declared.refused.Refused.{Refused}
-use Rattle.callers.specs.declared.refused.Refused.TheVariants as refusals
+use Rattle.system.specs.declared.refused.Refused.{Refused}
+use Rattle.system.specs.declared.refused.Refused.TheVariants as refusals
 use Rattle.peer.specs.Calls.{Goes, IsEnd}
 use Rattle.peer.specs.Streams.{IsOver}
 use Rattle.peer.specs.declared.pace.Pace.{Pace}

@@ -13,13 +13,12 @@ use crate::inbox::Inbox;
 use crate::pace::Pace;
 use crate::reply::Reply;
 use crate::stream::Stream;
-use callers::Refused;
 use disk::Device;
 use server::{Server, ServerFault, Turn};
 use std::io;
 use std::io::ErrorKind;
 use std::time::{Clock, Duration, Instant};
-use system::moment;
+use system::{Refused, moment};
 
 /// For how many seconds a peer may be quiet while another one waits for its place, and where it has
 /// sent a part of a record.

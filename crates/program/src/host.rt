@@ -1,15 +1,14 @@
 //! A server and its peers, one after the other: a peer's bytes go to the server piece by piece, and
 //! each reply goes back in one write.
 
-use callers::{Refused, link};
 use disk::Device;
-use server::{Server, Turn};
+use server::{Server, ServerFault, Turn};
 use std::alloc::Global;
 use std::io::{BufRead, BufReader, ErrorKind, Read, Write};
 use std::net::OpenStream;
 use std::time::{Clock, Duration};
 use std::{io, thread};
-use system::moment;
+use system::{Refused, moment};
 
 /// The most bytes of a piece. The longest record of a request fits, with the headers of all its
 /// fragments.
@@ -55,13 +54,19 @@ impl From<Refused> for Parting {
     }
 }
 
+impl From<ServerFault> for Parting {
+    fn from(fault: ServerFault) -> Parting {
+        Refused::from(fault).into()
+    }
+}
+
 impl<D: Device> Host<D> {
     /// Mounts the device's volume. Sessions may be persistent.
     pub fn mount(alloc: Global, device: D) -> Result<Host<D>, Refused> {
-        Ok(Host {
-            server: link::mount(alloc, device, true)?,
-            conn: None,
-        })
+        match Server::mount(alloc, device, true) {
+            Ok(server) => Ok(Host { server, conn: None }),
+            Err(unmounted) => Err(unmounted.fault.into()),
+        }
     }
 
     /// Serves a peer up to its end, and hangs it up. What ends a peer is no refusal: that is a
@@ -93,7 +98,7 @@ impl<D: Device> Host<D> {
         C: Clock,
         S: Read + Write + OpenStream,
     {
-        let conn = link::connect(&mut self.server)?;
+        let conn = self.server.connect()?;
         self.conn = Some(conn);
         let parting = self.converse(clock, conn, stream);
         self.hang_up(clock)?;
@@ -119,7 +124,7 @@ impl<D: Device> Host<D> {
                 Ok(piece) => piece,
                 Err(error) if error.kind() == ErrorKind::Interrupted => continue,
                 Err(error) if is_quiet(&error) && !has_rested => {
-                    link::checkpoint(&mut self.server)?;
+                    self.server.checkpoint()?;
                     stream.get_ref().set_read_timeout(None)?;
                     has_rested = true;
                     continue;
@@ -129,7 +134,7 @@ impl<D: Device> Host<D> {
             if piece.is_empty() {
                 break;
             }
-            let taken = link::feed(&mut self.server, conn, piece)?;
+            let taken = self.server.feed(conn, piece)?;
             stream.consume(taken);
             self.answer(clock, conn, stream.get_mut())?;
             if has_rested {
@@ -150,7 +155,7 @@ impl<D: Device> Host<D> {
                 break;
             }
         }
-        match link::take_output(&mut self.server, conn)? {
+        match self.server.take_output(conn)? {
             Some(reply) => Ok(write_reply(out, &reply)?),
             None => Ok(()),
         }
@@ -159,11 +164,10 @@ impl<D: Device> Host<D> {
     /// A turn. For want of memory it leaves all as it was, so it is tried again.
     fn turn<C: Clock>(&mut self, clock: &C, conn: usize) -> Result<Turn, Refused> {
         for _ in 0..TRIES {
-            let outcome = link::turn(&mut self.server, conn, moment(clock)?);
-            if !matches!(outcome, Err(Refused::Memory)) {
-                return outcome;
+            match self.server.turn(conn, moment(clock)?) {
+                Err(ServerFault::Memory) => pause(clock),
+                outcome => return Ok(outcome?),
             }
-            pause(clock);
         }
         Err(Refused::Memory)
     }
@@ -175,12 +179,13 @@ impl<D: Device> Host<D> {
             return Ok(());
         };
         for _ in 0..TRIES {
-            let outcome = link::hangup(&mut self.server, conn, moment(clock)?);
-            if !matches!(outcome, Err(Refused::Memory)) {
-                self.conn = None;
-                return outcome;
+            match self.server.hangup(conn, moment(clock)?) {
+                Err(ServerFault::Memory) => pause(clock),
+                outcome => {
+                    self.conn = None;
+                    return Ok(outcome?);
+                }
             }
-            pause(clock);
         }
         Err(Refused::Memory)
     }

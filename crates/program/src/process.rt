@@ -3,7 +3,7 @@
 use crate::run::{USAGE, command};
 use std::env::Env;
 use std::io::{BufReader, Read, Write};
-use system::{Machine, Unbegun, begin, tell_outcome, tell_usage};
+use system::{Machine, Refused, Unbegun, begin, tell_outcome, tell_usage};
 
 /// Does what the words of the command line ask for, and answers the exit status, as [`command`]
 /// does. No file that it opens takes the place of a standard stream that is closed.
@@ -30,6 +30,6 @@ where
 {
     match BufReader::new(rt.alloc(), input) {
         Ok(mut input) => command(rt, words, &mut input, out, err),
-        Err(error) => tell_outcome(err, Err(error.into())),
+        Err(error) => tell_outcome(err, Err(Refused::from(error))),
     }
 }

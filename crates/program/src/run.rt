@@ -2,16 +2,19 @@
 
 use crate::serve::serve;
 use crate::words::{Request, read_words};
-use callers::{Refused, link};
+use callers::ScriptFault;
 use disk::{FileDevice, MemDevice};
-use fs::Checked;
+use fs::{Checked, Fs};
 use script::run_script;
-use server::is_volume_size;
+use server::{Server, is_volume_size};
+use std::alloc::Global;
 use std::convert::AsStr;
 use std::fs::{File, read_to_string};
 use std::io::{BufRead, ErrorKind, Write};
 use std::rt::Files;
-use system::{Machine, open_refusal, open_volume, open_volume_to_read, tell_outcome, tell_usage};
+use system::{
+    Machine, Refused, open_refusal, open_volume, open_volume_to_read, tell_outcome, tell_usage,
+};
 
 /// The words that there may be.
 pub(crate) const USAGE: &str =
@@ -35,7 +38,7 @@ where
     match read_words(rt.alloc(), words) {
         Ok(Request::Usage) => tell_usage(err, USAGE),
         Ok(request) => tell_outcome(err, do_request(rt, request, input, out)),
-        Err(error) => tell_outcome(err, Err(error.into())),
+        Err(error) => tell_outcome(err, Err(Refused::from(error))),
     }
 }
 
@@ -44,7 +47,7 @@ fn do_request<R, I, O>(
     request: Request<'_>,
     input: &mut I,
     out: &mut O,
-) -> Result<(), Refused>
+) -> Result<(), ScriptFault>
 where
     R: Machine,
     I: BufRead,
@@ -57,22 +60,27 @@ where
             file,
             sectors,
             nodes,
-        } => format_file(rt, file, sectors, nodes, out),
+        } => Ok(format_file(rt, file, sectors, nodes, out)?),
         Request::Run { file, script } => run_file(rt, file, script, out),
-        Request::Check { file } => check_file(rt, file, out),
-        Request::Serve { file, port, count } => serve_file(rt, file, port, count, out),
+        Request::Check { file } => Ok(check_file(rt, file, out)?),
+        Request::Serve { file, port, count } => Ok(serve_file(rt, file, port, count, out)?),
     }
 }
 
-fn script_in_memory<R, I, O>(rt: &R, input: &mut I, out: &mut O) -> Result<(), Refused>
+fn script_in_memory<R, I, O>(rt: &R, input: &mut I, out: &mut O) -> Result<(), ScriptFault>
 where
     R: Machine,
     I: BufRead,
     O: Write,
 {
-    let mut device = MemDevice::new(rt.alloc(), MEMORY_SECTORS)?;
-    link::format(rt.alloc(), &mut device, MEMORY_NODES)?;
+    let mut device = volume_in_memory(rt.alloc())?;
     run_script(rt, &mut device, input, out)
+}
+
+fn volume_in_memory(alloc: Global) -> Result<MemDevice, Refused> {
+    let mut device = MemDevice::new(alloc, MEMORY_SECTORS)?;
+    Server::format(alloc, &mut device, MEMORY_NODES)?;
+    Ok(device)
 }
 
 fn format_file<R, O>(
@@ -99,10 +107,10 @@ where
         return Err(Refused::Size);
     }
     let mut device = FileDevice::create(rt, rt.alloc(), file, sectors)?;
-    link::format(rt.alloc(), &mut device, nodes)
+    Ok(Server::format(rt.alloc(), &mut device, nodes)?)
 }
 
-fn run_file<R, O>(rt: &R, file: &str, script_file: &str, out: &mut O) -> Result<(), Refused>
+fn run_file<R, O>(rt: &R, file: &str, script_file: &str, out: &mut O) -> Result<(), ScriptFault>
 where
     R: Machine,
     O: Write,
@@ -114,7 +122,7 @@ where
 }
 
 /// Runs the script of this text on the volume in a file.
-fn run_text<R, O>(rt: &R, file: &str, text: &str, out: &mut O) -> Result<(), Refused>
+fn run_text<R, O>(rt: &R, file: &str, text: &str, out: &mut O) -> Result<(), ScriptFault>
 where
     R: Machine,
     O: Write,
@@ -153,13 +161,13 @@ where
     R: Files<File = File> + AllocGlobal,
 {
     let mut device = open_volume_to_read(rt, file)?;
-    link::check(rt.alloc(), &mut device)
+    Ok(Fs::check(rt.alloc(), &mut device)?)
 }
 
 /// Why a script is not read.
-fn read_refusal(kind: ErrorKind) -> Refused {
+fn read_refusal(kind: ErrorKind) -> ScriptFault {
     match kind {
-        ErrorKind::InvalidData => Refused::Script,
-        _ => open_refusal(kind),
+        ErrorKind::InvalidData => ScriptFault::Script,
+        _ => open_refusal(kind).into(),
     }
 }

@@ -1,12 +1,11 @@
 //! Serving a volume over TCP. Here alone the program meets sockets.
 
 use crate::host::Host;
-use callers::Refused;
 use disk::Device;
 use std::io::{ErrorKind, Read, Write};
 use std::net::{Ipv4Addr, OpenListener, OpenStream, TcpListener};
 use std::time::Clock;
-use system::Machine;
+use system::{Machine, Refused};
 
 /// Mounts the device's volume, listens on this port of 127.0.0.1, or on one that the system picks
 /// for 0, tells the port, and serves so many connections, one after the other.

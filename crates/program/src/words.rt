@@ -2,9 +2,9 @@
 
 use clap::error::ErrorKind;
 use clap::{Arg, ArgMatches, Command};
-use script::decimal;
 use std::alloc::{AllocError, Global};
 use std::convert::AsStr;
+use system::decimal;
 use volume::superblock::{MAX_NODES, MAX_SECTORS, MIN_NODES, MIN_SECTORS};
 
 /// What the program is asked for.

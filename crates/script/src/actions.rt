@@ -6,7 +6,7 @@ ghost use Rattle.wire_client.specs.ArgumentFits.{ArgumentFits, SecurityFits};
 use crate::arguments::MAX_OWNER_BYTES;
 use crate::operation::{Operation, arguments_of};
 use crate::user::{Known, User};
-use callers::{Caller, Refused, Results, connect};
+use callers::{Caller, Results, ScriptFault, connect};
 use disk::Device;
 use model_tree::status::Status;
 use server::{Server, Turn};
@@ -27,7 +27,7 @@ pub fn hello<S, D, O>(
     caller: &mut Caller<S>,
     name: &str,
     out: &mut O,
-) -> Result<Known, Refused>
+) -> Result<Known, ScriptFault>
 where
     S: Read + Write + Drop,
     D: Device,
@@ -43,7 +43,7 @@ fn ask_hello<S, D>(
     server: &mut Server<D>,
     caller: &mut Caller<S>,
     name: &str,
-) -> Result<Known, Refused>
+) -> Result<Known, ScriptFault>
 where
     S: Read + Write + Drop,
     D: Device,
@@ -58,7 +58,7 @@ fn exchange_ids<S, D>(
     server: &mut Server<D>,
     caller: &mut Caller<S>,
     owner: &[u8],
-) -> Result<Vec<u8>, Refused>
+) -> Result<Vec<u8>, ScriptFault>
 where
     S: Read + Write + Drop,
     D: Device,
@@ -67,20 +67,20 @@ where
     caller.call(server, &[exchange_id(owner)])
 }
 
-fn known_in<S>(caller: &mut Caller<S>, reply: &[u8]) -> Result<Known, Refused>
+fn known_in<S>(caller: &mut Caller<S>, reply: &[u8]) -> Result<Known, ScriptFault>
 where
     S: Read + Write + Drop,
 {
     known_of(&caller.read_reply(reply)?)
 }
 
-fn known_of(results: &Results<'_>) -> Result<Known, Refused> {
+fn known_of(results: &Results<'_>) -> Result<Known, ScriptFault> {
     match first_answer(results)? {
         Answer::ExchangeId(answer) => Ok(Known {
             id: answer.client,
             sequence: answer.sequence,
         }),
-        _ => Err(Refused::Garbled),
+        _ => Err(ScriptFault::Garbled),
     }
 }
 
@@ -91,7 +91,7 @@ pub fn session<S, D, O>(
     user: &mut User<S>,
     persistent: bool,
     out: &mut O,
-) -> Result<(), Refused>
+) -> Result<(), ScriptFault>
 where
     S: Read + Write + Drop,
     D: Device,
@@ -110,7 +110,7 @@ fn ask_session<S, D>(
     caller: &mut Caller<S>,
     known: Known,
     persistent: bool,
-) -> Result<[u8; 16], Refused>
+) -> Result<[u8; 16], ScriptFault>
 where
     S: Read + Write + Drop,
     D: Device,
@@ -128,7 +128,7 @@ fn make_session<S, D>(
     known: Known,
     flags: u32,
     security: Vec<CallbackSecurity<'_>>,
-) -> Result<Vec<u8>, Refused>
+) -> Result<Vec<u8>, ScriptFault>
 where
     S: Read + Write + Drop,
     D: Device,
@@ -137,31 +137,31 @@ where
     caller.call(server, &[create_session(known, flags, security)])
 }
 
-fn session_in<S>(caller: &mut Caller<S>, reply: &[u8]) -> Result<[u8; 16], Refused>
+fn session_in<S>(caller: &mut Caller<S>, reply: &[u8]) -> Result<[u8; 16], ScriptFault>
 where
     S: Read + Write + Drop,
 {
     session_of(&caller.read_reply(reply)?)
 }
 
-fn tell_session<O: Write>(out: &mut O, name: &str, id: &[u8]) -> Result<(), Refused> {
+fn tell_session<O: Write>(out: &mut O, name: &str, id: &[u8]) -> Result<(), ScriptFault> {
     write!(out, "{name} session ")?;
     write_hex(out, id)
 }
 
-fn session_of(results: &Results<'_>) -> Result<[u8; 16], Refused> {
+fn session_of(results: &Results<'_>) -> Result<[u8; 16], ScriptFault> {
     match first_answer(results)? {
         Answer::CreateSession(answer) => Ok(answer.session),
-        _ => Err(Refused::Garbled),
+        _ => Err(ScriptFault::Garbled),
     }
 }
 
 /// The first answer of a reply in which nothing is refused.
-fn first_answer<'a, 'b>(results: &'b Results<'a>) -> Result<&'b Answer<'a>, Refused> {
+fn first_answer<'a, 'b>(results: &'b Results<'a>) -> Result<&'b Answer<'a>, ScriptFault> {
     match (results.refusal, results.done.first()) {
         (None, Some(Outcome::Done(answer))) => Ok(answer),
-        (Some(_), _) => Err(Refused::Status),
-        _ => Err(Refused::Garbled),
+        (Some(_), _) => Err(ScriptFault::Status),
+        _ => Err(ScriptFault::Garbled),
     }
 }
 
@@ -171,13 +171,13 @@ pub fn call<S, D>(
     server: &mut Server<D>,
     user: &mut User<S>,
     operations: &[Operation<'_>],
-) -> Result<(), Refused>
+) -> Result<(), ScriptFault>
 where
     S: Read + Write + Drop,
     D: Device,
 {
     if !user.has_session {
-        return Err(Refused::Script);
+        return Err(ScriptFault::Script);
     }
     user.words = words_of(alloc, operations)?;
     ask_call(alloc, server, &mut user.caller, &user.name, operations)
@@ -189,7 +189,7 @@ fn ask_call<S, D>(
     caller: &mut Caller<S>,
     owner: &str,
     operations: &[Operation<'_>],
-) -> Result<(), Refused>
+) -> Result<(), ScriptFault>
 where
     S: Read + Write + Drop,
     D: Device,
@@ -199,7 +199,7 @@ where
 }
 
 /// The words for a SEQUENCE, and for the operations after it.
-fn words_of(alloc: Global, operations: &[Operation<'_>]) -> Result<Vec<&'static str>, Refused> {
+fn words_of(alloc: Global, operations: &[Operation<'_>]) -> Result<Vec<&'static str>, ScriptFault> {
     let mut words = words(alloc, "sequence")?;
     for operation in operations {
         words.push(operation.word())?;
@@ -208,7 +208,11 @@ fn words_of(alloc: Global, operations: &[Operation<'_>]) -> Result<Vec<&'static 
 }
 
 /// Gives the user's connection a turn, and tells what it did.
-pub fn turn<S, D, O>(server: &mut Server<D>, user: &mut User<S>, out: &mut O) -> Result<(), Refused>
+pub fn turn<S, D, O>(
+    server: &mut Server<D>,
+    user: &mut User<S>,
+    out: &mut O,
+) -> Result<(), ScriptFault>
 where
     S: Read + Write + Drop,
     D: Device,
@@ -224,7 +228,11 @@ where
 }
 
 /// Runs turns up to the user's reply, and tells its results.
-pub fn take<S, D, O>(server: &mut Server<D>, user: &mut User<S>, out: &mut O) -> Result<(), Refused>
+pub fn take<S, D, O>(
+    server: &mut Server<D>,
+    user: &mut User<S>,
+    out: &mut O,
+) -> Result<(), ScriptFault>
 where
     S: Read + Write + Drop,
     D: Device,
@@ -234,7 +242,7 @@ where
     tell_reply(user, &reply, out)
 }
 
-fn tell_reply<S, O>(user: &mut User<S>, reply: &[u8], out: &mut O) -> Result<(), Refused>
+fn tell_reply<S, O>(user: &mut User<S>, reply: &[u8], out: &mut O) -> Result<(), ScriptFault>
 where
     S: Read + Write + Drop,
     O: Write,
@@ -248,29 +256,29 @@ pub fn retry<R, D>(
     rt: &R,
     server: &mut Server<D>,
     user: &mut User<R::Stream>,
-) -> Result<(), Refused>
+) -> Result<(), ScriptFault>
 where
     R: Net + AllocGlobal,
     D: Device,
 {
     if user.words.is_empty() {
-        return Err(Refused::Script);
+        return Err(ScriptFault::Script);
     }
     let connection = connect(rt, server)?;
     user.caller.ask_again(server, connection)
 }
 
-fn words(alloc: Global, word: &'static str) -> Result<Vec<&'static str>, Refused> {
+fn words(alloc: Global, word: &'static str) -> Result<Vec<&'static str>, ScriptFault> {
     Ok(vec![in alloc; word]?)
 }
 
 /// The owner id of a user of this name.
-fn owner_of(name: &str) -> Result<&[u8], Refused>
+fn owner_of(name: &str) -> Result<&[u8], ScriptFault>
     ensures { IfOk result (λ owner. length owner.now ≤ MAX_OWNER_BYTES) }
 {
     let owner = name.as_bytes();
     if owner.len() > MAX_OWNER_BYTES {
-        return Err(Refused::Script);
+        return Err(ScriptFault::Script);
     }
     Ok(owner)
 }
@@ -310,7 +318,7 @@ fn tell<O: Write>(
     name: &str,
     words: &[&'static str],
     results: &Results<'_>,
-) -> Result<(), Refused> {
+) -> Result<(), ScriptFault> {
     tell_done(out, name, words, &results.done)?;
     let Some(status) = results.refusal else {
         return Ok(());
@@ -326,7 +334,7 @@ fn tell_done<O: Write>(
     name: &str,
     words: &[&'static str],
     done: &[Outcome<'_>],
-) -> Result<(), Refused> {
+) -> Result<(), ScriptFault> {
     for (word, outcome) in words.iter().zip(done) {
         tell_outcome(out, name, *word, outcome)?;
     }
@@ -338,7 +346,7 @@ fn tell_outcome<O: Write>(
     name: &str,
     word: &str,
     outcome: &Outcome<'_>,
-) -> Result<(), Refused> {
+) -> Result<(), ScriptFault> {
     write!(out, "{name} {word} 0")?;
     tell_bytes(out, outcome)
 }
@@ -348,12 +356,12 @@ fn tell_refusal<O: Write>(
     name: &str,
     word: &str,
     status: Status,
-) -> Result<(), Refused> {
+) -> Result<(), ScriptFault> {
     Ok(writeln!(out, "{name} {word} {}", status.code())?)
 }
 
 /// The bytes of a filehandle or of a file, where the result has such, and the end of the line.
-fn tell_bytes<O: Write>(out: &mut O, outcome: &Outcome<'_>) -> Result<(), Refused> {
+fn tell_bytes<O: Write>(out: &mut O, outcome: &Outcome<'_>) -> Result<(), ScriptFault> {
     let bytes = match outcome {
         Outcome::Done(Answer::GetFh(handle)) => *handle,
         Outcome::Done(Answer::Read(part)) => part.data,
@@ -364,7 +372,7 @@ fn tell_bytes<O: Write>(out: &mut O, outcome: &Outcome<'_>) -> Result<(), Refuse
 }
 
 /// Bytes in lower-case hexadecimal digits, and the end of the line.
-fn write_hex<O: Write>(out: &mut O, bytes: &[u8]) -> Result<(), Refused> {
+fn write_hex<O: Write>(out: &mut O, bytes: &[u8]) -> Result<(), ScriptFault> {
     for byte in bytes {
         write!(out, "{byte:02x}")?;
     }

@@ -3,7 +3,7 @@
 ghost use Rattle.std.specs.Prelude.{◌≤◌, length, IfOk};
 ghost use Rattle.wire_client.specs.ArgumentFits.{AttributesFit, CreateFits, OpenTypeFits, OpenFits, WriteFits, RenameFits};
 
-use callers::Refused;
+use callers::ScriptFault;
 use wire::{
     Attributes, Bitmap, Claim, CloseArguments, CommitArguments, CreateArguments, OpenArguments,
     OpenType, Opening, ReadArguments, RenameArguments, SetAttrArguments, StableHow, StateId,
@@ -110,7 +110,7 @@ pub fn setting_size(size: &Size) -> SetAttrArguments<'_>
 }
 
 /// CREATE of a directory (section 18.4).
-pub fn new_directory<'a>(name: &'a str, mode: &'a Mode) -> Result<CreateArguments<'a>, Refused>
+pub fn new_directory<'a>(name: &'a str, mode: &'a Mode) -> Result<CreateArguments<'a>, ScriptFault>
     ensures { IfOk result CreateFits }
 {
     Ok(CreateArguments::NewDirectory {
@@ -120,7 +120,10 @@ pub fn new_directory<'a>(name: &'a str, mode: &'a Mode) -> Result<CreateArgument
 }
 
 /// RENAME of a name in the saved directory, to one in the current directory.
-pub fn renaming<'a>(old_name: &'a str, new_name: &'a str) -> Result<RenameArguments<'a>, Refused>
+pub fn renaming<'a>(
+    old_name: &'a str,
+    new_name: &'a str,
+) -> Result<RenameArguments<'a>, ScriptFault>
     ensures { IfOk result RenameFits }
 {
     Ok(RenameArguments {
@@ -134,12 +137,12 @@ pub fn opening<'a>(
     owner: &'a str,
     name: &'a str,
     mode: Option<&'a Mode>,
-) -> Result<OpenArguments<'a>, Refused>
+) -> Result<OpenArguments<'a>, ScriptFault>
     ensures { IfOk result OpenFits }
 {
     let owner = owner.as_bytes();
     if owner.len() > MAX_OWNER_BYTES {
-        return Err(Refused::Script);
+        return Err(ScriptFault::Script);
     }
     Ok(OpenArguments {
         seqid: 0,
@@ -181,11 +184,15 @@ pub fn reading(offset: u64, count: u32) -> ReadArguments {
 }
 
 /// WRITE by the anonymous stateid.
-pub fn writing(offset: u64, stable: StableHow, data: &[u8]) -> Result<WriteArguments<'_>, Refused>
+pub fn writing(
+    offset: u64,
+    stable: StableHow,
+    data: &[u8],
+) -> Result<WriteArguments<'_>, ScriptFault>
     ensures { IfOk result WriteFits }
 {
     if data.len() > MAX_BYTES {
-        return Err(Refused::Script);
+        return Err(ScriptFault::Script);
     }
     Ok(WriteArguments {
         state: ANONYMOUS,
@@ -204,22 +211,22 @@ pub fn committing() -> CommitArguments {
 }
 
 /// The bytes of a name.
-pub fn name_bytes(name: &str) -> Result<&[u8], Refused>
+pub fn name_bytes(name: &str) -> Result<&[u8], ScriptFault>
     ensures { IfOk result (λ bytes. length bytes.now ≤ MAX_BYTES) }
 {
     let bytes = name.as_bytes();
     if bytes.len() > MAX_BYTES {
-        return Err(Refused::Script);
+        return Err(ScriptFault::Script);
     }
     Ok(bytes)
 }
 
 /// The bytes of a filehandle.
-pub fn handle_bytes(handle: &[u8]) -> Result<&[u8], Refused>
+pub fn handle_bytes(handle: &[u8]) -> Result<&[u8], ScriptFault>
     ensures { IfOk result (λ bytes. length bytes.now ≤ MAX_HANDLE_BYTES) }
 {
     if handle.len() > MAX_HANDLE_BYTES {
-        return Err(Refused::Script);
+        return Err(ScriptFault::Script);
     }
     Ok(handle)
 }

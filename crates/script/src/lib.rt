@@ -8,5 +8,4 @@ mod mounts;
 mod operation;
 mod user;
 
-pub use line::decimal;
 pub use mounts::run_script;

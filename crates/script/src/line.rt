@@ -2,6 +2,7 @@
 
 use crate::operation::{Operation, read_operations};
 use std::alloc::{AllocError, Global};
+use system::decimal;
 
 /// What a line asks for.
 #[derive(Drop)]
@@ -94,12 +95,4 @@ pub fn long_decimal(text: &str) -> Option<u64> {
         return None;
     }
     text.parse::<u64>().ok()
-}
-
-/// A number below 2^32, of decimal digits alone.
-pub fn decimal(text: &str) -> Option<u32> {
-    if !text.bytes().all(|byte| byte.is_ascii_digit()) {
-        return None;
-    }
-    text.parse::<u32>().ok()
 }

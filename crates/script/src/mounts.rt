@@ -3,7 +3,7 @@
 use crate::actions::{call, hello, retry, session, take, turn};
 use crate::line::{Action, Line, read_line};
 use crate::user::User;
-use callers::{Caller, Refused, connect, link};
+use callers::{Caller, ScriptFault, connect, link};
 use disk::Device;
 use server::Server;
 use std::alloc::Global;
@@ -31,7 +31,7 @@ pub fn run_script<R, D, I, O>(
     device: &mut D,
     input: &mut I,
     out: &mut O,
-) -> Result<(), Refused>
+) -> Result<(), ScriptFault>
 where
     R: Net + AllocGlobal,
     D: Device,
@@ -45,7 +45,12 @@ where
 }
 
 /// Runs the lines, mount by mount.
-fn run_mounts<R, D, I, O>(rt: &R, device: &mut D, input: &mut I, out: &mut O) -> Result<(), Refused>
+fn run_mounts<R, D, I, O>(
+    rt: &R,
+    device: &mut D,
+    input: &mut I,
+    out: &mut O,
+) -> Result<(), ScriptFault>
 where
     R: Net + AllocGlobal,
     D: Device,
@@ -73,7 +78,7 @@ fn run_mount<R, D, I, O>(
     restarted: bool,
     input: &mut I,
     out: &mut O,
-) -> Result<End, Refused>
+) -> Result<End, ScriptFault>
 where
     R: Net + AllocGlobal,
     D: Device,
@@ -92,7 +97,7 @@ fn run_server<R, D, I, O>(
     restarted: bool,
     input: &mut I,
     out: &mut O,
-) -> Result<End, Refused>
+) -> Result<End, ScriptFault>
 where
     R: Net + AllocGlobal,
     D: Device,
@@ -118,7 +123,7 @@ fn run_lines<R, D, I, O>(
     users: &mut Vec<User<R::Stream>>,
     input: &mut I,
     out: &mut O,
-) -> Result<End, Refused>
+) -> Result<End, ScriptFault>
 where
     R: Net + AllocGlobal,
     D: Device,
@@ -137,13 +142,13 @@ where
 }
 
 /// Reads a line with its end; none where the input has no more.
-fn next_line<I: BufRead>(alloc: Global, input: &mut I) -> Result<Option<String>, Refused> {
+fn next_line<I: BufRead>(alloc: Global, input: &mut I) -> Result<Option<String>, ScriptFault> {
     let mut text = String::new(alloc);
     match input.read_line(&mut text) {
         Ok(0) => Ok(None),
         Ok(_) => Ok(Some(text)),
         Err(error) => match error.kind() {
-            ErrorKind::InvalidData => Err(Refused::Script),
+            ErrorKind::InvalidData => Err(ScriptFault::Script),
             _ => Err(error.into()),
         },
     }
@@ -156,7 +161,7 @@ fn run_line<R, D, O>(
     users: &mut Vec<User<R::Stream>>,
     text: &str,
     out: &mut O,
-) -> Result<bool, Refused>
+) -> Result<bool, ScriptFault>
 where
     R: Net + AllocGlobal,
     D: Device,
@@ -164,7 +169,7 @@ where
 {
     match read_line(rt.alloc(), text.trim_end_matches('\n'))? {
         Some(line) => obey(rt, server, users, &line, out),
-        None => Err(Refused::Script),
+        None => Err(ScriptFault::Script),
     }
 }
 
@@ -175,7 +180,7 @@ fn obey<R, D, O>(
     users: &mut Vec<User<R::Stream>>,
     line: &Line<'_>,
     out: &mut O,
-) -> Result<bool, Refused>
+) -> Result<bool, ScriptFault>
 where
     R: Net + AllocGlobal,
     D: Device,
@@ -199,7 +204,7 @@ fn act<R, D, O>(
     name: &str,
     action: &Action<'_>,
     out: &mut O,
-) -> Result<(), Refused>
+) -> Result<(), ScriptFault>
 where
     R: Net + AllocGlobal,
     D: Device,
@@ -210,7 +215,7 @@ where
     }
     match users.iter_mut().find(|user| user.name.as_str() == name) {
         Some(user) => act_as(rt, server, user, action, out),
-        None => Err(Refused::Script),
+        None => Err(ScriptFault::Script),
     }
 }
 
@@ -222,7 +227,7 @@ fn begin<R, D, O>(
     name: &str,
     ids: (u32, u32),
     out: &mut O,
-) -> Result<(), Refused>
+) -> Result<(), ScriptFault>
 where
     R: Net + AllocGlobal,
     D: Device,
@@ -240,7 +245,7 @@ fn greet<R, D, O>(
     name: &str,
     ids: (u32, u32),
     out: &mut O,
-) -> Result<User<R::Stream>, Refused>
+) -> Result<User<R::Stream>, ScriptFault>
 where
     R: Net + AllocGlobal,
     D: Device,
@@ -260,7 +265,7 @@ fn act_as<R, D, O>(
     user: &mut User<R::Stream>,
     action: &Action<'_>,
     out: &mut O,
-) -> Result<(), Refused>
+) -> Result<(), ScriptFault>
 where
     R: Net + AllocGlobal,
     D: Device,
@@ -277,7 +282,11 @@ where
 }
 
 /// A name's new user takes the place of its old one, whose connection is hung up.
-fn forget<S, D>(server: &mut Server<D>, users: &mut Vec<User<S>>, name: &str) -> Result<(), Refused>
+fn forget<S, D>(
+    server: &mut Server<D>,
+    users: &mut Vec<User<S>>,
+    name: &str,
+) -> Result<(), ScriptFault>
 where
     S: Read + Write + Drop,
     D: Device,

@@ -7,10 +7,11 @@ use crate::arguments::{
     Mode, Size, closing, committing, handle_bytes, name_bytes, new_directory, opening, reading,
     renaming, setting_mode, setting_size, writing,
 };
-use crate::line::{decimal, long_decimal};
-use callers::Refused;
+use crate::line::long_decimal;
+use callers::ScriptFault;
 use hex::{FromHexError, decode};
 use std::alloc::{AllocError, Global};
+use system::decimal;
 use wire::{Argument, StableHow};
 
 /// An operation of a script.
@@ -98,7 +99,7 @@ impl Operation<'_> {
     }
 
     /// What it asks. Whoever opens a file has this name.
-    pub fn argument<'b>(&'b self, owner: &'b str) -> Result<Argument<'b>, Refused>
+    pub fn argument<'b>(&'b self, owner: &'b str) -> Result<Argument<'b>, ScriptFault>
         ensures { IfOk result ArgumentFits }
     {
         match self {
@@ -121,7 +122,7 @@ impl Operation<'_> {
     }
 
     /// That of an operation that has a name or a filehandle.
-    fn named_argument(&self) -> Result<Argument<'_>, Refused>
+    fn named_argument(&self) -> Result<Argument<'_>, ScriptFault>
         ensures { IfOk result ArgumentFits }
     {
         match self {
@@ -132,12 +133,12 @@ impl Operation<'_> {
             Operation::Rename { old_name, new_name } => {
                 Ok(Argument::Rename(renaming(old_name, new_name)?))
             }
-            _ => Err(Refused::Script),
+            _ => Err(ScriptFault::Script),
         }
     }
 
     /// That of an operation that opens or writes a file.
-    fn file_argument<'b>(&'b self, owner: &'b str) -> Result<Argument<'b>, Refused>
+    fn file_argument<'b>(&'b self, owner: &'b str) -> Result<Argument<'b>, ScriptFault>
         ensures { IfOk result ArgumentFits }
     {
         match self {
@@ -150,7 +151,7 @@ impl Operation<'_> {
                 stable,
                 bytes,
             } => Ok(Argument::Write(writing(*offset, *stable, bytes)?)),
-            _ => Err(Refused::Script),
+            _ => Err(ScriptFault::Script),
         }
     }
 }
@@ -160,7 +161,7 @@ pub fn arguments_of<'a>(
     alloc: Global,
     operations: &'a [Operation<'_>],
     owner: &'a str,
-) -> Result<Vec<Argument<'a>>, Refused>
+) -> Result<Vec<Argument<'a>>, ScriptFault>
     ensures { IfOk result (λ arguments. All ArgumentFits arguments.items) }
 {
     let mut arguments = Vec::new(alloc);

@@ -1,6 +1,6 @@
 //! A user of the script.
 
-use callers::{Caller, Refused};
+use callers::{Caller, ScriptFault};
 use std::alloc::Global;
 
 /// What EXCHANGE_ID answers of a client.
@@ -32,7 +32,7 @@ impl<S: Drop> User<S> {
         name: &str,
         known: Known,
         caller: Caller<S>,
-    ) -> Result<User<S>, Refused> {
+    ) -> Result<User<S>, ScriptFault> {
         Ok(User {
             name: String::from_str(alloc, name)?,
             known,

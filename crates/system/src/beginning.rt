@@ -1,7 +1,7 @@
 //! What a program begins with: its standard streams, and the words of its command line.
 
+use crate::refused::Refused;
 use crate::volume_file::open_refusal;
-use callers::Refused;
 use std::alloc::AllocError;
 use std::env::Env;
 use std::fs::{File, OpenOptions};

@@ -3,12 +3,16 @@
 
 mod beginning;
 mod machine;
+mod number;
 mod outcome;
+mod refused;
 mod time;
 mod volume_file;
 
 pub use beginning::{Begun, Unbegun, begin};
 pub use machine::Machine;
+pub use number::decimal;
 pub use outcome::{tell_outcome, tell_usage};
+pub use refused::Refused;
 pub use time::moment;
 pub use volume_file::{open_refusal, open_volume, open_volume_to_read};

@@ -1,6 +1,6 @@
 //! How a program tells what came of it: its exit status, and a line on its standard error.
 
-use callers::Refused;
+use std::fmt::Display;
 use std::io::Write;
 
 /// The exit statuses.
@@ -10,8 +10,12 @@ const REFUSED: u8 = 1;
 
 const USAGE: u8 = 2;
 
-/// Tells why it was refused, by name, where it was. Answers the exit status.
-pub fn tell_outcome<E: Write>(err: &mut E, outcome: Result<(), Refused>) -> u8 {
+/// Prints why the program failed, if it did. Returns the exit status.
+pub fn tell_outcome<E, F>(err: &mut E, outcome: Result<(), F>) -> u8
+where
+    E: Write,
+    F: Display + Drop,
+{
     match outcome {
         Ok(()) => DONE,
         Err(refused) => {

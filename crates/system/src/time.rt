@@ -1,6 +1,6 @@
 //! The moment that the machine's clock shows.
 
-use callers::Refused;
+use crate::refused::Refused;
 use std::time::{Clock, Duration, SystemTime, UNIX_EPOCH};
 
 const NANOS_OF_SECOND: u64 = 1_000_000_000;

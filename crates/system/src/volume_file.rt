@@ -1,6 +1,6 @@
 //! The volume in a file.
 
-use callers::Refused;
+use crate::refused::Refused;
 use disk::FileDevice;
 use std::fs::{File, metadata};
 use std::io::ErrorKind;

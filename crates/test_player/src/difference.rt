@@ -2,11 +2,11 @@
 
 use crate::device::TrialDevice;
 use crate::fault::Fault;
-use callers::Refused;
 use disk::DiskFault;
 use server::{FormatFault, MountFault, ServerFault, Turn, Unmounted};
 use std::alloc::{AllocError, Global};
 use std::{fmt, io};
+use system::Refused;
 use thiserror::Error;
 
 /// The first difference of a row or a case, and the line of its step.

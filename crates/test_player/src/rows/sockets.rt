@@ -5,7 +5,6 @@ use super::player::{Arrival, CONNECTIONS, Stage, new_volume};
 use super::step::Step;
 use crate::device::TrialDevice;
 use crate::difference::{Answer, Difference, expect, expect_reply};
-use callers::Refused;
 use event_loop::{Door, Hub, Pace, Settings};
 use server::ServerFault;
 use slab::Slab;
@@ -14,6 +13,7 @@ use std::io;
 use std::io::{ErrorKind, Read, Write};
 use std::net::{Ipv4Addr, SocketAddr, TcpStream};
 use std::time::{Clock, Duration};
+use system::Refused;
 
 /// The moment of each turn, as of those on the server itself.
 const MOMENT_NANOS: u64 = 5;

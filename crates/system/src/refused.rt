@@ -1,6 +1,5 @@
-//! Why a command or a script stops.
+//! Why a program fails.
 
-use client::ClientFault;
 use disk::DiskFault;
 use server::{FormatFault, MountFault, ServerFault};
 use std::alloc::{AllocError, AllocFailed};
@@ -8,7 +7,7 @@ use std::io;
 use std::io::ErrorKind;
 use thiserror::Error;
 
-/// Why a command or a script stops. Each is told by its name.
+/// Why a program fails. It prints the name.
 #[derive(Clone, Copy, Debug, Error)]
 pub enum Refused {
     /// A file could not be opened or read.
@@ -20,21 +19,6 @@ pub enum Refused {
     /// No memory.
     #[error("Memory")]
     Memory,
-    /// A line of the script has no form, or lacks what it speaks of.
-    #[error("Script")]
-    Script,
-    /// The server answered another status than OK.
-    #[error("Status")]
-    Status,
-    /// The server denied a call, or did not accept it.
-    #[error("Rpc")]
-    Rpc,
-    /// A record waits for its reply.
-    #[error("Pending")]
-    Pending,
-    /// The server's bytes are no reply to what was sent.
-    #[error("Garbled")]
-    Garbled,
     /// No volume has this many sectors and nodes.
     #[error("Size")]
     Size,
@@ -122,19 +106,6 @@ impl From<ServerFault> for Refused {
             ServerFault::Closed => Refused::Closed,
             ServerFault::Device => Refused::Device,
             ServerFault::Memory => Refused::Memory,
-        }
-    }
-}
-
-impl From<ClientFault<'_>> for Refused {
-    fn from(fault: ClientFault<'_>) -> Refused {
-        match fault {
-            ClientFault::Io => Refused::Io,
-            ClientFault::Rpc => Refused::Rpc,
-            ClientFault::Status { .. } => Refused::Status,
-            ClientFault::Garbled => Refused::Garbled,
-            ClientFault::Memory => Refused::Memory,
-            ClientFault::Pending => Refused::Pending,
         }
     }
 }

@@ -1,0 +1,74 @@
+//! Why a script stops.
+
+use client::ClientFault;
+use server::{MountFault, ServerFault};
+use std::alloc::{AllocError, AllocFailed};
+use std::io;
+use system::Refused;
+use thiserror::Error;
+
+/// Why a script stops. It prints the name.
+#[derive(Clone, Copy, Debug, Error)]
+pub enum ScriptFault {
+    /// A line of the script has no form, or lacks what it speaks of.
+    #[error("Script")]
+    Script,
+    /// The server answered another status than OK.
+    #[error("Status")]
+    Status,
+    /// The server denied a call, or did not accept it.
+    #[error("Rpc")]
+    Rpc,
+    /// A record waits for its reply.
+    #[error("Pending")]
+    Pending,
+    /// The server's bytes are no reply to what was sent.
+    #[error("Garbled")]
+    Garbled,
+    /// What any program can fail by.
+    #[error("{0}")]
+    Refused(#[from] Refused),
+}
+
+impl From<AllocError> for ScriptFault {
+    fn from(error: AllocError) -> ScriptFault {
+        ScriptFault::Refused(error.into())
+    }
+}
+
+impl<T: Drop> From<AllocFailed<T>> for ScriptFault {
+    fn from(failed: AllocFailed<T>) -> ScriptFault {
+        ScriptFault::Refused(failed.into())
+    }
+}
+
+impl From<io::Error> for ScriptFault {
+    fn from(error: io::Error) -> ScriptFault {
+        ScriptFault::Refused(error.into())
+    }
+}
+
+impl From<MountFault> for ScriptFault {
+    fn from(fault: MountFault) -> ScriptFault {
+        ScriptFault::Refused(fault.into())
+    }
+}
+
+impl From<ServerFault> for ScriptFault {
+    fn from(fault: ServerFault) -> ScriptFault {
+        ScriptFault::Refused(fault.into())
+    }
+}
+
+impl From<ClientFault<'_>> for ScriptFault {
+    fn from(fault: ClientFault<'_>) -> ScriptFault {
+        match fault {
+            ClientFault::Io => ScriptFault::Refused(Refused::Io),
+            ClientFault::Rpc => ScriptFault::Rpc,
+            ClientFault::Status { .. } => ScriptFault::Status,
+            ClientFault::Garbled => ScriptFault::Garbled,
+            ClientFault::Memory => ScriptFault::Refused(Refused::Memory),
+            ClientFault::Pending => ScriptFault::Pending,
+        }
+    }
+}
