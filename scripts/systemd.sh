@@ -2,7 +2,8 @@
 # Runs nfs41d under systemd: Debian's own, the first process of an emulated machine with Debian's
 # own kernel. The machine's administrator installs the units as docs/SERVING.md says, and mounts the
 # volume: the first connection starts the server. It is killed, restarted and stopped beneath the
-# mount. What was seen is compared with systemd/expected.txt.
+# mount, and a second volume has a server of its own. What was seen is compared with
+# systemd/expected.txt.
 #
 # scripts/systemd.sh [NFS41D [NFS41]]: by default what 'rt run' has built in crates/nfs41d and in
 # crates/nfs41. LIMIT is for how many seconds the machine may tell nothing (900). It wants root, the
@@ -34,7 +35,7 @@ install_work() {
     done < modules.txt > root/modules/order
     cp "$daemon" root/download/nfs41d
     cp "$program" root/download/nfs41
-    cp "$here/nfs41d.socket" "$here/nfs41d.service" root/download/
+    cp "$here/nfs41d@.socket" "$here/nfs41d@.service" root/download/
     cp "$here/systemd/work" root/work
     cp "$here/systemd/work.service" root/etc/systemd/system/
     ln -sf lib/systemd/systemd root/init
