@@ -129,7 +129,7 @@ case $kind in
     proved) cc -O2 -shared -fPIC -o taken.so "$parts/taken.c" ;;
 esac
 if [ "$kind" = proved ]; then serve "$folder/taken.so"; else serve; fi
-python3 -B "$parts/main.py" "$address" taken | tee told.txt
+PYTHONPATH=$here python3 -B "$parts/main.py" "$address" taken | tee told.txt
 [ "${PIPESTATUS[0]}" = 0 ] || exit 1
 sed -i 's/ ([^()]*)$//' told.txt
 if [ "$kind" = wrong ]; then

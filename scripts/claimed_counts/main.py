@@ -8,12 +8,14 @@ TAKEN is the file in which taken.c counts for the server. The server is to have 
 files.
 """
 import mmap
-import socket
 import struct
 import sys
 
+import nfs_calls
 import records
-from records import A, CHANGES, F, HELD, LITTLE, ROOT, opaque, u32
+from nfs_calls import MODE, NULL, attributes, compound, make_directory
+from nfs_calls import number_at, opaque, receive, u32
+from records import A, CHANGES, F, HELD, LITTLE, ROOT
 
 # As many bytes has a record at most.
 LONGEST_RECORD = 200
@@ -23,9 +25,6 @@ LONGEST_RECORD = 200
 SETTLES = 2
 NULL_BYTES = 28
 
-# For how many seconds the server may be silent.
-PATIENCE = 60
-
 STATUSES = {
     0: "OK",
     27: "FBIG",
@@ -33,24 +32,6 @@ STATUSES = {
     10070: "TOO_MANY_OPS",
     10071: "OP_NOT_IN_SESSION",
 }
-
-
-def receive(stream, count):
-    """So many bytes, or None where the connection ends."""
-    content = b""
-    while len(content) < count:
-        try:
-            piece = stream.recv(count - len(content))
-        except ConnectionResetError:
-            return None
-        if not piece:
-            return None
-        content += piece
-    return content
-
-
-def number_at(reply, place):
-    return struct.unpack_from(">I", reply, place)[0]
 
 
 def answer_of(reply):
@@ -73,14 +54,13 @@ class Server:
     """A server that is asked, and what it takes."""
 
     def __init__(self, address, taken):
-        host, port = address.rsplit(":", 1)
-        self.place = (host, int(port))
+        self.address = address
         self.taken = taken
         self.witness = self.connect()
         self.stream = self.connect()
 
     def connect(self):
-        return socket.create_connection(self.place, PATIENCE)
+        return nfs_calls.connect(self.address)
 
     def connect_anew(self):
         """Ends the connection for another one."""
@@ -89,16 +69,15 @@ class Server:
 
     def ask(self, record):
         """The reply; empty where the record is waited for, None where the connection ends."""
-        self.stream.sendall(record)
         if record == records.HALF:
+            self.stream.sendall(record)
             return b""
-        header = receive(self.stream, 4)
-        return header and receive(self.stream, number_at(header, 0) & 0x7FFFFFFF)
+        return nfs_calls.ask(self.stream, record)
 
     def settle(self):
         """Waits until the server has done with what was sent."""
         for _ in range(SETTLES):
-            self.witness.sendall(records.NULL)
+            self.witness.sendall(NULL)
             receive(self.witness, NULL_BYTES)
 
     def measure(self, may, act):
@@ -132,12 +111,12 @@ class Server:
 
     def new_client(self, owner):
         """The number of a client, which is not confirmed."""
-        record = records.compound(records.exchange_id(opaque(owner)))
+        record = compound(nfs_calls.exchange_id(opaque(owner)))
         reply = self.tell("EXCHANGE_ID", LITTLE, record)
         return struct.unpack_from(">Q", reply, 44)[0]
 
     def new_session(self, name, may, client, flags):
-        record = records.compound(records.create_session(client, flags=flags))
+        record = compound(nfs_calls.create_session(client, flags=flags))
         reply = self.tell(name, may, record)
         return Session(self, reply[44:60])
 
@@ -151,7 +130,7 @@ class Session:
         self.number = 1
 
     def request(self, operations, count):
-        return records.in_session(self.name, self.number, operations, count)
+        return nfs_calls.in_session(self.name, self.number, operations, count)
 
     def goes_on(self, reply):
         """Where SEQUENCE is answered OK the next number is due."""
@@ -169,10 +148,10 @@ class Session:
 
     def fill(self):
         """Makes directories with more names than a page has, and a file of 10,000 bytes."""
-        mode = records.attributes(records.MODE, u32(0o755))
+        mode = attributes(MODE, u32(0o755))
         for letter in range(40):
             name = opaque(bytes([65 + letter]) * 250)
-            self.does(ROOT + records.make_directory(name, mode), 2)
+            self.does(ROOT + make_directory(name, mode), 2)
         self.does(ROOT + records.open_file(A, F, mode), 2)
         for offset in (0, 5000):
             content = opaque(b"x" * 5000)

@@ -1,6 +1,27 @@
 """Records of at most 200 bytes that claim more than they hold, and what may be taken for each."""
-import struct
 import typing
+
+from nfs_calls import (
+    CREATE,
+    GETATTR,
+    LOOKUP,
+    MODE,
+    NO_BYTES,
+    NULL,
+    OPEN,
+    PUTROOTFH,
+    attributes,
+    call,
+    channel,
+    compound,
+    create_session,
+    exchange_id,
+    make_directory,
+    opaque,
+    u32,
+    u64,
+    user,
+)
 
 # What a record claims.
 CLAIM = 0xFFFFFFFF
@@ -41,76 +62,19 @@ CHANGES = May("its buffers and a transaction", REPLY_BUFFER, BOTH + TRANSACTION,
 # Of a connection, once: a piece of what comes, and the assembler of its records.
 HELD = May("an inbox and an assembler", 32_768 + 16_644, 32_768 + 16_644, 32_768)
 
-COMMIT, CREATE, GETATTR, LOOKUP, OPEN, PUTFH, PUTROOTFH, READ = 5, 6, 9, 15, 18, 22, 24, 25
-READDIR, REMOVE, RENAME, SAVEFH, SETATTR, WRITE = 26, 28, 29, 32, 34, 38
-EXCHANGE_ID, CREATE_SESSION, SEQUENCE = 42, 43, 53
+COMMIT, PUTFH, READ, READDIR, REMOVE, RENAME = 5, 22, 25, 26, 28, 29
+SAVEFH, SETATTR, WRITE = 32, 34, 38
 
-
-def u32(*numbers):
-    return struct.pack(f">{len(numbers)}I", *numbers)
-
-
-def u64(*numbers):
-    return struct.pack(f">{len(numbers)}Q", *numbers)
-
-
-def opaque(content):
-    return u32(len(content)) + content + bytes(-len(content) % 4)
-
-
-A, F, NO_BYTES = opaque(b"a"), opaque(b"f"), opaque(b"")
-
-
-def user(machine=NO_BYTES, groups=u32(0)):
-    """A credential of AUTH_SYS, of user and group 7."""
-    return u32(1) + opaque(u32(0) + machine + u32(7, 7) + groups)
-
-
-def call(procedure, credential, body, verifier=u32(0, 0)):
-    """A call as one record of one fragment."""
-    words = u32(1, 0, 2, 100_003, 4, procedure) + credential + verifier + body
-    return u32(0x80000000 | len(words)) + words
-
-
-def compound(operations, count=1, tag=NO_BYTES, credential=user()):
-    return call(1, credential, tag + u32(1, count) + operations)
-
-
-def exchange_id(owner, implementations=u32(0)):
-    return u32(EXCHANGE_ID) + bytes(8) + owner + u32(0, 0) + implementations
-
-
-def channel(rdma=u32(0)):
-    return u32(0, CLAIM, CLAIM, CLAIM, CLAIM, CLAIM) + rdma
-
-
-def create_session(client, fore=channel(), security=u32(0), flags=0):
-    """It asks for as many slots, operations and bytes as there are numbers."""
-    channels = fore + channel()
-    return u32(CREATE_SESSION) + u64(client) + u32(1, flags) + channels + u32(0) + security
-
-
-def in_session(session, number, operations, count):
-    """A COMPOUND of SEQUENCE, of this number of the first slot, and of operations."""
-    return compound(u32(SEQUENCE) + session + u32(number, 0, 0, 0) + operations, count + 1)
-
+A, F = opaque(b"a"), opaque(b"f")
 
 # Bitmaps of one attribute, of nine words, and of as many as there are numbers.
-SIZE, ACL, MODE, OWNER = u32(1, 0x10), u32(1, 0x1000), u32(2, 0, 2), u32(2, 0, 0x10)
+SIZE, ACL, OWNER = u32(1, 0x10), u32(1, 0x1000), u32(2, 0, 0x10)
 NINE = u32(9) + bytes(36)
 MANY = u32(CLAIM)
 
 
-def attributes(bitmap, *values):
-    return bitmap + opaque(b"".join(values))
-
-
 def set_attributes(given):
     return u32(SETATTR) + bytes(16) + given
-
-
-def make_directory(name, given=b""):
-    return u32(CREATE, 2) + name + given
 
 
 def open_file(owner, name, given):
@@ -129,8 +93,6 @@ def read(offset, count):
 def list_directory(count, bitmap):
     return u32(READDIR) + bytes(16) + u32(count, count) + bitmap
 
-
-NULL = call(0, u32(0, 0), b"")
 
 # A header whose record does not come, and is waited for.
 HALF = u32(0x80004000)
@@ -161,7 +123,7 @@ def session_calls(client):
         ("2^32 - 1 security parameters", channel(), u32(CLAIM)),
         ("a machine name of 2^32 - 1 bytes", channel(), u32(1, 1, 0, CLAIM)),
         ("2^32 - 1 groups", channel(), u32(1, 1, 0, 0, 7, 7, CLAIM)),
-        ("2^32 - 1 numbers for RDMA", channel(u32(CLAIM)), u32(0)),
+        ("2^32 - 1 numbers for RDMA", channel(rdma=u32(CLAIM)), u32(0)),
     ]
     for what, fore, security in given:
         record = compound(create_session(client, fore, security))
