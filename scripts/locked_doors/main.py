@@ -1,0 +1,138 @@
+#!/usr/bin/env python3
+"""Fills the tables of a server, and prints whether another client gets in.
+
+    main.py NFS41D NFS41 FOLDER
+"""
+import fcntl
+import os
+import pathlib
+import signal
+import subprocess
+import sys
+
+import nfs_calls
+from nfs_calls import PERSISTENT, compound, create_session, exchange_id, number_at, opaque
+
+# docs/LIMITS.md
+MAX_CLIENTS, MAX_SESSIONS, SEATS = 64, 32, 5
+PIPE_BYTES = 4096
+# Seconds to wait for a reply, and for a process to end.
+PATIENCE = 10
+STATUSES = {0: "OK", 10008: "DELAY"}
+
+
+class Server:
+    """A running server, and a connection to it."""
+
+    def __init__(self, daemon, volume, error=subprocess.DEVNULL):
+        words = [daemon, volume, "127.0.0.1:0"]
+        self.process = subprocess.Popen(words, stdout=subprocess.PIPE, stderr=error, text=True)
+        self.address = self.process.stdout.readline().split()[1]
+        self.stream = self.connect()
+
+    def __enter__(self):
+        return self
+
+    def __exit__(self, *_):
+        self.stream.close()
+        self.process.send_signal(signal.SIGKILL)
+        self.process.wait(PATIENCE)
+
+    def connect(self):
+        stream = nfs_calls.connect(self.address)
+        stream.settimeout(PATIENCE)
+        return stream
+
+    def ask(self, operation):
+        """Sends one operation. Returns its status in words, and the reply."""
+        reply = nfs_calls.ask(self.stream, compound(operation))
+        status = number_at(reply, 24)
+        return STATUSES.get(status, f"status {status}"), reply
+
+    def exchange_id(self, owner):
+        """Returns the status, and the client's number."""
+        status, reply = self.ask(exchange_id(opaque(owner.encode())))
+        return status, int.from_bytes(reply[44:52], "big")
+
+    def create_session(self, client, flags=0, sequence=1):
+        """Returns the status, and whether the session is persistent."""
+        status, reply = self.ask(create_session(client, flags=flags, sequence=sequence))
+        return status, status == "OK" and number_at(reply, 64) & PERSISTENT == PERSISTENT
+
+    def new_session(self, owner, flags=0):
+        return self.create_session(self.exchange_id(owner)[1], flags)
+
+    def answers_another(self):
+        """Returns whether it replies to a NULL on another connection."""
+        with self.connect() as stream:
+            try:
+                return nfs_calls.ask(stream, nfs_calls.NULL) is not None
+            except TimeoutError:
+                return False
+
+
+def tell(*words, end="\n"):
+    print(*words, end=end, flush=True)
+
+
+def client_records(daemon, volume):
+    """A client sends one EXCHANGE_ID after the other, and confirms none."""
+    with Server(daemon, volume) as server:
+        server.new_session("mounted")
+        for number in range(MAX_CLIENTS - 1):
+            server.exchange_id(f"nobody {number}")
+        tell(f"{MAX_CLIENTS} client records, of which one is confirmed")
+        status, client = server.exchange_id("new")
+        tell("  EXCHANGE_ID of another client:", status)
+        if status == "OK":
+            tell("  CREATE_SESSION:", server.create_session(client)[0])
+        tell("  CREATE_SESSION of the confirmed one:", server.new_session("mounted")[0])
+
+
+def word_of(created):
+    status, persists = created
+    return f"{status}, {'persistent' if persists else 'not persistent'}"
+
+
+def seats(daemon, volume):
+    """Machines that have persistent sessions go, and never come back."""
+    with Server(daemon, volume) as server:
+        for number in range(SEATS):
+            server.new_session(f"gone {number}", PERSISTENT)
+        tell(f"{SEATS} persistent sessions")
+        tell("  a session of another client:", word_of(server.new_session("new", PERSISTENT)))
+    with Server(daemon, volume) as server:
+        tell("  the same once the server was started again:", end=" ")
+        tell(word_of(server.new_session("new", PERSISTENT)))
+
+
+def full_standard_error(daemon, volume):
+    """Nobody reads standard error, and a client makes the server write to it."""
+    reads, writes = os.pipe()
+    fcntl.fcntl(writes, fcntl.F_SETPIPE_SZ, PIPE_BYTES)
+    os.write(writes, bytes(fcntl.fcntl(writes, fcntl.F_GETPIPE_SZ)))
+    with Server(daemon, volume, writes) as server:
+        client = server.exchange_id("mounted")[1]
+        for number in range(MAX_SESSIONS):
+            server.create_session(client, sequence=number + 1)
+        tell(f"{MAX_SESSIONS} sessions, and a standard error that is full")
+        try:
+            status = server.create_session(client, sequence=MAX_SESSIONS + 1)[0]
+        except TimeoutError:
+            status = "no reply"
+        tell("  one session more:", status)
+        tell("  another connection is", "served" if server.answers_another() else "not served")
+    os.close(writes)
+    os.close(reads)
+
+
+def main():
+    daemon, program, folder = sys.argv[1:]
+    for act in (client_records, seats, full_standard_error):
+        volume = pathlib.Path(folder) / f"{act.__name__}.img"
+        words = [program, "format", volume, "256", "64"]
+        subprocess.run(words, check=True, stdout=subprocess.DEVNULL)
+        act(daemon, volume)
+
+
+main()
