@@ -1,10 +1,8 @@
 -- Bits of bytes, and the places that they show.
-use Rattle.std.proofs.Common.{◌≡◌, ◌<◌, ◌≤◌, ◌+◌, ◌-◌, ◌*◌, ◌/◌, ◌%◌, ◌^◌, ℕ, zero, suc, Bool, true, false, not, cond, List, length, get_or, set, take, drop, ◌++◌, ltb, refl, sym, ap, ◌∙◌, arith, zero-add, inl, inr, replicate, Some, All}
-use Rattle.std.proofs.lemmas.List.{get_or_past, get_or_append_left, get_or-append_right, get_or-replicate, get_or-take, get_or-drop, length-replicate, ext_get_or}
+use Rattle.std.proofs.Common.{◌≡◌, ◌<◌, ◌≤◌, ◌+◌, ◌-◌, ◌*◌, ◌/◌, ◌%◌, ◌^◌, ℕ, zero, suc, Bool, true, false, not, cond, List, length, get_or, set, take, drop, ltb, refl, sym, ap, ◌∙◌, arith, zero-add, inl, inr, replicate, Some, All}
+use Rattle.std.proofs.lemmas.List.{get_or_past, get_or-replicate, get_or-take, get_or-drop, length-replicate, ext_get_or}
 use Rattle.std.proofs.lemmas.List.FromFn.{length-map-range_with_len, get_or-map-range_with_len, sum_by-map-range_with_len_more}
 use Rattle.std.proofs.lemmas.Nat.Bits.{bit_at-lt, bit_at-zero}
-use Rattle.std.proofs.lemmas.List.Folds.{sum_by-replicate}
-use Rattle.std.proofs.lemmas.List.Sums.{count_by-le-length}
 use Rattle.std.proofs.lemmas.List.Elements.{All-from_get_or}
 use Rattle.std.proofs.lemmas.Option.{get_or_from_slice_get}
 use Rattle.std.specs.Prelude.{slice_get}
@@ -64,46 +62,6 @@ bit_in-shown low high count places shown i h =
           let within : i - 32768 < 32768 = omega arith in
           rw place (sym (high_bit low high (i - 32768)) ∙ shown.high_shows.bits (i - 32768) within)
     ]
-
-module _ (low high : List ℕ) (low_len : length low ≡ 4096) (high_len : length high ≡ 4096) where
-  low-there : (k : ℕ) → k < 4096 → get_or low k 0 ≡ get_or (low ++ high) (0 + k) 0
-  low-there k h =
-      let place : 0 + k ≡ k = zero-add k in
-      let within : k < length low = omega arith in
-      rw place (sym (get_or_append_left low high 0 k within))
-
-  high-there : (k : ℕ) → k < 4096 → get_or high k 0 ≡ get_or (low ++ high) (4096 + k) 0
-  high-there k h =
-      let place : 4096 + k - 4096 ≡ k = omega arith in
-      sym (get_or-append_right low high 4096 (4096 + k) 0 low_len (omega arith) ∙ ap (λ i. get_or high i 0) place)
-
-  low-bits : (i : ℕ) → i < 32768 → bit_of low i ≡ bit_of (low ++ high) i
-  low-bits i h = bit_of-part (low ++ high) low 0 i low-there h ∙ ap (bit_of (low ++ high)) (zero-add i)
-
-  high-bits : (i : ℕ) → i < 32768 → bit_of high i ≡ bit_of (low ++ high) (32768 + i)
-  high-bits i h = bit_of-part (low ++ high) high 4096 i high-there h
-
-  -- two sectors that are clear past the places show them
-  pub Show-clear : (count : ℕ) → count ≤ 65536 → IsClearFrom (low ++ high) count → Show low high count (places_in (low ++ high) count)
-  Show-clear count fits past = record {
-    count_is = length-places_in (low ++ high) count;
-    low_shows = record { len = low_len; bits = λ i h. low-bits i h ∙ mark-bit (low ++ high) count past i (omega arith) ∙ ap (mark_of (places_in (low ++ high) count)) (sym (zero-add i)) };
-    high_shows = record { len = high_len; bits = λ i h. high-bits i h ∙ mark-bit (low ++ high) count past (32768 + i) (omega arith) };
-  }
-
-  both : (i : ℕ) → i < 65536 → bit_of (low ++ high) i ≡ bit_in low high i
-  both i h = elim (cases_lt i 32768) [
-    | inl lt ↦ sym (low-bits i lt) ∙ low_bit low high i lt
-    | inr le ↦
-        let place : i ≡ 32768 + (i - 32768) = omega arith in
-        rw place (sym (high-bits (i - 32768) (omega arith)) ∙ high_bit low high (i - 32768))
-  ]
-
-  -- two sectors that show the places are clear past them
-  pub clear-shown : (count : ℕ) (places : List Bool) → Show low high count places → IsClearFrom (low ++ high) count
-  clear-shown count places shown i past h =
-      let outside : length places ≤ i = omega (arith, shown.count_is) in
-      both i h ∙ bit_in-shown low high count places shown i h ∙ ap bit_from (get_or_past places i false outside)
 
 -- a sector that is a part of the bytes shows the places of that part
 pub Shows-part : (bytes part : List ℕ) (count first : ℕ) → IsClearFrom bytes count → length part ≡ 4096 → ((k : ℕ) → k < 4096 → get_or part k 0 ≡ get_or bytes (first + k) 0) → first ≤ 4096 → ShowsPlaces part (places_in bytes count) (8 * first)
@@ -188,14 +146,6 @@ places_in-zeros bytes n count is =
     ext_get_or false (places_in bytes count) (replicate count false) (length-places_in bytes count ∙ sym (length-replicate count false)) (λ i h.
     let inside : i < count = omega (arith, length-places_in bytes count) in
     places_in-at bytes count i false inside ∙ ap is_one (zeros-clear bytes n i is) ∙ sym (get_or-replicate count i false false inside))
-
-pub free_places-replicate : (count : ℕ) → count ≡ free_places (replicate count false)
-free_places-replicate count =
-    let counted : free_places (replicate count false) ≡ count * 1 = sum_by-replicate free_from count false in
-    omega arith
-
-pub free_places-le : (bytes : List ℕ) (count : ℕ) → free_places (places_in bytes count) ≤ count
-free_places-le bytes count = omega (arith, count_by-le-length not (places_in bytes count), length-places_in bytes count)
 
 -- where each bit is set, each place is used
 pub all_used : (bytes : List ℕ) (count : ℕ) → IsSetBelow bytes count → All (λ used. used ≡ true) (places_in bytes count)

@@ -14,7 +14,7 @@ also_shown low high sector a b first same one other shown = record { len = shown
 abbrev pub part_of : List ℕ → (start end : ℕ) → List ℕ
 part_of bytes start end = take (end - start) (drop start bytes)
 
-module _ (bytes : List ℕ) (count lowest free : ℕ) (kept : IsBitmap bytes count lowest free) (start end : ℕ) (whole : end ≡ start + 4096) (within : end ≤ 8192) where
+module _ (bytes : List ℕ) (count lowest : ℕ) (kept : IsBitmap bytes count lowest) (start end : ℕ) (whole : end ≡ start + 4096) (within : end ≤ 8192) where
   pub part-len : length (part_of bytes start end) ≡ 4096
   part-len = omega (arith, length-take (end - start) (drop start bytes), length-drop start bytes, kept.len)
 

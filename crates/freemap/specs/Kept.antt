@@ -1,7 +1,7 @@
 -- What a `Bitmap` keeps: the bytes of the two sectors, how many of their bits are places, and where
 -- to look for a free one.
 use Rattle.std.specs.Prelude.{◌≡◌, ◌≢◌, ◌<◌, ◌≤◌, ℕ, Bool, not, List, length, count_by}
-use Rattle.freemap.specs.Places.{bit_of, places_in}
+use Rattle.freemap.specs.Places.{bit_of}
 
 -- how many places are free
 abbrev pub free_places : List Bool → ℕ
@@ -25,10 +25,9 @@ pub record BitBecomes (old new : List ℕ) (place bit : ℕ) : Type 0 where
   pub others : (i : ℕ) → i ≢ place → bit_of new i ≡ bit_of old i
 
 -- the bits are the sectors', none is set past the last place, and no place below `lowest` is free
-pub record IsBitmap (bytes : List ℕ) (count lowest free : ℕ) : Type 0 where
+pub record IsBitmap (bytes : List ℕ) (count lowest : ℕ) : Type 0 where
   pub len : length bytes ≡ 8192
   pub fits : count ≤ 65536
   pub past : IsClearFrom bytes count
   pub lowest_in : lowest ≤ count
   pub below : IsSetBelow bytes lowest
-  pub free_is : free ≡ free_places (places_in bytes count)

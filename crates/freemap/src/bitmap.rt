@@ -1,10 +1,10 @@
 //! The set of used places.
 
-ghost use Rattle.std.specs.Prelude.{◌≡◌, ◌<◌, ◌≤◌, ◌*◌, ◌↔◌, Bool, true, false, List, length, replicate, slice_index_or, slice_get, slice_set, All, IsErrOf, IfOk, OnErr, IsTrue};
-ghost use Rattle.freemap.specs.Places.{ShowsPlaces, Show, HaveSamePart, OneSet, OneSpelling};
+ghost use Rattle.std.specs.Prelude.{◌≡◌, ◌<◌, ◌≤◌, ◌*◌, ◌↔◌, Bool, true, false, List, length, replicate, slice_index_or, slice_get, slice_set, All, IfOk, OnErr, IsTrue};
+ghost use Rattle.freemap.specs.Places.{ShowsPlaces, HaveSamePart, OneSet, OneSpelling};
 ghost use Rattle.freemap.specs.Kept.{free_places};
 
-use crate::fault::{BitmapFault, Full};
+use crate::fault::Full;
 use crate::sectors::{self, SECTOR_BYTES, SECTOR_PLACES};
 use std::alloc::{AllocError, Global};
 use std::marker::Model;
@@ -19,7 +19,6 @@ pub struct Bitmap {
     count: u32,
     /// No place below this one is free.
     lowest: usize,
-    free: u32,
 }
 
 impl Model for Bitmap {
@@ -31,7 +30,7 @@ impl Model for Bitmap {
 
     ghost view = { λ b. places_in b.bits.items b.count };
 
-    ghost invariant = { λ b. IsBitmap b.bits.items b.count b.lowest b.free };
+    ghost invariant = { λ b. IsBitmap b.bits.items b.count b.lowest };
 }
 
 impl Bitmap {
@@ -48,36 +47,6 @@ impl Bitmap {
             bits,
             count,
             lowest: 0,
-            free: count,
-        })
-    }
-
-    /// The set of `count` places that the two bitmap sectors show, the lower places in the first.
-    ///
-    /// # Errors
-    /// `PastEnd` exactly where the sectors show no set of so many places: a bit past the last place
-    /// is set.
-    pub fn from_sectors(
-        alloc: Global,
-        count: u32,
-        low: &[u8; SECTOR_BYTES],
-        high: &[u8; SECTOR_BYTES],
-    ) -> Result<Bitmap, BitmapFault>
-        requires { count ≤ Bitmap.MAX_PLACES }
-        ensures ok { IfOk result (λ places. Show low.now high.now count places) }
-        ensures past_end { IsErrOf result BitmapFault.PastEnd
-            → (places : List Bool) → ¬ Show low.now high.now count places }
-    {
-        let bits = sectors::joined(alloc, low, high)?;
-        if !sectors::is_clear_from(&bits, count as usize) {
-            return Err(BitmapFault::PastEnd);
-        }
-        let free = sectors::count_free(&bits, count as usize);
-        Ok(Bitmap {
-            bits,
-            count,
-            lowest: 0,
-            free,
         })
     }
 
@@ -89,7 +58,6 @@ impl Bitmap {
             bits: Vec::from_slice(*self.bits.allocator(), &self.bits)?,
             count: self.count,
             lowest: self.lowest,
-            free: self.free,
         })
     }
 
@@ -123,7 +91,7 @@ impl Bitmap {
     pub fn free_count(&self) -> u32
         ensures { result ≡ free_places self.now }
     {
-        self.free
+        sectors::count_free(&self.bits, self.count as usize)
     }
 
     /// Whether a place is used; one past the last is not.
@@ -150,7 +118,6 @@ impl Bitmap {
         };
         sectors::set_bit(&mut self.bits, place);
         self.lowest = place + 1;
-        self.free -= 1;
         Ok(place as u32)
     }
 
@@ -160,7 +127,6 @@ impl Bitmap {
         ensures { self.new ≡ slice_set self.old place true }
     {
         sectors::set_bit(&mut self.bits, place as usize);
-        self.free -= 1;
     }
 
     /// Gives a used place back.
@@ -171,7 +137,6 @@ impl Bitmap {
         let place = place as usize;
         sectors::clear_bit(&mut self.bits, place);
         self.lowest = self.lowest.min(place);
-        self.free += 1;
     }
 }
 

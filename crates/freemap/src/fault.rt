@@ -1,7 +1,6 @@
-//! Why a place could not be taken, or a set not be read.
+//! Why a place could not be taken.
 
 ghost use Rattle.std.specs.Prelude.{◌≡◌};
-ghost use Rattle.freemap.specs.declared.fault.BitmapFault.TheVariants.{Memory};
 ghost use Rattle.freemap.specs.declared.fault.TakeFault.TheVariants as take;
 
 use std::alloc::{AllocError, AllocFailed};
@@ -21,25 +20,6 @@ pub enum TakeFault {
     /// Memory ran out.
     #[error("out of memory")]
     Memory,
-}
-
-/// Why two bitmap sectors could not be read.
-#[derive(Clone, Copy, Debug, PartialEq, Eq, Error)]
-pub enum BitmapFault {
-    /// A bit past the last place is set.
-    #[error("a bit past the last place is set")]
-    PastEnd,
-    /// Memory ran out.
-    #[error("out of memory")]
-    Memory,
-}
-
-impl From<AllocError> for BitmapFault {
-    ghost from_gives = { λ _ e. e ≡ Memory };
-
-    fn from(_e: AllocError) -> BitmapFault {
-        BitmapFault::Memory
-    }
 }
 
 impl From<Full> for TakeFault {

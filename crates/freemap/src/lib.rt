@@ -7,6 +7,6 @@ mod places;
 mod sectors;
 
 pub use bitmap::{Bitmap, one_spelling};
-pub use fault::{BitmapFault, Full, TakeFault};
+pub use fault::{Full, TakeFault};
 pub use places::SharedBitmap;
 pub use sectors::SECTOR_PLACES;

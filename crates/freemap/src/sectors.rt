@@ -1,11 +1,10 @@
 //! Bits of the two bitmap sectors, end to end.
 
-ghost use Rattle.std.specs.Prelude.{◌≡◌, ◌<◌, ◌≤◌, ◌↔◌, ◌++◌, IsTrue, IfOk, IfSome, IfNone, length};
+ghost use Rattle.std.specs.Prelude.{◌≡◌, ◌<◌, ◌≤◌, ◌↔◌, IsTrue, IfSome, IfNone, length};
 ghost use Rattle.freemap.specs.Places.{bit_from, bit_of, places_in};
-ghost use Rattle.freemap.specs.Kept.{free_places, IsClearFrom, IsSetBelow, HaveSameBits, BitBecomes};
+ghost use Rattle.freemap.specs.Kept.{free_places, IsSetBelow, HaveSameBits, BitBecomes};
 
 use byteorder::{BigEndian, ByteOrder};
-use std::alloc::{AllocError, Global};
 
 /// The bytes of a sector.
 pub(crate) const SECTOR_BYTES: usize = 4096;
@@ -22,20 +21,6 @@ pub(crate) const PLACES: usize = 65536;
 const WORD_BYTES: usize = 8;
 
 const WORD_PLACES: usize = 64;
-
-/// The bytes of two sectors, end to end.
-pub(crate) fn joined(
-    alloc: Global,
-    low: &[u8; SECTOR_BYTES],
-    high: &[u8; SECTOR_BYTES],
-) -> Result<Vec<u8>, AllocError>
-    ensures { IfOk result (λ bits. bits.items ≡ low.now ++ high.now) }
-{
-    let mut bits = Vec::with_capacity(alloc, BYTES)?;
-    bits.extend_from_slice(low)?;
-    bits.extend_from_slice(high)?;
-    Ok(bits)
-}
 
 /// Whether the bit of a place is set.
 pub(crate) fn is_set(bits: &[u8], place: usize) -> bool
@@ -62,20 +47,6 @@ pub(crate) fn clear_bit(bits: &mut [u8], place: usize)
     ensures { BitBecomes bits.old bits.new place 0 }
 {
     bits[place / 8] &= !(1 << (7 - place % 8));
-}
-
-/// Whether no bit is set from a place on.
-pub(crate) fn is_clear_from(bits: &[u8], first: usize) -> bool
-    requires len { length bits.now ≡ BYTES }
-    requires within { first ≤ PLACES }
-    ensures { IsTrue result ↔ IsClearFrom bits.now first }
-{
-    for place in first..PLACES {
-        if is_set(bits, place) {
-            return false;
-        }
-    }
-    true
 }
 
 /// Whether two sectors have the same bits.

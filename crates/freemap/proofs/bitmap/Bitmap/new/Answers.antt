@@ -1,6 +1,5 @@
-use Rattle.std.proofs.Common.{sym, ap, ◌∙◌, arith}
-use Rattle.freemap.specs.Kept.{free_places}
-use Rattle.freemap.proofs.Bits.{zeros-clear, places_in-zeros, free_places-replicate}
+use Rattle.std.proofs.Common.{sym, ◌∙◌, arith}
+use Rattle.freemap.proofs.Bits.{zeros-clear, places_in-zeros}
 use Rattle.freemap.proofs.bitmap.Bitmap.new.Goals as goal
 
 pub invariant_of-result : goal.invariant_of-result
@@ -10,7 +9,6 @@ invariant_of-result c = record {
   past = λ i from within. zeros-clear c.in_ok-bits.bits.items 8192 i (c.in_ok-bits.ensures.items_if_clones_equal (λ y h. h));
   lowest_in = omega arith;
   below = λ i h. absurd (omega arith);
-  free_is = free_places-replicate c.args.count ∙ ap free_places (sym (places_in-zeros c.in_ok-bits.bits.items 8192 c.args.count (c.in_ok-bits.ensures.items_if_clones_equal (λ y h. h))));
 }
 
 pub returns : goal.returns

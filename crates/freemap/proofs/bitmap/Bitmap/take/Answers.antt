@@ -1,11 +1,11 @@
-use Rattle.std.proofs.Common.{◌≡◌, ◌-◌, ◌+◌, length, List, ℕ, Bool, true, false, Some, All, set, ◌<◌, ◌≤◌, ap, sym, subst, ◌∙◌, arith}
+use Rattle.std.proofs.Common.{◌≡◌, ◌+◌, length, List, ℕ, Bool, true, false, Some, All, set, ◌<◌, ◌≤◌, ap, sym, subst, ◌∙◌, arith}
 use Rattle.std.specs.Prelude.{slice_get}
 use Rattle.std.proofs.lemmas.List.{with_items_is}
 use Rattle.std.proofs.lemmas.Option.{slice_get-get_or}
 use Rattle.freemap.specs.Places.{is_one, places_in}
 use Rattle.freemap.specs.Kept.{IsBitmap, IsSetBelow, BitBecomes}
 use Rattle.freemap.proofs.Bits.{all_used, length-places_in, places_in-at}
-use Rattle.freemap.proofs.KeptLemmas.{IsKept-take, free_above, below-more, places_in-set}
+use Rattle.freemap.proofs.KeptLemmas.{IsKept-take, below-more, places_in-set}
 use Rattle.freemap.proofs.bitmap.Bitmap.take.Goals as goal
 
 pub returns-in_default-clause-full : goal.returns-in_default-clause-full
@@ -13,12 +13,6 @@ returns-in_default-clause-full c =
     let old = c.self.inside in
     subst (λ (places : List Bool). All (λ used. used ≡ true) places) c.self.view_is
     (all_used old.bits.items old.count (subst (λ (bytes : List ℕ). IsSetBelow bytes old.count) c.deref.ensures.value c.in_default.ensures.none))
-
-pub overflow_sub-self : goal.overflow_sub-self
-overflow_sub-self c =
-    let old = c.self.inside in
-    let found = rw c.deref.ensures.value at c.in-Some.ensures.found in
-    free_above old.bits.items old.bits.items old.count c.in-Some.place old.lowest old.free c.self.invariant c.self.invariant.len found.0 found.1
 
 pub invariant_of-self-2 : goal.invariant_of-self-2
 invariant_of-self-2 c =
@@ -31,8 +25,8 @@ invariant_of-self-2 c =
     let len : length new ≡ 8192 = omega (arith, ap length c.deref_mut.ensures.value, c.self.invariant.len) in
     let whole : length new ≡ old.bits.len = omega (arith, old.bits.ok.0, c.self.invariant.len) in
     let within : place + 1 ≤ old.count = omega (arith, found.0) in
-    subst (λ (bytes : List ℕ). IsBitmap bytes old.count (place + 1) (old.free - 1)) (sym (with_items_is old.bits new whole))
-    (IsKept-take old.bits.items new old.count place old.lowest old.free c.self.invariant len found.0 becomes found.1 (place + 1) within (below-more old.bits.items new place becomes first))
+    subst (λ (bytes : List ℕ). IsBitmap bytes old.count (place + 1)) (sym (with_items_is old.bits new whole))
+    (IsKept-take old.bits.items new old.count place old.lowest c.self.invariant len found.0 becomes (place + 1) within (below-more old.bits.items new place becomes first))
 
 pub returns-clause-free : goal.returns-clause-free
 returns-clause-free c =
