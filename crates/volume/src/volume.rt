@@ -224,6 +224,15 @@ impl<D: Device> Volume<D> {
         self.store.journal.into_device()
     }
 
+    /// The device, to look at.
+    pub fn device(&self) -> &D
+        ensures history { D.history result.now ≡ (volume_state self.now).history }
+        ensures size { D.size result.now ≡ (volume_state self.now).sectors }
+        ensures failures { D.failed result.now ≡ volume_failures self.now }
+    {
+        self.store.journal.device()
+    }
+
     /// The limits of the volume. They stay as they are, also where it is down.
     pub fn limits(&self) -> &Limits
         ensures limits { result.now ≡ (volume_state self.now).limits }
