@@ -159,6 +159,15 @@ impl<D: Device> Fs<D> {
         self.volume.into_device()
     }
 
+    /// The device, to look at.
+    pub fn device(&self) -> &D
+        ensures history { D.history result.now ≡ (fs_of self.now).volume.history }
+        ensures size { D.size result.now ≡ (fs_of self.now).volume.sectors }
+        ensures failures { D.failed result.now ≡ fs_failures self.now }
+    {
+        self.volume.device()
+    }
+
     /// Whether the device failed: each operation is refused from then on.
     pub fn is_down(&self) -> bool
         ensures { result ≡ (fs_of self.now).volume.is_down }
