@@ -69,6 +69,15 @@ impl<D: Device> Server<D> {
         self.fs.into_device()
     }
 
+    /// The device, to look at.
+    pub fn device(&self) -> &D
+        ensures history { D.history result.now ≡ (volume_of self.now).history }
+        ensures size { D.size result.now ≡ (volume_of self.now).sectors }
+        ensures failures { D.failed result.now ≡ server_failures self.now }
+    {
+        self.fs.device()
+    }
+
     /// A new connection, and its number.
     ///
     /// # Errors
