@@ -13,15 +13,15 @@ use Rattle.migration.specs.Migrations.{Rests}
 
 -- One transaction
 
-no_front : (list : List (List Update)) (c : ℕ) (base : Image) → list ≡ [] → applied_all (take c list) base ≡ base
+pub no_front : (list : List (List Update)) (c : ℕ) (base : Image) → list ≡ [] → applied_all (take c list) base ≡ base
 no_front [] zero base none = refl
 no_front [] (suc c) base none = refl
 no_front (us ∷ list) c base none = absurd (cc)
 
-pub first_commits : (keeps_word : Type 0) (us : List Update) (old mid : Log) → old.list ≡ [] → IsSafe keeps_word old mid → Commits keeps_word (us ∷ []) old mid
-first_commits keeps_word us old mid none safe = record {
+pub first_commits : (keeps_word : Type 0) (list : List (List Update)) (old mid : Log) → old.list ≡ [] → IsSafe keeps_word old mid → Commits keeps_word list old mid
+first_commits keeps_word list old mid none safe = record {
   size = safe.size;
-  moments = λ word. AddsOnly-weaken (StandsForFront old.size old.base old.list) (StandsForFront old.size old.base (us ∷ [])) old.history mid.history
+  moments = λ word. AddsOnly-weaken (StandsForFront old.size old.base old.list) (StandsForFront old.size old.base list) old.history mid.history
       (λ image front. record {
         count = 0;
         within = omega arith;
@@ -35,7 +35,7 @@ pub both_commit : (keeps_word : Type 0) (us : List Update) (old mid new : Log) �
 both_commit keeps_word us old mid new none safe has flushed = record {
   size = flushed.size ∙ safe.size;
   moments = λ word. AddsOnly-join (StandsForFront old.size old.base (us ∷ [])) old.history mid.history new.history
-      ((first_commits keeps_word us old mid none safe).moments word)
+      ((first_commits keeps_word (us ∷ []) old mid none safe).moments word)
       (AddsOnly-weaken (StandsForFront mid.size mid.base mid.list) (StandsForFront old.size old.base (us ∷ [])) mid.history new.history
       (λ image front.
       let before = front_moved (list_with old us) old mid (has.moved word) front.count front.within in
@@ -48,6 +48,24 @@ both_commit keeps_word us old mid new none safe has flushed = record {
       }))
       (flushed.moments word));
 }
+
+-- The commit record is written again before them
+
+module _ (keeps_word : Type 0) (list : List (List Update)) (old mid new : Log) (base : keeps_word → mid.base ≡ old.base) (size : mid.size ≡ old.size) where
+  pub then_commits : Commits keeps_word list old mid → Commits keeps_word list mid new → Commits keeps_word list old new
+  then_commits first commits = record {
+    size = commits.size ∙ size;
+    moments = λ word. AddsOnly-join (StandsForFront old.size old.base list) old.history mid.history new.history (first.moments word)
+        (subst (λ (image : Image). AddsOnly (StandsForFront old.size image list) mid.history new.history) (base word)
+        (subst (λ (n : ℕ). AddsOnly (StandsForFront n mid.base list) mid.history new.history) size (commits.moments word)));
+  }
+
+  pub then_committed : HasCommitted keeps_word list mid new → HasCommitted keeps_word list old new
+  then_committed has = record {
+    rests = has.rests;
+    base = λ word. subst (λ (image : Image). AreSame old.size (applied_all list image) new.base) (base word)
+        (subst (λ (n : ℕ). AreSame n (applied_all list mid.base) new.base) size (has.base word));
+  }
 
 -- Several
 

@@ -2,6 +2,7 @@
 
 ghost use Rattle.std.specs.Prelude.{◌≡◌, ◌≤◌, ◌+◌, length, OnOk, IsErrOf};
 ghost use Rattle.disk.specs.Cause.{IsCounted};
+ghost use Rattle.disk.specs.Moments.{moment};
 ghost use Rattle.journal.specs.Journal.{log_of, journal_failures};
 ghost use Rattle.migration.specs.Migrations.{HasMovedAll, MovesSafely, Rests};
 ghost use Rattle.migration.specs.Plans.{FitSecond};
@@ -15,7 +16,8 @@ use node_table::Table;
 use std::alloc::Global;
 
 /// Moves the nodes of a volume of version 1 to form two, from the place on that its mark tells: by
-/// flushed transactions of 47 places and the mark. All memory is taken before the first of them.
+/// flushed transactions of 47 places and the mark. All memory is taken first, and then the commit
+/// record written again, since a flush writes over its log.
 ///
 /// # Errors
 ///
@@ -38,6 +40,8 @@ pub fn migrate<D: Device>(
     ensures rests { OnOk result (Rests (log_of journal.new)) }
     ensures ok { D.keeps_word → OnOk result
         (HasMovedAll moved table.now (log_of journal.old) (log_of journal.new)) }
+    ensures steps { D.keeps_word → OnOk result (moment (log_of journal.old).history + 2
+        ≤ moment (log_of journal.new).history) }
     ensures size { (log_of journal.new).size ≡ (log_of journal.old).size }
     // Refused
     ensures memory { IsErrOf result MigrationFault.Memory
@@ -49,6 +53,7 @@ pub fn migrate<D: Device>(
         → journal_failures journal.new ≡ journal_failures journal.old }
 {
     let transactions = plan(alloc, table, moved)?;
+    journal.rewrite_record()?;
     commit_all(journal, transactions)?;
     Ok(())
 }
