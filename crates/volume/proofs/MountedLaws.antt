@@ -113,6 +113,7 @@ module _ (sectors : ℕ) (old mid : History) (found : Superblock) (base : Image)
         old mid held.history replays (begun.moments kept);
     since_sync = λ nodes run kept stands. found_moments sectors nodes run kept (seen old.now) stands base settles found.version found.sectors found.nodes found.run sectors_is few counted first
         (synced old) mid held.history since (begun.moments kept);
+    steps = omega (arith, since.later, begun.steps);
     current = begun.current;
     holds = begun.holds;
   }

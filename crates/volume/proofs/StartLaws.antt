@@ -1,21 +1,24 @@
 -- A run that begins on the nodes that were read.
-use Rattle.std.proofs.Common.{◌≡◌, ◌<◌, ◌+◌, ◌^◌, ◌∙◌, ℕ, Bool, true, false, List, Option, Some, None, is_some, length, inl, inr, refl, sym, ap, subst, arith}
+use Rattle.std.proofs.Common.{◌≡◌, ◌≤◌, ◌<◌, ◌+◌, ◌^◌, ◌∙◌, ℕ, Bool, true, false, List, [], Option, Some, None, is_some, length, inl, inr, refl, sym, ap, subst, arith}
 use Rattle.std.proofs.Math.Logic.{∥∥₁_map}
 use Rattle.std.specs.Prelude.{IsTrue, OnOk, Result, Ok, Err}
 use Rattle.std.specs.Option.{unwrap_or}
-use Rattle.disk.specs.Moments.{Image, History, AddsOnly}
+use Rattle.disk.specs.Moments.{Image, History, AddsOnly, moment}
 use Rattle.disk.proofs.MomentLemmas.{AddsOnly-weaken, AddsOnly-join}
-use Rattle.journal.specs.Log.{Log}
+use Rattle.journal.specs.Calls.{IsSafe}
+use Rattle.journal.specs.Log.{Log, StandsForFront}
+use Rattle.journal.specs.Settled.{Settles}
 use Rattle.layout.specs.CachedNodes.{CachedNode, cards_in, tree_of}
 use Rattle.layout.specs.Rewriting.{all_second}
 use Rattle.layout.specs.Stands as layout
-use Rattle.layout.specs.Stands.{IsMark, Kept, MayHaveSeats, StandsNow, bare, current_version, served_version, mark_held, moved_by, number_of_version, version_1, version_2, version_by}
+use Rattle.layout.specs.Stands.{By, IsMark, Kept, MayHaveSeats, StandsNow, bare, current_version, served_version, mark_held, moved_by, number_of_version, version_1, version_2, version_by}
 use Rattle.layout.specs.Superblock.{is_size}
 use Rattle.layout.specs.declared.versions.VersionNumber.{VersionNumber}
 use Rattle.layout.specs.declared.versions.VersionNumber.TheVariants.{One, Two}
 use Rattle.layout.proofs.KeptLaws.{same_kept}
-use Rattle.layout.proofs.MarkOnce.{stands_told}
+use Rattle.layout.proofs.MarkOnce.{stands_told, version_number}
 use Rattle.layout.proofs.Rewriting.{current_second}
+use Rattle.migration.proofs.Committing.{no_front}
 use Rattle.migration.specs.Migrations.{BeginsMoving, StandsStill, AddsStill, HasMovedAll, Rests}
 use Rattle.model_tree.specs.Seats.Seats.{Seats, no_seats}
 use Rattle.model_tree.specs.Trees.Tree.{Tree}
@@ -108,6 +111,29 @@ stay_moved found mark kept base two stands = record {
   cards = refl;
 }
 
+-- The commit record was written again, and what stands does so still
+module _ (keeps_word : Type 0) (found : Superblock) (mark : Option ℕ) (old new : Log) (size : found.sectors ≡ old.size) (marked : IsMark found.version found.nodes mark)
+    (listed : old.list ≡ []) (safe : IsSafe keeps_word old new) where
+  pub rewritten_moments : keeps_word → (kept : Kept) → StandsIn found mark old.base kept
+      → AddsOnly (StandsForIn (number_of_version found.version) found.sectors found.nodes found.run kept) old.history new.history
+  rewritten_moments k kept stands = AddsOnly-weaken (StandsForFront old.size old.base old.list)
+      (StandsForIn (number_of_version found.version) found.sectors found.nodes found.run kept) old.history new.history
+      (λ image front. ∣ (
+        record {
+          base = old.base;
+          settles = subst (λ (s : ℕ). Settles s image old.base) (sym size)
+              (subst (Settles old.size image) (no_front old.list front.count old.base listed) front.settles);
+          stands = record {
+            version = version_by found.version mark kept.seats;
+            is_version = By found.version mark kept.seats marked stands.may;
+            keeps = stands.keeps;
+            stands = stands.stands;
+          };
+        },
+        version_number found.version mark kept.seats,
+      ) ∣₁)
+      (safe.moments k)
+
 -- Then the mark is one of version 2
 
 moved_all : (version : VersionNumber) (nodes : ℕ) (mark : Option ℕ) → IsMark version nodes mark → AllHaveMoved version nodes (moved_mark version nodes mark)
@@ -191,6 +217,13 @@ module _ (found : Superblock) (mark : Option ℕ) (old : Log) (marked : IsMark f
             (λ image is. inr is)
             (subst (λ (s : ℕ). AddsOnly (StandsForIn served_version s found.nodes (found.run + 1) kept) raised.history new) (sym size)
             (clears kept (second_stands kept at))))
+
+        -- the moments go on
+        pub unmark_later : (new : History)
+            → ((kept : Kept) → StandsInSecond then_mark raised.size found.nodes (found.run + 1) raised.base kept
+            → AddsOnly (StandsForIn served_version raised.size found.nodes (found.run + 1) kept) raised.history new)
+            → (kept : Kept) → StandsIn found mark old.base kept → moment raised.history ≤ moment new
+        unmark_later new clears kept stands = (clears kept (second_stands kept stands)).later
 
         -- and the nodes that were read are served
         pub serves_from : (cards : List (Option CachedNode)) (seats : Seats) (new : Log) → cards ≡ all_second (cards_in found.nodes old.base) → StandsIn found mark old.base (read_as old.base cards seats)

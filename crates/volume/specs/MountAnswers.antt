@@ -1,7 +1,7 @@
 -- What a mount says by its answer.
 use Rattle.std.specs.Prelude.{ℕ, ⊤, ◌≡◌, ◌≤◌, ◌+◌, ◌^◌, ◌⊎◌}
 use Rattle.disk.specs.Cause.{IsCounted}
-use Rattle.disk.specs.Moments.{Image, History, AddsOnly, seen, synced}
+use Rattle.disk.specs.Moments.{Image, History, AddsOnly, moment, seen, synced}
 use Rattle.journal.specs.Settled.{Settles, SettlesAs}
 use Rattle.layout.specs.Stands.{Kept}
 use Rattle.model_tree.specs.Seats.Seats.{Seats, AreOfRuns}
@@ -31,6 +31,8 @@ pub record HasMounted (sectors : ℕ) (old : History) (held : VolumeState) : Typ
   pub moments : AddsMount sectors old held.history
   -- and from its first sync on nothing of what was left before
   pub since_sync : AddsMount sectors (synced old) held.history
+  -- five steps at least: a sync, the commit record, a sync, sector 0, and a sync
+  pub steps : moment old + 5 ≤ moment held.history
   pub current : LeavesCurrent held
   pub holds : Holds held
 

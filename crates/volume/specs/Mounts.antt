@@ -1,7 +1,7 @@
 -- What a mount finds on the base of a journal.
-use Rattle.std.specs.Prelude.{ℕ, ⊤, false, [], Option, Some, Result, Ok, Err, ◌≡◌, ◌<◌, ◌+◌, ◌^◌, ◌⊎◌, List, IsTrue}
-use Rattle.disk.specs.Moments.{Image, History, AddsOnly}
-use Rattle.journal.specs.Log.{Log, IsSettled}
+use Rattle.std.specs.Prelude.{ℕ, ⊤, false, [], Option, Some, Result, Ok, Err, ◌≡◌, ◌≤◌, ◌<◌, ◌+◌, ◌^◌, ◌⊎◌, List, IsTrue}
+use Rattle.disk.specs.Moments.{Image, History, AddsOnly, moment}
+use Rattle.journal.specs.Log.{Log, Costs, IsSettled}
 use Rattle.layout.specs.CachedNodes.{cards_in}
 use Rattle.layout.specs.Rewriting.{all_second}
 use Rattle.layout.specs.Stands as layout
@@ -96,6 +96,7 @@ pub record IsRaised (keeps_word : Type 0) (found : Superblock) (old new : Log) :
       → AllHaveMoved found.version found.nodes mark → StandsIn found mark old.base kept
       → IsRaisedTo mark found kept old.base new.base
   pub settled : keeps_word → IsSettled new
+  pub cost : keeps_word → Costs 2 old new
 
 -- a run that begins on a base
 pub record HasBegun (found : Superblock) (base : Image) (old : History) (held : VolumeState)
@@ -104,6 +105,7 @@ pub record HasBegun (found : Superblock) (base : Image) (old : History) (held : 
   pub nodes : held.limits.nodes ≡ found.nodes
   pub stood : ∥ StandsOn found base (kept_of held) ∥₁
   pub moments : AddsRaised found base old held.history
+  pub steps : moment old + 4 ≤ moment held.history
   pub current : LeavesCurrent held
   pub holds : Holds held
 

@@ -1,8 +1,8 @@
 -- What a run does to a volume before it serves.
 use Rattle.std.specs.Prelude.{◌≡◌, ◌≤◌, ◌+◌, ℕ, Bool, true, false, List, Option, Some, None, Result, OnOk, is_some}
 use Rattle.disk.specs.Cause.{IsCounted}
-use Rattle.disk.specs.Moments.{Image, AddsOnly}
-use Rattle.journal.specs.Log.{Log, IsSettled}
+use Rattle.disk.specs.Moments.{Image, AddsOnly, moment}
+use Rattle.journal.specs.Log.{Log, Costs, IsSettled}
 use Rattle.journal.specs.declared.fault.JournalFault.{JournalFault}
 use Rattle.layout.specs.CachedNodes.{CachedNode, cards_in, tree_of}
 use Rattle.layout.specs.Rewriting.{all_second}
@@ -40,11 +40,20 @@ pub record HasMovedTo (found : Superblock) (mark : Option ℕ) (kept : Kept) (ol
   pub stands : StandsIn found (moved_mark found.version found.nodes mark) new kept
   pub cards : all_second (cards_in found.nodes new) ≡ all_second (cards_in found.nodes old)
 
--- The nodes move, and what stands with this mark does so at each moment
+-- The commit record was written again as it is, with a sync: the log is as it was but for two more
+-- steps of its history
+pub record HasRewritten (keeps_word : Type 0) (old new : Log) : Type 0 where
+  pub rests : IsAtRest new
+  pub only : keeps_word → new ≡ record old { history = new.history }
+  pub cost : keeps_word → Costs 2 old new
+
+-- The commit record is written again and the nodes move, and what stands with this mark does so at
+-- each moment
 pub record MovesNodes (keeps_word : Type 0) (found : Superblock) (mark : Option ℕ) (old new : Log)
     (result : Result (Unit {0}) MigrationFault) : Type 0 where
   pub size : new.size ≡ old.size
   pub rests : OnOk result (IsAtRest new)
+  pub steps : keeps_word → OnOk result (moment old.history + 2 ≤ moment new.history)
   pub moments : keeps_word → (kept : Kept) → StandsIn found mark old.base kept
       → AddsOnly
       (StandsForIn (number_of_version found.version) found.sectors found.nodes found.run kept)
@@ -90,3 +99,5 @@ pub record HasStarted (keeps_word : Type 0) (found : Superblock) (cards : List (
   pub rests : IsAtRest new
   pub serves : keeps_word → ∥ ServesFrom found cards seats old.base new.base ∥₁
   pub settled : keeps_word → IsSettled new
+  -- the commit record, sector 0, and a sync after each
+  pub steps : keeps_word → moment old.history + 4 ≤ moment new.history

@@ -2,12 +2,13 @@
 
 ghost use Rattle.std.specs.Prelude.{◌≡◌, ◌≤◌, ◌<◌, ◌⊎◌, IfErr, OnOk, OnErr, IsErrOf};
 ghost use Rattle.disk.specs.Cause.{IsCounted};
+ghost use Rattle.journal.specs.Calls.{IsSafe};
 ghost use Rattle.journal.specs.Journal.{log_of, journal_failures};
 ghost use Rattle.migration.specs.Plans.{clearing_updates};
 ghost use Rattle.model_tree.specs.Seats.SeatViews.{seats_view};
 ghost use Rattle.volume.specs.Loads.{HoldsBase, IsLoaded};
 ghost use Rattle.volume.specs.Mounts.{AddsRaised, IsAtRest, IsVolumeOf};
-ghost use Rattle.volume.specs.Starts.{Clears, Counts, HasStarted, MovesNodes, is_marked};
+ghost use Rattle.volume.specs.Starts.{Clears, Counts, HasRewritten, HasStarted, MovesNodes, is_marked};
 
 use crate::fault::MountFault;
 use crate::load::Loaded;
@@ -18,7 +19,23 @@ use layout::versions::VersionNumber;
 use migration::{MigrationFault, clear, clearing, migrate};
 use std::alloc::Global;
 
-/// Moves the nodes of a volume of version 1 to form two.
+/// Writes the commit record again as it is: after a sync that failed the disk may have an older
+/// one, and the next flush writes over its log. A replay has just written it too, but that is rare,
+/// and one rule for all mounts is simpler.
+fn rewrite<D: Device>(journal: &mut Journal<D>) -> Result<(), MigrationFault>
+    requires rests { IsAtRest (log_of journal.old) }
+    ensures safe { IsSafe D.keeps_word (log_of journal.old) (log_of journal.new) }
+    ensures ok { OnOk result (HasRewritten D.keeps_word (log_of journal.old) (log_of journal.new)) }
+    // Refused
+    ensures no_memory { ¬ IsErrOf result MigrationFault.Memory }
+    ensures counted { Counts (journal_failures journal.old) (journal_failures journal.new)
+        (IsErrOf result MigrationFault.Device) }
+{
+    journal.rewrite_record()?;
+    Ok(())
+}
+
+/// Writes the commit record again, and moves the nodes of a volume of version 1 to form two.
 fn move_nodes<D: Device>(
     alloc: Global,
     journal: &mut Journal<D>,
@@ -42,7 +59,7 @@ fn move_nodes<D: Device>(
 {
     match found.version {
         VersionNumber::One => migrate(alloc, journal, &loaded.table, loaded.mark.unwrap_or(0)),
-        VersionNumber::Two => Ok(()),
+        VersionNumber::Two => rewrite(journal),
     }
 }
 
@@ -79,8 +96,9 @@ fn unmark<D: Device>(
     clear(journal, updates)
 }
 
-/// Begins a run on a volume whose nodes were read: one of version 1 is migrated, the restart count
-/// is raised with the version, and the mark is taken away. Its memory is taken before it writes.
+/// Begins a run on a volume whose nodes were read: the commit record is written again, one of
+/// version 1 is migrated, the restart count is raised with the version, and the mark is taken away.
+/// Its memory is taken before it writes.
 ///
 /// # Errors
 ///

@@ -85,9 +85,9 @@ impl<D: Device> Volume<D> {
     ghost use Rattle.volume.specs.Views.{volume_state, volume_failures, AltersVolume, MountsVolume};
 
     /// Mounts the volume: finds it by its first sector, replays the log, reads its nodes and seats,
-    /// migrates one of version 1, and raises the restart count. Every map that a crash leaves from
-    /// then on has the new count, which is this mount's run. Its journal keeps 64 sectors in
-    /// memory.
+    /// writes the commit record again, migrates one of version 1, and raises the restart count.
+    /// Every map that a crash leaves from then on has the new count, which is this mount's run. Its
+    /// journal keeps 64 sectors in memory.
     ///
     /// # Errors
     ///

@@ -41,4 +41,5 @@ returns-clause-raised g c =
       still_up = c.in_ok-superblock.ensures.answers.stays_up c.requires.rests.up (λ e. absurd (cc));
       stands = λ k mark kept moved stands. raised_base found old.base c.requires.volume.counted mark kept moved stands after (same k);
       settled = c.in_ok-superblock.ensures.ok.settled;
+      cost = c.in_ok-superblock.ensures.ok.cost;
     }

@@ -1,10 +1,12 @@
-use Rattle.std.proofs.Common.{◌≡◌, ◌∙◌, ℕ, subst}
+use Rattle.std.proofs.Common.{◌≡◌, ◌∙◌, ◌+◌, ◌≤◌, ℕ, ap, arith, subst, sym}
+use Rattle.disk.specs.Moments.{Image}
 use Rattle.journal.specs.Journal.{log_of}
 use Rattle.journal.specs.Log.{Log}
 use Rattle.layout.specs.Stands.{moved_by}
 use Rattle.model_tree.specs.Seats.SeatViews.{seats_view}
 use Rattle.migration.specs.Migrations.{HasMovedAll, MovesSafely}
-use Rattle.volume.proofs.StartLaws.{begins, ends_at_rest, moved_to, moves_safely, or_else_zero, so_moves}
+use Rattle.volume.specs.Starts.{HasMovedTo}
+use Rattle.volume.proofs.StartLaws.{begins, ends_at_rest, moved_to, moves_safely, or_else_zero, rewritten_moments, so_moves, stay_moved}
 use Rattle.volume.proofs.start.move_nodes.Goals as goal
 
 pub returns-in-One-clause-moves : goal.returns-in-One-clause-moves
@@ -18,6 +20,7 @@ returns-in-One-clause-moves g c =
     record {
       size = c.migrate.ensures.size;
       rests = ends_at_rest new c.migrate.result c.migrate.ensures.rests;
+      steps = c.migrate.ensures.steps;
       moments = λ k kept stands.
           moves_safely word found loaded.mark loaded.table (seats_view loaded.seats) loaded.places old new c.requires.volume.size c.in-One.is c.requires.loaded kept stands
           (subst (λ (n : ℕ). MovesSafely n loaded.table old new) told (c.migrate.ensures.moments k) loaded.mark found.run kept.tree
@@ -26,4 +29,22 @@ returns-in-One-clause-moves g c =
           (λ moved. moved_to word found loaded.mark loaded.table (seats_view loaded.seats) loaded.places old new c.requires.volume.size c.in-One.is c.requires.loaded
           (subst (λ (n : ℕ). HasMovedAll n loaded.table old new) told moved) k)
           (c.migrate.ensures.ok k);
+    }
+
+pub returns-in-Two-clause-moves : goal.returns-in-Two-clause-moves
+returns-in-Two-clause-moves g c =
+    let found = c.args.found in
+    let mark = c.args.loaded.now.mark in
+    let old : Log = log_of c.args.journal.now in
+    let new : Log = log_of c.rewrite.new.journal in
+    record {
+      size = c.rewrite.ensures.safe.size;
+      rests = so_moves c.rewrite.result _ _ (λ is. is.rests) c.rewrite.ensures.ok;
+      steps = λ k. so_moves c.rewrite.result _ _ (λ is. omega (arith, is.cost k)) c.rewrite.ensures.ok;
+      moments = λ k kept stands. rewritten_moments g.D.Device.keeps_word found mark old new c.requires.volume.size c.requires.loaded.marked c.requires.rests.listed
+          c.rewrite.ensures.safe k kept stands;
+      stands = λ k. so_moves c.rewrite.result _ _
+          (λ is kept stands. subst (λ (image : Image). HasMovedTo found mark kept old.base image) (sym (ap (λ (log : Log). log.base) (is.only k)))
+          (stay_moved found mark kept old.base c.in-Two.is stands))
+          c.rewrite.ensures.ok;
     }

@@ -1,11 +1,14 @@
-use Rattle.std.proofs.Common.{◌∙◌, ◌+◌, sym}
-use Rattle.std.proofs.Math.Logic.{∥∥₁_map}
+use Rattle.std.proofs.Common.{◌∙◌, ◌+◌, ◌≤◌, arith, sym}
+use Rattle.std.proofs.Math.Logic.{∥∥₁_elim, ∥∥₁_map}
+use Rattle.std.proofs.Props.{props}
+use Rattle.disk.specs.Moments.{moment}
 use Rattle.journal.specs.Journal.{log_of}
 use Rattle.journal.specs.Log.{Log}
 use Rattle.model_tree.specs.Seats.SeatViews.{seats_view}
+use Rattle.volume.specs.Loads.{read_as}
 use Rattle.volume.specs.Mounts.{IsRaised}
 use Rattle.volume.proofs.FormatLaws.{on_ok}
-use Rattle.volume.proofs.StartLaws.{after_moves, after_raise, after_unmark, has_moved, serves_from, then_marked}
+use Rattle.volume.proofs.StartLaws.{after_moves, after_raise, after_unmark, has_moved, serves_from, then_marked, unmark_later}
 use Rattle.volume.proofs.start.start.Goals as goal
 
 pub returns-in_err-move_nodes-clause-moments : goal.returns-in_err-move_nodes-clause-moments
@@ -75,4 +78,13 @@ returns-clause-started g c =
           (λ kept stands. on_ok c.unmark.result _ fine (c.unmark.ensures.clears.stands k) _ found.nodes (found.run + 1) kept
           (then_marked found.version found.nodes mark c.is_marked.result c.is_marked.ensures) stands));
       settled = λ k. on_ok c.unmark.result _ fine (c.unmark.ensures.clears.settled k (is.settled k));
+      steps = λ k.
+          let later : moment raised.history ≤ moment new.history = ∥∥₁_elim (loaded.stood k) (Prim.hlevel props) (λ stood.
+          unmark_later found mark old loaded.marked (loaded.marks k) (c.requires.base k) moved (moves.moments k) (moves.stands k) raised (c.raise.ensures.moments k)
+          (c.requires.volume.size ∙ (sym moves.size ∙ sym c.raise.ensures.size))
+          (λ kept stands. is.stands k _ kept (has_moved found mark old loaded.marked (loaded.marks k) (c.requires.base k)) stands)
+          new.history
+          (λ kept stands. c.unmark.ensures.clears.moments k _ found.nodes (found.run + 1) kept (then_marked found.version found.nodes mark c.is_marked.result c.is_marked.ensures) stands)
+          (read_as old.base c.args.loaded.now.table (seats_view c.args.loaded.now.seats)) stood) in
+          omega (arith, moves.steps k, is.cost k, later);
     }

@@ -1,4 +1,4 @@
-use Rattle.std.proofs.Common.{◌≡◌, ◌+◌, ◌∙◌, ℕ, refl, sym, ap, subst, arith}
+use Rattle.std.proofs.Common.{◌≡◌, ◌≤◌, ◌+◌, ◌∙◌, ℕ, refl, sym, ap, subst, arith}
 use Rattle.std.specs.Prelude.{IsTrue, Err}
 use Rattle.tree_edits.specs.Outlines.{tree_without_data}
 use Rattle.journal.specs.Journal.{log_of}
@@ -9,7 +9,7 @@ use Rattle.layout.specs.Superblock.{is_size}
 use Rattle.model_tree.specs.declared.limits.Limits.{Limits}
 use Rattle.model_tree.specs.Trees.Limits.{limits_of}
 use Rattle.model_tree.specs.Trees.Stamp.{stamp}
-use Rattle.disk.specs.Moments.{Image}
+use Rattle.disk.specs.Moments.{Image, moment}
 use Rattle.volume.specs.Known.{AreKnownNodes, IsServing}
 use Rattle.volume.specs.Loads.{AreLoaded, HoldsVolume}
 use Rattle.volume.specs.Mounts.{StandsOn}
@@ -78,6 +78,7 @@ returns-in-Ok-start-clause-begun g c = λ k.
           (sym (kept_read word found old mid new loaded.mark cards (seats_view loaded.seats) loaded.places are started only size c.start.ensures.size k))
           (begun_stood word found old mid new loaded.mark cards (seats_view loaded.seats) loaded.places are started only size c.start.ensures.size k);
       moments = raised_from found old mid new.history only (c.start.ensures.moments k);
+      steps = omega (arith, started.steps k, ap (λ (log : Log). moment log.history) only);
       current = begun_current word found old mid new loaded.mark cards (seats_view loaded.seats) loaded.places are started only size c.start.ensures.size limits nodes k;
       holds = begun_holds word found old mid new loaded.mark cards (seats_view loaded.seats) loaded.places are started only size c.start.ensures.size limits nodes k;
     }
