@@ -15,14 +15,10 @@ use Rattle.inode.specs.Spelling.{inode_sector, kind_byte, second_count, nine, nu
 use Rattle.inode.specs.Reading.{count_in}
 use Rattle.inode.proofs.EntryLemmas.{numbers_wide}
 
--- each form has room for 40 entries, and none for more than 72
+-- each form has room for 40 entries
 pub least_entries : (form : Form) → 40 ≤ most_entries form
 least_entries One = omega arith
 least_entries Two = omega arith
-
-pub greatest_entries : (form : Form) → most_entries form ≤ 72
-greatest_entries One = omega arith
-greatest_entries Two = omega arith
 
 -- from the second number of entries on, after the run sectors, and after the entries
 abbrev pub from_count : Form → Fields → List ℕ

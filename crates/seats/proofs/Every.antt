@@ -1,13 +1,12 @@
 -- Whatever the code holds can be spelled.
-use Rattle.std.proofs.Common.{List, [], ◌∷◌, Option, Some, None, map, ◌∙◌, arith}
+use Rattle.std.proofs.Common.{List, [], ◌∷◌, Option, Some, None, map, arith}
 use Rattle.std.specs.Option.{option_map}
 use Rattle.std.specs.List.{AllByRecursion}
 use Rattle.std.proofs.lemmas.List.{length-map}
-use Rattle.model_tree.specs.Seats.SeatViews.{held_view, seat_view, place_view, seats_view}
+use Rattle.model_tree.specs.Seats.SeatViews.{held_view, seat_view, place_view}
 use Rattle.model_tree.specs.declared.seats.HeldReply.{HeldReply}
 use Rattle.model_tree.specs.declared.seats.Seat.{Seat}
-use Rattle.model_tree.specs.declared.seats.Seats.{Seats}
-use Rattle.seats.specs.Spelling.{ArePlaces, IsHeld, IsSeatPlace, IsSeat, IsSlot}
+use Rattle.seats.specs.Spelling.{IsHeld, IsSeatPlace, IsSeat, IsSlot}
 
 pub every_held : (held : HeldReply) → IsHeld (held_view held)
 every_held held = record { number = held.number_fits; uid = held.uid_fits; result = held.short }
@@ -32,10 +31,3 @@ every_seat seat =
 pub every_place : (place : Option Seat) → IsSeatPlace (place_view place)
 every_place None = tt
 every_place (Some seat) = every_seat seat
-
-each_place : (places : List (Option Seat)) → AllByRecursion IsSeatPlace (map place_view places)
-each_place [] = tt
-each_place (place ∷ places) = (every_place place, each_place places)
-
-pub every_seats : (seats : Seats) → ArePlaces (seats_view seats)
-every_seats seats = record { five = length-map seats.places.items place_view ∙ seats.five; each = each_place seats.places.items }
