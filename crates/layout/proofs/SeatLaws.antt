@@ -31,9 +31,6 @@ seats_free n = ap (seat_sector (n % 9)) (free_at (n / 9)) ∙ free_sector (n % 9
 pub spare_seats : (seats : Seats) (mark : Option ℕ) (n : ℕ) → (n ≡ 147 → ⊥) → spare_by seats mark n ≡ seats_sector (n - 100) seats
 spare_seats seats mark n other = rw (ne_eqb n 147 other) refl
 
-pub spare_mark : (seats : Seats) (mark : Option ℕ) → spare_by seats mark 147 ≡ mark_held mark
-spare_mark seats mark = refl
-
 pub spare_other : (mark : Option ℕ) (n : ℕ) → (n ≡ 147 → ⊥) → spare_by no_seats mark n ≡ zero_sector
 spare_other mark n other = spare_seats no_seats mark n other ∙ seats_free (n - 100)
 
