@@ -3,6 +3,7 @@ pub mod ClientTables
 pub mod TableCalls
 pub mod TableIds
 pub mod TableLaws
+pub mod Yielding
 pub mod SlotLaw
 pub mod SlotRuns
 pub mod SlotsHeld

@@ -3,7 +3,7 @@ use Rattle.std.proofs.Common.{◌≡◌, ℕ, refl, List, [], ◌∷◌, Ok, Err
 use Rattle.model_tree.specs.declared.status.Status.TheVariants as status
 use Rattle.model.specs.Operations.Operation.{Channel, ExchangeIdArguments, CreateSessionArguments, SequenceArguments}
 use Rattle.model.specs.Operations.Answer.{CreateSessionAnswer}
-use Rattle.model.specs.Sessions.Session.{SessionLimits, Table, empty_table, exchange_id, exchange_answer, create_session, destroy_session, begin, started, finish, session_id, Refuses, Replays, Runs}
+use Rattle.model.specs.Sessions.Session.{SessionLimits, Table, plain_settings, empty_table, exchange_id, exchange_answer, create_session, destroy_session, begin, started, finish, session_id, Refuses, Replays, Runs}
 
 abbrev limits : SessionLimits
 limits = record { clients = 64; sessions = 32; slots = 8; seat_slots = 2; operations = 16; record_bytes = 16384 }
@@ -30,11 +30,11 @@ greeted = (exchange_id limits no_opens 7 (hello verifier) (empty_table 1)).1
 abbrev greeted_twice : Table
 greeted_twice = (exchange_id limits no_opens 7 (hello verifier) greeted).1
 
-exchange_first : (exchange_id limits no_opens 7 (hello verifier) (empty_table 1)).0 ≡ Ok (exchange_answer 4294967297 1 0x00010000)
+exchange_first : (exchange_id limits no_opens 7 (hello verifier) (empty_table 1)).0 ≡ Ok (exchange_answer plain_settings.name 4294967297 1 0x00010000)
 unfolding exchange_id
 exchange_first = refl
 
-exchange_twice : (exchange_id limits no_opens 7 (hello verifier) greeted).0 ≡ Ok (exchange_answer 4294967298 1 0x00010000)
+exchange_twice : (exchange_id limits no_opens 7 (hello verifier) greeted).0 ≡ Ok (exchange_answer plain_settings.name 4294967298 1 0x00010000)
 unfolding exchange_id
 exchange_twice = refl
 
@@ -71,7 +71,7 @@ unfolding exchange_id create_session
 create_misordered = refl
 
 -- a known owner: its record, by its own principal alone
-exchange_known : (exchange_id limits no_opens 7 (hello verifier) opened).0 ≡ Ok (exchange_answer 4294967297 2 0x80010000)
+exchange_known : (exchange_id limits no_opens 7 (hello verifier) opened).0 ≡ Ok (exchange_answer plain_settings.name 4294967297 2 0x80010000)
 unfolding exchange_id create_session
 exchange_known = refl
 
@@ -80,7 +80,7 @@ unfolding exchange_id create_session
 exchange_other = refl
 
 -- a restarted client gets a new record
-exchange_restarted : (exchange_id limits no_opens 7 (hello (0 ∷ [])) opened).0 ≡ Ok (exchange_answer 4294967298 1 0x00010000)
+exchange_restarted : (exchange_id limits no_opens 7 (hello (0 ∷ [])) opened).0 ≡ Ok (exchange_answer plain_settings.name 4294967298 1 0x00010000)
 unfolding exchange_id create_session
 exchange_restarted = refl
 

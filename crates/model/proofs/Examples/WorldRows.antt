@@ -19,7 +19,7 @@ use Rattle.model.specs.Wire.Record.{front_from, fragment, behind_header, framed}
 use Rattle.model.specs.Wire.Rpc.{words, read_call, request_of, reply_text, compound_text}
 use Rattle.model.specs.Wire.WireArguments.{arguments_at}
 use Rattle.model_tree.specs.Seats.Seats.{Seat, Seats, no_seats}
-use Rattle.model.specs.Sessions.Session.{exchange_id, create_session, destroy_session, destroy_client_id, reclaim_complete, begin, started, finish, session_id}
+use Rattle.model.specs.Sessions.Session.{plain_settings, exchange_id, create_session, destroy_session, destroy_client_id, reclaim_complete, begin, started, finish, session_id}
 use Rattle.model.specs.Sessions.StateIds as stateids
 use Rattle.model.specs.Operations.Step.{does, effect, refusals, permitted}
 use Rattle.model_tree.specs.Trees.Tree.{Tree, root, names_at}
@@ -31,7 +31,7 @@ limits = record {
   sessions = record { clients = 64; sessions = 32; slots = 8; seat_slots = 2; operations = 16; record_bytes = 16384 };
   records = record { bytes = 16384; fragments = 64 };
   connections = 16;
-  persistent = true;
+  settings = record plain_settings { persistent = true };
   reply_bytes = 16368;
 }
 
@@ -424,7 +424,7 @@ one_slot = refl
 
 not_offering : World
 unfolding seated_greeted
-not_offering = record seated_greeted { table = record seated_greeted.table { persistent = false } }
+not_offering = record seated_greeted { table = record seated_greeted.table { settings = plain_settings } }
 
 not_offered : answer 1 not_offering 0 (persist_call 1) ≡ Some (created 1 1 1 1 0 8)
 unfolding not_offering answer

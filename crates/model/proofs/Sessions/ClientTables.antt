@@ -11,7 +11,7 @@ use Rattle.model.specs.Operations.Operation.{ExchangeIdArguments, CreateSessionA
 use Rattle.model.specs.Sessions.OpenClients.{is_confirmed_client, has_record}
 use Rattle.model.specs.Sessions.Opens.{Opens, Open}
 use Rattle.model_tree.specs.Refusals.Refusal.{first_refusal}
-use Rattle.model.specs.Sessions.Session.{SessionLimits, Client, Slot, Running, Kept, Session, Table, slot_at, is_session, is_client, is_of_client, is_running, is_unconfirmed_of, is_confirmed_of, confirmed_with, is_replaced_by, replaced_by, is_of_clients, staying, without_unconfirmed, without_client, is_full_of_clients, with_new_client, new_client, new_record, exchange_by, exchange_id, exchange_flags, has_only, has_state, new_session, create_session_answer, create_refusals, create_unless, create_again, create_by, create_session, CreateSessionOutcome, next_number, destroy_by, destroy_session, destroy_client_by, destroy_client_id, reclaim_by, reclaim_complete, with_slot, started, finish}
+use Rattle.model.specs.Sessions.Session.{SessionLimits, Client, Slot, Running, Kept, Session, Table, slot_at, is_session, is_client, is_of_client, is_running, is_unconfirmed_of, is_confirmed_of, confirmed_with, is_replaced_by, replaced_by, is_of_clients, staying, without_unconfirmed, without_client, is_full_of_clients, with_new_client, new_client, new_record, exchange_by, exchange_id, exchange_flags, has_only, has_state, new_session, create_session_answer, create_refusals, create_unless, create_again, create_by, create_session, CreateSessionOutcome, next_number, destroy_by, destroy_session, destroy_client_by, destroy_client_id, reclaim_by, reclaim_complete, with_slot, started, finish, yielding, is_unconfirmed_client, with_clients, without_where}
 use Rattle.model.specs.Sessions.SlotsHeld.{is_slot_running}
 use Rattle.model.specs.Sessions.StateIds.{has_opens, without_clients}
 use Rattle.model.proofs.Sessions.SlotLaw.{exchange_same, destroy_client_same, reclaim_same, id_of}
@@ -21,6 +21,7 @@ use Rattle.model.proofs.Sessions.TableLaws.{all-filter, all-append, all-map, con
 use Rattle.model_tree.proofs.Facts.Counting.{size}
 use Rattle.model_tree.proofs.Facts.BooleanLaws.{and_false}
 use Rattle.model.proofs.Operations.RefusalLaws.{none_in_front}
+use Rattle.model.proofs.Sessions.Yielding.{yielding_is}
 
 -- Tests over lists
 
@@ -157,6 +158,20 @@ without_unconfirmed_same owner table number =
         let mark : client.is_confirmed ≡ false = not-true client.is_confirmed (and_parts (not client.is_confirmed) (bytes_eq client.owner owner) is).0 in
         ap (λ b. is_client number client && b) mark ∙ and_false (is_client number client)
 
+yielding_same : (limits : SessionLimits) (table : Table) (number : ℕ) → has_record (yielding limits table) number ≡ has_record table number
+yielding_same limits table number = yielding_is (λ (t : Table). has_record t number ≡ has_record table number) limits table refl without
+  where
+    unconfirmed : (gone : ℕ) (client : Client) → is_unconfirmed_client gone client ≡ true → is_confirmed_client number client ≡ false
+    unconfirmed gone client is =
+        let mark : client.is_confirmed ≡ false = not-true client.is_confirmed (and_parts (not client.is_confirmed) (is_client gone client) is).0 in
+        ap (λ b. is_client number client && b) mark ∙ and_false (is_client number client)
+
+    without : (gone : ℕ) → has_record (with_clients (without_where (is_unconfirmed_client gone) table.clients) table) number ≡ has_record table number
+    without gone =
+        any-filter (is_confirmed_client number) (λ client. not (is_unconfirmed_client gone client)) (λ _. false) table.clients
+        (λ client leaves good. unconfirmed gone client (not-false (is_unconfirmed_client gone client) leaves))
+        (any-none (λ _. false) table.clients (λ client. refl))
+
 further_same : (uid : ℕ) (arguments : ExchangeIdArguments) (table : Table) (number : ℕ)
     → has_record (with_new_client uid arguments table) number ≡ has_record table number
 further_same uid arguments table number =
@@ -181,13 +196,15 @@ without_client_same gone table number apart =
 module _ (limits : SessionLimits) (opens : Opens) (uid : ℕ) (arguments : ExchangeIdArguments) (table : Table) where
   record_ends : (cleared : Table) → Ends opens table cleared → Ends opens table (new_record limits uid arguments table cleared).1
   record_ends cleared ends =
-      let room = without_unconfirmed arguments.owner cleared in
+      let first = without_unconfirmed arguments.owner cleared in
+      let room = yielding limits first in
       either (λ (r : Result ExchangeIdAnswer Status × Table). Ends opens table r.1) (is_full_of_clients limits room) _ _
       (λ full. nobody opens table table (λ number is. is))
       (λ free. record {
         gone = ends.gone;
         clients = λ number is stays.
-            further_same uid arguments room number ∙ (without_unconfirmed_same arguments.owner cleared number ∙ ends.clients number is stays);
+            further_same uid arguments room number
+            ∙ (yielding_same limits first number ∙ (without_unconfirmed_same arguments.owner cleared number ∙ ends.clients number is stays));
         idle = ends.idle;
         closed = ends.closed;
       })

@@ -8,7 +8,7 @@ use Rattle.model.specs.Operations.Operation.{SequenceArguments}
 use Rattle.model.specs.Server.Runs.{Event, Arrives, Turns, HangsUp, Connects, Takes, effect_of, Stored, stored_of, freed_between, freed_of, RunHistory, history_after, Serving, mounted, IsSeatedAfter, MayHoldSeats, taken_by, IsRun, Begins, Goes_on, Fails_at, Stays_down}
 use Rattle.model.specs.Sessions.SeatRuns.{AreSeats, IsRetryOf, Stop, storing, freeing, EveryReplyIsHeld, EveryDeadSession}
 use Rattle.model_tree.specs.Seats.Seats.{HeldReply, Seat, Seats, seat_of, held_in, run_of}
-use Rattle.model.specs.Sessions.Session.{Table, Session, Refuses, Replays, is_session, begin, begin_held, begin_dead, begin_by, loaded_table}
+use Rattle.model.specs.Sessions.Session.{Table, Session, Refuses, Replays, is_session, begin, begin_held, begin_dead, begin_by, loaded_table, Settings}
 use Rattle.model_tree.specs.Trees.Tree.{Tree}
 use Rattle.model.specs.Server.World.{ServerLimits, World, one, arrives, takes, connects, hangs_up, reply_at}
 use Rattle.model.proofs.Server.Headline.{slice_get-append, slice_get-within}
@@ -119,8 +119,8 @@ module _ (run : ℕ) (history : RunHistory) (world : World) where
 differ : (b : Bool) → b ≡ true → b ≡ false → ⊥
 differ b one other = true≢false (sym one ∙ other)
 
-table_seated : (run : ℕ) (persistent : Bool) (seats : Seats) → run < 2 ^ 32 → AreSeats run seats → Seated run (loaded_table run persistent seats) [] []
-table_seated run persistent seats small are = record {
+table_seated : (run : ℕ) (settings : Settings) (seats : Seats) → run < 2 ^ 32 → AreSeats run seats → Seated run (loaded_table run settings seats) [] []
+table_seated run settings seats small are = record {
   of_run = tt;
   apart = are.apart;
   past = λ id has. past_earlier run 0 id small (are.earlier id has);
@@ -139,7 +139,7 @@ only_one {A} one x among = by_place among.0 among.1.0 among.1.1
 module _ (limits : ServerLimits) (run : ℕ) (start : Tree) (first : Seats) (small : run < 2 ^ 32) (are : AreSeats run first) where
   pub run_seated : (serving : Serving) (history : RunHistory) → IsRun (mounted limits run start first) serving history → RunSeated run serving history
   run_seated serving history Begins = record {
-    up = λ up. (table_seated run limits.persistent first small are, refl);
+    up = λ up. (table_seated run limits.settings first small are, refl);
     same = λ up seats among. only_one first seats among;
     kept = λ seats among i one at. absurd (cc);
   }

@@ -344,17 +344,17 @@ freed_same seat (Some other ∷ old) new none = by_test (freed_same seat old new
 module _ (limits : SessionLimits) (stored : List Stored) (gone : List (List ℕ)) (arguments : CreateSessionArguments) (client : Client) (table : Table)
     (holds : Holds limits table) (is : Seated table.run table stored gone) (number : ℕ) (found : find (is_client number) table.clients ≡ Some client) where
   abbrev freed_first : Table
-  freed_first = record table { sessions = staying client table; seats = seats_staying client table }
+  freed_first = record table { sessions = staying client table; seats = seats_staying arguments client table }
 
   its_run : in_run client.number ≡ table.run
   its_run = client_in_run limits table.run table.client_serial table.clients holds.0 number client found
 
   abbrev gone_first : List (List ℕ)
-  gone_first = gone ++ freed_between table.seats (seats_staying client table)
+  gone_first = gone ++ freed_between table.seats (seats_staying arguments client table)
 
   freed_is : Seated table.run freed_first stored gone_first
   freed_is =
-      seated_less table.run (record table { sessions = staying client table }) stored gone (gives_way client table)
+      seated_less table.run (record table { sessions = staying client table }) stored gone (gives_way arguments client table)
       (seated_fewer table.run table stored gone (λ x. not (is_of_clients (replaced_by client table) x)) is)
 
   first_below : AllByRecursion (IsBelow table.session_serial) (staying client table)
@@ -372,7 +372,7 @@ module _ (limits : SessionLimits) (stored : List Stored) (gone : List (List ℕ)
   after_it seats = record freed_first { session_serial = table.session_serial + 1; sessions = staying client table ++ made ∷ []; seats = seats }
 
   created_by_seat : table.session_serial < 2 ^ 64 - 1 → (b : Bool)
-      → (let seats : Seats = cond b (seated its_seat (seats_staying client table)) (seats_staying client table) in
+      → (let seats : Seats = cond b (seated its_seat (seats_staying arguments client table)) (seats_staying arguments client table) in
       Seated table.run (after_it seats) stored (gone ++ freed_between table.seats seats))
   created_by_seat room true =
       let small : table.session_serial + 1 < 2 ^ 64 = omega (arith, room) in
@@ -381,8 +381,8 @@ module _ (limits : SessionLimits) (stored : List Stored) (gone : List (List ℕ)
       let count : length its_seat.slots ≡ length made.slots =
       length-replicate (fore_channel (limits_for limits (persists arguments client table)) arguments.fore).max_requests None
       ∙ sym (length-replicate (fore_channel (limits_for limits (persists arguments client table)) arguments.fore).max_requests no_slot) in
-      subst (λ (l : List (List ℕ)). Seated table.run (after_it (seated its_seat (seats_staying client table))) stored (gone ++ l))
-      (sym (freed_same its_seat table.seats (seats_staying client table) none))
+      subst (λ (l : List (List ℕ)). Seated table.run (after_it (seated its_seat (seats_staying arguments client table))) stored (gone ++ l))
+      (sym (freed_same its_seat table.seats (seats_staying arguments client table) none))
       (seated_with table.run freed_first stored gone_first freed_is made refl its_run small first_below its_seat refl count)
   created_by_seat room false =
       let small : table.session_serial + 1 < 2 ^ 64 = omega (arith, room) in

@@ -158,13 +158,13 @@ module _ (world : World) (apart : SeatsApart world.table.seats) where
     none_goes = frees_none (Argument.CreateSession arguments) true world.table.seats refl
 
     module _ (client : Client) (found : find (is_client arguments.client) world.table.clients ≡ Some client) where
-      staying_frees : Frees (Argument.CreateSession arguments) true (seats_staying client world.table)
+      staying_frees : Frees (Argument.CreateSession arguments) true (seats_staying arguments client world.table)
       staying_frees id seat there went =
-          (refl, GivesWay arguments client found (freed_tells (gives_way client world.table) id world.table.seats seat apart there went))
+          (refl, GivesWay arguments client found (freed_tells (gives_way arguments client world.table) id world.table.seats seat apart there went))
 
-      after_frees : (b : Bool) → (let seats : Seats = cond b (seated (new_seat limits arguments client world.table) (seats_staying client world.table)) (seats_staying client world.table) in
+      after_frees : (b : Bool) → (let seats : Seats = cond b (seated (new_seat limits arguments client world.table) (seats_staying arguments client world.table)) (seats_staying arguments client world.table) in
           Frees (Argument.CreateSession arguments) true seats)
-      after_frees true id seat there went = staying_frees id seat there (seated_frees (new_seat limits arguments client world.table) id (seats_staying client world.table) went)
+      after_frees true id seat there went = staying_frees id seat there (seated_frees (new_seat limits arguments client world.table) id (seats_staying arguments client world.table) went)
       after_frees false id seat there went = staying_frees id seat there went
 
       unless_frees : (refusal : Option Status) → CreatesSo (create_unless limits arguments client world.table refusal)

@@ -97,13 +97,13 @@ module _ (limits : SessionLimits) (run : ℕ) (small : run < 2 ^ 32) (arguments 
   abbrev CreatedGo : CreateSessionOutcome → Type 0
   CreatedGo o = SeatsGo run table.seats o.table.seats
 
-  first : SeatsGo run table.seats (seats_staying client table)
-  first = go_freed run (gives_way client table) table.seats apart
+  first : SeatsGo run table.seats (seats_staying arguments client table)
+  first = go_freed run (gives_way arguments client table) table.seats apart
 
-  then : (b : Bool) → (let seats : Seats = cond b (seated (new_seat limits arguments client table) (seats_staying client table)) (seats_staying client table) in SeatsGo run table.seats seats)
+  then : (b : Bool) → (let seats : Seats = cond b (seated (new_seat limits arguments client table) (seats_staying arguments client table)) (seats_staying arguments client table) in SeatsGo run table.seats seats)
   then true =
-      go_on run table.seats (seats_staying client table) (seated (new_seat limits arguments client table) (seats_staying client table)) first
-      (go_seated run (new_seat limits arguments client table) (seats_staying client table) (id_of_run run client.number (table.session_serial + 1) small of_run))
+      go_on run table.seats (seats_staying arguments client table) (seated (new_seat limits arguments client table) (seats_staying arguments client table)) first
+      (go_seated run (new_seat limits arguments client table) (seats_staying arguments client table) (id_of_run run client.number (table.session_serial + 1) small of_run))
   then false = first
 
   go_unless : (refusal : Option Status) → CreatedGo (create_unless limits arguments client table refusal)

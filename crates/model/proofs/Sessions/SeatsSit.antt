@@ -9,7 +9,7 @@ use Rattle.model_tree.specs.Refusals.Refusal.{first_refusal}
 use Rattle.model.specs.Server.Runs.{Event, Arrives, Turns, HangsUp, Connects, Takes, Stored, effect_of, executed_of}
 use Rattle.model.specs.Sessions.SeatRuns.{MakesSession, EverySessionSits}
 use Rattle.model_tree.specs.Seats.Seats.{Seat, Seats, is_seat_of, seat_of, has_seat, has_free, seated}
-use Rattle.model.specs.Sessions.Session.{SessionLimits, Client, Table, is_client, gives_way, seats_staying, new_seat, new_session, persists, create_refusals, create_session_answer, with_new_session, create_unless, create_again, create_by, create_session, create_refused, CreateSessionOutcome, next_number, finish}
+use Rattle.model.specs.Sessions.Session.{SessionLimits, Client, Table, is_client, gives_way, seats_staying, new_seat, new_session, persists, create_refusals, create_session_answer, with_new_session, create_unless, create_again, create_by, create_session, create_refused, CreateSessionOutcome, next_number, finish, asks_seat}
 use Rattle.model.specs.Server.World.{ServerLimits, World, InProgress, HasRun, Gives, Replays, Entry, created_by, run, executed_entry, Turned, with_result, result_of, kept_by, is_to_hold, closes, behind, is_last, one}
 use Rattle.model.proofs.Sessions.SeatLaws.{has_freed}
 use Rattle.model_tree.proofs.Facts.BytesLaws.{bytes_same}
@@ -78,13 +78,12 @@ module _ (limits : SessionLimits) (stored : List Stored) (gone : List (List ℕ)
 
     by_flag : table.session_serial + 1 < 2 ^ 64 → (b : Bool) → persists arguments client table ≡ b
         → (let flags : ℕ = cond b 1 0 in
-        (flags ≡ 1) ↔ (has_seat its_seat.session (cond b (seated its_seat (seats_staying client table)) (seats_staying client table)) ≡ true))
+        (flags ≡ 1) ↔ (has_seat its_seat.session (cond b (seated its_seat (seats_staying arguments client table)) (seats_staying arguments client table)) ≡ true))
     by_flag small true flag =
-        let parts = and_parts (table.persistent && has_free (seats_staying client table)) (arguments.flags % 2 == 1) flag in
-        let free = (and_parts table.persistent (has_free (seats_staying client table)) parts.0).1 in
-        (λ _. seated_there its_seat (seats_staying client table) free, λ _. refl)
+        let free = (and_parts (asks_seat arguments table) (has_free (seats_staying arguments client table)) flag).1 in
+        (λ _. seated_there its_seat (seats_staying arguments client table) free, λ _. refl)
     by_flag small false flag =
-        let none = has_freed (gives_way client table) its_seat.session table.seats is.apart (not_there small) in
+        let none = has_freed (gives_way arguments client table) its_seat.session table.seats is.apart (not_there small) in
         (λ zero. absurd (omega (arith, zero)), λ has. absurd (true≢false (sym has ∙ none)))
 
     unless_sits : (refusal : Option Status) → first_refusal (create_refusals limits arguments client table) ≡ refusal → Sits table (create_unless limits arguments client table refusal)

@@ -13,10 +13,11 @@ use Rattle.model_tree.specs.declared.status.Status.TheVariants as status
 use Rattle.model_tree.specs.Refusals.Refusal.{Refusals, first_refusal}
 use Rattle.model.specs.Operations.Operation.{ExchangeIdArguments, CreateSessionArguments, SequenceArguments}
 use Rattle.model.specs.Operations.Answer.{CreateSessionAnswer}
-use Rattle.model.specs.Sessions.Session.{SessionLimits, Client, Slot, Session, Table, Begun, Refuses, Replays, Runs, Free, Running, Kept, SlotState, session_id, is_session, slot_at, no_slot, empty_table, has_state, without_unconfirmed, without_client, is_full_of_clients, new_record, exchange_by, exchange_id, is_confirmed_of, exchange_flags, has_only, create_refusals, create_unless, create_again, create_by, create_session, new_session, staying, is_of_clients, replaced_by, is_full_of_sessions, fore_channel, CreateSessionOutcome, next_number, destroy_by, destroy_session, is_running, destroy_client_by, destroy_client_id, is_client, reclaim_by, reclaim_complete, begin_new, begin_slot, begin_by, begin, with_slot, started, finished_slot, finish, without_where, limits_for, persists, begin_held, begin_dead}
+use Rattle.model.specs.Sessions.Session.{SessionLimits, Client, Slot, Session, Table, Begun, Refuses, Replays, Runs, Free, Running, Kept, SlotState, session_id, is_session, slot_at, no_slot, empty_table, has_state, without_unconfirmed, without_client, is_full_of_clients, new_record, exchange_by, exchange_id, is_confirmed_of, exchange_flags, has_only, create_refusals, create_unless, create_again, create_by, create_session, new_session, staying, is_of_clients, replaced_by, is_full_of_sessions, fore_channel, CreateSessionOutcome, next_number, destroy_by, destroy_session, is_running, destroy_client_by, destroy_client_id, is_client, reclaim_by, reclaim_complete, begin_new, begin_slot, begin_by, begin, with_slot, started, finished_slot, finish, without_where, limits_for, persists, begin_held, begin_dead, yielding}
 use Rattle.model.specs.Sessions.SessionRuns.{Call, Exchanges, Creates, Destroys, DestroysClient, Reclaims, Begins, Finishes, after, runs_on, number_on, started_by, numbers_on, CountsFrom, OthersBetween, EverySlot}
 use Rattle.model_tree.proofs.Facts.BooleanLaws.{second_of_neither}
 use Rattle.model.proofs.Operations.RefusalLaws.{none_in_front}
+use Rattle.model.proofs.Sessions.Yielding.{yielding_is}
 
 -- Of both branches
 
@@ -92,8 +93,12 @@ SameIn table outcome = SameSessions table outcome.1
 
 new_record_same : (limits : SessionLimits) (uid : ℕ) (arguments : ExchangeIdArguments) (table cleared : Table) → SameSessions table cleared → SameIn table (new_record limits uid arguments table cleared)
 new_record_same limits uid arguments table cleared same =
-    both (SameIn table) (is_full_of_clients limits (without_unconfirmed arguments.owner cleared)) _ _
-    (record { sessions = refl; serial = refl; seats = refl }) (record { sessions = same.sessions; serial = same.serial; seats = same.seats })
+    let first = without_unconfirmed arguments.owner cleared in
+    let room : SameSessions table (yielding limits first) =
+    yielding_is (SameSessions table) limits first (record { sessions = same.sessions; serial = same.serial; seats = same.seats })
+    (λ number. record { sessions = same.sessions; serial = same.serial; seats = same.seats }) in
+    both (SameIn table) (is_full_of_clients limits (yielding limits first)) _ _
+    (record { sessions = refl; serial = refl; seats = refl }) (record { sessions = room.sessions; serial = room.serial; seats = room.seats })
 
 exchange_by_same : (limits : SessionLimits) (has_opens : ℕ → Bool) (uid : ℕ) (arguments : ExchangeIdArguments) (table : Table) (known : Option Client)
     → SameIn table (exchange_by limits has_opens uid arguments table known)

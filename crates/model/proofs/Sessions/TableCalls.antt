@@ -12,12 +12,13 @@ use Rattle.model_tree.specs.declared.status.Status.TheVariants as status
 use Rattle.model_tree.specs.Refusals.Refusal.{first_refusal}
 use Rattle.model.specs.Operations.Operation.{ExchangeIdArguments, CreateSessionArguments, SequenceArguments}
 use Rattle.model.specs.Operations.Answer.{CreateSessionAnswer, ExchangeIdAnswer}
-use Rattle.model.specs.Sessions.Session.{SessionLimits, Client, Slot, Session, Table, Begun, Refuses, Replays, Runs, Running, Kept, slot_at, no_slot, empty_table, without_unconfirmed, without_client, is_full_of_clients, new_record, exchange_by, exchange_id, is_confirmed_of, is_unconfirmed_of, exchange_flags, has_only, has_state, is_client, is_session, create_session_answer, create_refusals, create_unless, create_again, create_by, create_session, new_session, staying, is_full_of_sessions, is_too_small, is_of_clients, replaced_by, session_flags, is_running, CreateSessionOutcome, next_number, destroy_by, destroy_session, destroy_client_by, destroy_client_id, reclaim_by, reclaim_complete, begin, with_slot, started, finish, limits_for, persists}
+use Rattle.model.specs.Sessions.Session.{SessionLimits, Client, Slot, Session, Table, Begun, Refuses, Replays, Runs, Running, Kept, slot_at, no_slot, empty_table, without_unconfirmed, without_client, is_full_of_clients, new_record, exchange_by, exchange_id, is_confirmed_of, is_unconfirmed_of, is_unconfirmed_client, yielding, exchange_flags, has_only, has_state, is_client, is_session, create_session_answer, create_refusals, create_unless, create_again, create_by, create_session, new_session, staying, is_full_of_sessions, is_too_small, is_of_clients, replaced_by, session_flags, is_running, CreateSessionOutcome, next_number, destroy_by, destroy_session, destroy_client_by, destroy_client_id, reclaim_by, reclaim_complete, begin, with_slot, started, finish, limits_for, persists}
 use Rattle.model.specs.Sessions.SessionRuns.{Call, Exchanges, Creates, Destroys, DestroysClient, Reclaims, Begins, Finishes, after, started_by}
 use Rattle.model.specs.Sessions.SessionTables.{has_serial, IsTable, after_calls, EveryTable}
 use Rattle.model.proofs.Sessions.SlotLaw.{session_id-serial, id_of}
 use Rattle.model.proofs.Sessions.TableLaws.{size-without, all_mono, keep_all, Clients, Sessions, given_serial, fewer_clients, further_client, confirmed_clients, changed_clients, fewer_sessions, further_session, changed_sessions}
-use Rattle.model_tree.proofs.Facts.Counting.{size, size_changed, map-same}
+use Rattle.model.proofs.Sessions.Yielding.{yielding_is}
+use Rattle.model_tree.proofs.Facts.Counting.{size, size-filter, size_changed, map-same}
 use Rattle.model.proofs.Operations.RefusalLaws.{none_in_front}
 
 abbrev pub Holds : SessionLimits → Table → Type 0
@@ -38,19 +39,34 @@ found_passes {A = A} p (x ∷ xs) y found = by_test (found_passes p xs y) (p x) 
 
 -- EXCHANGE_ID
 
+-- its records, of which none is an unconfirmed one of the owner, and its sessions
+abbrev HasRoomFor : SessionLimits → List ℕ → Table → Type 0
+HasRoomFor limits owner table =
+    Clients limits table.run table.client_serial table.clients × ((size (is_unconfirmed_of owner) table.clients ≡ 0) × Sessions limits table.session_serial table.sessions)
+
 new_record_holds : (limits : SessionLimits) (uid : ℕ) (arguments : ExchangeIdArguments) (table cleared : Table) → Holds limits table → Holds limits cleared
     → Holds limits (new_record limits uid arguments table cleared).1
 new_record_holds limits uid arguments table cleared before holds =
-    let room = without_unconfirmed arguments.owner cleared in
-    let kept : Clients limits room.run room.client_serial room.clients =
+    let first = without_unconfirmed arguments.owner cleared in
+    let kept : Clients limits first.run first.client_serial first.clients =
     fewer_clients limits cleared.run cleared.client_serial cleared.clients (λ x. not (is_unconfirmed_of arguments.owner x)) holds.0 in
+    let none = size-without (is_unconfirmed_of arguments.owner) cleared.clients in
+    let room = yielding limits first in
+    let is : HasRoomFor limits arguments.owner room =
+    yielding_is (HasRoomFor limits arguments.owner) limits first (kept, (none, holds.1)) (λ number. (
+      fewer_clients limits first.run first.client_serial first.clients (λ x. not (is_unconfirmed_client number x)) kept,
+      (
+        omega (arith, none, size-filter (is_unconfirmed_of arguments.owner) (λ x. not (is_unconfirmed_client number x)) first.clients),
+        holds.1,
+      ),
+    )) in
     either (λ (r : Result ExchangeIdAnswer Status × Table). Holds limits r.1) (is_full_of_clients limits room) _ _
     (λ full. before)
     (λ free.
     let parts = or_parts (nat_le limits.clients (length room.clients)) (nat_le (2 ^ 32 - 1) room.client_serial) free in (
-      further_client limits uid arguments room kept (size-without (is_unconfirmed_of arguments.owner) cleared.clients)
+      further_client limits uid arguments room is.0 is.1.0
           (leb-false limits.clients (length room.clients) parts.0) (leb-false (2 ^ 32 - 1) room.client_serial parts.1),
-      holds.1,
+      is.1.1,
     ))
 
 exchange_by_holds : (limits : SessionLimits) (has_opens : ℕ → Bool) (uid : ℕ) (arguments : ExchangeIdArguments) (table : Table) (known : Option Client)

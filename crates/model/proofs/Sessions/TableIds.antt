@@ -7,11 +7,12 @@ use Rattle.model_tree.specs.declared.status.Status.{Status}
 use Rattle.model_tree.specs.Refusals.Refusal.{first_refusal}
 use Rattle.model.specs.Operations.Operation.{ExchangeIdArguments, CreateSessionArguments, SequenceArguments}
 use Rattle.model.specs.Operations.Answer.{CreateSessionAnswer, ExchangeIdAnswer}
-use Rattle.model.specs.Sessions.Session.{SessionLimits, Client, Slot, Session, Table, Begun, Refuses, Replays, Runs, Running, Kept, slot_at, client_number, with_clients, with_sessions, without_unconfirmed, without_client, new_client, with_new_client, is_full_of_clients, new_record, exchange_by, exchange_id, is_confirmed_of, is_unconfirmed_of, exchange_flags, has_only, has_state, is_client, is_session, confirmed_with, create_session_answer, create_refusals, create_unless, create_again, create_by, create_session, new_session, staying, is_of_clients, replaced_by, is_running, CreateSessionOutcome, next_number, destroy_by, destroy_session, destroy_client_by, destroy_client_id, reclaim_by, reclaim_complete, begin, started, finish, held_by}
+use Rattle.model.specs.Sessions.Session.{SessionLimits, Client, Slot, Session, Table, Begun, Refuses, Replays, Runs, Running, Kept, slot_at, client_number, with_clients, with_sessions, without_unconfirmed, without_client, new_client, with_new_client, is_full_of_clients, new_record, exchange_by, exchange_id, is_confirmed_of, is_unconfirmed_of, exchange_flags, has_only, has_state, is_client, is_session, confirmed_with, create_session_answer, create_refusals, create_unless, create_again, create_by, create_session, new_session, staying, is_of_clients, replaced_by, is_running, CreateSessionOutcome, next_number, destroy_by, destroy_session, destroy_client_by, destroy_client_id, reclaim_by, reclaim_complete, begin, started, finish, held_by, yielding, is_unconfirmed_client}
 use Rattle.model.specs.Sessions.SessionRuns.{Exchanges, Creates, Destroys, DestroysClient, Reclaims, Begins, Finishes, started_by}
 use Rattle.model.specs.Sessions.SessionTables.{has_serial, was_there, is_new, session_was_there, is_new_session, GivesNew, EveryCallGivesNew}
 use Rattle.model.proofs.Sessions.TableLaws.{all-filter, all-append, all-map, all-weaker, confirms, stays}
 use Rattle.model.proofs.Sessions.TableCalls.{either, marked, mark_same, slotted, slot_serial}
+use Rattle.model.proofs.Sessions.Yielding.{yielding_is}
 
 -- A list is there itself
 
@@ -108,10 +109,13 @@ module _ (before : Table) where
   new_record_gives : (limits : SessionLimits) (uid : ℕ) (arguments : ExchangeIdArguments) (table cleared : Table) → GivesNew before table → GivesNew before cleared
       → GivesNew before (new_record limits uid arguments table cleared).1
   new_record_gives limits uid arguments table cleared old gives =
-      let room = without_unconfirmed arguments.owner cleared in
+      let first = without_unconfirmed arguments.owner cleared in
+      let fewer = fewer_clients cleared (λ x. not (is_unconfirmed_of arguments.owner x)) gives in
+      let room = yielding limits first in
       either (λ (r : Result ExchangeIdAnswer Status × Table). GivesNew before r.1) (is_full_of_clients limits room) _ _
       (λ full. old)
-      (λ free. further_client uid arguments room (fewer_clients cleared (λ x. not (is_unconfirmed_of arguments.owner x)) gives))
+      (λ free. further_client uid arguments room
+      (yielding_is (GivesNew before) limits first fewer (λ number. fewer_clients first (λ x. not (is_unconfirmed_client number x)) fewer)))
 
   exchange_by_gives : (limits : SessionLimits) (has_opens : ℕ → Bool) (uid : ℕ) (arguments : ExchangeIdArguments) (table : Table) (client : Option Client)
       → GivesNew before table → GivesNew before (exchange_by limits has_opens uid arguments table client).1

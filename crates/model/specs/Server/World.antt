@@ -21,7 +21,7 @@ use Rattle.model.specs.Wire.Rpc.{CallRead, NoCall, OtherVersion, Calls, read_cal
 use Rattle.model.specs.Server.Served.{is_served, looks_no_further}
 use Rattle.model_tree.specs.Seats.Seats.{Seats, has_seat}
 use Rattle.model.specs.Sessions.Session as sessions
-use Rattle.model.specs.Sessions.Session.{SessionLimits, Table, Session}
+use Rattle.model.specs.Sessions.Session.{SessionLimits, Settings, Table, Session}
 use Rattle.model.specs.Sessions.StateIds.{has_opens, without_clients}
 use Rattle.model.specs.Operations.Step.{State, Stepped, does, current_refusals}
 use Rattle.model_tree.specs.Trees.Tree.{Tree}
@@ -35,8 +35,7 @@ pub record ServerLimits : Type 0 where
   pub sessions : SessionLimits
   pub records : RecordLimits
   pub connections : ℕ
-  -- whether sessions may be persistent
-  pub persistent : Bool
+  pub settings : Settings
   -- bytes of a reply's record up to the end of an OK result, the record's header not counted
   pub reply_bytes : ℕ
 
@@ -81,7 +80,7 @@ mounted_world limits run tree seats = record {
   tree = tree;
   changes = 0;
   opens = no_opens;
-  table = sessions.loaded_table run limits.persistent seats;
+  table = sessions.loaded_table run limits.settings seats;
   connections = [];
 }
 

@@ -151,7 +151,7 @@ pub data GoesBy (table : Table) (id : List ℕ) (seat : Seat) : Argument → Typ
   Destroyed : GoesBy table id seat (Argument.DestroySession id)
   GivesWay : (arguments : CreateSessionArguments) (client : Client)
       → find (is_client arguments.client) table.clients ≡ Some client
-      → gives_way client table seat ≡ true
+      → gives_way arguments client table seat ≡ true
       → GoesBy table id seat (Argument.CreateSession arguments)
 
 pub record IsFreedBy (table : Table) (executed : Option Entry) (id : List ℕ)

@@ -3,7 +3,7 @@
 -- file's.
 use Rattle.std.specs.Prelude.{ℕ, ◌+◌, ◌-◌, ◌*◌, ◌%◌, ◌^◌, Bool, true, false, not, ◌&&◌, ◌||◌, if◌then◌else◌, ◌==◌, nat_lt, nat_le, List, [], ◌∷◌, ◌++◌, map, filter, length, replicate, slice_index_or, slice_set, find, Option, None, Some, Result, Ok, Err, min, bit_or, codes, bytes_eq}
 use Rattle.std.specs.List.{list_any}
-use Rattle.std.specs.Int.{w64, to_be_bytes}
+use Rattle.std.specs.Int.{w64, w128, to_be_bytes, from_be_bytes}
 use Rattle.model_tree.specs.declared.status.Status.{Status}
 use Rattle.model_tree.specs.declared.status.Status.TheVariants as status
 use Rattle.model_tree.specs.Refusals.Refusal.{Refusals, first_refusal}
@@ -56,13 +56,23 @@ pub record Session : Type 0 where
   pub max_operations : ℕ
   pub slots : List Slot
 
+-- What whoever starts a server chooses for a run
+pub record Settings : Type 0 where
+  -- the major id and the scope that EXCHANGE_ID returns (sections 2.10.4 and 2.10.5): servers of
+  -- different names are different servers
+  pub name : List ℕ
+  -- whether a new session may be persistent
+  pub persistent : Bool
+  -- whether a full table gives up what no client holds: its oldest unconfirmed client record, or the
+  -- dead seat of the oldest run
+  pub yields_when_full : Bool
+
 -- All of it, in one run of the server. Records and sessions stand in the order in which they were
 -- made; the serials are those given last. The seats are the volume's: a session that has one is
--- persistent, and a seat whose session is none of this run's is dead. Whether a new session may
--- have one is said when the run begins.
+-- persistent, and a seat whose session is none of this run's is dead.
 pub record Table : Type 0 where
   pub run : ℕ
-  pub persistent : Bool
+  pub settings : Settings
   pub client_serial : ℕ
   pub session_serial : ℕ
   pub clients : List Client
@@ -70,10 +80,10 @@ pub record Table : Type 0 where
   pub seats : Seats
 
 -- a run begins with the seats that its mount found, and with nothing else
-abbrev pub loaded_table : (run : ℕ) → (persistent : Bool) → Seats → Table
-loaded_table run persistent seats = record {
+abbrev pub loaded_table : (run : ℕ) → Settings → Seats → Table
+loaded_table run settings seats = record {
   run = run;
-  persistent = persistent;
+  settings = settings;
   client_serial = 0;
   session_serial = 0;
   clients = [];
@@ -81,9 +91,17 @@ loaded_table run persistent seats = record {
   seats = seats;
 }
 
--- .. where the volume keeps no session, and no session may be persistent
+-- a server of the standard name, without persistent sessions, whose full tables give up nothing
+abbrev pub plain_settings : Settings
+plain_settings = record {
+  name = codes "nfs41srv";
+  persistent = false;
+  yields_when_full = false;
+}
+
+-- .. where the volume keeps no session
 abbrev pub empty_table : ℕ → Table
-empty_table run = loaded_table run false no_seats
+empty_table run = loaded_table run plain_settings no_seats
 
 -- Words
 
@@ -161,16 +179,14 @@ use_non_pnfs = 0x10000
 abbrev pub confirmed_flag : ℕ
 confirmed_flag = 0x80000000
 
-abbrev pub server_name : List ℕ
-server_name = codes "nfs41srv"
-
-abbrev pub exchange_answer : ℕ → ℕ → ℕ → ExchangeIdAnswer
-exchange_answer number sequence flags = record {
+-- the server's name is both
+abbrev pub exchange_answer : (name : List ℕ) → ℕ → ℕ → ℕ → ExchangeIdAnswer
+exchange_answer name number sequence flags = record {
   client = number;
   sequence = sequence;
   flags = flags;
-  major_id = server_name;
-  scope = server_name;
+  major_id = name;
+  scope = name;
 }
 
 abbrev pub is_confirmed_of : List ℕ → Client → Bool
@@ -208,20 +224,45 @@ with_new_client uid arguments table = record table {
   clients = table.clients ++ new_client uid arguments table ∷ [];
 }
 
--- a further record finds no place, or no serial
+-- a further record finds no place
+abbrev pub has_most_clients : SessionLimits → Table → Bool
+has_most_clients limits table = nat_le limits.clients (length table.clients)
+
+-- .. or no serial
 abbrev pub is_full_of_clients : SessionLimits → Table → Bool
 is_full_of_clients limits table =
-    nat_le limits.clients (length table.clients) || nat_le (2 ^ 32 - 1) table.client_serial
+    has_most_clients limits table || nat_le (2 ^ 32 - 1) table.client_serial
+
+-- Where a further record finds no place, the oldest unconfirmed one gives way to it, if the settings
+-- say so.
+
+abbrev pub is_unconfirmed : Client → Bool
+is_unconfirmed client = not client.is_confirmed
+
+abbrev pub is_unconfirmed_client : ℕ → Client → Bool
+is_unconfirmed_client number client = is_unconfirmed client && is_client number client
+
+abbrev pub without_this : Option Client → Table → Table
+without_this None table = table
+without_this (Some client) table =
+    with_clients (without_where (is_unconfirmed_client client.number) table.clients) table
+
+abbrev pub yielding : SessionLimits → Table → Table
+yielding limits table =
+    if table.settings.yields_when_full && has_most_clients limits table
+    then without_this (find is_unconfirmed table.clients) table
+    else table
 
 -- A new unconfirmed record beside those of `cleared`, where an older unconfirmed one of the owner
--- gives way to it. DELAY leaves `table`.
+-- gives way to it, and then the oldest of all if there is no place. DELAY leaves `table`.
 abbrev pub new_record : SessionLimits → ℕ → ExchangeIdArguments → Table → Table
     → Result ExchangeIdAnswer Status × Table
 new_record limits uid arguments table cleared =
-    let room = without_unconfirmed arguments.owner cleared in
+    let room = yielding limits (without_unconfirmed arguments.owner cleared) in
     if is_full_of_clients limits room then (Err status.Delay, table)
     else (
-      Ok (exchange_answer (new_client uid arguments room).number 1 use_non_pnfs),
+      Ok (exchange_answer table.settings.name (new_client uid arguments room).number 1
+          use_non_pnfs),
       with_new_client uid arguments room,
     )
 
@@ -233,7 +274,8 @@ exchange_by limits has_opens uid arguments table (Some client) =
     if client.principal == uid then
     (if bytes_eq client.verifier arguments.verifier
     then (
-      Ok (exchange_answer client.number client.sequence (confirmed_flag + use_non_pnfs)),
+      Ok (exchange_answer table.settings.name client.number client.sequence
+          (confirmed_flag + use_non_pnfs)),
       without_unconfirmed arguments.owner table,
     )
     else new_record limits uid arguments table table)
@@ -282,20 +324,53 @@ is_full_of_sessions limits client table =
     nat_le limits.sessions (length (staying client table))
     || nat_le (2 ^ 64 - 1) table.session_serial
 
--- The seats that give way: those of sessions that end, and the dead ones of the same owner id and
--- principal
-abbrev pub gives_way : Client → Table → Seat → Bool
-gives_way client table seat =
+-- The seats that its client is done with: those of sessions that end, and the dead ones of the same
+-- owner id and principal
+abbrev pub is_done_with : Client → Table → Seat → Bool
+is_done_with client table seat =
     if is_seat_among table.sessions seat then not (is_seat_among (staying client table) seat)
     else bytes_eq seat.owner client.owner && seat.principal == client.principal
 
-abbrev pub seats_staying : Client → Table → Seats
-seats_staying client table = freed (gives_way client table) table.seats
+-- the flag PERSIST is asked of a server that has persistent sessions
+abbrev pub asks_seat : CreateSessionArguments → Table → Bool
+asks_seat arguments table = table.settings.persistent && arguments.flags % 2 == 1
 
--- the flag PERSIST is asked of a server that has persistent sessions, and a seat is free then
+-- .. and no seat is free then, of one that gives up what no client holds
+abbrev pub lacks_seat : CreateSessionArguments → Client → Table → Bool
+lacks_seat arguments client table =
+    table.settings.yields_when_full && asks_seat arguments table
+    && not (has_free (freed (is_done_with client table) table.seats))
+
+-- The dead seat of the oldest run: a session id begins with its run, so that one has the least id.
+
+abbrev pub is_dead : Table → Seat → Bool
+is_dead table seat = not (is_seat_among table.sessions seat)
+
+abbrev pub id_number : List ℕ → ℕ
+id_number id = from_be_bytes w128 id
+
+abbrev pub is_dead_before : Table → Seat → Option Seat → Bool
+is_dead_before table seat None = false
+is_dead_before table seat (Some other) =
+    is_dead table other && nat_lt (id_number other.session) (id_number seat.session)
+
+abbrev pub is_oldest_dead : Table → Seat → Bool
+is_oldest_dead table seat =
+    is_dead table seat && not (list_any (is_dead_before table seat) table.seats)
+
+-- The seats that give way: the oldest dead one where a seat is lacking, and those that the client is
+-- done with
+abbrev pub gives_way : CreateSessionArguments → Client → Table → Seat → Bool
+gives_way arguments client table seat =
+    lacks_seat arguments client table && is_oldest_dead table seat || is_done_with client table seat
+
+abbrev pub seats_staying : CreateSessionArguments → Client → Table → Seats
+seats_staying arguments client table = freed (gives_way arguments client table) table.seats
+
+-- .. and a seat is free once they have gone
 abbrev pub persists : CreateSessionArguments → Client → Table → Bool
 persists arguments client table =
-    table.persistent && has_free (seats_staying client table) && arguments.flags % 2 == 1
+    asks_seat arguments table && has_free (seats_staying arguments client table)
 
 abbrev pub create_refusals : SessionLimits → CreateSessionArguments → Client → Table → Refusals
 create_refusals limits arguments client table =
@@ -362,8 +437,8 @@ new_seat limits arguments client table = record {
 abbrev pub seats_after : SessionLimits → CreateSessionArguments → Client → Table → Seats
 seats_after limits arguments client table =
     if persists arguments client table
-    then seated (new_seat limits arguments client table) (seats_staying client table)
-    else seats_staying client table
+    then seated (new_seat limits arguments client table) (seats_staying arguments client table)
+    else seats_staying arguments client table
 
 -- the record is confirmed, counts on, and keeps the result
 abbrev pub confirmed_with : CreateSessionAnswer → Client → Client
