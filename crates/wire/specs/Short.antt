@@ -9,7 +9,8 @@ use Rattle.model.specs.Operations.Answer as spec
 abbrev pub IsRefusal : Status → Type 0
 IsRefusal reason = code_of reason ≢ 0
 
--- What the types of the fields do not tell. GETATTR, READ and READDIR answer what may be long.
+-- What the types of the fields do not tell. GETATTR, READ, READDIR and EXCHANGE_ID answer what may
+-- be long.
 abbrev pub IsShortAnswer : spec.Answer → Type 0
 IsShortAnswer (spec.Answer.Access a) = Unit {0}
 IsShortAnswer (spec.Answer.Close a) = Unit {0}
@@ -30,7 +31,7 @@ IsShortAnswer spec.Answer.RestoreFh = Unit {0}
 IsShortAnswer spec.Answer.SaveFh = Unit {0}
 IsShortAnswer (spec.Answer.SetAttr was_set) = IsTrue (is_trimmed was_set)
 IsShortAnswer (spec.Answer.Write a) = Unit {0}
-IsShortAnswer (spec.Answer.ExchangeId a) = (length a.major_id ≤ 64) × (length a.scope ≤ 64)
+IsShortAnswer (spec.Answer.ExchangeId a) = ⊥
 IsShortAnswer (spec.Answer.CreateSession a) = Unit {0}
 IsShortAnswer spec.Answer.DestroySession = Unit {0}
 IsShortAnswer (spec.Answer.Sequence a) = Unit {0}

@@ -203,7 +203,7 @@ pub struct ExchangeIdAnswer<'a> {
 
 impl ExchangeIdAnswer<'_> {
     /// Writes it. A refusal may leave a front of it.
-    pub(crate) fn write(&self, w: &mut Writer) -> Result<(), Refusal>
+    pub fn write(&self, w: &mut Writer) -> Result<(), Refusal>
         requires { (length self.now.major_id.now < 2 ^ 32) × (length self.now.scope.now < 2 ^ 32) }
         ensures { Wrote w.old w.new result
             (exchange_id_answer.spelling (exchange_id_view self.now)) }

@@ -6,17 +6,17 @@ ghost use Rattle.std.specs.List.{AllByRecursion};
 ghost use Rattle.xdr.specs.Forms.{is_trimmed, trimmed_bitmap};
 ghost use Rattle.model.specs.Operations.Answer.{Done, Refused};
 ghost use Rattle.model.specs.Wire.WireTypes.{channel, change_info, state_id};
-ghost use Rattle.model.specs.Wire.WireAnswers.{access_answer, create_answer, open_answer, rename_answer, write_answer, exchange_id_answer, create_session_answer, sequence_answer, answer_told, outcome};
+ghost use Rattle.model.specs.Wire.WireAnswers.{access_answer, create_answer, open_answer, rename_answer, write_answer, create_session_answer, sequence_answer, answer_told, outcome};
 ghost use Rattle.wire.specs.Numbers.{number_of};
 ghost use Rattle.wire.specs.Short.{IsRefusal, IsShortAnswer};
 ghost use Rattle.wire.specs.SmallViews.{channel_view, change_view, state_view};
-ghost use Rattle.wire.specs.AnswerViews.{access_view, create_view, open_view, rename_view, write_view, exchange_id_view, create_session_view, sequence_view};
+ghost use Rattle.wire.specs.AnswerViews.{access_view, create_view, open_view, rename_view, write_view, create_session_view, sequence_view};
 ghost use Rattle.wire.specs.OutcomeView.{answer_view};
 ghost use Rattle.wire.specs.declared.outcome.Outcome.TheVariants as outcomes;
 
 use crate::answers::{
-    AccessAnswer, CreateAnswer, CreateSessionAnswer, ExchangeIdAnswer, OpenAnswer, RenameAnswer,
-    SequenceAnswer, WriteAnswer,
+    AccessAnswer, CreateAnswer, CreateSessionAnswer, OpenAnswer, RenameAnswer, SequenceAnswer,
+    WriteAnswer,
 };
 use crate::argument::Operation;
 use crate::outcome::{Answer, Outcome};
@@ -128,15 +128,6 @@ fn tell_write(answer: &WriteAnswer)
     tell_array(&answer.verifier);
 }
 
-fn tell_exchange_id(answer: &ExchangeIdAnswer<'_>)
-    requires { (length answer.now.major_id.now ≤ 64) × (length answer.now.scope.now ≤ 64) }
-    ensures { exchange_id_answer.Fits (exchange_id_view answer.now) }
-{
-    tell_hyper(answer.client);
-    tell_word(answer.sequence);
-    tell_word(answer.flags);
-}
-
 fn tell_create_session(answer: &CreateSessionAnswer)
     ensures fits { create_session_answer.Fits (create_session_view answer.now) }
     ensures bound { length (create_session_answer.spelling (create_session_view answer.now)) ≤ 88 }
@@ -176,10 +167,10 @@ impl Answer<'_> {
             Answer::Rename(a) => tell_rename(a),
             Answer::SetAttr(was_set) => tell_bitmap(was_set),
             Answer::Write(a) => tell_write(a),
-            Answer::ExchangeId(a) => tell_exchange_id(a),
             Answer::CreateSession(a) => tell_create_session(a),
             Answer::Sequence(a) => tell_sequence(a),
-            Answer::GetAttr(_) | Answer::Read(_) | Answer::ReadDir(_) => unreachable!(),
+            Answer::GetAttr(_) | Answer::Read(_) | Answer::ReadDir(_) | Answer::ExchangeId(_) =>
+                unreachable!(),
             Answer::Lookup
             | Answer::LookupParent
             | Answer::PutFh

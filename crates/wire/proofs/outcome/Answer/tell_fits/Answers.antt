@@ -27,10 +27,5 @@ returns-in-Rename-clause-bound c = rw c.in-Rename.is (simp (length-append, lengt
 pub returns-in-Write-clause-bound : goal.returns-in-Write-clause-bound
 returns-in-Write-clause-bound c = rw c.in-Write.is (simp (length-append, length-number_32, padded_length) (omega (arith, c.tell_write.ensures.1.1)))
 
-pub returns-in-ExchangeId-clause-bound : goal.returns-in-ExchangeId-clause-bound
-returns-in-ExchangeId-clause-bound c =
-    let short = rw c.in-ExchangeId.is at c.requires in
-    rw c.in-ExchangeId.is (simp (length-append, length-number_32, length-number_64, counted_length) (omega (arith, short.0, short.1)))
-
 pub returns-in-Sequence-clause-bound : goal.returns-in-Sequence-clause-bound
 returns-in-Sequence-clause-bound c = rw c.in-Sequence.is (simp (length-append, length-number_32, padded_length) (omega (arith, c.tell_sequence.ensures.0)))
