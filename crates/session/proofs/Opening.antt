@@ -4,7 +4,7 @@ use Rattle.model.specs.Operations.Operation.{Channel, CreateSessionArguments}
 use Rattle.model.specs.Operations.Answer.{CreateSessionAnswer}
 use Rattle.model_tree.specs.Seats.Seats.{Seat, Seats, seated}
 use Rattle.model_tree.specs.Seats.SeatEdits.{edited_all}
-use Rattle.model.specs.Sessions.Session.{Client, Session, Table, session_id, limits_for, fore_channel, create_session_answer, new_session, with_new_session, gives_way, seats_after, seats_staying, persists, replaced_by, is_client, is_replaced_by, is_of_clients, confirmed_with, changed_where, without_where, no_slot}
+use Rattle.model.specs.Sessions.Session.{Client, Session, Table, session_id, limits_for, fore_channel, create_session_answer, new_session, with_new_session, lacks_seat, gives_way, seats_after, seats_staying, persists, replaced_by, is_client, is_replaced_by, is_of_clients, confirmed_with, changed_where, without_where, no_slot}
 use Rattle.session.specs.Limits.{served}
 use Rattle.session.specs.Seating.{place_for, seat_with, edits_with}
 use Rattle.session.proofs.Taking.{persists_is, seats_are}
@@ -22,7 +22,7 @@ answer_at arguments serial number seated fore = record {
 abbrev pub session_at : ℕ → ℕ → Channel → Session
 session_at serial number fore = record { client = number; serial = serial + 1; max_operations = fore.max_operations; slots = replicate fore.max_requests no_slot }
 
-module _ (arguments : CreateSessionArguments) (client : Client) (table : Table) (place : Option ℕ) (placed : place ≡ place_for arguments client table)
+module _ (arguments : CreateSessionArguments) (client : Client) (table : Table) (place : Option ℕ) (placed : place ≡ place_for (lacks_seat arguments client table) arguments client table)
     (fore : Channel) (channel : fore ≡ fore_channel (limits_for served (is_some place)) arguments.fore) where
   abbrev wanted_fore : Bool → Channel
   wanted_fore seated = fore_channel (limits_for served seated) arguments.fore
@@ -46,11 +46,11 @@ module _ (arguments : CreateSessionArguments) (client : Client) (table : Table) 
   abbrev pub seat_at : Seat
   seat_at = seat_with client (session_id client.number (table.session_serial + 1)) fore.max_requests
 
-  pub seats_is : seats_after served arguments client table ≡ edited_all (edits_with (gives_way client table) place seat_at table.seats) table.seats
+  pub seats_is : seats_after served arguments client table ≡ edited_all (edits_with (gives_way arguments client table) place seat_at table.seats) table.seats
   seats_is =
-      ap (λ (b : Bool). if b then seated (seat_with client (session_id client.number (table.session_serial + 1)) (wanted_fore b).max_requests) (seats_staying client table) else seats_staying client table)
+      ap (λ (b : Bool). if b then seated (seat_with client (session_id client.number (table.session_serial + 1)) (wanted_fore b).max_requests) (seats_staying arguments client table) else seats_staying arguments client table)
       (persists_is arguments client table place placed)
-      ∙ ap (λ (c : Channel). if is_some place then seated (seat_with client (session_id client.number (table.session_serial + 1)) c.max_requests) (seats_staying client table) else seats_staying client table)
+      ∙ ap (λ (c : Channel). if is_some place then seated (seat_with client (session_id client.number (table.session_serial + 1)) c.max_requests) (seats_staying arguments client table) else seats_staying arguments client table)
       (sym channel)
       ∙ sym (seats_are arguments client table seat_at place placed)
 

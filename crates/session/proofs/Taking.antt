@@ -5,7 +5,7 @@ use Rattle.std.proofs.lemmas.List.Quantifiers.{position-Some}
 use Rattle.model.specs.Operations.Operation.{CreateSessionArguments}
 use Rattle.model_tree.specs.Seats.Seats.{Seat, Seats, run_of, freed, has_free, seated}
 use Rattle.model_tree.specs.Seats.SeatEdits.{Stays, Frees, Takes, edited_seat, edited_all, CanEditAll}
-use Rattle.model.specs.Sessions.Session.{Client, Table, gives_way, seats_staying, persists}
+use Rattle.model.specs.Sessions.Session.{Client, Table, asks_seat, lacks_seat, gives_way, seats_staying, persists}
 use Rattle.session.specs.Seating.{freeing, is_left_free, place_for, edits_with}
 use Rattle.session.specs.Given.{AreGiven, serial_in}
 use Rattle.session.proofs.Giving.{given_freed, given_later, given_seated}
@@ -107,7 +107,10 @@ module _ (gone : Seat → Bool) where
 
 module _ (arguments : CreateSessionArguments) (client : Client) (table : Table) where
   abbrev gone : Seat → Bool
-  gone = gives_way client table
+  gone = gives_way arguments client table
+
+  abbrev the_place : Option ℕ
+  the_place = place_for (lacks_seat arguments client table) arguments client table
 
   abbrev first : Option ℕ
   first = position (is_left_free gone) table.seats
@@ -116,24 +119,21 @@ module _ (arguments : CreateSessionArguments) (client : Client) (table : Table) 
   place_found true i e = e
   place_found false i e = absurd (cc)
 
-  pub found_first : (place : Option ℕ) → place ≡ place_for arguments client table → (i : ℕ) → place ≡ Some i → first ≡ Some i
-  found_first place is i e = place_found (table.persistent && arguments.flags % 2 == 1) i (sym is ∙ e)
+  pub found_first : (place : Option ℕ) → place ≡ the_place → (i : ℕ) → place ≡ Some i → first ≡ Some i
+  found_first place is i e = place_found (asks_seat arguments table) i (sym is ∙ e)
 
-  both_asked : (persistent asked : Bool) (place : Option ℕ) → (persistent && is_some place && asked) ≡ is_some (cond (persistent && asked) place None)
-  both_asked true true None = refl
-  both_asked true true (Some i) = refl
-  both_asked true false None = refl
-  both_asked true false (Some i) = refl
-  both_asked false asked place = refl
+  both_asked : (asked : Bool) (place : Option ℕ) → (asked && is_some place) ≡ is_some (cond asked place None)
+  both_asked true place = refl
+  both_asked false place = refl
 
-  pub persists_is : (place : Option ℕ) → place ≡ place_for arguments client table → persists arguments client table ≡ is_some place
+  pub persists_is : (place : Option ℕ) → place ≡ the_place → persists arguments client table ≡ is_some place
   persists_is place is =
-      ap (λ (b : Bool). table.persistent && b && arguments.flags % 2 == 1) (free_found gone table.seats first refl)
-      ∙ both_asked table.persistent (arguments.flags % 2 == 1) first
+      ap (λ (b : Bool). asks_seat arguments table && b) (free_found gone table.seats first refl)
+      ∙ both_asked (asks_seat arguments table) first
       ∙ ap is_some (sym is)
 
-  pub seats_are : (new : Seat) (place : Option ℕ) → place ≡ place_for arguments client table
-      → edited_all (edits_with gone place new table.seats) table.seats ≡ cond (is_some place) (seated new (seats_staying client table)) (seats_staying client table)
+  pub seats_are : (new : Seat) (place : Option ℕ) → place ≡ the_place
+      → edited_all (edits_with gone place new table.seats) table.seats ≡ cond (is_some place) (seated new (seats_staying arguments client table)) (seats_staying arguments client table)
   seats_are new None is = freeing_all gone table.seats
   seats_are new (Some i) is = taken gone new table.seats i (found_first (Some i) is i refl)
 
@@ -142,7 +142,7 @@ module _ (arguments : CreateSessionArguments) (client : Client) (table : Table) 
   place_inside true (Some i) is = (position-Some (is_left_free gone) table.seats i None (sym is)).0
   place_inside false place is = tt
 
-  pub place_within : (place : Option ℕ) → place ≡ place_for arguments client table → IfSome place (λ at. at < length table.seats)
+  pub place_within : (place : Option ℕ) → place ≡ the_place → IfSome place (λ at. at < length table.seats)
   place_within place is =
       let P : Option ℕ → Type 0 = λ o. IfSome o (λ at. at < length table.seats) in
-      subst P (sym is) (place_inside (table.persistent && arguments.flags % 2 == 1) first refl)
+      subst P (sym is) (place_inside (asks_seat arguments table) first refl)

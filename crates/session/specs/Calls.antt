@@ -7,9 +7,9 @@ use Rattle.model.specs.Operations.Operation.{SequenceArguments}
 use Rattle.model.specs.Sessions.Session as model
 use Rattle.model.specs.Sessions.Session.{is_session, begin, started, sequence_answer}
 use Rattle.wire.specs.Short.{IsRefusal}
-use Rattle.wire.specs.AnswerViews.{exchange_id_view, sequence_view}
-use Rattle.wire.specs.declared.answers.ExchangeIdAnswer.{ExchangeIdAnswer}
-use Rattle.session.specs.Views.{reply_kept}
+use Rattle.wire.specs.AnswerViews.{sequence_view}
+use Rattle.session.specs.Views.{reply_kept, exchanged_answer}
+use Rattle.session.specs.declared.exchange.ExchangedId.{ExchangedId}
 use Rattle.model.specs.declared.not_done.NotDone.{NotDone}
 use Rattle.model.specs.declared.not_done.NotDone.TheVariants as refusal
 use Rattle.session.specs.declared.sequence.Begun.{Begun}
@@ -23,8 +23,8 @@ Refuses refusal.Memory = Unit {0}
 -- EXCHANGE_ID answers what is wanted, and leaves that table. For want of memory, which only a new
 -- record has, the table stays.
 abbrev pub Exchanged : Result answer.ExchangeIdAnswer Status × model.Table → model.Table
-    → model.Table → Result ExchangeIdAnswer NotDone → Type 0
-Exchanged wanted old new (Ok known) = wanted ≡ (Ok (exchange_id_view known), new)
+    → model.Table → Result ExchangedId NotDone → Type 0
+Exchanged wanted old new (Ok known) = wanted ≡ (Ok (exchanged_answer new.settings.name known), new)
 Exchanged wanted old new (Err (refusal.Status reason)) = wanted ≡ (Err reason, new)
 Exchanged wanted old new (Err refusal.Memory) =
     (wanted.1.client_serial ≡ old.client_serial + 1) × (new ≡ old)

@@ -1,11 +1,12 @@
 -- What a new record or session finds where others give way to it.
-use Rattle.std.specs.Prelude.{◌==◌, ◌≡◌, ◌<◌, ◌≤◌, ℕ, ◌+◌, ◌*◌, ◌-◌, ◌^◌, Bool, true, false, not, ◌&&◌, ◌||◌, nat_le, List, [], ◌∷◌, ◌++◌, length, map, filter, Option, None, Some, Result, Ok, Err}
+use Rattle.std.specs.Prelude.{◌==◌, ◌≡◌, ◌<◌, ◌≤◌, ℕ, ◌+◌, ◌*◌, ◌-◌, ◌^◌, Bool, true, false, not, ◌&&◌, ◌||◌, if◌then◌else◌, nat_le, List, [], ◌∷◌, ◌++◌, length, map, filter, Option, None, Some, Result, Ok, Err}
 use Rattle.model_tree.specs.declared.status.Status.TheVariants as status
 use Rattle.model.specs.Operations.Operation.{ExchangeIdArguments, CreateSessionArguments}
 use Rattle.model_tree.specs.Refusals.Refusal.{Refusals}
-use Rattle.std.specs.List.{list_any}
+use Rattle.std.specs.List.{list_any, find}
+use Rattle.std.specs.Option.{option_map}
 use Rattle.model.specs.Sessions.Session as model
-use Rattle.model.specs.Sessions.Session.{is_client, is_unconfirmed_of, is_replaced_by, is_of_clients, client_number, is_running, is_too_small, has_only, session_flags, replaced_by, is_full_of_sessions}
+use Rattle.model.specs.Sessions.Session.{is_client, is_unconfirmed, is_unconfirmed_of, is_unconfirmed_client, is_replaced_by, is_of_clients, client_number, is_running, is_too_small, has_only, session_flags, replaced_by, is_full_of_sessions}
 use Rattle.session.specs.Limits.{served}
 use Rattle.session.specs.Views.{clients_of, roll_of}
 use Rattle.session.specs.declared.client.Client.{Client}
@@ -17,12 +18,32 @@ abbrev pub is_dropped : Option ℕ → model.Client → Bool
 is_dropped None client = false
 is_dropped (Some number) client = is_client number client
 
--- the record stays where a new one of the owner id is made, and the confirmed record `dropped` goes
-abbrev pub stays : List ℕ → Option ℕ → model.Client → Bool
-stays owner dropped client = not (is_unconfirmed_of owner client) && not (is_dropped dropped client)
+abbrev pub is_yielded : Option ℕ → model.Client → Bool
+is_yielded None client = false
+is_yielded (Some number) client = is_unconfirmed_client number client
 
-abbrev pub records_staying : List ℕ → Option ℕ → List model.Client → List model.Client
-records_staying owner dropped clients = filter (stays owner dropped) clients
+-- the record stays where a new one of the owner id is made, and the confirmed record `dropped` and
+-- the unconfirmed one `yielded` go
+abbrev pub stays : List ℕ → (dropped yielded : Option ℕ) → model.Client → Bool
+stays owner dropped yielded client =
+    not (is_unconfirmed_of owner client) && not (is_dropped dropped client)
+    && not (is_yielded yielded client)
+
+abbrev pub records_staying : List ℕ → (dropped yielded : Option ℕ) → List model.Client
+    → List model.Client
+records_staying owner dropped yielded clients = filter (stays owner dropped yielded) clients
+
+-- an unconfirmed record that would stay if none were yielded
+abbrev pub may_yield : List ℕ → (dropped : Option ℕ) → model.Client → Bool
+may_yield owner dropped client = is_unconfirmed client && stays owner dropped None client
+
+-- whose record is yielded to a new one of this owner id
+abbrev pub yielded_for : List ℕ → (dropped : Option ℕ) → model.Table → Option ℕ
+yielded_for owner dropped table =
+    if table.settings.yields_when_full
+    && nat_le 64 (length (records_staying owner dropped None table.clients))
+    then option_map (λ client. client.number) (find (may_yield owner dropped) table.clients)
+    else None
 
 -- no place or no serial is left
 abbrev pub is_full_beside : List model.Client → ℕ → Bool
@@ -41,21 +62,22 @@ record_of uid arguments number = record {
 }
 
 -- a new record: its number, or why there is none, and the records after it
-abbrev pub Adds : ℕ → ExchangeIdArguments → Option ℕ → Clients → Clients → Result ℕ NotDone → Type 0
-Adds uid arguments dropped old new (Ok number) =
-    (is_full_beside (records_staying arguments.owner dropped (clients_of old)) old.serial ≡ false)
+abbrev pub Adds : ℕ → ExchangeIdArguments → (dropped yielded : Option ℕ) → Clients → Clients
+    → Result ℕ NotDone → Type 0
+Adds uid arguments dropped yielded old new (Ok number) =
+    (is_full_beside (records_staying arguments.owner dropped yielded (clients_of old)) old.serial ≡ false)
     × (number ≡ client_number old.run (old.serial + 1))
     × (roll_of new ≡ (
       old.run,
       old.serial + 1,
-      records_staying arguments.owner dropped (clients_of old) ++ record_of uid arguments number
+      records_staying arguments.owner dropped yielded (clients_of old) ++ record_of uid arguments number
           ∷ [],
     ))
-Adds uid arguments dropped old new (Err (refusal.Status reason)) =
-    (is_full_beside (records_staying arguments.owner dropped (clients_of old)) old.serial ≡ true)
+Adds uid arguments dropped yielded old new (Err (refusal.Status reason)) =
+    (is_full_beside (records_staying arguments.owner dropped yielded (clients_of old)) old.serial ≡ true)
     × (reason ≡ status.Delay) × (roll_of new ≡ roll_of old)
-Adds uid arguments dropped old new (Err refusal.Memory) =
-    (is_full_beside (records_staying arguments.owner dropped (clients_of old)) old.serial ≡ false)
+Adds uid arguments dropped yielded old new (Err refusal.Memory) =
+    (is_full_beside (records_staying arguments.owner dropped yielded (clients_of old)) old.serial ≡ false)
     × (roll_of new ≡ roll_of old)
 
 -- the client's number is one that this run gave

@@ -1,10 +1,10 @@
 -- Which seats change.
-use Rattle.std.specs.Prelude.{◌≡◌, ℕ, ◌%◌, Bool, true, false, ◌&&◌, ◌==◌, if◌then◌else◌, List, map, position, replicate, slice_set, length, nat_lt, Option, None, Some}
+use Rattle.std.specs.Prelude.{◌≡◌, ℕ, Bool, true, false, ◌&&◌, ◌||◌, if◌then◌else◌, List, map, position, replicate, slice_set, length, nat_lt, Option, None, Some}
 use Rattle.std.specs.Option.{option_map}
 use Rattle.model.specs.Operations.Operation.{CreateSessionArguments}
 use Rattle.model_tree.specs.Seats.Seats.{Seat, Seats, is_seat_of, held_in}
 use Rattle.model_tree.specs.Seats.SeatEdits.{SeatEdit, Stays, Frees, Takes, edited_seat, edited_all, CanEditAll}
-use Rattle.model.specs.Sessions.Session.{Client, Table, gives_way}
+use Rattle.model.specs.Sessions.Session.{Client, Table, asks_seat, is_done_with, is_oldest_dead}
 
 -- The seat of one session
 
@@ -40,11 +40,16 @@ abbrev pub is_left_free : (Seat → Bool) → Option Seat → Bool
 is_left_free gone None = true
 is_left_free gone (Some seat) = gone seat
 
+-- the seats that give way, by whether one is lacking
+abbrev pub gives_way_if : (lacks : Bool) → Client → Table → Seat → Bool
+gives_way_if lacks client table seat =
+    lacks && is_oldest_dead table seat || is_done_with client table seat
+
 -- where the new session's seat will stand
-abbrev pub place_for : CreateSessionArguments → Client → Table → Option ℕ
-place_for arguments client table =
-    if table.persistent && arguments.flags % 2 == 1
-    then position (is_left_free (gives_way client table)) table.seats
+abbrev pub place_for : (lacks : Bool) → CreateSessionArguments → Client → Table → Option ℕ
+place_for lacks arguments client table =
+    if asks_seat arguments table
+    then position (is_left_free (gives_way_if lacks client table)) table.seats
     else None
 
 -- a seat of the client's, which holds no reply

@@ -5,7 +5,8 @@ use Rattle.std.specs.Option.{option_map}
 use Rattle.model_tree.specs.Seats.Seats.{Seats, seat_of}
 use Rattle.model_tree.specs.Seats.SeatViews.{seats_view}
 use Rattle.model.specs.Sessions.Session as model
-use Rattle.model.specs.Sessions.Session.{is_session, slot_at}
+use Rattle.model.specs.Operations.Answer.{ExchangeIdAnswer}
+use Rattle.model.specs.Sessions.Session.{is_session, slot_at, exchange_answer}
 use Rattle.wire.specs.AnswerViews.{create_session_view}
 use Rattle.session.specs.Seating.{reply_held}
 use Rattle.session.specs.Slots.{slot_of, kept_reply}
@@ -13,6 +14,9 @@ use Rattle.session.specs.declared.client.Client.{Client}
 use Rattle.session.specs.declared.clients.Clients.{Clients}
 use Rattle.session.specs.declared.session.Session.{Session}
 use Rattle.session.specs.declared.sessions.Sessions.{Sessions}
+use Rattle.session.specs.declared.settings.ServerName.{ServerName}
+use Rattle.session.specs.declared.settings.Settings.{Settings}
+use Rattle.session.specs.declared.exchange.ExchangedId.{ExchangedId}
 use Rattle.session.specs.declared.table.Table.{Table}
 
 abbrev pub client_of : Client → model.Client
@@ -57,14 +61,25 @@ book_of sessions = (sessions.serial, sessions_of sessions)
 abbrev pub book_with : Sessions → List model.Session → ℕ × List model.Session
 book_with sessions list = (sessions.serial, list)
 
--- whether a new session may have a seat, and the seats
-abbrev pub seating_of : Table → Bool × Seats
-seating_of table = (table.persistent, seats_view table.seats)
+abbrev pub name_of : ServerName → List ℕ
+name_of name = name.bytes.items
 
-abbrev pub table_by : ℕ × ℕ × List model.Client → ℕ × List model.Session → Bool × Seats → model.Table
+abbrev pub settings_of : Settings → model.Settings
+settings_of settings = record {
+  name = name_of settings.name;
+  persistent = settings.persistent;
+  yields_when_full = settings.yields_when_full;
+}
+
+-- the settings of the run, and the seats
+abbrev pub seating_of : Table → model.Settings × Seats
+seating_of table = (settings_of table.settings, seats_view table.seats)
+
+abbrev pub table_by : ℕ × ℕ × List model.Client → ℕ × List model.Session → model.Settings × Seats
+    → model.Table
 table_by roll book seating = record {
   run = roll.0;
-  persistent = seating.0;
+  settings = seating.0;
   client_serial = roll.1;
   session_serial = book.0;
   clients = roll.2;
@@ -90,6 +105,10 @@ kept_reply_in id place seats (Some session) = session_reply place session
 
 unfoldable pub reply_kept : List ℕ → ℕ → model.Table → Option (List ℕ)
 reply_kept id place table = kept_reply_in id place table.seats (find (is_session id) table.sessions)
+
+-- the whole answer of EXCHANGE_ID, by a server of this name
+abbrev pub exchanged_answer : (name : List ℕ) → ExchangedId → ExchangeIdAnswer
+exchanged_answer name known = exchange_answer name known.client known.sequence known.flags
 
 -- the table that a new record is made beside, where the record `dropped` goes
 abbrev pub cleared_of : Option ℕ → model.Table → model.Table

@@ -25,7 +25,7 @@ impl Client {
     ghost use Rattle.std.specs.Prelude.{◌≡◌, ◌==◌, if◌then◌else◌, None};
     ghost use Rattle.model.specs.Sessions.Session.{is_confirmed_of, is_unconfirmed_of, is_replaced_by, confirmed_with, next_number};
     ghost use Rattle.wire.specs.AnswerViews.{create_session_view};
-    ghost use Rattle.session.specs.Rooms.{stays};
+    ghost use Rattle.session.specs.Rooms.{stays, may_yield};
     ghost use Rattle.session.specs.Views.{client_of};
 
     /// Whether it is the confirmed record of this owner id.
@@ -50,11 +50,21 @@ impl Client {
         self.is_confirmed_of(&client.owner) && self.number != client.number
     }
 
-    /// Whether it stays where a new record of this owner id is made, and the record `dropped` goes.
-    pub fn stays(&self, owner: &[u8], dropped: Option<u64>) -> bool
-        ensures { result ≡ stays owner.now dropped (client_of self.now) }
+    /// Whether it stays where a new record of this owner id is made, and the record `dropped` and
+    /// the unconfirmed one `yielded` go.
+    pub fn stays(&self, owner: &[u8], dropped: Option<u64>, yielded: Option<u64>) -> bool
+        ensures { result ≡ stays owner.now dropped yielded (client_of self.now) }
     {
-        !self.is_unconfirmed_of(owner) && dropped != Some(self.number)
+        !self.is_unconfirmed_of(owner)
+            && dropped != Some(self.number)
+            && (self.is_confirmed || yielded != Some(self.number))
+    }
+
+    /// Whether it is unconfirmed, and would stay if none were yielded.
+    pub fn may_yield(&self, owner: &[u8], dropped: Option<u64>) -> bool
+        ensures { result ≡ may_yield owner.now dropped (client_of self.now) }
+    {
+        !self.is_confirmed && self.stays(owner, dropped, None)
     }
 
     /// The kept result, where a CREATE_SESSION of this number asks for it again.

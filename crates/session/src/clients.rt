@@ -32,7 +32,7 @@ impl Clients {
     ghost use Rattle.wire.specs.ArgumentViews.{exchange_id_view};
     ghost use Rattle.wire.specs.AnswerViews.{create_session_view};
     ghost use Rattle.session.specs.Views.{client_of, clients_of, roll_of, roll_with};
-    ghost use Rattle.session.specs.Rooms.{records_staying, Adds, ended_by, reclaimed};
+    ghost use Rattle.session.specs.Rooms.{records_staying, may_yield, Adds, ended_by, reclaimed};
 
     /// No record.
     pub fn new(alloc: Global, run: u32) -> Clients
@@ -88,29 +88,47 @@ impl Clients {
         self.list.retain(|client| client.number != number);
     }
 
-    // How many records stay where a new one of this owner id is made.
-    fn count_staying(&self, owner: &[u8], dropped: Option<u64>) -> usize
-        ensures { result ≡ length (records_staying owner.now dropped (clients_of self.now)) }
+    /// How many records stay where a new one of this owner id is made, and the record `dropped` and
+    /// the unconfirmed one `yielded` go.
+    pub fn count_staying(&self, owner: &[u8], dropped: Option<u64>, yielded: Option<u64>) -> usize
+        ensures { result ≡ length (records_staying owner.now dropped yielded
+            (clients_of self.now)) }
     {
         self.list
             .iter()
-            .filter(|client| client.stays(owner, dropped))
+            .filter(|client| client.stays(owner, dropped, yielded))
             .count()
     }
 
-    /// A new unconfirmed record, in place of an unconfirmed one of the owner and of the record
-    /// `dropped`: its client id.
+    /// The oldest unconfirmed record that would stay.
+    pub fn first_to_yield(&self, owner: &[u8], dropped: Option<u64>) -> Option<&Client>
+        ensures { option_map client_of (option_copied result)
+            ≡ find (may_yield owner.now dropped) (clients_of self.now) }
+    {
+        for client in &self.list {
+            if client.may_yield(owner, dropped) {
+                return Some(client);
+            }
+        }
+        None
+    }
+
+    /// A new unconfirmed record, in place of an unconfirmed one of the owner, of the record
+    /// `dropped` and of the unconfirmed one `yielded`: its client id.
     pub fn add(
         &mut self,
         alloc: Global,
         uid: u32,
         arguments: &ExchangeIdArguments<'_>,
         dropped: Option<u64>,
+        yielded: Option<u64>,
     ) -> Result<u64, NotDone>
-        ensures { Adds uid (exchange_id_view arguments.now) dropped self.old self.new result }
+        ensures { Adds uid (exchange_id_view arguments.now) dropped yielded
+            self.old self.new result }
     {
         let owner = arguments.owner;
-        if MAX_CLIENTS <= self.count_staying(owner, dropped) || self.serial == u32::MAX {
+        let staying = self.count_staying(owner, dropped, yielded);
+        if MAX_CLIENTS <= staying || self.serial == u32::MAX {
             return Err(NotDone::Status(Status::Delay));
         }
         let number = u64::from(self.run) * 0x1_0000_0000 + u64::from(self.serial) + 1;
@@ -125,7 +143,8 @@ impl Clients {
             kept: None,
         };
         self.list.reserve(1)?;
-        self.list.retain(|client| client.stays(owner, dropped));
+        self.list
+            .retain(|client| client.stays(owner, dropped, yielded));
         self.serial += 1;
         if self.list.push(client).is_err() {
             unreachable!();

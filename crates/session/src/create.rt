@@ -143,12 +143,13 @@ impl Table {
         ensures { IfOk result (IsPlanned (create_unless served (create_session_view arguments.now)
             (client_of client.now) (table_of self.now) None) (table_of self.now)) }
     {
-        let place = self.place_for(client, arguments);
+        let lacks = self.lacks_seat(client, arguments);
+        let place = self.place_for(client, lacks, arguments);
         let serial = self.sessions.serial + 1;
         let fore = fore_channel(&arguments.fore, place.is_some());
         let session = Session::new(self.alloc, client.number, serial, &fore)?;
         let id = session_id(client.number, serial);
-        let edits = self.plan_seats(client, id, fore.max_requests, place)?;
+        let edits = self.plan_seats(client, lacks, id, fore.max_requests, place)?;
         let ended = self.clients.ending(self.alloc, client)?;
         let answer = CreateSessionAnswer {
             session: id,

@@ -1,43 +1,47 @@
 //! EXCHANGE_ID (RFC 8881, section 18.35).
 
-ghost use Rattle.std.specs.Prelude.{◌≡◌, IfOk, IfErr};
-ghost use Rattle.model.specs.Operations.Answer.{Answer};
+ghost use Rattle.std.specs.Prelude.{◌≡◌, ◌≤◌, ℕ, List, length, IfErr};
 ghost use Rattle.model.specs.Sessions.Session.{exchange_id, exchange_answer, new_record};
 ghost use Rattle.wire.specs.AnswerViews.{exchange_id_view as answer_view};
 ghost use Rattle.wire.specs.ArgumentViews.{exchange_id_view};
-ghost use Rattle.wire.specs.Short.{IsShortAnswer};
 ghost use Rattle.session.specs.Calls.{Exchanged, Refuses};
 ghost use Rattle.session.specs.Limits.{served};
-ghost use Rattle.session.specs.Views.{table_of, among, cleared_of};
+ghost use Rattle.session.specs.Rooms.{yielded_for};
+ghost use Rattle.session.specs.Views.{table_of, among, cleared_of, exchanged_answer};
 
 use crate::flags::ExchangeFlags;
+use crate::limits::MAX_CLIENTS;
 use crate::table::Table;
 use bitflags::Flags;
 use model::not_done::NotDone;
 use model_tree::status::Status;
 use wire::{ExchangeIdAnswer, ExchangeIdArguments};
 
-const SERVER_NAME: &[u8] = b"nfs41srv";
+/// What EXCHANGE_ID returns of a client's record. The rest of the answer is the server's name.
+#[derive(Clone, Copy, PartialEq, Eq)]
+pub struct ExchangedId {
+    pub client: u64,
+    pub sequence: u32,
+    pub flags: u32,
+}
 
 impl Table {
     /// EXCHANGE_ID by this uid, where the clients of `with_opens` have opens.
     ///
     /// # Errors
     /// INVAL where a flag is set that may not be; CLID_INUSE where the owner id's confirmed record
-    /// is another principal's and has a session or an open; DELAY where the new record would be the
-    /// 65th, or no serial is left. `Memory` leaves the table as it was, and comes only where a
-    /// record would be made.
+    /// is another principal's and has a session or an open; DELAY where no serial is left, or the
+    /// new record would be the 65th and no unconfirmed one gives way to it. `Memory` leaves the
+    /// table as it was, and comes only where a record would be made.
     pub fn exchange_id(
         &mut self,
         uid: u32,
         arguments: &ExchangeIdArguments<'_>,
         with_opens: &[u64],
-    ) -> Result<ExchangeIdAnswer<'static>, NotDone>
+    ) -> Result<ExchangedId, NotDone>
         ensures answered { Exchanged
             (exchange_id served (among with_opens.now) uid (exchange_id_view arguments.now)
             (table_of self.old)) (table_of self.old) (table_of self.new) result }
-        ensures short { IfOk result
-            (λ known. IsShortAnswer (Answer.ExchangeId (answer_view known))) }
         ensures refused { IfErr result Refuses }
     {
         if !ExchangeFlags::from_bits_retain(arguments.flags).may_be_asked() {
@@ -67,29 +71,62 @@ impl Table {
         uid: u32,
         arguments: &ExchangeIdArguments<'_>,
         dropped: Option<u64>,
-    ) -> Result<ExchangeIdAnswer<'static>, NotDone>
+    ) -> Result<ExchangedId, NotDone>
         ensures answered { Exchanged
             (new_record served uid (exchange_id_view arguments.now) (table_of self.old)
             (cleared_of dropped (table_of self.old))) (table_of self.old)
             (table_of self.new) result }
-        ensures short { IfOk result
-            (λ known. IsShortAnswer (Answer.ExchangeId (answer_view known))) }
         ensures refused { IfErr result Refuses }
     {
-        let number = self.clients.add(self.alloc, uid, arguments, dropped)?;
+        let yielded = self.yielded_for(arguments.owner, dropped);
+        let number = self
+            .clients
+            .add(self.alloc, uid, arguments, dropped, yielded)?;
         Ok(answer(number, 1, ExchangeFlags::USE_NON_PNFS))
+    }
+
+    // Whose unconfirmed record is yielded to a new one of this owner id: the oldest, where there is
+    // no place and the settings say so.
+    #[tactic(auto, unfolding(crate::specs::Views::table_of))]
+    fn yielded_for(&self, owner: &[u8], dropped: Option<u64>) -> Option<u64>
+        ensures { result ≡ yielded_for owner.now dropped (table_of self.now) }
+    {
+        let staying = self.clients.count_staying(owner, dropped, None);
+        if !self.settings.yields_when_full || staying < MAX_CLIENTS {
+            return None;
+        }
+        match self.clients.first_to_yield(owner, dropped) {
+            Some(client) => Some(client.number),
+            None => None,
+        }
+    }
+
+    /// The whole answer of EXCHANGE_ID, with the server's name.
+    #[tactic(auto, unfolding(crate::specs::Views::table_of))]
+    pub fn identity_answer(&self, exchanged: ExchangedId) -> ExchangeIdAnswer<'_>
+        ensures answer { answer_view result
+            ≡ exchanged_answer (table_of self.now).settings.name exchanged }
+        ensures short { length result.major_id.now ≤ 1024 }
+        ensures same { result.scope.now ≡ result.major_id.now }
+    {
+        let name = self.settings.name.as_bytes();
+        ExchangeIdAnswer {
+            client: exchanged.client,
+            sequence: exchanged.sequence,
+            flags: exchanged.flags,
+            major_id: name,
+            scope: name,
+        }
     }
 }
 
-fn answer(client: u64, sequence: u32, flags: ExchangeFlags) -> ExchangeIdAnswer<'static>
-    ensures answered { answer_view result ≡ exchange_answer client sequence flags.0 }
-    ensures short { IsShortAnswer (Answer.ExchangeId (answer_view result)) }
+fn answer(client: u64, sequence: u32, flags: ExchangeFlags) -> ExchangedId
+    ensures { (name : List ℕ) → exchanged_answer name result
+        ≡ exchange_answer name client sequence flags.0 }
 {
-    ExchangeIdAnswer {
+    ExchangedId {
         client,
         sequence,
         flags: flags.bits(),
-        major_id: SERVER_NAME,
-        scope: SERVER_NAME,
     }
 }

@@ -7,9 +7,9 @@ ghost use Rattle.std.specs.Option.{option_map, option_copied};
 ghost use Rattle.model_tree.specs.Seats.SeatEdits.{edit_view, edits_view, CanEdit};
 ghost use Rattle.model_tree.specs.Seats.Seats.{Seat as KnownSeat, seat_of, has_seat, held_in};
 ghost use Rattle.model_tree.specs.Seats.SeatViews.{held_view, seat_view, place_view, seats_view};
-ghost use Rattle.model.specs.Sessions.Session.{gives_way, is_session, staying};
+ghost use Rattle.model.specs.Sessions.Session.{is_session, staying, is_done_with, is_oldest_dead, is_dead_before, is_dead, asks_seat, lacks_seat, id_number};
 ghost use Rattle.wire.specs.ArgumentViews.{create_session_view};
-ghost use Rattle.session.specs.Seating.{EditsOne, is_place_of, freeing, is_left_free, place_for, seat_with, edits_with};
+ghost use Rattle.session.specs.Seating.{EditsOne, is_place_of, freeing, is_left_free, gives_way_if, place_for, seat_with, edits_with};
 ghost use Rattle.session.specs.Views.{table_of, client_of};
 
 use crate::client::Client;
@@ -30,16 +30,77 @@ impl Table {
         find_seat(&self.seats, id).is_some()
     }
 
-    // Whether the seat gives way to a session of the client.
-    fn gives_way(&self, client: &Client, seat: &Seat) -> bool
+    // Whether the seat gives way to a session of the client: the oldest dead one where that lacks a
+    // seat, and one that it is done with.
+    fn gives_way(&self, client: &Client, lacks: bool, seat: &Seat) -> bool
         ensures { result
-            ≡ gives_way (client_of client.now) (table_of self.now) (seat_view seat.now) }
+            ≡ gives_way_if lacks (client_of client.now) (table_of self.now) (seat_view seat.now) }
+    {
+        lacks && self.is_oldest_dead(seat) || self.is_done_with(client, seat)
+    }
+
+    fn is_done_with(&self, client: &Client, seat: &Seat) -> bool
+        ensures { result
+            ≡ is_done_with (client_of client.now) (table_of self.now) (seat_view seat.now) }
     {
         if self.sessions.has(&seat.session) {
             !self.is_staying(client, &seat.session)
         } else {
             seat.owner.as_slice() == client.owner.as_slice() && seat.principal == client.principal
         }
+    }
+
+    // Whether the seat is the dead one of the oldest run.
+    fn is_oldest_dead(&self, seat: &Seat) -> bool
+        ensures { result ≡ is_oldest_dead (table_of self.now) (seat_view seat.now) }
+    {
+        self.is_dead(seat) && !self.has_dead_before(seat)
+    }
+
+    fn has_dead_before(&self, seat: &Seat) -> bool
+        ensures { result ≡ list_any (is_dead_before (table_of self.now) (seat_view seat.now))
+            (table_of self.now).seats }
+    {
+        self.seats
+            .places
+            .iter()
+            .any(|place| self.is_dead_before(seat, place))
+    }
+
+    // Whether at this place is a dead seat of an earlier session.
+    fn is_dead_before(&self, seat: &Seat, place: &Option<Seat>) -> bool
+        ensures { result ≡ is_dead_before (table_of self.now) (seat_view seat.now)
+            (place_view place.now) }
+    {
+        match place {
+            Some(other) => self.is_dead(other)
+                && id_number(&other.session) < id_number(&seat.session),
+            None => false,
+        }
+    }
+
+    fn is_dead(&self, seat: &Seat) -> bool
+        ensures { result ≡ is_dead (table_of self.now) (seat_view seat.now) }
+    {
+        !self.sessions.has(&seat.session)
+    }
+
+    // Whether a new session of the client is to have a seat.
+    fn asks_seat(&self, arguments: &CreateSessionArguments<'_>) -> bool
+        ensures { result ≡ asks_seat (create_session_view arguments.now) (table_of self.now) }
+    {
+        let flags = SessionFlags::from_bits_retain(arguments.flags);
+        self.settings.persistent && flags.contains(SessionFlags::PERSIST)
+    }
+
+    /// Whether it is to have one, none is free for it, and the oldest dead one may give way.
+    pub(crate) fn lacks_seat(&self, client: &Client, arguments: &CreateSessionArguments<'_>) -> bool
+        ensures { result ≡ lacks_seat (create_session_view arguments.now) (client_of client.now)
+            (table_of self.now) }
+    {
+        self.settings.yields_when_full
+            && self.asks_seat(arguments)
+            && self.first_left_free(client, false).is_none()
     }
 
     // Whether this is a session that stays where one of the client is made.
@@ -56,35 +117,35 @@ impl Table {
     pub(crate) fn place_for(
         &self,
         client: &Client,
+        lacks: bool,
         arguments: &CreateSessionArguments<'_>,
     ) -> Option<usize>
-        ensures { result ≡ place_for (create_session_view arguments.now) (client_of client.now)
-            (table_of self.now) }
+        ensures { result ≡ place_for lacks (create_session_view arguments.now)
+            (client_of client.now) (table_of self.now) }
     {
-        let flags = SessionFlags::from_bits_retain(arguments.flags);
-        if !self.persistent || !flags.contains(SessionFlags::PERSIST) {
+        if !self.asks_seat(arguments) {
             return None;
         }
-        self.first_left_free(client)
+        self.first_left_free(client, lacks)
     }
 
-    fn first_left_free(&self, client: &Client) -> Option<usize>
-        ensures { result ≡ position (is_left_free (gives_way (client_of client.now)
+    fn first_left_free(&self, client: &Client, lacks: bool) -> Option<usize>
+        ensures { result ≡ position (is_left_free (gives_way_if lacks (client_of client.now)
             (table_of self.now))) (table_of self.now).seats }
     {
         self.seats
             .places
             .iter()
-            .position(|place| self.is_left_free(client, place))
+            .position(|place| self.is_left_free(client, lacks, place))
     }
 
     // Whether the place is free once the seats that give way are.
-    fn is_left_free(&self, client: &Client, place: &Option<Seat>) -> bool
-        ensures { result ≡ is_left_free (gives_way (client_of client.now) (table_of self.now))
-            (place_view place.now) }
+    fn is_left_free(&self, client: &Client, lacks: bool, place: &Option<Seat>) -> bool
+        ensures { result ≡ is_left_free (gives_way_if lacks (client_of client.now)
+            (table_of self.now)) (place_view place.now) }
     {
         match place {
-            Some(seat) => self.gives_way(client, seat),
+            Some(seat) => self.gives_way(client, lacks, seat),
             None => true,
         }
     }
@@ -94,6 +155,7 @@ impl Table {
     pub(crate) fn plan_seats(
         &self,
         client: &Client,
+        lacks: bool,
         id: [u8; 16],
         slots: u32,
         place: Option<usize>,
@@ -102,10 +164,10 @@ impl Table {
         requires some { 1 ≤ slots }
         requires few { IfSome place (λ _. slots ≤ 2) }
         ensures { IfOk result (λ edits. edits_view edits
-            ≡ edits_with (gives_way (client_of client.now) (table_of self.now)) place
+            ≡ edits_with (gives_way_if lacks (client_of client.now) (table_of self.now)) place
             (seat_with (client_of client.now) id slots) (table_of self.now).seats) }
     {
-        let mut edits = self.free_seats(client)?;
+        let mut edits = self.free_seats(client, lacks)?;
         let Some(place) = place else {
             return Ok(edits);
         };
@@ -114,24 +176,24 @@ impl Table {
     }
 
     // The seats that give way to a session of the client are freed.
-    fn free_seats(&self, client: &Client) -> Result<SeatEdits, AllocError>
+    fn free_seats(&self, client: &Client, lacks: bool) -> Result<SeatEdits, AllocError>
         ensures { IfOk result (λ edits. edits_view edits
-            ≡ map (freeing (gives_way (client_of client.now) (table_of self.now)))
+            ≡ map (freeing (gives_way_if lacks (client_of client.now) (table_of self.now)))
             (table_of self.now).seats) }
     {
         let mut list = Vec::new(self.alloc);
         for place in &self.seats.places {
-            list.push(self.free_place(client, place))?;
+            list.push(self.free_place(client, lacks, place))?;
         }
         Ok(SeatEdits { list })
     }
 
-    fn free_place(&self, client: &Client, place: &Option<Seat>) -> SeatEdit
-        ensures { edit_view result ≡ freeing (gives_way (client_of client.now) (table_of self.now))
-            (place_view place.now) }
+    fn free_place(&self, client: &Client, lacks: bool, place: &Option<Seat>) -> SeatEdit
+        ensures { edit_view result ≡ freeing (gives_way_if lacks (client_of client.now)
+            (table_of self.now)) (place_view place.now) }
     {
         match place {
-            Some(seat) if self.gives_way(client, seat) => SeatEdit::Frees,
+            Some(seat) if self.gives_way(client, lacks, seat) => SeatEdit::Frees,
             Some(_) | None => SeatEdit::Stays,
         }
     }
@@ -150,6 +212,12 @@ impl Table {
         edits.list[place] = edit;
         Ok(edits)
     }
+}
+
+fn id_number(id: &[u8; 16]) -> u128
+    ensures { result ≡ id_number id.now }
+{
+    u128::from_be_bytes(*id)
 }
 
 /// The seat of the session of this id.

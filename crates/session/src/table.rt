@@ -6,6 +6,7 @@ ghost use Rattle.session.specs.Given.{AreGiven, AreGiven-prop};
 
 use crate::clients::Clients;
 use crate::sessions::Sessions;
+use crate::settings::Settings;
 use model_tree::seats::Seats;
 use std::alloc::Global;
 
@@ -16,32 +17,64 @@ pub struct Table {
     pub(crate) clients: Clients,
     pub(crate) sessions: Sessions,
     pub(crate) seats: Seats,
-    /// Whether a new session may have a seat.
-    pub(crate) persistent: bool,
+    pub(crate) settings: Settings,
     ghost counted: { 1 ≤ clients.run },
     ghost given: { AreGiven clients.run sessions.serial (seats_view seats) } by { AreGiven-prop clients.run sessions.serial (seats_view seats) },
 }
 
 impl Table {
-    ghost use Rattle.std.specs.Prelude.{◌≡◌, ◌+◌, ℕ};
+    ghost use Rattle.std.specs.Prelude.{◌≡◌, ◌+◌, ℕ, length};
+    ghost use Rattle.std.specs.List.{list_any};
     ghost use Rattle.model_tree.specs.Seats.Seats.{AreOfRuns};
     ghost use Rattle.model_tree.specs.Seats.SeatViews.{seats_view};
-    ghost use Rattle.model.specs.Sessions.Session.{loaded_table, has_state};
-    ghost use Rattle.session.specs.Views.{table_of, among};
+    ghost use Rattle.model.specs.Sessions.Session.{loaded_table, has_state, is_session};
+    ghost use Rattle.session.specs.Views.{table_of, settings_of, among};
 
     /// A run begins with the seats that its mount found, and with nothing else. It takes no memory.
     #[tactic(auto, unfolding(crate::specs::Views::table_of))]
-    pub fn load(alloc: Global, run: u32, persistent: bool, seats: Seats) -> Table
+    pub fn load(alloc: Global, run: u32, settings: Settings, seats: Seats) -> Table
         requires { (count : ℕ) × (run ≡ count + 1) × AreOfRuns count (seats_view seats) }
-        ensures { table_of result ≡ loaded_table run persistent (seats_view seats) }
+        ensures { table_of result ≡ loaded_table run (settings_of settings) (seats_view seats) }
     {
         Table {
             alloc,
             clients: Clients::new(alloc, run),
             sessions: Sessions::new(alloc),
             seats,
-            persistent,
+            settings,
         }
+    }
+
+    /// The seats, with what they hold.
+    #[tactic(auto, unfolding(crate::specs::Views::table_of))]
+    pub fn seats(&self) -> &Seats
+        ensures { seats_view result.now ≡ (table_of self.now).seats }
+    {
+        &self.seats
+    }
+
+    /// Whether there is a session of this id. The seat of a session that this run has not is dead.
+    #[tactic(auto, unfolding(crate::specs::Views::table_of))]
+    pub fn has_session(&self, id: &[u8; 16]) -> bool
+        ensures { result ≡ list_any (is_session id.now) (table_of self.now).sessions }
+    {
+        self.sessions.has(id)
+    }
+
+    /// How many client records there are.
+    #[tactic(auto, unfolding(crate::specs::Views::table_of))]
+    pub fn client_count(&self) -> usize
+        ensures { result ≡ length (table_of self.now).clients }
+    {
+        self.clients.list.len()
+    }
+
+    /// How many sessions there are.
+    #[tactic(auto, unfolding(crate::specs::Views::table_of))]
+    pub fn session_count(&self) -> usize
+        ensures { result ≡ length (table_of self.now).sessions }
+    {
+        self.sessions.list.len()
     }
 
     /// Whether the client has a session, or opens.

@@ -12,7 +12,7 @@ use Rattle.session.proofs.clients.Clients.add.Goals as goal
 
 pub invariant_of-self-2 : goal.invariant_of-self-2
 invariant_of-self-2 c =
-    let staying = λ (client : Client). stays c.args.arguments.now.owner.now c.args.dropped (client_of client) in
+    let staying = λ (client : Client). stays c.args.arguments.now.owner.now c.args.dropped c.args.yielded (client_of client) in
     let kept = filter_same _ staying _ (λ x b f' k. search (rules, tests)) _ _ c.retain.ensures.filtered ∙ ap (filter staying) c.reserve.ensures.items in
     let grown = pushed c.push.result c.retain.new.self.items c.push.new.self.items _ c.push.ensures.items (sym c.is_err.ensures.value ∙ c.if-is_err.false) in
     record {
@@ -25,19 +25,19 @@ invariant_of-self-2 c =
 
 pub returns : goal.returns
 returns c =
-    let staying = λ (client : Client). stays c.args.arguments.now.owner.now c.args.dropped (client_of client) in
+    let staying = λ (client : Client). stays c.args.arguments.now.owner.now c.args.dropped c.args.yielded (client_of client) in
     let kept = filter_same _ staying _ (λ x b f' k. search (rules, tests)) _ _ c.retain.ensures.filtered ∙ ap (filter staying) c.reserve.ensures.items in
     let grown = pushed c.push.result c.retain.new.self.items c.push.new.self.items _ c.push.ensures.items (sym c.is_err.ensures.value ∙ c.if-is_err.false) in
     let number = c.from.result * 4294967296 + c.from-2.result + 1 in
     let made = record (record_of c.args.uid (exchange_id_view c.args.arguments.now) number) { owner = c.in_ok-from_slice.field-0.items } in
     let seen =
     pushed_view client_of c.retain.new.self.items c.push.new.self.items _ grown
-    ∙ ap (λ (records : List Known). records ++ made ∷ []) (kept_view (stays c.args.arguments.now.owner.now c.args.dropped) client_of _ _ kept) in (
+    ∙ ap (λ (records : List Known). records ++ made ∷ []) (kept_view (stays c.args.arguments.now.owner.now c.args.dropped c.args.yielded) client_of _ _ kept) in (
       search (rules, tests),
       omega arith,
       ap (λ records. (c.args.self.now.run, c.args.self.now.serial + 1, records))
           (seen
-          ∙ ap (λ (owner : List ℕ). records_staying c.args.arguments.now.owner.now c.args.dropped (clients_of c.args.self.now)
+          ∙ ap (λ (owner : List ℕ). records_staying c.args.arguments.now.owner.now c.args.dropped c.args.yielded (clients_of c.args.self.now)
           ++ record (record_of c.args.uid (exchange_id_view c.args.arguments.now) number) { owner = owner } ∷ [])
           c.in_ok-from_slice.ensures.items),
     )

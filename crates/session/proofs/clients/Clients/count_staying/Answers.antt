@@ -10,8 +10,8 @@ use Rattle.session.proofs.clients.Clients.count_staying.Goals as goal
 
 pub returns : goal.returns
 returns c =
-    let staying = λ (client : Client). stays c.args.owner.now c.args.dropped (client_of client) in
+    let staying = λ (client : Client). stays c.args.owner.now c.args.dropped c.args.yielded (client_of client) in
     count_from_yields_List _ c.count.result c.count.ensures.ran
     (YieldsList-from_filter _ staying (YieldsList-from_slice c.args.self.now.list.items cc) c.filter.ensures.closure (λ x b q k. search (rules, tests)))
     ∙ sym (length-map (filter staying c.args.self.now.list.items) client_of)
-    ∙ sym (ap length (filter-map (stays c.args.owner.now c.args.dropped) client_of c.args.self.now.list.items))
+    ∙ sym (ap length (filter-map (stays c.args.owner.now c.args.dropped c.args.yielded) client_of c.args.self.now.list.items))

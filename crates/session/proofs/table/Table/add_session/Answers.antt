@@ -5,7 +5,7 @@ use Rattle.model_tree.specs.Seats.SeatViews.{seats_view}
 use Rattle.model.specs.Sessions.Session.{Client as Known, Session, is_client, is_of_clients, is_replaced_by, confirmed_with, changed_where, without_where}
 use Rattle.wire.specs.AnswerViews.{create_session_view}
 use Rattle.session.specs.Given.{AreGiven}
-use Rattle.session.specs.Views.{table_of, table_by, roll_of, book_of, clients_of, sessions_of, session_of}
+use Rattle.session.specs.Views.{settings_of, table_of, table_by, roll_of, book_of, clients_of, sessions_of, session_of}
 use Rattle.session.proofs.Giving.{given_moved}
 use Rattle.session.proofs.table.Table.add_session.Goals as goal
 
@@ -39,9 +39,9 @@ returns c wanted planned =
       planned.answer,
       planned.ended,
       opens.table
-          ∙ ap (λ (ended : List ℕ). table_by (old.clients.run, old.clients.serial, clients) (session.serial, without_where (is_of_clients ended) (sessions_of old.sessions) ++ session_of session ∷ []) (old.persistent, seats))
+          ∙ ap (λ (ended : List ℕ). table_by (old.clients.run, old.clients.serial, clients) (session.serial, without_where (is_of_clients ended) (sessions_of old.sessions) ++ session_of session ∷ []) (settings_of old.settings, seats))
           (sym c.deref-2.ensures.value)
-          ∙ ap (λ (book : ℕ × List Session). table_by (old.clients.run, old.clients.serial, clients) book (old.persistent, seats)) (sym c.add.ensures)
-          ∙ ap (λ (roll : ℕ × ℕ × List Known). table_by roll (book_of c.add.new.self) (old.persistent, seats)) (sym roll)
-          ∙ ap (λ (seats : Seats). table_by (roll_of c.confirm.new.self) (book_of c.add.new.self) (old.persistent, seats)) (sym c.edit_seats.ensures),
+          ∙ ap (λ (book : ℕ × List Session). table_by (old.clients.run, old.clients.serial, clients) book (settings_of old.settings, seats)) (sym c.add.ensures)
+          ∙ ap (λ (roll : ℕ × ℕ × List Known). table_by roll (book_of c.add.new.self) (settings_of old.settings, seats)) (sym roll)
+          ∙ ap (λ (seats : Seats). table_by (roll_of c.confirm.new.self) (book_of c.add.new.self) (settings_of old.settings, seats)) (sym c.edit_seats.ensures),
     )

@@ -4,9 +4,8 @@ use Rattle.model_tree.specs.declared.status.Status.{Status}
 use Rattle.model.specs.Operations.Answer.{ExchangeIdAnswer as Answered}
 use Rattle.model.specs.Sessions.Session.{exchange_answer, exchange_flags, has_only, is_unconfirmed_of, without_where, Client as Known, Table}
 use Rattle.wire.specs.ArgumentViews.{exchange_id_view}
-use Rattle.wire.specs.AnswerViews.{exchange_id_view as answer_view}
 use Rattle.session.specs.Calls.{Exchanged}
-use Rattle.session.specs.Views.{table_of, table_by, book_of, seating_of, client_of, clients_of, among}
+use Rattle.session.specs.Views.{table_of, table_by, book_of, seating_of, client_of, clients_of, among, exchanged_answer}
 use Rattle.session.proofs.Exchanging.{exchange_inval, exchange_unknown, exchange_other, exchange_same}
 use Rattle.session.proofs.table.Table.exchange_id.Goals as goal
 
@@ -62,7 +61,8 @@ returns-clause-answered c =
     let found = sym c.confirmed.ensures ∙ ap (λ r. option_map client_of (option_copied r)) c.in-Some.is in
     let same : (c.in-Some.client.now.principal == c.args.uid) ≡ true = search (rules, tests) in
     let verifier : bytes_eq c.in-Some.client.now.verifier c.args.arguments.now.verifier ≡ true = search (rules, tests) in
-    let told = ap (exchange_answer c.in-Some.client.now.number c.in-Some.client.now.sequence) (sym (c.union-flags.ensures tt)) in
+    let name = c.args.self.now.settings.name.bytes.items in
+    let told = ap (exchange_answer name c.in-Some.client.now.number c.in-Some.client.now.sequence) (sym (c.union-flags.ensures tt)) in
     exchange_same (among c.args.with_opens.now) c.args.uid (exchange_id_view c.args.arguments.now) (table_of c.args.self.now) (client_of c.in-Some.client.now) true flags found same verifier
-    ∙ ap (λ (a : Answered). (Ok a, table_by (c.args.self.now.clients.run, c.args.self.now.clients.serial, without_where (is_unconfirmed_of c.args.arguments.now.owner.now) (clients_of c.args.self.now.clients)) (book_of c.args.self.now.sessions) (seating_of c.args.self.now))) (told ∙ sym c.answer-answer.ensures.answered)
-    ∙ ap (λ (roll : ℕ × ℕ × List Known). (Ok (answer_view c.answer-answer.result), table_by roll (book_of c.args.self.now.sessions) (seating_of c.args.self.now))) (sym c.remove_unconfirmed.ensures)
+    ∙ ap (λ (a : Answered). (Ok a, table_by (c.args.self.now.clients.run, c.args.self.now.clients.serial, without_where (is_unconfirmed_of c.args.arguments.now.owner.now) (clients_of c.args.self.now.clients)) (book_of c.args.self.now.sessions) (seating_of c.args.self.now))) (told ∙ sym (c.answer-answer.ensures name))
+    ∙ ap (λ (roll : ℕ × ℕ × List Known). (Ok (exchanged_answer name c.answer-answer.result), table_by roll (book_of c.args.self.now.sessions) (seating_of c.args.self.now))) (sym c.remove_unconfirmed.ensures)

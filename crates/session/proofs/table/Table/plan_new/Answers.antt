@@ -10,7 +10,7 @@ use Rattle.wire.specs.ArgumentViews.{create_session_view}
 use Rattle.wire.specs.SmallViews.{channel_view}
 use Rattle.session.specs.Given.{AreGiven}
 use Rattle.session.specs.Limits.{served}
-use Rattle.session.specs.Seating.{edits_with, seat_with}
+use Rattle.session.specs.Seating.{edits_with, gives_way_if, place_for, seat_with}
 use Rattle.session.specs.Views.{table_of, client_of}
 use Rattle.session.proofs.Giving.{given_moved, given_runs, run_told, serial_told}
 use Rattle.session.proofs.Opening.{answer_at, seat_at, created_is, seats_is, table_is}
@@ -23,7 +23,9 @@ plan_seats-requires-clause-place c =
     let old = c.args.self.now in
     let five = length-map old.seats.places.items place_view ∙ old.seats.five in
     subst (λ n. IfSome c.place_for-place.result (λ at. at < n)) five
-    (place_within (create_session_view c.args.arguments.now) (client_of c.args.client.now) (table_of old) c.place_for-place.result c.place_for-place.ensures)
+    (place_within (create_session_view c.args.arguments.now) (client_of c.args.client.now) (table_of old) c.place_for-place.result
+    (c.place_for-place.ensures
+    ∙ ap (λ (lacks : Bool). place_for lacks (create_session_view c.args.arguments.now) (client_of c.args.client.now) (table_of old)) c.lacks_seat-lacks.ensures))
 
 pub returns : goal.returns
 unfolding table_of
@@ -36,7 +38,7 @@ returns c =
     let serial = old.sessions.serial in
     let run = old.clients.run in
     let place = c.place_for-place.result in
-    let placed = c.place_for-place.ensures in
+    let placed = c.place_for-place.ensures ∙ ap (λ (lacks : Bool). place_for lacks arguments client table) c.lacks_seat-lacks.ensures in
     let fore : Channel = channel_view c.fore_channel-fore.result in
     let channel = c.fore_channel-fore.ensures ∙ ap (λ (b : Bool). fore_channel (limits_for served b) arguments.fore) c.is_some.ensures in
     let flags = c.answered_flags.ensures ∙ ap (λ (b : Bool). if b then 1 else 0) c.is_some-2.ensures in
@@ -45,9 +47,11 @@ returns c =
     ap (λ (id : List ℕ). record wanted { session = id; flags = c.answered_flags.result }) c.session_id-id.ensures
     ∙ ap (λ (n : ℕ). record wanted { flags = n }) flags in
     let made = c.in_ok-session.ensures in
-    let gone = gives_way client table in
+    let gone = gives_way arguments client table in
     let seat = seat_at arguments client table place placed fore channel in
-    let edits = c.in_ok-edits.ensures ∙ ap (λ (id : List ℕ). edits_with gone place (seat_with client id fore.max_requests) seats) c.session_id-id.ensures in
+    let edits = c.in_ok-edits.ensures
+    ∙ ap (λ (lacks : Bool). edits_with (gives_way_if lacks client table) place (seat_with client c.session_id-id.result fore.max_requests) seats) c.lacks_seat-lacks.ensures
+    ∙ ap (λ (id : List ℕ). edits_with gone place (seat_with client id fore.max_requests) seats) c.session_id-id.ensures in
     let after = ap (λ (edits : List SeatEdit). edited_all edits seats) edits ∙ sym (seats_is arguments client table place placed fore channel) in
     let found = found_first arguments client table place placed in
     let of_run = run_told run client.number old.clients.serial (serial + 1) old.clients.run_fits old.clients.serial_fits c.requires.known.0 c.requires.known.1 in

@@ -4,15 +4,14 @@ use Rattle.model_tree.specs.Seats.Seats.{Seat}
 use Rattle.model_tree.specs.declared.seats.SeatEdit.TheVariants as edits
 use Rattle.model_tree.specs.Seats.SeatEdits.{SeatEdit, Takes, edit_view}
 use Rattle.model_tree.specs.Seats.SeatViews.{seat_view, seats_view}
-use Rattle.model.specs.Sessions.Session.{gives_way}
-use Rattle.session.specs.Seating.{freeing, seat_with, edits_with}
+use Rattle.session.specs.Seating.{gives_way_if, freeing, seat_with, edits_with}
 use Rattle.session.specs.Views.{table_of, client_of}
 use Rattle.session.proofs.table.Table.plan_seats.Goals as goal
 
 pub returns : goal.returns
 unfolding table_of
 returns c =
-    let gone = gives_way (client_of c.args.client.now) (table_of c.args.self.now) in
+    let gone = gives_way_if c.args.lacks (client_of c.args.client.now) (table_of c.args.self.now) in
     let seats = seats_view c.args.self.now.seats in
     let seat = seat_with (client_of c.args.client.now) c.args.id c.args.slots in
     map-set edit_view c.in_ok-edits.edits.list.items c.in-Some.place (edits.Takes c.in_ok-new_seat.field-0)
