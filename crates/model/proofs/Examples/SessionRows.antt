@@ -1,9 +1,10 @@
 -- Worked rows over the definitions of client records and sessions, in run 1 with the limits that the server serves.
-use Rattle.std.proofs.Common.{◌≡◌, ℕ, refl, List, [], ◌∷◌, Ok, Err, None, Some, Bool, false, codes}
+use Rattle.std.proofs.Common.{◌≡◌, ℕ, refl, List, [], ◌∷◌, Ok, Err, None, Some, Bool, true, false, codes}
 use Rattle.model_tree.specs.declared.status.Status.TheVariants as status
 use Rattle.model.specs.Operations.Operation.{Channel, ExchangeIdArguments, CreateSessionArguments, SequenceArguments}
 use Rattle.model.specs.Operations.Answer.{CreateSessionAnswer}
-use Rattle.model.specs.Sessions.Session.{SessionLimits, Table, plain_settings, empty_table, exchange_id, exchange_answer, create_session, destroy_session, begin, started, finish, session_id, Refuses, Replays, Runs}
+use Rattle.model_tree.specs.Seats.Seats.{Seat, no_seats}
+use Rattle.model.specs.Sessions.Session.{SessionLimits, Table, plain_settings, loaded_table, empty_table, client_number, exchange_id, exchange_answer, create_session, destroy_session, begin, started, finish, session_id, Refuses, Replays, Runs}
 
 abbrev limits : SessionLimits
 limits = record { clients = 64; sessions = 32; slots = 8; seat_slots = 2; operations = 16; record_bytes = 16384 }
@@ -83,6 +84,50 @@ exchange_other = refl
 exchange_restarted : (exchange_id limits no_opens 7 (hello (0 ∷ [])) opened).0 ≡ Ok (exchange_answer plain_settings.name 4294967298 1 0x00010000)
 unfolding exchange_id create_session
 exchange_restarted = refl
+
+-- With room for one record an unconfirmed one gives way to that of another owner id, if the settings say so; a confirmed one never does
+abbrev one_client : SessionLimits
+one_client = record limits { clients = 1 }
+
+abbrev hello_by : List ℕ → ExchangeIdArguments
+hello_by owner = record (hello verifier) { owner = owner }
+
+abbrev filled : Table
+filled = (exchange_id one_client no_opens 7 (hello verifier) (loaded_table 1 (record plain_settings { yields_when_full = true }) no_seats)).1
+
+yields_a_record : (exchange_id one_client no_opens 7 (hello_by (codes "other")) filled).0 ≡ Ok (exchange_answer plain_settings.name 4294967298 1 0x00010000)
+unfolding exchange_id
+yields_a_record = refl
+
+keeps_the_record : (exchange_id one_client no_opens 7 (hello_by (codes "other")) (record filled { settings = plain_settings })).0 ≡ Err status.Delay
+unfolding exchange_id
+keeps_the_record = refl
+
+keeps_a_confirmed_one : (exchange_id one_client no_opens 7 (hello_by (codes "other")) (create_session one_client 7 (create 4294967297 1) filled).table).0 ≡ Err status.Delay
+unfolding exchange_id create_session
+keeps_a_confirmed_one = refl
+
+-- In run 7 five seats of earlier runs and other clients: the one of run 2 gives way to a session that asks for a seat, if the settings say so
+abbrev seat_in : ℕ → Seat
+seat_in run = record { session = session_id (client_number run 1) 1; owner = codes "other"; principal = 7; slots = None ∷ [] }
+
+abbrev all_dead : Bool → Table
+all_dead yields =
+    loaded_table 7 (record plain_settings { persistent = true; yields_when_full = yields })
+    (Some (seat_in 4) ∷ Some (seat_in 2) ∷ Some (seat_in 3) ∷ Some (seat_in 5) ∷ Some (seat_in 6) ∷ [])
+
+abbrev sits_in : Bool → Table
+sits_in yields =
+    (create_session limits 7 (record (create 30064771073 1) { flags = 1 }) (exchange_id limits no_opens 7 (hello verifier) (all_dead yields)).1).table
+
+yields_the_oldest : (sits_in true).seats
+    ≡ Some (seat_in 4) ∷ Some (record { session = session_id 30064771073 1; owner = codes "cl"; principal = 7; slots = None ∷ None ∷ [] }) ∷ Some (seat_in 3) ∷ Some (seat_in 5) ∷ Some (seat_in 6) ∷ []
+unfolding exchange_id create_session session_id
+yields_the_oldest = refl
+
+keeps_each_seat : (sits_in false).seats ≡ (all_dead false).seats
+unfolding exchange_id create_session session_id
+keeps_each_seat = refl
 
 -- A request of slot 0, while it runs and when its reply is kept
 

@@ -233,8 +233,7 @@ abbrev pub is_full_of_clients : SessionLimits → Table → Bool
 is_full_of_clients limits table =
     has_most_clients limits table || nat_le (2 ^ 32 - 1) table.client_serial
 
--- Where a further record finds no place, the oldest unconfirmed one gives way to it, if the settings
--- say so.
+-- If the settings say so, the oldest unconfirmed record gives way to one that finds no place.
 
 abbrev pub is_unconfirmed : Client → Bool
 is_unconfirmed client = not client.is_confirmed
@@ -358,7 +357,7 @@ abbrev pub is_oldest_dead : Table → Seat → Bool
 is_oldest_dead table seat =
     is_dead table seat && not (list_any (is_dead_before table seat) table.seats)
 
--- The seats that give way: the oldest dead one where a seat is lacking, and those that the client is
+-- The seats that give way: the oldest dead one if a seat is lacking, and those that the client is
 -- done with
 abbrev pub gives_way : CreateSessionArguments → Client → Table → Seat → Bool
 gives_way arguments client table seat =
