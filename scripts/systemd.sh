@@ -5,14 +5,13 @@
 # mount, and a second volume has a server of its own. What was seen is compared with
 # systemd/expected.txt.
 #
-# scripts/systemd.sh [NFS41D [NFS41]]: by default what 'rt run' has built in crates/nfs41d and in
-# crates/nfs41. LIMIT is for how many seconds the machine may tell nothing (900). It wants root, the
-# Debian packages that are named below, and 1.5 GB of memory for the machine; it fetches Debian's
-# kernel by 'apt-get download' and Debian's packages by debootstrap. MIRROR is where from.
+# scripts/systemd.sh [NFS41D]: by default what 'rt run' has built in crates/nfs41d. LIMIT is for how
+# many seconds the machine may print nothing (900). It needs root, the Debian packages that are named
+# below, and 1.5 GB of memory for the machine; it fetches Debian's kernel by 'apt-get download' and
+# Debian's packages by debootstrap. MIRROR is where from.
 set -eu
 here=$(realpath "$(dirname "$0")")
 daemon=$(realpath "${1:-$here/../crates/nfs41d/out/nfs41d}")
-program=$(realpath "${2:-$here/../crates/nfs41/out/nfs41}")
 mirror=${MIRROR:-http://deb.debian.org/debian}
 packages='qemu-system-x86 busybox-static nfs-common kmod cpio debootstrap'
 . "$here/emulator/machine.sh"
@@ -34,7 +33,6 @@ install_work() {
         basename "$file"
     done < modules.txt > root/modules/order
     cp "$daemon" root/download/nfs41d
-    cp "$program" root/download/nfs41
     cp "$here/nfs41d@.socket" "$here/nfs41d@.service" root/download/
     cp "$here/systemd/work" root/work
     cp "$here/systemd/work.service" root/etc/systemd/system/
@@ -43,7 +41,6 @@ install_work() {
 
 wants "$packages" debootstrap
 wants_program "$daemon"
-wants_program "$program"
 kernel
 debian
 install_work
