@@ -40,6 +40,13 @@ impl Opens {
         }
     }
 
+    /// How many there are.
+    pub fn len(&self) -> usize
+        ensures { result ≡ length (opens_of self.now).known }
+    {
+        self.list.len()
+    }
+
     /// Takes the memory for one open more.
     pub fn reserve(&mut self) -> Result<(), AllocError>
         ensures room { OnOk result (HasMemory self.new) }

@@ -85,8 +85,8 @@ impl Table {
         Ok(answer(number, 1, ExchangeFlags::USE_NON_PNFS))
     }
 
-    // Whose unconfirmed record is yielded to a new one of this owner id: the oldest, where there is
-    // no place and the settings say so.
+    // Whose unconfirmed record is yielded to a new one of this owner id: the oldest, if there is no
+    // place and the settings say so.
     #[tactic(auto, unfolding(crate::specs::Views::table_of))]
     fn yielded_for(&self, owner: &[u8], dropped: Option<u64>) -> Option<u64>
         ensures { result ≡ yielded_for owner.now dropped (table_of self.now) }

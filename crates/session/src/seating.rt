@@ -30,7 +30,7 @@ impl Table {
         find_seat(&self.seats, id).is_some()
     }
 
-    // Whether the seat gives way to a session of the client: the oldest dead one where that lacks a
+    // Whether the seat gives way to a session of the client: the oldest dead one if that lacks a
     // seat, and one that it is done with.
     fn gives_way(&self, client: &Client, lacks: bool, seat: &Seat) -> bool
         ensures { result
