@@ -300,11 +300,11 @@ pub(crate) fn clear_tail<S: Sectors>(
     ensures health { FailsOrStays (S.health base.old) (S.health base.new)
         (IsErrOf result TransactionFault.Device) }
 {
-    let from = (size % 4096) as usize;
+    let from = (size % SECTOR as u64) as usize;
     if from == 0 {
         return Ok(());
     }
-    match blocks.at((size / 4096) as u32) {
+    match blocks.at((size / SECTOR as u64) as u32) {
         Some(sector) => clear_from(updates, base, sector, from),
         None => Ok(()),
     }

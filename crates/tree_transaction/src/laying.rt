@@ -17,6 +17,13 @@ use layout::places::NODES;
 use node_table::CachedNode;
 use std::alloc::{AllocError, Global};
 
+/// The number of run sectors that runs take, 500 each.
+fn sectors_for(runs: usize) -> usize
+    ensures { result ≡ sectors_for runs }
+{
+    runs.div_ceil(MAX_SECTOR_RUNS)
+}
+
 /// Writes runs, 500 a sector.
 fn lay_runs(updates: &mut Updates, numbers: &[u32], runs: &[Run]) -> Result<(), AllocError>
     // The sectors, and as many runs as they have room for
@@ -77,7 +84,7 @@ fn store_given_runs(
     ensures count { length updates.new
         ≤ length updates.old + 1 + sectors_for (length runs.items) }
 {
-    let wanted = (runs.len() + 499) / MAX_SECTOR_RUNS;
+    let wanted = sectors_for(runs.len());
     give_numbers(places, NODES + nodes, &mut cached.inode.run_sectors, wanted)?;
     cached.inode.runs = runs.len() as u16;
     let runs = Runs::from_vec(runs)?;
@@ -105,7 +112,7 @@ pub(crate) fn rerun(
         < sectors_for (set_blocks cached.old.blocks) }
 {
     let runs = cached.blocks.to_runs(alloc)?;
-    let wanted = (runs.len() + 499) / MAX_SECTOR_RUNS;
+    let wanted = sectors_for(runs.len());
     take_numbers(places, NODES + nodes, &mut cached.inode.run_sectors, wanted)?;
     store_given_runs(updates, places, nodes, place, cached, runs)?;
     Ok(())

@@ -8,6 +8,8 @@ ghost use Rattle.disk.specs.Moments.{Image, applied};
 ghost use Rattle.freemap.specs.Kept.{free_places};
 ghost use Rattle.inode.specs.Fields.{IsInode};
 ghost use Rattle.inode.specs.Spelling.{inode_sector};
+ghost use Rattle.model_tree.specs.declared.node.NodeKind.TheVariants as kind;
+ghost use Rattle.model_tree.specs.Trees.Charge.{blocks_of};
 ghost use Rattle.model_tree.specs.Trees.Edit.{PutNode, DropNode, Show, PutName, PutBytes, SetSize};
 ghost use Rattle.layout.specs.CachedNodes as layout;
 ghost use Rattle.layout.specs.Health.{FailsOrStays};
@@ -99,6 +101,14 @@ fn show_in(cached: &mut CachedNode, shown: &Shown) -> Result<(), AllocError>
     Ok(())
 }
 
+/// The number of blocks of a file of this size.
+fn blocks_of(size: u64) -> u32
+    requires { size ≤ SECTOR * BlockList.MAX_BLOCKS }
+    ensures { result ≡ blocks_of kind.File size }
+{
+    size.div_ceil(SECTOR as u64) as u32
+}
+
 /// Lets a file reach to an end at least, by holes.
 fn grow_to(cached: &mut CachedNode, end: u64) -> Result<(), AllocError>
     requires end { end ≤ SECTOR * BlockList.MAX_BLOCKS }
@@ -106,7 +116,7 @@ fn grow_to(cached: &mut CachedNode, end: u64) -> Result<(), AllocError>
     ensures { OnOk result (cached.new ≡ grown cached.old end) }
 {
     let size = cached.inode.size.max(end);
-    cached.blocks.grow(((size + 4095) / 4096) as u32)?;
+    cached.blocks.grow(blocks_of(size))?;
     cached.inode.size = size;
     Ok(())
 }
@@ -347,7 +357,7 @@ impl<'a> Transaction<'a> {
     {
         let mut cached = take_card(&mut self.cards, place)?;
         clear_tail(&mut self.updates, base, &cached.blocks, size)?;
-        let count = ((size + 4095) / 4096) as u32;
+        let count = blocks_of(size);
         give_blocks(&mut self.places, NODES + self.nodes, &cached.blocks, count)?;
         cached.blocks.cut(count);
         cached.inode.size = size;

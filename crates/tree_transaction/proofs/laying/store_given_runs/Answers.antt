@@ -20,9 +20,9 @@ module _ (c : goal.After-store_node_sectors-arg-1) where
   fits =
       let before = subst (λ (card : layout.CachedNode). IsInode card.form (fields_with card.fields 0 [])) (sym c.cached.view_is) c.requires.can.fits in
       let has = ap (λ (card : layout.CachedNode). length card.fields.run_sectors) c.cached.view_is in
-      let least = c.give_numbers.ensures.least (omega (arith, has, c.requires.enough, c.len.ensures)) in
+      let least = c.give_numbers.ensures.least (omega (arith, has, c.requires.enough, c.len.ensures, c.sectors_for-wanted.ensures)) in
       fields-fit c.cached.inside.form (fields_with (fields_of c.cached.inside.inode) 0 []) c.len-2.result c.give_numbers.new.numbers.items before
-      (omega (arith, c.len-2.ensures, c.requires.runs.few)) (omega (arith, c.len-2.ensures, c.len.ensures, c.in_ok-give_numbers.ensures.most, least))
+      (omega (arith, c.len-2.ensures, c.requires.runs.few)) (omega (arith, c.len-2.ensures, c.len.ensures, c.sectors_for-wanted.ensures, c.in_ok-give_numbers.ensures.most, least))
       (numbers-fit (148 + c.args.nodes) c.give_numbers.new.places c.give_numbers.new.numbers.items (omega arith) (omega (arith, c.give_numbers.ensures.len, c.requires.can.room)) marked)
 
 pub store_node_sectors-requires-clause-fits : goal.store_node_sectors-requires-clause-fits

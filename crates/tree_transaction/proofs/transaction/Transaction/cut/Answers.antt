@@ -31,12 +31,12 @@ module _ (g : given.Over) (c : goal.After-store_node_and_fewer_runs-arg-1 g) whe
 
   card_is : record (cut_card (seen c.cached.inside.form c.cached.inside.inode c.cached.inside.runs c.cached.inside.blocks c.cached.inside.names) c.args.size) { blocks = c.cut.new.self } ≡ cut_card was c.args.size
   card_is =
-      ap (λ (b : List (Option ℕ)). record (cut_card (seen c.cached.inside.form c.cached.inside.inode c.cached.inside.runs c.cached.inside.blocks c.cached.inside.names) c.args.size) { blocks = b }) c.cut.ensures
+      ap (λ (b : List (Option ℕ)). record (cut_card (seen c.cached.inside.form c.cached.inside.inode c.cached.inside.runs c.cached.inside.blocks c.cached.inside.names) c.args.size) { blocks = b }) (rw c.blocks_of-count.ensures at c.cut.ensures)
       ∙ ap (λ (one : CachedNode). cut_card one c.args.size) c.cached.view_is
 
   marks : (n : ℕ) → mark_by (148 + c.args.self.now.nodes) c.give_blocks.new.places n + times_set n was.blocks ≡ mark_by (148 + c.args.self.now.nodes) c.args.self.now.places n + times_set n (take (blocks_of kind.File c.args.size) was.blocks)
   marks = subst (λ (one : CachedNode). (n : ℕ) → mark_by (148 + c.args.self.now.nodes) c.give_blocks.new.places n + times_set n one.blocks
-      ≡ mark_by (148 + c.args.self.now.nodes) c.args.self.now.places n + times_set n (take (blocks_of kind.File c.args.size) one.blocks)) c.cached.view_is c.in_ok-give_blocks.ensures.marks
+      ≡ mark_by (148 + c.args.self.now.nodes) c.args.self.now.places n + times_set n (take (blocks_of kind.File c.args.size) one.blocks)) c.cached.view_is (rw c.blocks_of-count.ensures at c.in_ok-give_blocks.ensures.marks)
 
   same : c.requires.file.cached ≡ was
   same = same_card c.args.self.now.cards.cards c.args.place c.requires.file.cached was c.requires.file.there c.in_ok-cached.ensures.cached
