@@ -6,7 +6,7 @@ ghost use Rattle.freemap.specs.Kept.{free_places};
 ghost use Rattle.inode.specs.Fields.{IsInode};
 ghost use Rattle.layout.specs.Marks.{times};
 ghost use Rattle.tree_transaction.specs.Blocks.{set_blocks};
-ghost use Rattle.tree_transaction.specs.Laying.{AreOnce, LaysFront, LaysNode, LaysCard, CanBeLaid, AreRunsFor, HasEnough, sectors_for};
+ghost use Rattle.tree_transaction.specs.Laying.{AreOnce, LaysFront, LaysNode, LaysCard, CanBeLaid, AreRunsFor, sectors_for};
 
 use crate::fault::SpaceFault;
 use crate::numbers::{give_numbers, take_numbers};
@@ -68,7 +68,7 @@ fn store_node_sectors(
 
 /// Puts runs into a cached node that has enough run sectors for them, gives the others back, and
 /// writes its node.
-fn store_given_runs(
+pub(crate) fn store_given_runs(
     updates: &mut Updates,
     places: &mut SharedBitmap,
     nodes: u32,
@@ -114,27 +114,6 @@ pub(crate) fn rerun(
     let runs = cached.blocks.to_runs(alloc)?;
     let wanted = sectors_for(runs.len());
     take_numbers(places, NODES + nodes, &mut cached.inode.run_sectors, wanted)?;
-    store_given_runs(updates, places, nodes, place, cached, runs)?;
-    Ok(())
-}
-
-/// The same of a cached node whose run sectors are enough.
-pub(crate) fn rerun_fewer(
-    alloc: Global,
-    updates: &mut Updates,
-    places: &mut SharedBitmap,
-    nodes: u32,
-    place: u32,
-    cached: &mut CachedNode,
-) -> Result<(), AllocError>
-    requires can { CanBeLaid nodes place places.old cached.old }
-    requires enough { HasEnough cached.old }
-    ensures laid { OnOk result
-        (LaysCard nodes place places.old places.new updates.old updates.new cached.old cached.new) }
-    ensures count { length updates.new
-        ≤ length updates.old + 1 + sectors_for (set_blocks cached.old.blocks) }
-{
-    let runs = cached.blocks.to_runs(alloc)?;
     store_given_runs(updates, places, nodes, place, cached, runs)?;
     Ok(())
 }

@@ -27,7 +27,7 @@ ghost use Rattle.tree_transaction.specs.Written.{HasBytes, HasItsRuns, IsWritten
 
 use crate::blocks::{clear_tail, rewrite_names, write_blocks, write_names};
 use crate::fault::{SpaceFault, TransactionFault};
-use crate::laying::{rerun, rerun_fewer};
+use crate::laying::{rerun, store_given_runs};
 use crate::marks::put_marks;
 use crate::nodes::{Shown, put_node};
 use crate::numbers::{give_blocks, give_numbers};
@@ -361,7 +361,7 @@ impl<'a> Transaction<'a> {
         give_blocks(&mut self.places, NODES + self.nodes, &cached.blocks, count)?;
         cached.blocks.cut(count);
         cached.inode.size = size;
-        self.store_node_and_fewer_runs(place, cached)?;
+        self.store_node_and_runs(place, cached)?;
         Ok(())
     }
 
@@ -505,7 +505,7 @@ impl<'a> Transaction<'a> {
 
     /// Puts a cached node whose blocks were written back. Its runs are laid anew only where holes
     /// got sectors.
-    fn store_written(&mut self, place: u32, written: WrittenCard) -> Result<(), SpaceFault>
+    fn store_written(&mut self, place: u32, mut written: WrittenCard) -> Result<(), SpaceFault>
         requires can { CanBeLaid self.old.nodes place self.old.places written.cached }
         requires within { place < length (cards_of self.old) }
         requires same { written.filled ≡ false → HasItsRuns place written.cached }
@@ -521,7 +521,15 @@ impl<'a> Transaction<'a> {
             < sectors_for (set_blocks written.cached.blocks) }
     {
         if written.filled {
-            self.store_node_and_runs(place, written.cached)?;
+            rerun(
+                self.alloc,
+                &mut self.updates,
+                &mut self.places,
+                self.nodes,
+                place,
+                &mut written.cached,
+            )?;
+            put_card(&mut self.cards, place, written.cached)?;
         } else {
             // The runs of its blocks are as they were.
             self.store_node(place, written.cached)?;
@@ -544,7 +552,7 @@ impl<'a> Transaction<'a> {
             ≤ length self.old.updates + 1 + sectors_for (set_blocks cached.blocks) }
     {
         if cached.blocks.count() < before {
-            self.store_node_and_fewer_runs(place, cached)?;
+            self.store_node_and_runs(place, cached)?;
         } else {
             self.store_node(place, cached)?;
         }
@@ -572,39 +580,9 @@ impl<'a> Transaction<'a> {
         Ok(())
     }
 
-    /// Lays a cached node that was taken out, and puts it back.
-    fn store_node_and_runs(&mut self, place: u32, mut cached: CachedNode) -> Result<(), SpaceFault>
-        requires can { CanBeLaid self.old.nodes place self.old.places cached }
-        requires within { place < length (cards_of self.old) }
-        ensures back { OnOk result (IsBack self.old.nodes place self.old.places self.old.updates
-            (cards_of self.old) self.new cached) }
-        // In any case
-        ensures table { self.new.cards.table ≡ self.old.cards.table }
-        // What it takes
-        ensures count { length self.new.updates
-            ≤ length self.old.updates + 1 + sectors_for (set_blocks cached.blocks) }
-        ensures full { IsErrOf result SpaceFault.Full
-            → free_places self.old.places + length cached.fields.run_sectors
-            < sectors_for (set_blocks cached.blocks) }
-    {
-        rerun(
-            self.alloc,
-            &mut self.updates,
-            &mut self.places,
-            self.nodes,
-            place,
-            &mut cached,
-        )?;
-        put_card(&mut self.cards, place, cached)?;
-        Ok(())
-    }
-
-    /// The same of a cached node whose run sectors are enough.
-    fn store_node_and_fewer_runs(
-        &mut self,
-        place: u32,
-        mut cached: CachedNode,
-    ) -> Result<(), AllocError>
+    /// Puts the blocks of a cached node that was taken out into runs again, for which it has run
+    /// sectors enough, writes its node, and puts it back.
+    fn store_node_and_runs(&mut self, place: u32, mut cached: CachedNode) -> Result<(), AllocError>
         requires can { CanBeLaid self.old.nodes place self.old.places cached }
         requires within { place < length (cards_of self.old) }
         requires enough { HasEnough cached }
@@ -615,13 +593,14 @@ impl<'a> Transaction<'a> {
         ensures count { length self.new.updates
             ≤ length self.old.updates + 1 + sectors_for (set_blocks cached.blocks) }
     {
-        rerun_fewer(
-            self.alloc,
+        let runs = cached.blocks.to_runs(self.alloc)?;
+        store_given_runs(
             &mut self.updates,
             &mut self.places,
             self.nodes,
             place,
             &mut cached,
+            runs,
         )?;
         put_card(&mut self.cards, place, cached)?;
         Ok(())

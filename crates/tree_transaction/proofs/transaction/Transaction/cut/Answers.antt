@@ -25,7 +25,7 @@ pub give_blocks-requires : goal.give_blocks-requires
 give_blocks-requires g c = subst (λ (one : CachedNode). HaveMarks (148 + c.args.self.now.nodes) c.args.self.now.places one.blocks) (sym c.cached.view_is)
     (blocks_marked c.args.self.now c.args.place 0 c.in_ok-cached.cached c.requires.known.0 c.in_ok-cached.ensures.cached)
 
-module _ (g : given.Over) (c : goal.After-store_node_and_fewer_runs-arg-1 g) where
+module _ (g : given.Over) (c : goal.After-store_node_and_runs-arg-1 g) where
   abbrev was : CachedNode
   was = c.in_ok-cached.cached
 
@@ -53,40 +53,40 @@ module _ (g : given.Over) (c : goal.After-store_node_and_fewer_runs-arg-1 g) whe
   changes : ChangeBlocks c.args.self.now.updates c.clear_tail.new.updates was.blocks
   changes = subst (λ (one : CachedNode). ChangeBlocks c.args.self.now.updates c.clear_tail.new.updates one.blocks) c.cached.view_is c.in_ok-clear_tail.ensures.others
 
-pub store_node_and_fewer_runs-requires-clause-can : goal.store_node_and_fewer_runs-requires-clause-can
-store_node_and_fewer_runs-requires-clause-can g c = subst (λ (one : CachedNode). CanBeLaid c.args.self.now.nodes c.args.place c.give_blocks.new.places one) (sym (card_is g c))
+pub store_node_and_runs-requires-clause-can : goal.store_node_and_runs-requires-clause-can
+store_node_and_runs-requires-clause-can g c = subst (λ (one : CachedNode). CanBeLaid c.args.self.now.nodes c.args.place c.give_blocks.new.places one) (sym (card_is g c))
     (can_be_cut c.args.self.now c.args.place c.args.size c.in_ok-cached.cached c.requires.known.0 c.in_ok-cached.ensures.cached c.give_blocks.new.places (marks g c) c.give_blocks.ensures.len (few g c))
 
-pub store_node_and_fewer_runs-requires-clause-enough : goal.store_node_and_fewer_runs-requires-clause-enough
-store_node_and_fewer_runs-requires-clause-enough g c = subst HasEnough (sym (card_is g c))
+pub store_node_and_runs-requires-clause-enough : goal.store_node_and_runs-requires-clause-enough
+store_node_and_runs-requires-clause-enough g c = subst HasEnough (sym (card_is g c))
     (cut_enough c.args.self.now c.args.place c.args.size c.in_ok-cached.cached c.requires.known.0 c.in_ok-cached.ensures.cached c.give_blocks.new.places (marks g c) c.give_blocks.ensures.len (few g c))
 
-module _ (g : given.Over) (c : goal.In_ok-store_node_and_fewer_runs g) where
-  back : StandsAgain c.args.self.now c.store_node_and_fewer_runs.new.self c.args.place (cut_card c.in_ok-cached.cached c.args.size) c.give_blocks.new.places c.clear_tail.new.updates
-  back = laid_again c.args.self.now c.store_node_and_fewer_runs.new.self c.args.place (cut_card c.in_ok-cached.cached c.args.size) c.give_blocks.new.places c.clear_tail.new.updates (
-      subst (λ (one : CachedNode). IsBack c.args.self.now.nodes c.args.place c.give_blocks.new.places c.clear_tail.new.updates (set c.args.self.now.cards.cards c.args.place None) c.store_node_and_fewer_runs.new.self one) (card_is g c.before.before.before)
-      (subst (λ (l : List (Option CachedNode)). IsBack c.args.self.now.nodes c.args.place c.give_blocks.new.places c.clear_tail.new.updates l c.store_node_and_fewer_runs.new.self
-      (record (cut_card (seen c.cached.inside.form c.cached.inside.inode c.cached.inside.runs c.cached.inside.blocks c.cached.inside.names) c.args.size) { blocks = c.cut.new.self })) c.in_ok-cached.ensures.cards c.in_ok-store_node_and_fewer_runs.ensures.back))
+module _ (g : given.Over) (c : goal.In_ok-store_node_and_runs g) where
+  back : StandsAgain c.args.self.now c.store_node_and_runs.new.self c.args.place (cut_card c.in_ok-cached.cached c.args.size) c.give_blocks.new.places c.clear_tail.new.updates
+  back = laid_again c.args.self.now c.store_node_and_runs.new.self c.args.place (cut_card c.in_ok-cached.cached c.args.size) c.give_blocks.new.places c.clear_tail.new.updates (
+      subst (λ (one : CachedNode). IsBack c.args.self.now.nodes c.args.place c.give_blocks.new.places c.clear_tail.new.updates (set c.args.self.now.cards.cards c.args.place None) c.store_node_and_runs.new.self one) (card_is g c.before.before.before)
+      (subst (λ (l : List (Option CachedNode)). IsBack c.args.self.now.nodes c.args.place c.give_blocks.new.places c.clear_tail.new.updates l c.store_node_and_runs.new.self
+      (record (cut_card (seen c.cached.inside.form c.cached.inside.inode c.cached.inside.runs c.cached.inside.blocks c.cached.inside.names) c.args.size) { blocks = c.cut.new.self })) c.in_ok-cached.ensures.cards c.in_ok-store_node_and_runs.ensures.back))
 
 pub returns-clause-known : goal.returns-clause-known
 returns-clause-known g c =
     let d = c.before.before.before in
     cut_stays c.args.self.now c.args.place c.args.size c.in_ok-cached.cached c.requires.known.0 c.in_ok-cached.ensures.cached c.give_blocks.new.places (marks g d) c.give_blocks.ensures.len (few g d) (file g d) (shorter g d)
-    c.store_node_and_fewer_runs.new.self c.clear_tail.new.updates (changes g d) (back g c)
+    c.store_node_and_runs.new.self c.clear_tail.new.updates (changes g d) (back g c)
 
 pub returns-clause-cards : goal.returns-clause-cards
 returns-clause-cards g c =
     let d = c.before.before.before in
-    turns c.args.self.now c.store_node_and_fewer_runs.new.self c.args.place c.in_ok-cached.cached c.in_ok-cached.ensures.cached (λ card. sized card c.args.size)
+    turns c.args.self.now c.store_node_and_runs.new.self c.args.place c.in_ok-cached.cached c.in_ok-cached.ensures.cached (λ card. sized card c.args.size)
     (cut_now c.args.self.now c.args.place c.args.size c.in_ok-cached.cached c.requires.known.0 c.in_ok-cached.ensures.cached c.give_blocks.new.places (marks g d) c.give_blocks.ensures.len (few g d) (file g d) (shorter g d)
-    c.store_node_and_fewer_runs.new.self c.clear_tail.new.updates (changes g d) (back g c))
+    c.store_node_and_runs.new.self c.clear_tail.new.updates (changes g d) (back g c))
 
 pub returns-clause-tree : goal.returns-clause-tree
 returns-clause-tree g c word =
     let d = c.before.before.before in
     let base : Image = g.S.Sectors.image (g.S.Sectors.kept c.args.base.now) in
     let size = g.S.Sectors.size (g.S.Sectors.kept c.args.base.now) in
-    edits_over c.args.self.now c.store_node_and_fewer_runs.new.self c.args.place c.in_ok-cached.cached c.in_ok-cached.ensures.cached base size (λ number. SetSize number c.args.size)
+    edits_over c.args.self.now c.store_node_and_runs.new.self c.args.place c.in_ok-cached.cached c.in_ok-cached.ensures.cached base size (λ number. SetSize number c.args.size)
     (cut_made c.args.self.now c.args.place c.args.size c.in_ok-cached.cached c.requires.known.0 c.in_ok-cached.ensures.cached c.give_blocks.new.places (marks g d) c.give_blocks.ensures.len (few g d) (file g d) (shorter g d)
-    c.store_node_and_fewer_runs.new.self c.clear_tail.new.updates (changes g d) (back g c) base
+    c.store_node_and_runs.new.self c.clear_tail.new.updates (changes g d) (back g c) base
     (subst (λ (one : CachedNode). ClearsTail (applied c.args.self.now.updates base) (applied c.clear_tail.new.updates base) one.blocks c.args.size) c.cached.view_is (c.in_ok-clear_tail.ensures.tail word)) size)

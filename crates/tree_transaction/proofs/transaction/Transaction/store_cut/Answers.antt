@@ -5,10 +5,10 @@ use Rattle.tree_transaction.proofs.BackLaws.{laid_again, put_again}
 use Rattle.tree_transaction.proofs.KnownLaws.{put-back}
 use Rattle.tree_transaction.proofs.transaction.Transaction.store_cut.Goals as goal
 
-pub returns-in_ok-store_node_and_fewer_runs-clause-stands : goal.returns-in_ok-store_node_and_fewer_runs-clause-stands
-returns-in_ok-store_node_and_fewer_runs-clause-stands c =
-    let back = c.in_ok-store_node_and_fewer_runs.ensures.back in
-    laid_again c.args.self.now c.store_node_and_fewer_runs.new.self c.args.place c.args.cached c.args.self.now.places c.args.self.now.updates
+pub returns-in_ok-store_node_and_runs-clause-stands : goal.returns-in_ok-store_node_and_runs-clause-stands
+returns-in_ok-store_node_and_runs-clause-stands c =
+    let back = c.in_ok-store_node_and_runs.ensures.back in
+    laid_again c.args.self.now c.store_node_and_runs.new.self c.args.place c.args.cached c.args.self.now.places c.args.self.now.updates
     (record { is = back.is; put = back.put ∙ sym (put-back (cards_of c.args.self.now) c.args.place back.is); same = back.same; laid = back.laid })
 
 pub returns-in_ok-store_node-clause-stands : goal.returns-in_ok-store_node-clause-stands

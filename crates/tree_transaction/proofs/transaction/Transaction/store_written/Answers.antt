@@ -1,14 +1,14 @@
-use Rattle.std.proofs.Common.{◌∙◌, sym}
+use Rattle.std.proofs.Common.{◌∙◌, refl, sym}
 use Rattle.tree_transaction.specs.Transactions.{cards_of}
 use Rattle.tree_transaction.proofs.BackLaws.{laid_again, put_again}
 use Rattle.tree_transaction.proofs.KnownLaws.{put-back}
 use Rattle.tree_transaction.proofs.transaction.Transaction.store_written.Goals as goal
 
-pub returns-in_ok-store_node_and_runs-clause-stands : goal.returns-in_ok-store_node_and_runs-clause-stands
-returns-in_ok-store_node_and_runs-clause-stands c =
-    let back = c.in_ok-store_node_and_runs.ensures.back in
-    laid_again c.args.self.now c.store_node_and_runs.new.self c.args.place c.args.written.cached c.args.self.now.places c.args.self.now.updates
-    (record { is = back.is; put = back.put ∙ sym (put-back (cards_of c.args.self.now) c.args.place back.is); same = back.same; laid = back.laid })
+pub returns-in_ok-put_card-clause-stands : goal.returns-in_ok-put_card-clause-stands
+returns-in_ok-put_card-clause-stands c =
+    let is = c.rerun.new.cached in
+    laid_again c.args.self.now _ c.args.place c.args.written.cached c.args.self.now.places c.args.self.now.updates
+    (record { is = is; put = c.in_ok-put_card.ensures.cards ∙ sym (put-back (cards_of c.args.self.now) c.args.place is); same = refl; laid = c.in_ok-rerun.ensures.laid })
 
 pub returns-in_ok-store_node-clause-stands : goal.returns-in_ok-store_node-clause-stands
 returns-in_ok-store_node-clause-stands c =
