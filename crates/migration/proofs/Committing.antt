@@ -9,7 +9,6 @@ use Rattle.journal.specs.Settled.{AreSame, Settles}
 use Rattle.journal.proofs.Fronts.{settles_same, applied_keeps, applied_all-push}
 use Rattle.journal.proofs.Joins.{front_moved}
 use Rattle.migration.specs.Commits.{Commits, HasCommitted}
-use Rattle.migration.specs.Migrations.{Rests}
 
 -- One transaction
 
@@ -144,18 +143,3 @@ module _ (keeps_word : Type 0) (list rest : List (List Update)) (us : List Updat
     base = λ word n k. with_one word n k ∙ subst (λ (size : ℕ). AreSame size (applied us now.base) new.base) going.size (has.base word) n k;
     moments = going_stops.moments;
   }
-
-take-none_left : (list : List (List Update)) (count : ℕ) → drop count list ≡ [] → take count list ≡ list
-take-none_left [] zero none = refl
-take-none_left [] (suc count) none = refl
-take-none_left (us ∷ list) zero none = absurd (cc)
-take-none_left (us ∷ list) (suc count) none = ap (λ (l : List (List Update)). us ∷ l) (take-none_left list count none)
-
-pub going_commits : (keeps_word : Type 0) (list rest : List (List Update)) (old now : Log) → Going keeps_word list rest old now → Commits keeps_word list old now
-going_commits keeps_word list rest old now going = record { size = going.size; moments = going.moments }
-
-pub going_ends : (keeps_word : Type 0) (list : List (List Update)) (old now : Log) → Going keeps_word list [] old now → Rests now → HasCommitted keeps_word list old now
-going_ends keeps_word list old now going rests = record {
-  rests = rests;
-  base = λ word. subst (λ (l : List (List Update)). AreSame old.size (applied_all l old.base) now.base) (take-none_left list going.count going.rest_is) (going.base word);
-}

@@ -26,18 +26,13 @@ rest_viewed places n = ap (map place_view) (take_all (length places - n) (drop n
 pub count_viewed : (places : List (Option seats.Seat)) → length (map place_view places) ≡ length places
 count_viewed places = length-map places place_view
 
--- The sectors of all places are those of each
+-- The sectors of all places hold each place
 
 pub hold_one : (image : Image) (seats : Seats) (place : ℕ) → place < 5 → HoldSeats image seats → HoldPlace image place (get_or seats place None)
 hold_one image seats place few holds k h =
     let at : (9 * place + k) % 9 ≡ k = omega arith in
     let its : (9 * place + k) / 9 ≡ place = omega arith in
     holds (9 * place + k) (omega arith) ∙ ap₂ (λ (n p : ℕ). seat_sector n (get_or seats p None)) at its
-
-pub hold_all : (image : Image) (seats : Seats) → ((place : ℕ) → place < 5 → HoldPlace image place (get_or seats place None)) → HoldSeats image seats
-hold_all image seats each n h =
-    let parts : 100 + n ≡ 100 + (9 * (n / 9) + n % 9) = omega arith in
-    ap image parts ∙ each (n / 9) (omega arith) (n % 9) (omega arith)
 
 pub place_of : (seats : Seats) (place : ℕ) → place < 5 → ArePlaces seats → IsSeatPlace (get_or seats place None)
 place_of seats place few are = each_at IsSeatPlace seats place None are.each (omega (arith, are.five))
@@ -116,6 +111,3 @@ free_at (suc (suc (suc (suc (suc k))))) = refl
 
 pub all_free : (seats : Seats) → length seats ≡ 5 → ((k : ℕ) → k < 5 → get_or seats k None ≡ None) → seats ≡ no_seats
 all_free seats five none = ext_get_or None seats no_seats five (λ k h. none k (omega (arith, five)) ∙ sym (free_at k))
-
-pub each_free : (seats : Seats) (k : ℕ) → seats ≡ no_seats → get_or seats k None ≡ None
-each_free seats k free = ap (λ (s : Seats). get_or s k None) free ∙ free_at k
