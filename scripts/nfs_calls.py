@@ -95,10 +95,10 @@ def number_at(reply, place):
     return struct.unpack_from(">I", reply, place)[0]
 
 
-def connect(address):
-    """Connects to ADDRESS:PORT."""
+def connect(address, source=None):
+    """Connects to ADDRESS:PORT, from a source address and port if they are given."""
     host, port = address.rsplit(":", 1)
-    return socket.create_connection((host, int(port)), PATIENCE)
+    return socket.create_connection((host, int(port)), PATIENCE, source)
 
 
 def ask(stream, record):

@@ -14,8 +14,12 @@ import nfs_calls
 from nfs_calls import PERSISTENT, compound, create_session, exchange_id, number_at, opaque
 
 # docs/LIMITS.md
-MAX_CLIENTS, MAX_SESSIONS, SEATS = 64, 32, 5
+MAX_CONNECTIONS, MAX_CLIENTS, MAX_SESSIONS, SEATS = 16, 64, 32, 5
 PIPE_BYTES = 4096
+# A second address of this machine; any port.
+OTHER = ("127.0.0.2", 0)
+# A port that only root gets.
+PRIVILEGED = ("127.0.0.1", 1022)
 # Seconds to wait for a reply, and for a process to end.
 PATIENCE = 10
 STATUSES = {0: "OK", 10008: "DELAY"}
@@ -24,8 +28,8 @@ STATUSES = {0: "OK", 10008: "DELAY"}
 class Server:
     """A running server, and a connection to it."""
 
-    def __init__(self, daemon, volume, error=subprocess.DEVNULL):
-        words = [daemon, volume, "127.0.0.1:0"]
+    def __init__(self, daemon, volume, options=(), error=subprocess.DEVNULL):
+        words = [daemon, *options, volume, "127.0.0.1:0"]
         self.process = subprocess.Popen(words, stdout=subprocess.PIPE, stderr=error, text=True)
         self.address = self.process.stdout.readline().split()[1]
         self.stream = self.connect()
@@ -38,8 +42,8 @@ class Server:
         self.process.send_signal(signal.SIGKILL)
         self.process.wait(PATIENCE)
 
-    def connect(self):
-        stream = nfs_calls.connect(self.address)
+    def connect(self, source=None):
+        stream = nfs_calls.connect(self.address, source)
         stream.settimeout(PATIENCE)
         return stream
 
@@ -62,13 +66,14 @@ class Server:
     def new_session(self, owner, flags=0):
         return self.create_session(self.exchange_id(owner)[1], flags)
 
-    def answers_another(self):
-        """Returns whether it replies to a NULL on another connection."""
-        with self.connect() as stream:
+    def serves(self, source=None):
+        """Tells whether it replies to a NULL on another connection."""
+        with self.connect(source) as stream:
             try:
-                return nfs_calls.ask(stream, nfs_calls.NULL) is not None
-            except TimeoutError:
-                return False
+                reply = nfs_calls.ask(stream, nfs_calls.NULL)
+            except (TimeoutError, ConnectionError):
+                reply = None
+        return "not served" if reply is None else "served"
 
 
 def tell(*words, end="\n"):
@@ -111,7 +116,7 @@ def full_standard_error(daemon, volume):
     reads, writes = os.pipe()
     fcntl.fcntl(writes, fcntl.F_SETPIPE_SZ, PIPE_BYTES)
     os.write(writes, bytes(fcntl.fcntl(writes, fcntl.F_GETPIPE_SZ)))
-    with Server(daemon, volume, writes) as server:
+    with Server(daemon, volume, error=writes) as server:
         client = server.exchange_id("mounted")[1]
         for number in range(MAX_SESSIONS):
             server.create_session(client, sequence=number + 1)
@@ -121,14 +126,38 @@ def full_standard_error(daemon, volume):
         except TimeoutError:
             status = "no reply"
         tell("  one session more:", status)
-        tell("  another connection is", "served" if server.answers_another() else "not served")
+        tell("  another connection:", server.serves())
     os.close(writes)
     os.close(reads)
 
 
+def places(daemon, volume):
+    """One address takes all places, and says nothing."""
+    with Server(daemon, volume) as server:
+        taken = [server.connect() for _ in range(MAX_CONNECTIONS)]
+        tell(f"{MAX_CONNECTIONS} silent connections of one address")
+        tell("  a connection of another address:", server.serves(OTHER))
+        for stream in taken:
+            stream.close()
+
+
+def guests(daemon, volume):
+    """Options choose who is served."""
+    elsewhere, here = ["--allow", "192.0.2.0/28"], ["--allow", "127.0.0.0/8"]
+    for options in (elsewhere, elsewhere + here):
+        with Server(daemon, volume, options) as server:
+            tell(*options)
+            tell("  a connection of 127.0.0.1:", server.serves())
+    with Server(daemon, volume, ["--privileged-ports"]) as server:
+        tell("--privileged-ports")
+        tell("  a connection from another port:", server.serves())
+        if os.geteuid() == 0:
+            tell("  one from a port below 1024:", server.serves(PRIVILEGED))
+
+
 def main():
     daemon, program, folder = sys.argv[1:]
-    for act in (client_records, seats, full_standard_error):
+    for act in (client_records, seats, full_standard_error, places, guests):
         volume = pathlib.Path(folder) / f"{act.__name__}.img"
         words = [program, "format", volume, "256", "64"]
         subprocess.run(words, check=True, stdout=subprocess.DEVNULL)
