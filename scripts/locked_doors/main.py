@@ -106,9 +106,14 @@ def seats(daemon, volume):
             server.new_session(f"gone {number}", PERSISTENT)
         tell(f"{SEATS} persistent sessions")
         tell("  a session of another client:", word_of(server.new_session("new", PERSISTENT)))
-    with Server(daemon, volume) as server:
-        tell("  the same once the server was started again:", end=" ")
-        tell(word_of(server.new_session("new", PERSISTENT)))
+    for options in ([], ["--free-seats"]):
+        with open(volume.with_suffix(".txt"), "w+") as error:
+            with Server(daemon, volume, options, error) as server:
+                tell("the server is started again", *options)
+                printed = sum(line.startswith("seat ") for line in open(error.name))
+                tell("  seats that it prints:", printed)
+                tell("  a session of another client:", end=" ")
+                tell(word_of(server.new_session("new", PERSISTENT)))
 
 
 def full_standard_error(daemon, volume):
