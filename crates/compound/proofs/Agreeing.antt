@@ -64,7 +64,7 @@ some_world state = record {
     sessions = served;
     records = record_limits;
     connections = 0;
-    persistent = false;
+    settings = state.table.settings;
     reply_bytes = most_reply_bytes;
   };
   run = state.files.volume.run;

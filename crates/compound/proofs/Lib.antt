@@ -5,6 +5,7 @@ pub mod CloseLaws
 pub mod Creating
 pub mod Current
 pub mod Firsts
+pub mod Identity
 pub mod ListLaws
 pub mod OpenLaws
 pub mod OpenNamedLaws

@@ -6,11 +6,12 @@ use Rattle.model.specs.Operations.Operation.{Argument, SequenceArguments, Create
 use Rattle.model_tree.specs.Refusals.Refusal.{first_refusal}
 use Rattle.model_tree.specs.Seats.Seats.{has_seat}
 use Rattle.model.specs.Sessions.Session as sessions
-use Rattle.model.specs.Sessions.Session.{SessionLimits, Client, Session, Table, is_session, is_client, is_running, is_confirmed_of, has_only, exchange_flags, exchange_by, exchange_id, new_record, is_full_of_clients, without_unconfirmed, without_client, has_state, create_refusals, create_unless, create_again, create_by, create_session, CreateSessionOutcome, next_number, destroy_by, destroy_session, destroy_client_by, destroy_client_id, reclaim_by, reclaim_complete, started, finish}
+use Rattle.model.specs.Sessions.Session.{SessionLimits, Client, Session, Table, is_session, is_client, is_running, is_confirmed_of, has_only, exchange_flags, exchange_by, exchange_id, new_record, is_full_of_clients, without_unconfirmed, yielding, without_client, has_state, create_refusals, create_unless, create_again, create_by, create_session, CreateSessionOutcome, next_number, destroy_by, destroy_session, destroy_client_by, destroy_client_id, reclaim_by, reclaim_complete, started, finish}
 use Rattle.model.specs.Sessions.StateIds.{has_opens}
 use Rattle.model.specs.Server.World.{World, InProgress, HasRun, Gives, Replays, exchanged, created_by, tabled, started_in, begun, reclaimed, run, in_room, has_room}
 use Rattle.model.proofs.Sessions.SlotLaw.{exchange_same, destroy_client_same, reclaim_same}
 use Rattle.model.proofs.Sessions.TableCalls.{either}
+use Rattle.model.proofs.Sessions.Yielding.{yielding_is}
 use Rattle.compound.specs.Operates.{run_in_room, world_by}
 
 -- those that leave the seats
@@ -105,7 +106,9 @@ SameRun table new = new.run ≡ table.run
 
 record_run : (limits : SessionLimits) (uid : ℕ) (arguments : ExchangeIdArguments) (table cleared : Table) → cleared.run ≡ table.run → SameRun table (new_record limits uid arguments table cleared).1
 record_run limits uid arguments table cleared same =
-    either (λ (r : Result ExchangeIdAnswer Status × Table). SameRun table r.1) (is_full_of_clients limits (without_unconfirmed arguments.owner cleared)) _ _ (λ full. refl) (λ room. same)
+    let first = without_unconfirmed arguments.owner cleared in
+    either (λ (r : Result ExchangeIdAnswer Status × Table). SameRun table r.1) (is_full_of_clients limits (yielding limits first)) _ _ (λ full. refl)
+    (λ room. yielding_is (SameRun table) limits first same (λ number. same))
 
 exchange_by_run : (limits : SessionLimits) (opens : ℕ → Bool) (uid : ℕ) (arguments : ExchangeIdArguments) (table : Table) (known : Option Client)
     → SameRun table (exchange_by limits opens uid arguments table known).1

@@ -1,5 +1,5 @@
 -- What a result leaves, whole or spelled.
-use Rattle.std.proofs.Common.{◌≡◌, ℕ, ◌+◌, ◌≤◌, Bool, true, false, not, ◌&&◌, if◌then◌else◌, List, ◌++◌, length, Option, Some, refl, sym, ap, ap₂, subst, ◌∙◌, arith, length-append, nat_le, leb-true}
+use Rattle.std.proofs.Common.{◌≡◌, ℕ, ◌+◌, ◌≤◌, Bool, true, false, not, ◌&&◌, if◌then◌else◌, List, [], ◌++◌, length, Option, Some, refl, sym, ap, ap₂, subst, ◌∙◌, arith, length-append, nat_le, leb-true}
 use Rattle.std.specs.Global.{Vec}
 use Rattle.std.specs.Int.{w32}
 use Rattle.xdr.specs.Forms.{counted}
@@ -24,7 +24,7 @@ use Rattle.compound.specs.declared.progress.Progress.{Progress}
 use Rattle.compound.specs.declared.step.Stepped.TheVariants as stepped
 use Rattle.compound.specs.declared.encoded_result.EncodedResult.{EncodedResult}
 use Rattle.compound.specs.declared.encoded_result.EncodedResult.TheVariants as encoded
-use Rattle.compound.proofs.Replies.{room_length, spelled_short}
+use Rattle.compound.proofs.Replies.{room_length, spelled_short, tag_brief}
 use Rattle.compound.proofs.Resuming.{more_follow}
 
 -- its spelling is the definition's
@@ -63,6 +63,17 @@ pub has_room_for : (request : InProgress) (operation : ℕ) (values : List ℕ) 
     → HasRoomFor request (spelled_text operation values)
 has_room_for request operation values size same has =
     omega (arith, same, spelled_length operation values, leb-true (32 + length (counted request.tag) + length request.results + (8 + size)) 16368 has)
+
+-- the first result has room, if its values are few
+pub first_has_room : (request : InProgress) (operation : ℕ) (values : List ℕ) → length request.tag ≤ 255 → request.results ≡ [] → length values ≤ 4096
+    → HasRoomFor request (spelled_text operation values)
+first_has_room request operation values short none few =
+    omega (arith, tag_brief request.tag short, ap length none, spelled_length operation values)
+
+pub first_spelled_room : (request : InProgress) (operation : ℕ) (values : List ℕ) (answer : Answer) → Spells operation values answer → length request.tag ≤ 255 → request.results ≡ []
+    → length values ≤ 4096 → length (reply_with request (Done answer)) ≤ 16368
+first_spelled_room request operation values answer spells short none few =
+    omega (arith, room_spelled request operation values answer spells, tag_brief request.tag short, ap length none)
 
 pub text_is : (result : EncodedResult) (outcome : Outcome) → Tells result outcome → told_text result ≡ outcome_text outcome
 text_is (encoded.Whole whole) outcome is = ap outcome_text (sym is)

@@ -1,6 +1,8 @@
 //! The operations on clients and sessions (RFC 8881, sections 18.35 to 18.37 and 18.50).
 
-ghost use Rattle.std.specs.Prelude.{◌≡◌};
+ghost use Rattle.std.specs.Prelude.{◌≡◌, ◌≤◌, [], length};
+ghost use Rattle.model.specs.Wire.WireAnswers.{exchange_id_answer};
+ghost use Rattle.wire.specs.AnswerViews.{exchange_id_view as answer_view};
 
 use crate::executed::{Effect, Executed};
 use crate::fault::Fault;
@@ -11,7 +13,11 @@ use fs::Fs;
 use model::not_done::NotDone;
 use opens::Opens;
 use session::{Creation, Table};
-use wire::{Answer, CreateSessionArguments, ExchangeIdArguments, Operation};
+use wire::{Answer, CreateSessionArguments, ExchangeIdAnswer, ExchangeIdArguments, Operation};
+use xdr::Writer;
+
+/// The most bytes that EXCHANGE_ID answers after its status: two names of 1,024 bytes, and numbers.
+const IDENTITY_BYTES: usize = 2_088;
 
 #[tactic(auto, unfolding(crate::specs::Views::in_progress_of))]
 impl Running<'_> {
@@ -44,8 +50,12 @@ impl Running<'_> {
             (fault ≡ Memory) × (table_of table.new ≡ table_of table.old)) }
     {
         let with_opens = opens.clients(self.alloc)?;
+        let memory = Writer::with_capacity(self.alloc, IDENTITY_BYTES)?;
         match table.exchange_id(self.cred.uid, arguments, &with_opens) {
-            Ok(answer) => Ok(self.answer_first(Answer::ExchangeId(answer), Effect::Stays)),
+            Ok(exchanged) => {
+                let values = spelled(&table.identity_answer(exchanged), memory);
+                Ok(self.answer_first_spelled(Operation::ExchangeId, values))
+            }
             Err(NotDone::Status(status)) => Ok(self.refuse(Operation::ExchangeId, status)),
             Err(NotDone::Memory) => Err(Fault::Memory),
         }
@@ -145,5 +155,20 @@ impl Running<'_> {
             Ok(()) => Ok(self.answer_first(Answer::DestroyClientId, Effect::Stays)),
             Err(status) => Ok(self.refuse(Operation::DestroyClientId, status)),
         }
+    }
+}
+
+/// The answer's bytes, in memory that was taken before.
+#[tactic(auto, using(crate::proofs::Identity::identity_short))]
+fn spelled(answer: &ExchangeIdAnswer<'_>, memory: Writer) -> Vec<u8>
+    requires names { (length answer.now.major_id.now ≤ 1024) × (length answer.now.scope.now ≤ 1024) }
+    requires memory { (memory.bytes ≡ []) × (IDENTITY_BYTES ≤ memory.capacity) }
+    ensures values { result.items ≡ exchange_id_answer.spelling (answer_view answer.now) }
+    ensures short { length result.items ≤ IDENTITY_BYTES }
+{
+    let mut out = memory;
+    match answer.write(&mut out) {
+        Ok(()) => out.into_vec(),
+        Err(_) => unreachable!(),
     }
 }

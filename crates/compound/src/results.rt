@@ -158,6 +158,21 @@ impl Running<'_> {
             effect,
         }
     }
+
+    /// What the first operation comes to, where nothing refuses it and its OK result is spelled in
+    /// few bytes: the reply has room for that.
+    pub(crate) fn answer_first_spelled(&self, operation: Operation, values: Vec<u8>) -> Executed
+        requires first { (in_progress_of self.now).answered ≡ 0 }
+        requires short { length values.items ≤ 4096 }
+        ensures gives { (now : ℕ) (old new : SharedState) (kind : Kind) (answer : Answered)
+            → Spells (number_of operation) values.items answer
+            → RunsTo now old new (in_progress_of self.now) (in_progress_of self.now) kind
+            (Done answer)
+            → Operates now old new (in_progress_of self.now) kind result }
+        ensures answered { IsAnswered (in_progress_of self.now) result }
+    {
+        Executed::GivesSpelled { operation, values }
+    }
 }
 
 impl Progress {
