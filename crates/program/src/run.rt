@@ -3,17 +3,15 @@
 use crate::serve::serve;
 use crate::words::{Request, read_words};
 use callers::ScriptFault;
-use disk::{FileDevice, MemDevice};
-use fs::{Checked, Fs};
+use disk::MemDevice;
 use script::run_script;
-use server::{Server, is_volume_size};
+use server::Server;
 use std::alloc::Global;
 use std::convert::AsStr;
-use std::fs::{File, read_to_string};
+use std::fs::read_to_string;
 use std::io::{BufRead, ErrorKind, Write};
-use std::rt::Files;
 use system::{
-    Machine, Refused, open_refusal, open_volume, open_volume_to_read, tell_outcome, tell_usage,
+    Machine, Refused, check_file, format_file, open_refusal, open_volume, tell_outcome, tell_usage,
 };
 
 /// The words that there may be.
@@ -56,11 +54,7 @@ where
     match request {
         Request::Usage => Ok(()),
         Request::Script => script_in_memory(rt, input, out),
-        Request::Format {
-            file,
-            sectors,
-            nodes,
-        } => Ok(format_file(rt, file, sectors, nodes, out)?),
+        Request::Format { file, size } => Ok(format_file(rt, file, size, out)?),
         Request::Run { file, script } => run_file(rt, file, script, out),
         Request::Check { file } => Ok(check_file(rt, file, out)?),
         Request::Serve { file, port, count } => Ok(serve_file(rt, file, port, count, out)?),
@@ -81,33 +75,6 @@ fn volume_in_memory(alloc: Global) -> Result<MemDevice, Refused> {
     let mut device = MemDevice::new(alloc, MEMORY_SECTORS)?;
     Server::format(alloc, &mut device, MEMORY_NODES)?;
     Ok(device)
-}
-
-fn format_file<R, O>(
-    rt: &R,
-    file: &str,
-    sectors: u32,
-    nodes: u32,
-    out: &mut O,
-) -> Result<(), Refused>
-where
-    R: Files<File = File> + AllocGlobal,
-    O: Write,
-{
-    make_volume(rt, file, sectors, nodes)?;
-    Ok(writeln!(out, "formatted")?)
-}
-
-fn make_volume<R>(rt: &R, file: &str, sectors: u32, nodes: u32) -> Result<(), Refused>
-where
-    R: Files<File = File> + AllocGlobal,
-{
-    // The size is tested before the file is touched.
-    if !is_volume_size(sectors, nodes) {
-        return Err(Refused::Size);
-    }
-    let mut device = FileDevice::create(rt, rt.alloc(), file, sectors)?;
-    Ok(Server::format(rt.alloc(), &mut device, nodes)?)
 }
 
 fn run_file<R, O>(rt: &R, file: &str, script_file: &str, out: &mut O) -> Result<(), ScriptFault>
@@ -140,28 +107,6 @@ where
 {
     let mut device = open_volume(rt, file)?;
     serve(rt, &mut device, port, count, out)
-}
-
-/// Tells what a mount would find, and writes nothing.
-fn check_file<R, O>(rt: &R, file: &str, out: &mut O) -> Result<(), Refused>
-where
-    R: Files<File = File> + AllocGlobal,
-    O: Write,
-{
-    let found = check_volume(rt, file)?;
-    Ok(writeln!(
-        out,
-        "volume {} {} run {}",
-        found.sectors, found.nodes, found.count
-    )?)
-}
-
-fn check_volume<R>(rt: &R, file: &str) -> Result<Checked, Refused>
-where
-    R: Files<File = File> + AllocGlobal,
-{
-    let mut device = open_volume_to_read(rt, file)?;
-    Ok(Fs::check(rt.alloc(), &mut device)?)
 }
 
 /// Why a script is not read.

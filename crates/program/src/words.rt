@@ -4,8 +4,7 @@ use clap::error::ErrorKind;
 use clap::{Arg, ArgMatches, Command};
 use std::alloc::{AllocError, Global};
 use std::convert::AsStr;
-use system::decimal;
-use volume::superblock::{MAX_NODES, MAX_SECTORS, MIN_NODES, MIN_SECTORS};
+use system::{VolumeSize, decimal};
 
 /// What the program is asked for.
 #[derive(Clone, Copy)]
@@ -15,8 +14,7 @@ pub enum Request<'a> {
     /// Make a file a volume.
     Format {
         file: &'a str,
-        sectors: u32,
-        nodes: u32,
+        size: VolumeSize,
     },
     /// Run a script on the volume in a file.
     Run {
@@ -127,19 +125,14 @@ fn number_in(words: &ArgMatches<'_>, name: &str) -> Option<u32> {
 }
 
 fn format_of<'a>(words: &ArgMatches<'a>) -> Request<'a> {
-    let sectors = number_in(words, "SECTORS");
-    match (word_in(words, "FILE"), sectors, number_in(words, "NODES")) {
-        (Some(file), Some(sectors), Some(nodes)) if is_size(sectors, nodes) => Request::Format {
-            file,
-            sectors,
-            nodes,
-        },
+    match (word_in(words, "FILE"), size_in(words)) {
+        (Some(file), Some(size)) => Request::Format { file, size },
         _ => Request::Usage,
     }
 }
 
-fn is_size(sectors: u32, nodes: u32) -> bool {
-    (MIN_SECTORS..=MAX_SECTORS).contains(&sectors) && (MIN_NODES..=MAX_NODES).contains(&nodes)
+fn size_in(words: &ArgMatches<'_>) -> Option<VolumeSize> {
+    VolumeSize::parse(word_in(words, "SECTORS")?, word_in(words, "NODES")?)
 }
 
 fn run_of<'a>(words: &ArgMatches<'a>) -> Request<'a> {

@@ -6,6 +6,7 @@ mod machine;
 mod number;
 mod outcome;
 mod refused;
+mod size;
 mod time;
 mod volume_file;
 
@@ -14,5 +15,8 @@ pub use machine::Machine;
 pub use number::decimal;
 pub use outcome::{tell_outcome, tell_usage};
 pub use refused::Refused;
+pub use size::VolumeSize;
 pub use time::moment;
-pub use volume_file::{open_refusal, open_volume, open_volume_to_read};
+pub use volume_file::{
+    check_file, check_volume, format_file, open_refusal, open_volume, open_volume_to_read,
+};

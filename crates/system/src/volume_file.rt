@@ -1,10 +1,67 @@
 //! The volume in a file.
 
 use crate::refused::Refused;
+use crate::size::VolumeSize;
 use disk::FileDevice;
+use fs::{Checked, Fs};
+use server::{Server, is_volume_size};
 use std::fs::{File, metadata};
-use std::io::ErrorKind;
+use std::io::{ErrorKind, Write};
 use std::rt::Files;
+
+/// Makes a file a new volume, and prints that it has.
+///
+/// # Errors
+/// Size if no volume has this size, before the file is touched; Open; Device; Memory; Io.
+pub fn format_file<R, O>(rt: &R, file: &str, size: VolumeSize, out: &mut O) -> Result<(), Refused>
+where
+    R: Files<File = File> + AllocGlobal,
+    O: Write,
+{
+    make_volume(rt, file, size)?;
+    Ok(writeln!(out, "formatted")?)
+}
+
+fn make_volume<R>(rt: &R, file: &str, size: VolumeSize) -> Result<(), Refused>
+where
+    R: Files<File = File> + AllocGlobal,
+{
+    let VolumeSize { sectors, nodes } = size;
+    if !is_volume_size(sectors, nodes) {
+        return Err(Refused::Size);
+    }
+    let mut device = FileDevice::create(rt, rt.alloc(), file, sectors)?;
+    Ok(Server::format(rt.alloc(), &mut device, nodes)?)
+}
+
+/// Prints what a mount would find, and writes nothing to the file.
+///
+/// # Errors
+/// Those of [`check_volume`]; Io.
+pub fn check_file<R, O>(rt: &R, file: &str, out: &mut O) -> Result<(), Refused>
+where
+    R: Files<File = File> + AllocGlobal,
+    O: Write,
+{
+    let found = check_volume(rt, file)?;
+    Ok(writeln!(
+        out,
+        "volume {} {} run {}",
+        found.sectors, found.nodes, found.count
+    )?)
+}
+
+/// What a mount of the volume in a file would find.
+///
+/// # Errors
+/// Those of [`open_volume_to_read`], and those of the mount.
+pub fn check_volume<R>(rt: &R, file: &str) -> Result<Checked, Refused>
+where
+    R: Files<File = File> + AllocGlobal,
+{
+    let mut device = open_volume_to_read(rt, file)?;
+    Ok(Fs::check(rt.alloc(), &mut device)?)
+}
 
 /// The volume in a file, which nobody else has meanwhile.
 ///
