@@ -1,16 +1,22 @@
 //! The program `nfs41d`: it serves the volume in a file over TCP, to up to 16 connections at a
-//! time, until it is ended.
+//! time, until it is ended; and it formats and checks volumes.
 #![tactic(auto)]
 
-mod words;
+mod arguments;
+mod fault;
+mod format;
+mod name;
+mod request;
+mod serve;
+mod version;
 
-use event_loop::{Door, serve};
+use fault::Fault;
+use format::format_volume;
+use request::{Request, read_request};
+use serve::serve_volume;
+use std::io::Write;
 use std::process::ExitCode;
-use system::{Refused, Unbegun, begin, open_volume, tell_outcome, tell_usage};
-use words::{Request, read_words};
-
-const USAGE: &str =
-    "nfs41d [--forget-after SECONDS] [--no-persistent-sessions] FILE [ADDRESS:PORT]";
+use system::{begin, check_file, tell_outcome, tell_usage};
 
 fn main(rt: HostRuntime) -> ExitCode {
     ExitCode::from(run(&rt))
@@ -18,34 +24,20 @@ fn main(rt: HostRuntime) -> ExitCode {
 
 fn run(rt: &HostRuntime) -> u8 {
     let mut err = rt.stderr();
-    let begun = match begin(rt) {
-        Ok(begun) => begun,
-        Err(Unbegun::Word) => return tell_usage(&mut err, USAGE),
-        Err(Unbegun::Refused(refused)) => return tell_outcome(&mut err, Err(refused)),
-    };
-    match read_words(rt.alloc(), &begun.words) {
-        Ok(Some(request)) => {
-            let outcome = serve_file(rt, &request);
-            tell_outcome(&mut err, outcome)
-        }
-        Ok(None) => tell_usage(&mut err, USAGE),
-        Err(error) => tell_outcome(&mut err, Err(Refused::from(error))),
+    match obey(rt) {
+        Err(Fault::Usage(usage)) => tell_usage(&mut err, usage.text()),
+        outcome => tell_outcome(&mut err, outcome),
     }
 }
 
-/// The volume is locked, and the socket there, before the mount raises the restart count.
-fn serve_file(rt: &HostRuntime, request: &Request<'_>) -> Result<(), Refused> {
-    let device = open_volume(rt, request.file)?;
-    let door = match request.address {
-        Some(address) => Door::listen(rt, address)?,
-        None => Door::handed_over(rt, rt.process())?,
-    };
-    serve(
-        rt,
-        device,
-        door,
-        request.settings,
-        &mut rt.stdout(),
-        &mut rt.stderr(),
-    )
+/// Does what the words of the command line ask for.
+fn obey(rt: &HostRuntime) -> Result<(), Fault> {
+    let begun = begin(rt)?;
+    let mut out = rt.stdout();
+    match read_request(rt.alloc(), &begun.words)? {
+        Request::Print(text) => Ok(write!(out, "{text}")?),
+        Request::Serve(serving) => serve_volume(rt, serving),
+        Request::Format { file, size, force } => format_volume(rt, file, size, force, &mut out),
+        Request::Check { file } => Ok(check_file(rt, file, &mut out)?),
+    }
 }

@@ -1,0 +1,164 @@
+//! The command line as `clap` has it: its arguments, and what help says of each.
+
+use crate::version::VERSION;
+use clap::{Arg, ArgAction, Command};
+use std::alloc::{AllocError, Global};
+
+pub const SERVE: &str = "serve";
+
+pub const FORMAT: &str = "format";
+
+pub const CHECK: &str = "check";
+
+pub const FILE: &str = "FILE";
+
+pub const ADDRESS: &str = "ADDRESS:PORT";
+
+pub const SECTORS: &str = "SECTORS";
+
+pub const NODES: &str = "NODES";
+
+pub const FORCE: &str = "force";
+
+pub const FORGET_AFTER: &str = "forget-after";
+
+pub const NO_PERSISTENT_SESSIONS: &str = "no-persistent-sessions";
+
+pub const NAME: &str = "name";
+
+pub const FREE_SEATS: &str = "free-seats";
+
+pub const ALLOW: &str = "allow";
+
+pub const PRIVILEGED_PORTS: &str = "privileged-ports";
+
+pub const QUIET: &str = "quiet";
+
+pub const METRICS: &str = "metrics";
+
+/// The whole command. What `serve` takes may stand without that word.
+pub fn command<'a>(alloc: Global) -> Result<Command<'a>, AllocError> {
+    let command = Command::new(alloc, "nfs41d")
+        .bin_name("nfs41d")?
+        .no_binary_name(true)
+        .version(VERSION)
+        .about("Serves the volume in a file by NFS 4.1, formats volumes and checks them.")
+        .args_conflicts_with_subcommands(true)
+        .subcommand_negates_reqs(true)
+        .disable_help_subcommand(true);
+    with_serving(alloc, command)?
+        .subcommand(serve(alloc)?)?
+        .subcommand(format(alloc)?)?
+        .subcommand(check(alloc)?)
+}
+
+fn serve<'a>(alloc: Global) -> Result<Command<'a>, AllocError> {
+    let command = Command::new(alloc, SERVE).about(
+        "Serve the volume in a file, until a signal ends it",
+    );
+    with_serving(alloc, command)
+}
+
+fn format<'a>(alloc: Global) -> Result<Command<'a>, AllocError> {
+    Command::new(alloc, FORMAT)
+        .about("Make a file a new volume, which only its owner may read")
+        .arg(flag(alloc, FORCE, "Overwrite a file that is a volume already"))?
+        .arg(word(alloc, FILE, "The file, which is made if it is absent"))?
+        .arg(word(alloc, SECTORS, "How many sectors of 4096 bytes it gets"))?
+        .arg(word(alloc, NODES, "How many files and directories it can hold"))
+}
+
+fn check<'a>(alloc: Global) -> Result<Command<'a>, AllocError> {
+    Command::new(alloc, CHECK)
+        .about("Print what a mount would find, and write nothing")
+        .arg(word(alloc, FILE, "The volume"))
+}
+
+/// The command with all that `serve` takes.
+fn with_serving<'a>(alloc: Global, command: Command<'a>) -> Result<Command<'a>, AllocError> {
+    let command = command.arg(word(alloc, FILE, "The volume"))?.arg(Arg::new(alloc, ADDRESS).help(
+        "Where to listen; port 0 is one that the system picks. Without it, at the socket that \
+             systemd hands over",
+    ))?;
+    let command = with_sessions(alloc, command)?;
+    let command = with_door(alloc, command)?;
+    with_telling(alloc, command)
+}
+
+/// Options on clients and their sessions.
+fn with_sessions<'a>(alloc: Global, command: Command<'a>) -> Result<Command<'a>, AllocError> {
+    command
+        .arg(option(
+            alloc,
+            NAME,
+            "NAME",
+            "What tells this server from others, the same at each start; by default the name of \
+             the host, a colon, and the path of the volume",
+        ))?
+        .arg(option(
+            alloc,
+            FORGET_AFTER,
+            "SECONDS",
+            "Forget all clients after this time without a connection",
+        ))?
+        .arg(flag(
+            alloc,
+            NO_PERSISTENT_SESSIONS,
+            "Keep no replies over a crash, which is faster",
+        ))?
+        .arg(flag(
+            alloc,
+            FREE_SEATS,
+            "Free the seats of sessions that are gone, at the start",
+        ))
+}
+
+/// Options on who may connect.
+fn with_door<'a>(alloc: Global, command: Command<'a>) -> Result<Command<'a>, AllocError> {
+    command
+        .arg(option(
+            alloc,
+            ALLOW,
+            "ADDRESS/BITS",
+            "Serve only the machines of this network, or of any of these if it is repeated",
+        )
+        .action(ArgAction::Append))?
+        .arg(flag(
+            alloc,
+            PRIVILEGED_PORTS,
+            "Serve only connections from ports below 1024",
+        ))
+}
+
+/// Options on what it tells.
+fn with_telling<'a>(alloc: Global, command: Command<'a>) -> Result<Command<'a>, AllocError> {
+    command
+        .arg(flag(alloc, QUIET, "Print failures only"))?
+        .arg(option(
+            alloc,
+            METRICS,
+            ADDRESS,
+            "Serve counters for Prometheus there",
+        ))
+}
+
+/// A word that has to be there.
+fn word<'a>(alloc: Global, name: &'a str, help: &'a str) -> Arg<'a> {
+    Arg::new(alloc, name).required(true).help(help)
+}
+
+/// An option without a value.
+fn flag<'a>(alloc: Global, name: &'a str, help: &'a str) -> Arg<'a> {
+    Arg::new(alloc, name)
+        .long(name)
+        .action(ArgAction::SetTrue)
+        .help(help)
+}
+
+/// An option with a value.
+fn option<'a>(alloc: Global, name: &'a str, value: &'a str, help: &'a str) -> Arg<'a> {
+    Arg::new(alloc, name)
+        .long(name)
+        .value_name(value)
+        .help(help)
+}

@@ -1,0 +1,41 @@
+//! Making volumes.
+
+use crate::fault::Fault;
+use std::fs::File;
+use std::io::Write;
+use std::rt::Files;
+use system::{Refused, VolumeSize, check_volume, format_file};
+
+/// Makes a file a new volume; one that is a volume already only by force.
+///
+/// # Errors
+/// Volume; those of [`format_file`].
+pub fn format_volume<R, O>(
+    rt: &R,
+    file: &str,
+    size: VolumeSize,
+    force: bool,
+    out: &mut O,
+) -> Result<(), Fault>
+where
+    R: Files<File = File> + AllocGlobal,
+    O: Write,
+{
+    if !force && is_volume(rt, file)? {
+        return Err(Fault::Volume);
+    }
+    Ok(format_file(rt, file, size, out)?)
+}
+
+/// Whether a file is a volume, be it sound or not.
+fn is_volume<R>(rt: &R, file: &str) -> Result<bool, Refused>
+where
+    R: Files<File = File> + AllocGlobal,
+{
+    match check_volume(rt, file) {
+        Ok(_) | Err(Refused::Damaged | Refused::Worn) => Ok(true),
+        // What cannot be opened to be read is absent, or cannot be opened to be formatted either.
+        Err(Refused::NotVolume | Refused::Open) => Ok(false),
+        Err(refused) => Err(refused),
+    }
+}

@@ -1,0 +1,132 @@
+//! What the words of the command line ask for.
+
+use crate::arguments::{
+    ADDRESS, ALLOW, CHECK, FILE, FORCE, FORGET_AFTER, FORMAT, FREE_SEATS, METRICS, NAME,
+    NO_PERSISTENT_SESSIONS, NODES, PRIVILEGED_PORTS, QUIET, SECTORS, SERVE, command,
+};
+use crate::fault::{Fault, Usage};
+use crate::name::is_name;
+use clap::error::ErrorKind;
+use clap::{ArgMatches, Error};
+use event_loop::{Guests, Network};
+use std::alloc::Global;
+use std::net::SocketAddr;
+use std::time::Duration;
+use system::{Refused, VolumeSize, decimal};
+
+/// What the program is asked for.
+#[derive(Drop)]
+pub enum Request<'a> {
+    /// Print this: help, or the version.
+    Print(Error),
+    /// Serve the volume in a file.
+    Serve(Serving<'a>),
+    /// Make a file a volume, one that is a volume already only by force.
+    Format {
+        file: &'a str,
+        size: VolumeSize,
+        force: bool,
+    },
+    /// Print what a mount would find in a file.
+    Check {
+        file: &'a str,
+    },
+}
+
+/// How a volume is to be served.
+#[derive(Drop)]
+pub struct Serving<'a> {
+    /// The volume's.
+    pub file: &'a str,
+    /// Where to listen; None: at the socket that a service manager hands over.
+    pub address: Option<SocketAddr>,
+    /// What tells this server from others; None: the host and the file.
+    pub name: Option<&'a str>,
+    pub forget_after: Option<Duration>,
+    pub persistent: bool,
+    pub free_seats: bool,
+    pub guests: Guests,
+    pub quiet: bool,
+    pub metrics: Option<SocketAddr>,
+}
+
+/// Reads the words after the program's name.
+///
+/// # Errors
+/// Usage if they have no form; Memory.
+pub fn read_request<'a>(alloc: Global, words: &'a [String]) -> Result<Request<'a>, Fault> {
+    match command(alloc)?.try_get_matches_from(words) {
+        Ok(matches) => request_in(alloc, &matches),
+        Err(error) => match error.kind() {
+            ErrorKind::OutOfMemory => Err(Refused::Memory.into()),
+            ErrorKind::DisplayHelp | ErrorKind::DisplayVersion => Ok(Request::Print(error)),
+            _ => Err(Fault::Usage(Usage::Form)),
+        },
+    }
+}
+
+fn request_in<'a>(alloc: Global, matches: &ArgMatches<'a>) -> Result<Request<'a>, Fault> {
+    if let Some(words) = matches.subcommand_matches(FORMAT) {
+        return format_in(words);
+    }
+    if let Some(words) = matches.subcommand_matches(CHECK) {
+        let file = word_in(words, FILE)?;
+        return Ok(Request::Check { file });
+    }
+    let words = matches.subcommand_matches(SERVE).unwrap_or(matches);
+    Ok(Request::Serve(serving_in(alloc, words)?))
+}
+
+fn format_in<'a>(words: &ArgMatches<'a>) -> Result<Request<'a>, Fault> {
+    let size = VolumeSize::parse(word_in(words, SECTORS)?, word_in(words, NODES)?);
+    Ok(Request::Format {
+        file: word_in(words, FILE)?,
+        size: size.ok_or(Fault::Usage(Usage::Form))?,
+        force: words.get_flag(FORCE),
+    })
+}
+
+fn serving_in<'a>(alloc: Global, words: &ArgMatches<'a>) -> Result<Serving<'a>, Fault> {
+    Ok(Serving {
+        file: word_in(words, FILE)?,
+        address: words.try_get_one::<SocketAddr>(ADDRESS)?,
+        name: name_in(words)?,
+        forget_after: time_in(words)?,
+        persistent: !words.get_flag(NO_PERSISTENT_SESSIONS),
+        free_seats: words.get_flag(FREE_SEATS),
+        guests: guests_in(alloc, words)?,
+        quiet: words.get_flag(QUIET),
+        metrics: words.try_get_one::<SocketAddr>(METRICS)?,
+    })
+}
+
+fn word_in<'a>(words: &ArgMatches<'a>, name: &str) -> Result<&'a str, Fault> {
+    words.get_str(name).ok_or(Fault::Usage(Usage::Form))
+}
+
+fn name_in<'a>(words: &ArgMatches<'a>) -> Result<Option<&'a str>, Fault> {
+    match words.get_str(NAME) {
+        Some(name) if !is_name(name.as_bytes()) => Err(Fault::Usage(Usage::Form)),
+        name => Ok(name),
+    }
+}
+
+fn time_in(words: &ArgMatches<'_>) -> Result<Option<Duration>, Fault> {
+    let Some(word) = words.get_str(FORGET_AFTER) else {
+        return Ok(None);
+    };
+    let seconds = decimal(word).ok_or(Fault::Usage(Usage::Form))?;
+    Ok(Some(Duration::from_secs(u64::from(seconds))))
+}
+
+fn guests_in(alloc: Global, words: &ArgMatches<'_>) -> Result<Guests, Fault> {
+    let mut networks = Vec::new(alloc);
+    for word in words.get_strs(ALLOW).unwrap_or_default() {
+        let network = Network::parse(word).ok_or(Fault::Usage(Usage::Form))?;
+        networks.push(network)?;
+    }
+    Ok(Guests {
+        networks,
+        privileged_ports: words.get_flag(PRIVILEGED_PORTS),
+    })
+}

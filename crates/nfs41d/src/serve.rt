@@ -1,0 +1,53 @@
+//! Serving a volume.
+
+use crate::fault::Fault;
+use crate::name::default_name;
+use crate::request::Serving;
+use crate::version::RELEASE;
+use disk::Device;
+use event_loop::{Door, Settings, serve};
+use std::net::SocketAddr;
+use system::{Refused, open_volume};
+
+/// Serves the volume in a file. It is locked, and the socket there, before the mount raises the
+/// restart count.
+pub fn serve_volume(rt: &HostRuntime, serving: Serving<'_>) -> Result<(), Fault> {
+    let name = name_of(rt, serving.name, serving.file)?;
+    let device = open_volume(rt, serving.file)?;
+    let door = door_of(rt, serving.address)?;
+    let title = title_of(rt, serving.file, device.sectors())?;
+    let settings = settings_of(serving, name);
+    let mut out = rt.stdout();
+    Ok(serve(rt, device, door, settings, &title, &mut out, rt.stderr())?)
+}
+
+fn name_of(rt: &HostRuntime, given: Option<&str>, file: &str) -> Result<Vec<u8>, Fault> {
+    match given {
+        Some(name) => Ok(Vec::from_slice(rt.alloc(), name.as_bytes())?),
+        None => default_name(rt, file),
+    }
+}
+
+fn door_of(rt: &HostRuntime, address: Option<SocketAddr>) -> Result<Door, Refused> {
+    match address {
+        Some(address) => Door::listen(rt, address),
+        None => Door::handed_over(rt, rt.process()),
+    }
+}
+
+/// What is served by which release.
+fn title_of(rt: &HostRuntime, file: &str, sectors: u32) -> Result<String, Refused> {
+    Ok(format!(in rt.alloc(); "nfs41d {RELEASE}, {file}, {sectors} sectors")?)
+}
+
+fn settings_of(serving: Serving<'_>, name: Vec<u8>) -> Settings {
+    Settings {
+        forget_after: serving.forget_after,
+        name,
+        persistent: serving.persistent,
+        free_seats: serving.free_seats,
+        guests: serving.guests,
+        quiet: serving.quiet,
+        metrics: serving.metrics,
+    }
+}
