@@ -9,6 +9,7 @@ use client::Client;
 use disk::Device;
 use server::{Server, Turn};
 use std::alloc::Global;
+use system::standard_settings;
 use wire::Argument;
 
 /// Mounts the device's volume. Sessions may be persistent or not.
@@ -17,7 +18,7 @@ pub fn mount<D: Device>(
     device: D,
     persistent: bool,
 ) -> Result<Server<D>, ScriptFault> {
-    match Server::mount(alloc, device, persistent) {
+    match Server::mount(alloc, device, standard_settings(alloc, persistent)?) {
         Ok(server) => Ok(server),
         Err(unmounted) => Err(unmounted.fault.into()),
     }

@@ -9,7 +9,7 @@ use Rattle.model_tree.specs.Trees.Limits.{limits_of}
 use Rattle.model.specs.Operations.Operation.{Argument}
 use Rattle.model.specs.Wire.Rpc.{words}
 use Rattle.model_tree.specs.Seats.Seats.{no_seats}
-use Rattle.model.specs.Sessions.Session.{Table, no_slot}
+use Rattle.model.specs.Sessions.Session.{Table, no_slot, plain_settings}
 use Rattle.model.specs.Server.World.{World, ServerLimits, Quiet, mounted_world}
 use Rattle.client.specs.Client.{Client, Session}
 use Rattle.client.specs.Requests.{call_text, credential_text, new_client, requested, sequence_of, with_record}
@@ -54,14 +54,14 @@ limits = record {
   };
   records = record { bytes = 1024; fragments = 1 };
   connections = 2;
-  persistent = false;
+  settings = plain_settings;
   reply_bytes = 1024;
 }
 
 abbrev pub table : Table
 table = record {
   run = 1;
-  persistent = false;
+  settings = plain_settings;
   client_serial = 1;
   session_serial = 1;
   clients =

@@ -8,7 +8,7 @@ use std::io::{BufRead, BufReader, ErrorKind, Read, Write};
 use std::net::OpenStream;
 use std::time::{Clock, Duration};
 use std::{io, thread};
-use system::{Refused, moment};
+use system::{Refused, moment, standard_settings};
 
 /// The most bytes of a piece. The longest record of a request fits, with the headers of all its
 /// fragments.
@@ -63,7 +63,7 @@ impl From<ServerFault> for Parting {
 impl<D: Device> Host<D> {
     /// Mounts the device's volume. Sessions may be persistent.
     pub fn mount(alloc: Global, device: D) -> Result<Host<D>, Refused> {
-        match Server::mount(alloc, device, true) {
+        match Server::mount(alloc, device, standard_settings(alloc, true)?) {
             Ok(server) => Ok(Host { server, conn: None }),
             Err(unmounted) => Err(unmounted.fault.into()),
         }

@@ -27,11 +27,11 @@ use Rattle.server.proofs.Stops.{IsJoined, joined, mounted_leaves, every_stop, ev
 -- One of the model's
 
 abbrev limits_of : Stopped → ServerLimits
-limits_of stopped = server_limits stopped.first.volume.limits stopped.persistent
+limits_of stopped = server_limits stopped.first.volume.limits stopped.settings
 
 calls_joined : (stopped : Stopped) → IsJoined stopped.first stopped.calls stopped.old
 calls_joined stopped =
-    joined stopped.first stopped.old stopped.calls (mounted_leaves stopped.persistent stopped.run stopped.start stopped.first stopped.mounted) stopped.served
+    joined stopped.first stopped.old stopped.calls (mounted_leaves stopped.settings stopped.run stopped.start stopped.first stopped.mounted) stopped.served
 
 its_run : (stopped : Stopped) → IsRun (mounted (limits_of stopped) stopped.run stopped.start.tree stopped.start.seats) stopped.old.serving (history_in stopped)
 its_run stopped =

@@ -24,7 +24,7 @@ use Rattle.model.specs.Sessions.SeatRuns.{AreSeats}
 use Rattle.model_tree.specs.Seats.Seats.{Seats}
 use Rattle.model_tree.specs.Trees.Tree.{Tree}
 use Rattle.model_tree.specs.Trees.Keyed.{Keyed}
-use Rattle.model.specs.Sessions.Session.{Table, loaded_table}
+use Rattle.model.specs.Sessions.Session.{Table, loaded_table, Settings}
 use Rattle.model.specs.Server.World.{World, Connection, mounted_world}
 use Rattle.server.specs.Headline.{IsMounted}
 use Rattle.server.specs.Views.{world_by, server_limits, serving_by}
@@ -107,22 +107,22 @@ does_quietly held old new down event said none up is seated says recent ready = 
 
 -- the run is the restart count that the mount wrote
 
-pub loaded : (count run : ℕ) (persistent : Bool) (seats : Seats) → count ≡ run → (table : Table) → table ≡ loaded_table count persistent seats → table ≡ loaded_table run persistent seats
-loaded count run persistent seats same table is = is ∙ ap (λ (r : ℕ). loaded_table r persistent seats) same
+pub loaded : (count run : ℕ) (settings : Settings) (seats : Seats) → count ≡ run → (table : Table) → table ≡ loaded_table count settings seats → table ≡ loaded_table run settings seats
+loaded count run settings seats same table is = is ∙ ap (λ (r : ℕ). loaded_table r settings seats) same
 
 pub few_runs : (count run : ℕ) → count ≡ run → count < 4294967296 → run < 2 ^ 32
 few_runs count run same few = subst (λ (r : ℕ). r < 2 ^ 32) same (omega (arith, few))
 
-module _ (fs : FileSystem) (table : Table) (opens : Opens) (connections : Keyed Connection) (persistent : Bool) (seats : Seats)
-    (tables : table ≡ loaded_table fs.volume.run persistent seats) (none_open : opens ≡ no_opens) (none : connections ≡ []) (changes : fs.changes ≡ 0) where
+module _ (fs : FileSystem) (table : Table) (opens : Opens) (connections : Keyed Connection) (settings : Settings) (seats : Seats)
+    (tables : table ≡ loaded_table fs.volume.run settings seats) (none_open : opens ≡ no_opens) (none : connections ≡ []) (changes : fs.changes ≡ 0) where
   abbrev begun : Seats → World
-  begun found = mounted_world (server_limits fs.volume.limits persistent) fs.volume.run fs.volume.tree found
+  begun found = mounted_world (server_limits fs.volume.limits settings) fs.volume.run fs.volume.tree found
 
   begun_with : world_by (shared fs table opens) connections ≡ begun seats
   begun_with =
       ap₂ (λ (t : Table) (o : Opens). world_by (shared fs t o) connections) tables none_open
-      ∙ (ap (λ (k : Keyed Connection). world_by (shared fs (loaded_table fs.volume.run persistent seats) no_opens) k) none
-      ∙ ap (λ (n : ℕ). record (world_by (shared fs (loaded_table fs.volume.run persistent seats) no_opens) []) { changes = n }) changes)
+      ∙ (ap (λ (k : Keyed Connection). world_by (shared fs (loaded_table fs.volume.run settings seats) no_opens) k) none
+      ∙ ap (λ (n : ℕ). record (world_by (shared fs (loaded_table fs.volume.run settings seats) no_opens) []) { changes = n }) changes)
 
   -- the world of a server that was just mounted
   pub world_mounted : world_by (shared fs table opens) connections ≡ begun table.seats
@@ -131,7 +131,7 @@ module _ (fs : FileSystem) (table : Table) (opens : Opens) (connections : Keyed 
   -- and the server
   pub mounted_by : {keeps_word : Type 0} → keeps_word → FindsSeats keeps_word fs.volume seats → fs.volume.run < 2 ^ 32 → fs.volume.is_down ≡ false → Holds fs.volume
       → ∥ IsStart fs.volume.limits fs.volume.run fs.volume.tree ∥₁ → fs.volume.limits.aces_set + 5 ≤ fs.volume.limits.aces
-      → IsMounted persistent fs.volume.run (kept_of fs.volume) (record { serving = serving_by (world_by (shared fs table opens) connections) (fs.volume.tree ∷ []) (fs.volume.seats ∷ []) fs.volume.is_down; volume = fs.volume })
+      → IsMounted settings fs.volume.run (kept_of fs.volume) (record { serving = serving_by (world_by (shared fs table opens) connections) (fs.volume.tree ∷ []) (fs.volume.seats ∷ []) fs.volume.is_down; volume = fs.volume })
   mounted_by keeps finds few up holds starts room = record {
     serves =
         ap (λ (w : World). serving_by w (fs.volume.tree ∷ []) (fs.volume.seats ∷ []) fs.volume.is_down) (begun_with ∙ ap begun (finds.are keeps))

@@ -1,4 +1,4 @@
--- Whether sessions may be persistent stays as it was said when the run began.
+-- The settings of a run stay.
 use Rattle.std.proofs.Common.{◌≡◌, ℕ, Bool, List, Option, None, Some, Result, Ok, Err, find, ◌==◌, ◌∙◌, bytes_eq, refl}
 use Rattle.model_tree.specs.declared.status.Status.{Status}
 use Rattle.model_tree.specs.declared.status.Status.TheVariants as status
@@ -12,18 +12,20 @@ use Rattle.model.specs.Operations.Step.{current_refusals}
 use Rattle.model.specs.Sessions.StateIds.{has_opens}
 use Rattle.model.specs.Server.World.{World, InProgress, Entry, HasRun, Gives, Replays, Turned, one, run, begun, started_in, exchanged, created_by, tabled, reclaimed, closes, behind, kept_by, result_of, is_last, is_to_hold, with_result, state_of}
 use Rattle.model.proofs.Sessions.TableCalls.{either}
+use Rattle.model.proofs.Sessions.Yielding.{yielding_is}
 use Rattle.model.proofs.Server.TurnCases.{IsTurn, Idles, Says, Closes, Unread, TooBig, Gave, Repeats, turn_is, read_of}
 
 abbrev Stays : (old new : Table) → Type 0
-Stays old new = new.persistent ≡ old.persistent
+Stays old new = new.settings ≡ old.settings
 
 -- The table's calls
 
 module _ (limits : SessionLimits) (opens : ℕ → Bool) (uid : ℕ) (arguments : ExchangeIdArguments) (table : Table) where
   record_stays : (cleared : Table) → Stays table cleared → Stays table (sessions.new_record limits uid arguments table cleared).1
   record_stays cleared same =
-      either (λ (r : Result ExchangeIdAnswer Status × Table). Stays table r.1) (sessions.is_full_of_clients limits (sessions.without_unconfirmed arguments.owner cleared)) _ _
-      (λ full. refl) (λ free. same)
+      let first = sessions.without_unconfirmed arguments.owner cleared in
+      either (λ (r : Result ExchangeIdAnswer Status × Table). Stays table r.1) (sessions.is_full_of_clients limits (sessions.yielding limits first)) _ _
+      (λ full. refl) (λ free. yielding_is (Stays table) limits first same (λ number. same))
 
   exchange_by_stays : (known : Option Client) → Stays table (sessions.exchange_by limits opens uid arguments table known).1
   exchange_by_stays None = record_stays table refl
@@ -174,5 +176,5 @@ module _ (old : World) (here now : ℕ) where
       ∙ ran_stays (run old (read_of request rest) now operation) outcome after left ran (run_stays old (read_of request rest) now operation)
   turned_stays _ (Repeats request operation rest result session slot goes reads ran) = refl
 
-  pub one_persists : (one old here now).world.table.persistent ≡ old.table.persistent
-  one_persists = turned_stays (one old here now) (turn_is old here now)
+  pub one_settings : (one old here now).world.table.settings ≡ old.table.settings
+  one_settings = turned_stays (one old here now) (turn_is old here now)

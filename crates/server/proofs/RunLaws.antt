@@ -32,8 +32,8 @@ pub hang_up_is_calls : HangUpIsCalls
 hang_up_is_calls connection now first old new calls before turned = (further_calls connection now first old new calls before turned, still_ready connection now old new turned)
 
 pub never_empty : NeverEmpty
-never_empty persistent run start first last calls mounted served none =
-    let all = joined first last calls (mounted_leaves persistent run start first mounted) served in
+never_empty settings run start first last calls mounted served none =
+    let all = joined first last calls (mounted_leaves settings run start first mounted) served in
     let one = all.leaves (seen last.volume.history.now) (seen_left last.volume.history.now) in
     let never = subst (λ (recent : List Tree). IsAmong recent one.0.tree) none one.1.0 in
     absurd (omega (arith, never.1.0))

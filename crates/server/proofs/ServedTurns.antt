@@ -1,5 +1,5 @@
 -- A turn of a connection, as the turn of its server.
-use Rattle.std.proofs.Common.{◌≡◌, ℕ, Bool, List, [], ◌∷◌, subst, false, true≢false, Option, Some, Result, Ok, Err, OnOk, OnErr, refl, sym, ap, ap₂, ◌∙◌, inl, inr, arith}
+use Rattle.std.proofs.Common.{◌≡◌, ℕ, List, [], ◌∷◌, subst, false, true≢false, Option, Some, Result, Ok, Err, OnOk, OnErr, refl, sym, ap, ap₂, ◌∙◌, inl, inr, arith}
 use Rattle.disk.specs.Moments.{History, AddsOnly}
 use Rattle.disk.proofs.MomentLemmas.{AddsOnly-weaken}
 use Rattle.compound.specs.States.{Agrees, SharedState, HasState, with_state}
@@ -18,14 +18,14 @@ use Rattle.model_tree.specs.Trees.Keyed.{Keyed, at, with}
 use Rattle.model_tree.proofs.Trees.KeyedLaws.{at-with_same}
 use Rattle.model.specs.Server.Runs as runs
 use Rattle.model.specs.Server.Runs.{Serving}
-use Rattle.model.specs.Sessions.Session.{Table}
+use Rattle.model.specs.Sessions.Session.{Table, Settings}
 use Rattle.model.specs.Server.World as world
 use Rattle.model.specs.Server.World.{World, one, with_connection}
 use Rattle.server.specs.declared.turn.Turn.{Turn}
 use Rattle.server.specs.Connections.{ConnectionTurns, IsRising, HasGoneOn, turn_view}
 use Rattle.server.specs.Seen.{MayKeepDuring}
 use Rattle.server.specs.Views.{world_by, server_limits, serving_by}
-use Rattle.server.proofs.Persisting.{one_persists}
+use Rattle.server.proofs.Persisting.{one_settings}
 use Rattle.server.proofs.Turning.{one_is, agrees_on}
 use Rattle.server.proofs.Worlds.{may_leave_from, may_hold_from}
 
@@ -49,11 +49,11 @@ module _ (state left : SharedState) (old new : Keyed world.Connection) (number n
       → (turn_view done ≡ (one (world_by state old) number now).turn) × (world_by left new ≡ (one (world_by state old) number now).world)
   turned done turns rises is same =
       let made = turns (world_by state old) number (has_state state old) rises is in
-      let stays : left.table.persistent ≡ state.table.persistent
-      = sym (ap (λ (w : World). w.table.persistent) made.1) ∙ one_persists (world_by state old) number now in
+      let stays : left.table.settings ≡ state.table.settings
+      = sym (ap (λ (w : World). w.table.settings) made.1) ∙ one_settings (world_by state old) number now in
       let here : world_by left new ≡ with_connection (with_state (world_by state old) left) number after
-      = ap₂ (λ (l : Limits) (b : Bool). record (world_by left new) { limits = server_limits l b }) same.limits stays
-      ∙ (ap (λ (r : ℕ). record (world_by left new) { limits = server_limits state.files.volume.limits state.table.persistent; run = r }) same.run
+      = ap₂ (λ (l : Limits) (s : Settings). record (world_by left new) { limits = server_limits l s }) same.limits stays
+      ∙ (ap (λ (r : ℕ). record (world_by left new) { limits = server_limits state.files.volume.limits state.table.settings; run = r }) same.run
       ∙ ap (λ (connections : Keyed world.Connection). record (with_state (world_by state old) left) { connections = connections }) written) in
       (sym made.0, here ∙ sym made.1)
 
@@ -68,8 +68,8 @@ pub broken : (state left : SharedState) (old new : Keyed world.Connection) → I
     → left ≡ record state { files = left.files } → new ≡ old → (tree : Tree) → record (world_by left new) { tree = tree } ≡ record (world_by state old) { tree = tree }
 broken state left old new same changes stays connections tree =
     ap (λ (s : SharedState). record (world_by s new) { tree = tree }) stays
-    ∙ (ap (λ (l : Limits). record (world_by (record state { files = left.files }) new) { tree = tree; limits = server_limits l state.table.persistent }) same.limits
-    ∙ (ap (λ (r : ℕ). record (world_by (record state { files = left.files }) new) { tree = tree; limits = server_limits state.files.volume.limits state.table.persistent; run = r }) same.run
+    ∙ (ap (λ (l : Limits). record (world_by (record state { files = left.files }) new) { tree = tree; limits = server_limits l state.table.settings }) same.limits
+    ∙ (ap (λ (r : ℕ). record (world_by (record state { files = left.files }) new) { tree = tree; limits = server_limits state.files.volume.limits state.table.settings; run = r }) same.run
     ∙ (ap (λ (n : ℕ). record (world_by state new) { tree = tree; changes = n }) changes
     ∙ ap (λ (kept : Keyed world.Connection). record (world_by state kept) { tree = tree }) connections)))
 

@@ -1,5 +1,5 @@
 -- The calls of a server are a run of the machine, and what a crash within one leaves stands for what the machine may leave.
-use Rattle.std.proofs.Common.{◌≡◌, ◌<◌, ◌+◌, ◌^◌, ℕ, Bool, List, refl, sym, ap, ◌∙◌, subst, inl, ⊎_elim, arith}
+use Rattle.std.proofs.Common.{◌≡◌, ◌<◌, ◌+◌, ◌^◌, ℕ, List, refl, sym, ap, ◌∙◌, subst, inl, ⊎_elim, arith}
 use Rattle.std.specs.List.{IsAmong}
 use Rattle.std.proofs.Math.Logic.{∥∥₁_elim, ∥∥₁_map}
 use Rattle.std.proofs.Props.{props}
@@ -27,6 +27,7 @@ use Rattle.volume.specs.VolumeState.{StandsForOne}
 use Rattle.server.specs.Seen.{Seen, LeavesNow, MayKeepDuring, Moves, ServerCall, IsServed, Begins, Goes_on, Fails_at, Stays_down, Keeps_on, world_after, history_of, AreTold, event_told}
 use Rattle.server.specs.Views.{server_limits}
 use Rattle.server.proofs.Moves.{left_now}
+use Rattle.model.specs.Sessions.Session.{Settings}
 
 -- a crash within a call
 stopped_in : (old new : Seen) (event : Event) → LeavesNow old → Moves old event new → (image : Image) → LeftSince new.volume.history (moment old.volume.history) image
@@ -98,8 +99,8 @@ joined first last calls leaves (Keeps_on {old = old} {new = new} before keeps) =
     }
 
 -- a server that was just mounted leaves what it begins with
-pub mounted_leaves : (persistent : Bool) (run : ℕ) (start : Kept) (first : Seen) → IsMounted persistent run start first → LeavesNow first
-mounted_leaves persistent run start first mounted image left =
+pub mounted_leaves : (settings : Settings) (run : ℕ) (start : Kept) (first : Seen) → IsMounted settings run start first → LeavesNow first
+mounted_leaves settings run start first mounted image left =
     let one = mounted.ready.leaves image left in
     let seated : first.volume.seats ≡ start.seats = ap (λ (kept : Kept). kept.seats) mounted.begins in (
       one.0,
@@ -114,7 +115,7 @@ every_stop stopped image left =
     let first = stopped.first in
     let old = stopped.old in
     let history = history_of first.serving.world stopped.calls in
-    let all = joined first old stopped.calls (mounted_leaves stopped.persistent stopped.run stopped.start first stopped.mounted) stopped.served in
+    let all = joined first old stopped.calls (mounted_leaves stopped.settings stopped.run stopped.start first stopped.mounted) stopped.served in
     let found = stopped_in old stopped.new stopped.event all.leaves stopped.moves image left in
     let stands : StandsFor first.volume.sectors first.volume.limits.nodes stopped.run found.0 image =
     subst (λ (s : ℕ). StandsFor s first.volume.limits.nodes stopped.run found.0 image) all.same.sectors
@@ -123,7 +124,7 @@ every_stop stopped image left =
     record {
       kept = found.0;
       good = record {
-        tree = every_run (server_limits first.volume.limits stopped.persistent) stopped.run stopped.start.tree stopped.start.seats old.serving history
+        tree = every_run (server_limits first.volume.limits stopped.settings) stopped.run stopped.start.tree stopped.start.seats old.serving history
             (subst (λ (s : Serving). IsRun s old.serving history) stopped.mounted.serves all.run) stopped.event found.0.tree found.1.0;
         seats = found.1.1;
       };
@@ -229,8 +230,8 @@ stamped_within stopped =
     let first = stopped.first in
     let old = stopped.old in
     let history = history_of first.serving.world stopped.calls in
-    let all = joined first old stopped.calls (mounted_leaves stopped.persistent stopped.run stopped.start first stopped.mounted) stopped.served in
-    every_stamp (server_limits first.volume.limits stopped.persistent) stopped.run stopped.start.tree stopped.start.seats old.serving history
+    let all = joined first old stopped.calls (mounted_leaves stopped.settings stopped.run stopped.start first stopped.mounted) stopped.served in
+    every_stamp (server_limits first.volume.limits stopped.settings) stopped.run stopped.start.tree stopped.start.seats old.serving history
     (subst (λ (s : Serving). IsRun s old.serving history) stopped.mounted.serves all.run) stopped.event
 
 given_within : (stopped : Stopped) → ∥ AreGiven stopped.run (executed_in stopped) ∥₁
@@ -238,9 +239,9 @@ given_within stopped =
     let first = stopped.first in
     let old = stopped.old in
     let history = history_of first.serving.world stopped.calls in
-    let all = joined first old stopped.calls (mounted_leaves stopped.persistent stopped.run stopped.start first stopped.mounted) stopped.served in
+    let all = joined first old stopped.calls (mounted_leaves stopped.settings stopped.run stopped.start first stopped.mounted) stopped.served in
     ∥∥₁_map stopped.mounted.starts (λ starts.
-    every_stamp_is_given (server_limits first.volume.limits stopped.persistent) stopped.run stopped.start.tree stopped.start.seats old.serving history stopped.mounted.room starts
+    every_stamp_is_given (server_limits first.volume.limits stopped.settings) stopped.run stopped.start.tree stopped.start.seats old.serving history stopped.mounted.room starts
     (subst (λ (s : Serving). IsRun s old.serving history) stopped.mounted.serves all.run) stopped.event)
 
 pub every_stamping : EveryStamping

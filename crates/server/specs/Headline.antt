@@ -1,6 +1,6 @@
 -- What users of the server can rely on, from the bytes that come to the sectors that a crash
 -- leaves.
-use Rattle.std.specs.Prelude.{ℕ, Bool, List, [], ◌∷◌, slice_get, Some, ◌≡◌, ◌≢◌, ◌<◌, ◌≤◌, ◌+◌, ◌^◌}
+use Rattle.std.specs.Prelude.{ℕ, List, [], ◌∷◌, slice_get, Some, ◌≡◌, ◌≢◌, ◌<◌, ◌≤◌, ◌+◌, ◌^◌}
 use Rattle.disk.specs.Moments.{Image, History, LeftSince, at_rest, moment, seen}
 use Rattle.layout.specs.Stands.{Kept, bare}
 use Rattle.model_tree.specs.Trees.Fresh.{fresh_tree}
@@ -21,13 +21,14 @@ use Rattle.server.specs.Seen.{Seen, ServerCall, Moves, IsServed, world_after, hi
 use Rattle.server.specs.Views.{server_limits, volume_of, seen_with}
 use Rattle.server.specs.declared.server.Server.{Server}
 use Rattle.disk.specs.declared.device.Device.{Ghosts}
+use Rattle.model.specs.Sessions.Session.{Settings}
 
 -- a server that was just mounted, and begins a run with this tree, which is well formed and from
 -- before its stamps, and with these seats, which are of sessions of earlier runs: a crash now
 -- leaves them
-pub record IsMounted (persistent : Bool) (run : ℕ) (start : Kept) (first : Seen) : Type 0 where
+pub record IsMounted (settings : Settings) (run : ℕ) (start : Kept) (first : Seen) : Type 0 where
   pub serves : first.serving
-      ≡ mounted (server_limits first.volume.limits persistent) run start.tree start.seats
+      ≡ mounted (server_limits first.volume.limits settings) run start.tree start.seats
   pub counted : first.volume.run ≡ run
   pub few : run < 2 ^ 32
   pub begins : kept_of first.volume ≡ start
@@ -37,15 +38,15 @@ pub record IsMounted (persistent : Bool) (run : ℕ) (start : Kept) (first : See
   pub ready : IsRecent first.volume first.serving.recent
 
 -- so begins a server that a mount gives
-abbrev pub BeginsServing : {D : Type 0} {g : Ghosts D} → (persistent : Bool) → Server D g → Type 0
-BeginsServing persistent server =
-    IsMounted persistent (volume_of server).run (kept_of (volume_of server))
+abbrev pub BeginsServing : {D : Type 0} {g : Ghosts D} → (settings : Settings) → Server D g → Type 0
+BeginsServing settings server =
+    IsMounted settings (volume_of server).run (kept_of (volume_of server))
     (seen_with server ((volume_of server).tree ∷ []))
 
 -- A run that was stopped at some moment of a call, or since its start.
 pub record Stopped : Type 0 where
-  -- whether its sessions may be persistent
-  pub persistent : Bool
+  -- what was chosen for it
+  pub settings : Settings
   pub run : ℕ
   pub start : Kept
   pub first : Seen
@@ -53,7 +54,7 @@ pub record Stopped : Type 0 where
   pub old : Seen
   pub event : Event
   pub new : Seen
-  pub mounted : IsMounted persistent run start first
+  pub mounted : IsMounted settings run start first
   pub served : IsServed first calls old
   pub moves : Moves old event new
 

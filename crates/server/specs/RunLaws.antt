@@ -1,5 +1,5 @@
 -- What follows of every run.
-use Rattle.std.specs.Prelude.{ℕ, Bool, List, [], Option, Some, ◌≡◌, ◌↔◌}
+use Rattle.std.specs.Prelude.{ℕ, List, [], Option, Some, ◌≡◌, ◌↔◌}
 use Rattle.layout.specs.Stands.{Kept}
 use Rattle.model_tree.specs.Trees.Keyed.{at}
 use Rattle.model.specs.Wire.Rpc.{NoCall, read_call}
@@ -7,6 +7,7 @@ use Rattle.model.specs.Server.World.{World, Connection, Waiting, Busy, Idle, one
 use Rattle.volume.specs.VolumeState.{IsRecent}
 use Rattle.server.specs.Headline.{IsMounted}
 use Rattle.server.specs.Seen.{Seen, ServerCall, IsServed, IsTurned}
+use Rattle.model.specs.Sessions.Session.{Settings}
 
 -- the next call can be made
 abbrev pub IsSeenReady : Seen → Type 0
@@ -23,8 +24,8 @@ HangUpIsCalls =
 -- one that claims that a crash leaves nothing
 abbrev pub NeverEmpty : Type 0
 NeverEmpty =
-    (persistent : Bool) (run : ℕ) (start : Kept) (first last : Seen) (calls : List ServerCall)
-    → IsMounted persistent run start first → IsServed first calls last
+    (settings : Settings) (run : ℕ) (start : Kept) (first last : Seen) (calls : List ServerCall)
+    → IsMounted settings run start first → IsServed first calls last
     → last.serving.recent ≡ [] → ⊥
 
 -- nothing to do: no whole call waits, and no request has begun

@@ -19,6 +19,7 @@ use Rattle.volume.specs.VolumeState.{VolumeState, IsRecent}
 use Rattle.server.specs.Connections.{connections_of}
 use Rattle.server.specs.declared.server.Server.{Server}
 use Rattle.server.specs.Seen.{Seen, LeavesNow, Said, Gave, Does, Breaks, Checkpoints, GivesDown, IsTurned}
+use Rattle.model.specs.Sessions.Session.{Settings}
 
 -- how many connections there may be at a time
 abbrev pub most_connections : ℕ
@@ -27,19 +28,19 @@ most_connections = 16
 -- 64 clients, 32 sessions, 8 slots and 2 of a session that has a seat; records of 16,384 bytes; an
 -- OK result ends within 16,368 bytes of its reply. A constant of the code that is changed is
 -- refused. Whether a new session may have a seat is said when the run begins.
-abbrev pub server_limits : Limits → (persistent : Bool) → ServerLimits
-server_limits volume persistent = record {
+abbrev pub server_limits : Limits → (settings : Settings) → ServerLimits
+server_limits volume settings = record {
   volume = volume;
   sessions = served;
   records = record_limits;
   connections = most_connections;
-  persistent = persistent;
+  settings = settings;
   reply_bytes = most_reply_bytes;
 }
 
 abbrev pub world_by : SharedState → (connections : List (ℕ × world.Connection)) → World
 world_by state connections = record {
-  limits = server_limits state.files.volume.limits state.table.persistent;
+  limits = server_limits state.files.volume.limits state.table.settings;
   run = state.files.volume.run;
   tree = state.files.volume.tree;
   changes = state.files.changes;
@@ -62,9 +63,9 @@ volume_of server = (fs_of server.fs).volume
 
 -- it has the tree of its volume and the seats that its mount read, and no client, session or
 -- connection
-abbrev pub BeginsEmpty : {D : Type 0} {g : Ghosts D} → (persistent : Bool) → Server D g → Type 0
-BeginsEmpty persistent server = world_of server
-    ≡ mounted_world (server_limits (volume_of server).limits persistent) (volume_of server).run
+abbrev pub BeginsEmpty : {D : Type 0} {g : Ghosts D} → (settings : Settings) → Server D g → Type 0
+BeginsEmpty settings server = world_of server
+    ≡ mounted_world (server_limits (volume_of server).limits settings) (volume_of server).run
     (volume_of server).tree (world_of server).table.seats
 
 -- how often the device has failed

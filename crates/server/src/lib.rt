@@ -18,4 +18,5 @@ pub use fault::ServerFault;
 pub use fs::{FormatFault, MountFault, Unmounted, is_volume_size};
 pub use laws::{every_life, every_run};
 pub use server::{MAX_CONNECTIONS, Server};
+pub use session::{MAX_NAME_BYTES, NameFault, STANDARD_NAME, ServerName, Settings};
 pub use turn::Turn;

@@ -4,7 +4,7 @@ use crate::server::{MAX_CONNECTIONS, Server};
 use disk::Device;
 use fs::{FormatFault, Fs, MountFault, Mounted, Unmounted};
 use opens::Opens;
-use session::Table;
+use session::{Settings, Table};
 use slab::Slab;
 use std::alloc::Global;
 use std::num::NonZeroUsize;
@@ -14,6 +14,7 @@ impl<D: Device> Server<D> {
     ghost use Rattle.std.specs.Prelude.{IfOk, IfErr};
     ghost use Rattle.fs.specs.Formatting.{Formats};
     ghost use Rattle.volume.specs.MountAnswers.{MountGivesBack};
+    ghost use Rattle.session.specs.Views.{settings_of};
     ghost use Rattle.server.specs.Headline.{BeginsServing};
     ghost use Rattle.server.specs.Views.{BeginsEmpty, MountsServer};
 
@@ -26,22 +27,21 @@ impl<D: Device> Server<D> {
     }
 
     /// Serves the volume on this device, without a client or a connection yet: `Fs::mount_seated`.
-    /// Every map that a crash leaves from then on has the new restart count. Only where
-    /// `persistent` is true can a session that is made get a seat; what the seats that stand hold is
-    /// answered in any case.
+    /// Every map that a crash leaves from then on has the new restart count. What the seats that
+    /// stand hold is answered whatever the settings say.
     ///
     /// # Errors
     /// The device comes back with the reason. NotVolume, then Worn, by the first sector, and then
     /// nothing was written; then Damaged exactly where no tree stands; Device where the device
     /// failed, and Memory.
-    pub fn mount(alloc: Global, device: D, persistent: bool) -> Result<Server<D>, Unmounted<D>>
-        ensures world { IfOk result (BeginsEmpty persistent) }
+    pub fn mount(alloc: Global, device: D, settings: Settings) -> Result<Server<D>, Unmounted<D>>
+        ensures world { IfOk result (BeginsEmpty (settings_of settings)) }
         ensures serves { IfOk result (MountsServer device) }
-        ensures begins { D.keeps_word → IfOk result (BeginsServing persistent) }
+        ensures begins { D.keeps_word → IfOk result (BeginsServing (settings_of settings)) }
         ensures gives_back { IfErr result (MountGivesBack D.keeps_word D.size D.failed D.history
             device) }
     {
-        Server::mount_with(alloc, device, None, persistent)
+        Server::mount_with(alloc, device, None, settings)
     }
 
     /// The same, with a journal that keeps so many sectors in memory. Many connections at once work
@@ -53,15 +53,15 @@ impl<D: Device> Server<D> {
         alloc: Global,
         device: D,
         cached: NonZeroUsize,
-        persistent: bool,
+        settings: Settings,
     ) -> Result<Server<D>, Unmounted<D>>
-        ensures world { IfOk result (BeginsEmpty persistent) }
+        ensures world { IfOk result (BeginsEmpty (settings_of settings)) }
         ensures serves { IfOk result (MountsServer device) }
-        ensures begins { D.keeps_word → IfOk result (BeginsServing persistent) }
+        ensures begins { D.keeps_word → IfOk result (BeginsServing (settings_of settings)) }
         ensures gives_back { IfErr result (MountGivesBack D.keeps_word D.size D.failed D.history
             device) }
     {
-        Server::mount_with(alloc, device, Some(cached), persistent)
+        Server::mount_with(alloc, device, Some(cached), settings)
     }
 
     /// Mounts with as many sectors in memory as are asked, or as a journal keeps by itself.
@@ -69,11 +69,11 @@ impl<D: Device> Server<D> {
         alloc: Global,
         device: D,
         cached: Option<NonZeroUsize>,
-        persistent: bool,
+        settings: Settings,
     ) -> Result<Server<D>, Unmounted<D>>
-        ensures world { IfOk result (BeginsEmpty persistent) }
+        ensures world { IfOk result (BeginsEmpty (settings_of settings)) }
         ensures serves { IfOk result (MountsServer device) }
-        ensures begins { D.keeps_word → IfOk result (BeginsServing persistent) }
+        ensures begins { D.keeps_word → IfOk result (BeginsServing (settings_of settings)) }
         ensures gives_back { IfErr result (MountGivesBack D.keeps_word D.size D.failed D.history
             device) }
     {
@@ -87,7 +87,7 @@ impl<D: Device> Server<D> {
             }
         };
         let Mounted { fs, seats } = Fs::mount_seated(alloc, device, cached)?;
-        let table = Table::load(alloc, fs.restart_count(), persistent, seats);
+        let table = Table::load(alloc, fs.restart_count(), settings, seats);
         let opens = Opens::new(alloc);
         Ok(Server {
             alloc,

@@ -15,6 +15,7 @@ use crate::fault::ServerFault;
 use crate::turn::Turn;
 use disk::Device;
 use fs::Fs;
+use model_tree::seats::Seats as KeptSeats;
 use opens::Opens;
 use session::Table;
 use slab::Slab;
@@ -42,6 +43,9 @@ pub struct Server<D: Device> {
 
 #[tactic(auto, unfolding(crate::specs::Views::world_of, crate::specs::Views::files_of, crate::specs::Views::volume_of, crate::specs::Views::server_failures))]
 impl<D: Device> Server<D> {
+    ghost use Rattle.std.specs.List.{list_any};
+    ghost use Rattle.model.specs.Sessions.Session.{is_session};
+    ghost use Rattle.model_tree.specs.Seats.SeatViews.{seats_view};
     ghost use Rattle.std.specs.Prelude.{◌≢◌, ◌≡◌, ◌≤◌, ◌↔◌, List, true, false, Some, None, length, OnOk, OnErr, IfOk, IfErr, IsErrOf};
     ghost use Rattle.model.specs.Server.Runs as runs;
     ghost use Rattle.model_tree.specs.Seats.Seats.{Seats};
@@ -57,6 +61,48 @@ impl<D: Device> Server<D> {
         ensures { result ≡ (world_of self.now).run }
     {
         self.fs.restart_count()
+    }
+
+    /// The seats, with what they hold.
+    pub fn seats(&self) -> &KeptSeats
+        ensures { seats_view result.now ≡ (world_of self.now).table.seats }
+    {
+        self.table.seats()
+    }
+
+    /// Whether there is a session of this id. The seat of a session that this run has not is dead.
+    pub fn has_session(&self, id: &[u8; 16]) -> bool
+        ensures { result ≡ list_any (is_session id.now) (world_of self.now).table.sessions }
+    {
+        self.table.has_session(id)
+    }
+
+    /// How many connections there are.
+    pub fn connection_count(&self) -> usize
+        ensures { result ≡ length (world_of self.now).connections }
+    {
+        self.connections.len()
+    }
+
+    /// How many client records there are.
+    pub fn client_count(&self) -> usize
+        ensures { result ≡ length (world_of self.now).table.clients }
+    {
+        self.table.client_count()
+    }
+
+    /// How many sessions there are.
+    pub fn session_count(&self) -> usize
+        ensures { result ≡ length (world_of self.now).table.sessions }
+    {
+        self.table.session_count()
+    }
+
+    /// How many opens there are.
+    pub fn open_count(&self) -> usize
+        ensures { result ≡ length (world_of self.now).opens.known }
+    {
+        self.opens.len()
     }
 
     /// The device, as it is now: clients, sessions and connections are gone, and what stands on it

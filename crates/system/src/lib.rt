@@ -6,6 +6,7 @@ mod machine;
 mod number;
 mod outcome;
 mod refused;
+mod settings;
 mod size;
 mod time;
 mod volume_file;
@@ -15,6 +16,7 @@ pub use machine::Machine;
 pub use number::decimal;
 pub use outcome::{tell_outcome, tell_usage};
 pub use refused::Refused;
+pub use settings::standard_settings;
 pub use size::VolumeSize;
 pub use time::moment;
 pub use volume_file::{

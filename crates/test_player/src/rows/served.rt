@@ -6,6 +6,22 @@ use crate::difference::{Answer, Difference};
 use crate::drivers;
 use server::{MountFault, Server, ServerFault, Unmounted};
 use std::alloc::Global;
+use system::standard_settings;
+
+/// Mounts a device under the standard name.
+fn mounted(
+    alloc: Global,
+    device: TrialDevice,
+    persistent: bool,
+) -> Result<Server<TrialDevice>, Unmounted<TrialDevice>> {
+    match standard_settings(alloc, persistent) {
+        Ok(settings) => Server::mount(alloc, device, settings),
+        Err(_) => Err(Unmounted {
+            fault: MountFault::Memory,
+            device,
+        }),
+    }
+}
 
 /// A server of the volume on a device.
 #[derive(Drop)]
@@ -24,13 +40,13 @@ impl Served {
         persistent: bool,
         patience: Patience,
     ) -> Result<Served, Unmounted<TrialDevice>> {
-        let (told, again) = match Server::mount(alloc, device, persistent) {
+        let (told, again) = match mounted(alloc, device, persistent) {
             Err(
                 Unmounted {
                     device,
                     fault: MountFault::Memory,
                 },
-            ) if patience == Patience::Once => (Server::mount(alloc, device, persistent), 1),
+            ) if patience == Patience::Once => (mounted(alloc, device, persistent), 1),
             told => (told, 0),
         };
         Ok(Served {

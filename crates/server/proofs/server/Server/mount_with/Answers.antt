@@ -4,7 +4,7 @@ use Rattle.volume.specs.declared.fault.MountFault.TheVariants as mounts
 use Rattle.volume.proofs.MountedLaws.{refused_untouched}
 use Rattle.volume.proofs.ServeLaws.{told_err}
 use Rattle.model_tree.specs.Seats.SeatViews.{seats_view}
-use Rattle.session.specs.Views.{table_of}
+use Rattle.session.specs.Views.{table_of, settings_of}
 use Rattle.server.specs.Connections.{connections_of}
 use Rattle.server.specs.Views.{world_of, volume_of, server_failures}
 use Rattle.opens.specs.Views.{opens_of}
@@ -17,8 +17,8 @@ returns-clause-begins g c =
     let found = c.in_ok-fs.ensures in
     let fs = fs_of c.in_ok-fs.field-0.fs in
     let size = g.D.Device.size c.args.device in
-    λ keeps. mounted_by fs (table_of c.load-table.result) (opens_of c.new-opens.result) (connections_of c.in-Ok.connections) c.args.persistent (seats_view c.in_ok-fs.field-0.seats)
-    (loaded c.restart_count.result fs.volume.run c.args.persistent (seats_view c.in_ok-fs.field-0.seats) c.restart_count.ensures (table_of c.load-table.result) c.load-table.ensures)
+    λ keeps. mounted_by fs (table_of c.load-table.result) (opens_of c.new-opens.result) (connections_of c.in-Ok.connections) (settings_of c.args.settings) (seats_view c.in_ok-fs.field-0.seats)
+    (loaded c.restart_count.result fs.volume.run (settings_of c.args.settings) (seats_view c.in_ok-fs.field-0.seats) c.restart_count.ensures (table_of c.load-table.result) c.load-table.ensures)
     c.new-opens.ensures (rw c.in-Ok.ensures.empty refl) found.no_change keeps found.seats
     (few_runs c.restart_count.result fs.volume.run c.restart_count.ensures c.restart_count.type_inv) found.serves.new.is_up (found.serves.mounted keeps).holds
     (found_start size (g.D.Device.history c.args.device) fs.volume (found.serves.mounted keeps).found found.serves.new.limits)
@@ -28,8 +28,8 @@ pub returns-clause-world : goal.returns-clause-world
 unfolding world_of volume_of connections_of
 returns-clause-world g c =
     let fs = fs_of c.in_ok-fs.field-0.fs in
-    world_mounted fs (table_of c.load-table.result) (opens_of c.new-opens.result) (connections_of c.in-Ok.connections) c.args.persistent (seats_view c.in_ok-fs.field-0.seats)
-    (loaded c.restart_count.result fs.volume.run c.args.persistent (seats_view c.in_ok-fs.field-0.seats) c.restart_count.ensures (table_of c.load-table.result) c.load-table.ensures)
+    world_mounted fs (table_of c.load-table.result) (opens_of c.new-opens.result) (connections_of c.in-Ok.connections) (settings_of c.args.settings) (seats_view c.in_ok-fs.field-0.seats)
+    (loaded c.restart_count.result fs.volume.run (settings_of c.args.settings) (seats_view c.in_ok-fs.field-0.seats) c.restart_count.ensures (table_of c.load-table.result) c.load-table.ensures)
     c.new-opens.ensures (rw c.in-Ok.ensures.empty refl) c.in_ok-fs.ensures.no_change
 
 pub returns-clause-serves : goal.returns-clause-serves
