@@ -18,7 +18,7 @@ pub use outcome::{tell_outcome, tell_usage};
 pub use refused::Refused;
 pub use settings::standard_settings;
 pub use size::VolumeSize;
-pub use time::moment;
+pub use time::{WallClock, moment};
 pub use volume_file::{
     check_file, check_volume, format_file, open_refusal, open_volume, open_volume_to_read,
 };
