@@ -1,26 +1,19 @@
 //! The operations that are told to come again for want of room in a table of the server.
 
-use byteorder::{BigEndian, ByteOrder};
+use model_tree::status::Status;
+use rpc::{MAX_AUTH_BYTES, REPLY};
 use std::fmt;
 use std::fmt::{Display, Formatter, Write};
-
-/// The status of an operation that is to come again (RFC 8881, section 15.1.1.3).
-const DELAY: u32 = 10_008;
-
-/// Where the status of a COMPOUND stands in the record of its reply: behind the record's header,
-/// and an accepted reply's xid, type, status, verifier and status of acceptance (RFC 5531, section
-/// 9).
-const STATUS_PLACE: usize = 28;
+use wire::Operation;
+use xdr::{Reader, Refusal};
 
 /// The bytes of a refused operation's result, its number and its status.
 const RESULT_BYTES: usize = 8;
 
-/// The numbers of operations (RFC 8881, section 18).
-const OPEN: u32 = 18;
+/// A reply that is not denied, and a call that is accepted (RFC 5531, section 9).
+const ACCEPTED: u32 = 0;
 
-const EXCHANGE_ID: u32 = 42;
-
-const CREATE_SESSION: u32 = 43;
+const SUCCESS: u32 = 0;
 
 /// An operation that wants room in a table which all clients share.
 #[derive(Clone, Copy, PartialEq, Eq)]
@@ -30,18 +23,34 @@ pub enum Delayed {
     Open,
 }
 
+/// What there is to know of a reply.
+#[derive(Clone, Copy, PartialEq, Eq)]
+pub struct Answered {
+    /// The operation that it tells to come again.
+    pub delayed: Option<Delayed>,
+}
+
+impl Answered {
+    /// What there is to know of the reply of this record.
+    pub fn in_record(record: &[u8]) -> Answered {
+        Answered {
+            delayed: Delayed::in_record(record),
+        }
+    }
+}
+
 impl Delayed {
-    /// The operation that this record of a reply tells to come again. It is the last one.
-    pub fn in_reply(record: &[u8]) -> Option<Delayed> {
-        let last = record.len().checked_sub(RESULT_BYTES)?;
-        let status = record.len().checked_sub(RESULT_BYTES / 2)?;
-        if word(record, STATUS_PLACE)? != DELAY || word(record, status)? != DELAY {
+    /// The operation that the reply of this record tells to come again. It is the last one.
+    fn in_record(record: &[u8]) -> Option<Delayed> {
+        if compound_status(record)? != Status::Delay.code() {
             return None;
         }
-        match word(record, last)? {
-            EXCHANGE_ID => Some(Delayed::ExchangeId),
-            CREATE_SESSION => Some(Delayed::CreateSession),
-            OPEN => Some(Delayed::Open),
+        let last = record.len().checked_sub(RESULT_BYTES)?;
+        let number = Reader::new(record.get(last..)?).read_u32().ok()?;
+        match Operation::from_number(number)? {
+            Operation::ExchangeId => Some(Delayed::ExchangeId),
+            Operation::CreateSession => Some(Delayed::CreateSession),
+            Operation::Open => Some(Delayed::Open),
             _ => None,
         }
     }
@@ -57,7 +66,18 @@ impl Display for Delayed {
     }
 }
 
-fn word(bytes: &[u8], place: usize) -> Option<u32> {
-    let found = bytes.get(place..)?.get(..4)?;
-    Some(BigEndian::read_u32(found))
+/// The status of the COMPOUND that this record answers, if it answers one.
+pub fn compound_status(record: &[u8]) -> Option<u32> {
+    read_status(&mut Reader::new(record)).ok()
+}
+
+fn read_status(reply: &mut Reader<'_>) -> Result<u32, Refusal> {
+    let _header = reply.read_u32()?;
+    let _xid = reply.read_u32()?;
+    reply.read_always(REPLY)?;
+    reply.read_always(ACCEPTED)?;
+    let _flavour = reply.read_u32()?;
+    let _verifier = reply.read_opaque(MAX_AUTH_BYTES)?;
+    reply.read_always(SUCCESS)?;
+    reply.read_u32()
 }

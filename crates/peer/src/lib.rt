@@ -9,7 +9,7 @@ mod peer;
 mod reply;
 mod stream;
 
-pub use delayed::Delayed;
+pub use delayed::{Answered, Delayed, compound_status};
 pub use inbox::Inbox;
 pub use pace::Pace;
 pub use peer::{Peer, Step};

@@ -8,7 +8,7 @@ ghost use Rattle.peer.specs.Partings.{parting_of};
 ghost use Rattle.peer.specs.Streams.{IsOver};
 
 use crate::calls;
-use crate::delayed::Delayed;
+use crate::delayed::Answered;
 use crate::inbox::Inbox;
 use crate::pace::Pace;
 use crate::reply::Reply;
@@ -17,8 +17,8 @@ use disk::Device;
 use server::{Server, ServerFault, Turn};
 use std::io;
 use std::io::ErrorKind;
-use std::time::{Clock, Duration, Instant};
-use system::{Refused, moment};
+use std::time::{Duration, Instant};
+use system::{Refused, WallClock, moment};
 
 /// For how many seconds a peer may be quiet while another one waits for its place, and where it has
 /// sent a part of a record.
@@ -38,10 +38,10 @@ pub struct Peer<S: Stream + Drop> {
     can_write: bool,
     /// Whether the server has the front of a record.
     has_half: bool,
-    /// When it was last heard, or took something.
+    /// When it was last heard, or took something, or was first given a reply.
     heard: Instant,
-    /// What its last reply told to come again.
-    delayed: Option<Delayed>,
+    /// Its last reply, as long as nobody has asked for it.
+    answered: Option<Answered>,
     // What is not tried again has told that it would wait.
     ghost dry: { can_read ≡ false → S.read_told stream (Some WouldBlock) ≡ true },
     ghost full: { can_write ≡ false → S.write_told stream (Some WouldBlock) ≡ true },
@@ -95,11 +95,11 @@ impl From<ServerFault> for Parting {
 }
 
 impl<S: Stream + Drop> Peer<S> {
-    ghost use Rattle.std.specs.Prelude.{◌≢◌, ◌≡◌, ◌||◌, [], Ok, None, IfOk, IfErr, IsErrOf, MatchOption};
+    ghost use Rattle.std.specs.Prelude.{◌≢◌, ◌≡◌, ◌||◌, ◌↔◌, [], Ok, None, IfOk, IfErr, IsErrOf, IsTrue, MatchOption};
     ghost use Rattle.std.specs.Duration.{as_nanos};
     ghost use Rattle.server.specs.Refused.{connection_at, view};
     ghost use Rattle.peer.specs.Calls.{Goes, IsEnd};
-    ghost use Rattle.peer.specs.Peers.{PeerBegins, IsSame, IsSpare, quiet_nanos};
+    ghost use Rattle.peer.specs.Peers.{PeerBegins, IsSame, IsSpare, WaitsFor, quiet_nanos};
     ghost use Rattle.peer.specs.Steps.{Advances, Runs, GivesNoTurn, Sends, IsReplying, IsStuck, ServesOn, EndsPeer, FailsBy};
 
     /// A peer over this connection of the server.
@@ -117,8 +117,15 @@ impl<S: Stream + Drop> Peer<S> {
             can_write: true,
             has_half: false,
             heard: now,
-            delayed: None,
+            answered: None,
         }
+    }
+
+    /// What its bytes come and go over.
+    pub fn stream(&self) -> &S
+        ensures { result.now ≡ self.now.stream }
+    {
+        &self.stream
     }
 
     /// Takes what the system told of the stream.
@@ -126,52 +133,69 @@ impl<S: Stream + Drop> Peer<S> {
         ensures read { self.new.can_read ≡ (self.old.can_read || can_read) }
         ensures write { self.new.can_write ≡ (self.old.can_write || can_write) }
         ensures same { IsSame self.old self.new × (self.new.stage ≡ self.old.stage)
-            × (self.new.delayed ≡ self.old.delayed) }
+            × (self.new.answered ≡ self.old.answered) }
     {
         self.can_read |= can_read;
         self.can_write |= can_write;
     }
 
     /// For how long it has been quiet, where that is so long that another one may have its place: a
-    /// minute between two requests, and ten within the bytes of one.
+    /// minute between two requests or within a reply that it does not take, and ten within the
+    /// bytes of a request.
     pub fn quiet_for(&self, now: Instant) -> Option<Duration>
         ensures { MatchOption result (¬ IsSpare self.now now) (λ quiet. IsSpare self.now now
             × (as_nanos quiet ≡ quiet_nanos self.now now)) }
     {
-        if !matches!(self.stage, Stage::Gathers) || !self.inbox.is_empty() {
-            return None;
-        }
         let patience = if self.has_half {
             HALF_PATIENCE_SECONDS
         } else {
             PATIENCE_SECONDS
         };
-        let quiet = now.duration_since(self.heard);
-        if quiet.as_secs() < patience {
-            return None;
+        let quiet = self.unheard_for(now);
+        if self.waits() && quiet.as_secs() >= patience {
+            Some(quiet)
+        } else {
+            None
         }
-        Some(quiet)
+    }
+
+    /// For how long it has been quiet.
+    pub fn unheard_for(&self, now: Instant) -> Duration
+        ensures { as_nanos result ≡ quiet_nanos self.now now }
+    {
+        now.duration_since(self.heard)
+    }
+
+    /// Whether it waits for bytes, or for its stream to take those of a reply.
+    fn waits(&self) -> bool
+        ensures { IsTrue result ↔ WaitsFor self.now.stage self.now.inbox }
+    {
+        match self.stage {
+            Stage::Gathers => self.inbox.is_empty(),
+            Stage::Replies(_) => true,
+            Stage::Runs | Stage::Ends => false,
+        }
     }
 
     /// Ends it with its next step.
     pub fn dismiss(&mut self)
         ensures stage { self.new.stage ≡ Stage.Ends }
-        ensures same { IsSame self.old self.new × (self.new.delayed ≡ self.old.delayed)
+        ensures same { IsSame self.old self.new × (self.new.answered ≡ self.old.answered)
             × (self.new.can_read ≡ self.old.can_read)
             × (self.new.can_write ≡ self.old.can_write) }
     {
         self.stage = Stage::Ends;
     }
 
-    /// What was told to come again since it was last asked.
-    pub fn take_delayed(&mut self) -> Option<Delayed>
-        ensures told { result ≡ self.old.delayed }
-        ensures taken { self.new.delayed ≡ None }
+    /// Its reply, if one was made since it was last asked.
+    pub fn take_answered(&mut self) -> Option<Answered>
+        ensures told { result ≡ self.old.answered }
+        ensures taken { self.new.answered ≡ None }
         ensures same { IsSame self.old self.new × (self.new.stage ≡ self.old.stage)
             × (self.new.can_read ≡ self.old.can_read)
             × (self.new.can_write ≡ self.old.can_write) }
     {
-        self.delayed.take()
+        self.answered.take()
     }
 
     /// Does what can be done without waiting, with one operation of a request at most.
@@ -186,7 +210,7 @@ impl<S: Stream + Drop> Peer<S> {
     ) -> Result<Step, Refused>
     where
         D: Device,
-        C: Clock,
+        C: WallClock,
         ensures asleep { IfOk result (λ step. step ≡ Step.Stays Pace.Sleeps → IsStuck self.new) }
         // It stays, or ends
         ensures stays { (self.new.stage ≢ Stage.Ends)
@@ -216,7 +240,7 @@ impl<S: Stream + Drop> Peer<S> {
     ) -> Result<Pace, Parting>
     where
         D: Device,
-        C: Clock,
+        C: WallClock,
         ensures asleep { IfOk result (λ pace. pace ≡ Pace.Sleeps → IsStuck self.new) }
         ensures does { Advances D.keeps_word server.old server.new self.old self.new result }
         ensures ends { self.new.stage ≡ Stage.Ends → IsErrOf result Parting.Peer }
@@ -238,7 +262,7 @@ impl<S: Stream + Drop> Peer<S> {
     ) -> Result<Pace, Parting>
     where
         D: Device,
-        C: Clock,
+        C: WallClock,
         requires { self.old.stage ≡ Stage.Gathers }
         ensures asleep { IfOk result (λ pace. pace ≡ Pace.Sleeps → IsStuck self.new) }
         ensures does { Advances D.keeps_word server.old server.new self.old self.new result }
@@ -258,7 +282,7 @@ impl<S: Stream + Drop> Peer<S> {
     ) -> Result<Pace, Parting>
     where
         D: Device,
-        C: Clock,
+        C: WallClock,
         requires empty { self.old.inbox ≡ [] }
         requires gathers { self.old.stage ≡ Stage.Gathers }
         ensures asleep { IfOk result (λ pace. pace ≡ Pace.Sleeps → IsStuck self.new) }
@@ -289,7 +313,7 @@ impl<S: Stream + Drop> Peer<S> {
     ) -> Result<Pace, Parting>
     where
         D: Device,
-        C: Clock,
+        C: WallClock,
         requires { self.old.stage ≡ Stage.Gathers }
         ensures asleep { IfOk result (λ pace. pace ≡ Pace.Sleeps → IsStuck self.new) }
         ensures does { Advances D.keeps_word server.old server.new self.old self.new result }
@@ -310,7 +334,7 @@ impl<S: Stream + Drop> Peer<S> {
     ) -> Result<Pace, Parting>
     where
         D: Device,
-        C: Clock,
+        C: WallClock,
         requires { self.old.stage ≡ Stage.Runs }
         ensures asleep { IfOk result (λ pace. pace ≡ Pace.Sleeps → IsStuck self.new) }
         ensures does { Runs D.keeps_word server.old server.new self.old self.new result }
@@ -340,9 +364,11 @@ impl<S: Stream + Drop> Peer<S> {
     {
         self.has_half = false;
         self.stage = Stage::Gathers;
+        // The peer has its patience from here on to take it.
+        self.heard = now;
         match calls::take_output(server, self.conn)? {
             Some(bytes) => {
-                self.delayed = Delayed::in_reply(&bytes);
+                self.answered = Some(Answered::in_record(&bytes));
                 self.stage = Stage::Replies(Reply::new(bytes));
                 self.reply(now)
             }
@@ -382,7 +408,7 @@ impl<S: Stream + Drop> Peer<S> {
     fn end<D, C>(&mut self, server: &mut Server<D>, clock: &C) -> Result<Step, Refused>
     where
         D: Device,
-        C: Clock,
+        C: WallClock,
         ensures awake { IfOk result (λ step. step ≢ Step.Stays Pace.Sleeps) }
         ensures stage { self.new.stage ≡ Stage.Ends }
         ensures same { (self.new.stream ≡ self.old.stream) × (self.new.inbox ≡ self.old.inbox)
