@@ -1,9 +1,11 @@
-//! The listening socket, and the connection that waits for a place.
+//! The listening socket, and the connections that wait for a place.
 
+use crate::origin::Origin;
 use crate::timeouts::set_timeouts;
 use mio::net::{TcpListener, TcpStream};
 use mio::{Interest, Poll, Token};
 use os::FromRawFd;
+use std::alloc::Global;
 use std::env::Env;
 use std::io::ErrorKind;
 use std::net::{Net, SocketAddr};
@@ -19,19 +21,36 @@ const HOW_MANY: &str = "LISTEN_FDS";
 
 const FOR_WHOM: &str = "LISTEN_PID";
 
-/// The listening socket, and the connection that waits for a place. Others wait in the system.
+/// How many connections wait for a place, beyond which one is closed.
+const MAX_WAITING: usize = 16;
+
+/// The listening socket, and the connections that wait for a place.
 #[derive(Drop)]
 pub struct Door {
     listener: TcpListener,
     /// Whether a connection may wait in the system.
     can_accept: bool,
-    waiting: Option<TcpStream>,
+    /// In the order in which they came.
+    waiting: Vec<Arrival>,
+}
+
+/// A connection that was accepted.
+#[derive(Drop)]
+pub struct Arrival {
+    pub stream: TcpStream,
+    pub from: SocketAddr,
+}
+
+impl Arrival {
+    pub fn origin(&self) -> Origin {
+        Origin::of(self.from.ip())
+    }
 }
 
 impl Door {
     /// Listens on this address. Port 0 is one that the system picks.
-    pub fn listen<R: Net>(rt: &R, address: SocketAddr) -> Result<Door, Refused> {
-        Ok(Door::of(TcpListener::bind(rt, address)?))
+    pub fn listen<R: Net + AllocGlobal>(rt: &R, address: SocketAddr) -> Result<Door, Refused> {
+        Door::of(rt.alloc(), TcpListener::bind(rt, address)?)
     }
 
     /// Listens on the socket that a service manager has handed over to this process: systemd, by
@@ -44,19 +63,19 @@ impl Door {
         process: Process,
     ) -> Result<Door, Refused> {
         if is_told(rt, HOW_MANY, 1) && is_told(rt, FOR_WHOM, process::id(process)) {
-            Ok(Door::of(adopt(rt)?))
+            Door::of(rt.alloc(), adopt(rt)?)
         } else {
             Err(Refused::Io)
         }
     }
 
-    fn of(listener: TcpListener) -> Door {
+    fn of(alloc: Global, listener: TcpListener) -> Result<Door, Refused> {
         set_timeouts(&listener);
-        Door {
+        Ok(Door {
             listener,
             can_accept: true,
-            waiting: None,
-        }
+            waiting: Vec::with_capacity(alloc, MAX_WAITING.saturating_add(1))?,
+        })
     }
 
     /// Has the system tell of connections by this token.
@@ -75,29 +94,67 @@ impl Door {
         self.can_accept = true;
     }
 
-    /// Whether a connection waits for a place.
+    /// The next connection, if there is one.
     ///
     /// # Errors
     /// The system may give one later.
-    pub fn has_waiting(&mut self) -> io::Result<bool> {
-        if self.can_accept && self.waiting.is_none() {
-            match self.listener.accept() {
-                Ok((stream, _)) => self.waiting = Some(stream),
-                Err(error) if error.kind() == ErrorKind::WouldBlock => self.can_accept = false,
-                Err(error) => return Err(error),
+    pub fn accept(&mut self) -> io::Result<Option<Arrival>> {
+        if !self.can_accept {
+            return Ok(None);
+        }
+        match self.listener.accept() {
+            Ok((stream, from)) => Ok(Some(Arrival { stream, from })),
+            Err(error) if error.kind() == ErrorKind::WouldBlock => {
+                self.can_accept = false;
+                Ok(None)
+            }
+            Err(error) => Err(error),
+        }
+    }
+
+    /// Has a connection wait for a place. If there are too many, the newest of the origin that has
+    /// most of them is handed out.
+    pub fn keep(&mut self, arrival: Arrival) -> Option<Arrival> {
+        match self.waiting.push(arrival) {
+            Ok(()) if self.waiting.len() <= MAX_WAITING => None,
+            Ok(()) => self.take(self.most_numerous()),
+            Err(failed) => Some(failed.value),
+        }
+    }
+
+    /// The newest of the connections whose origin has most of them.
+    fn most_numerous(&self) -> usize {
+        let mut found = 0;
+        let mut most = 0;
+        for (number, arrival) in self.waiting.iter().enumerate() {
+            let count = self.count_from(arrival.origin());
+            if most <= count {
+                found = number;
+                most = count;
             }
         }
-        Ok(self.waiting.is_some())
+        found
     }
 
-    /// The connection that waits, which is the caller's from now on.
-    pub fn take_waiting(&mut self) -> Option<TcpStream> {
-        self.waiting.take()
+    fn count_from(&self, origin: Origin) -> usize {
+        self.waiting
+            .iter()
+            .filter(|arrival| arrival.origin() == origin)
+            .count()
     }
 
-    /// Whether a connection was found waiting, and has no place yet.
-    pub fn is_kept_waiting(&self) -> bool {
-        self.waiting.is_some()
+    /// The connections that wait for a place.
+    pub fn waiting(&self) -> &[Arrival] {
+        &self.waiting
+    }
+
+    /// The connection of this number, which is the caller's from now on.
+    pub fn take(&mut self, number: usize) -> Option<Arrival> {
+        if number < self.waiting.len() {
+            Some(self.waiting.remove(number))
+        } else {
+            None
+        }
     }
 }
 

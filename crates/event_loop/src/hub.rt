@@ -1,15 +1,23 @@
 //! A mounted volume, its peers, and the loop over them.
 
-use crate::door::Door;
+use crate::calls;
+use crate::counts::Counts;
+use crate::door::{Arrival, Door};
+use crate::line::Line;
+use crate::lines::Lines;
+use crate::page::{Page, State};
+use crate::seats;
+use crate::settings::Settings;
 use crate::sockets::Sockets;
 use crate::told::Told;
 use disk::Device;
-use peer::{Pace, Step};
-use server::{MAX_CONNECTIONS, Server, ServerFault};
+use peer::{Answered, Pace, Step};
+use server::{MAX_CONNECTIONS, Server};
 use std::alloc::Global;
+use std::env::Env;
 use std::io::Write;
-use std::net::Net;
-use std::num::NonZeroUsize;
+use std::net::{Net, SocketAddr};
+use std::os::fd::AsRawFd;
 use std::time::{Clock, Duration, Instant};
 use system::{Refused, moment};
 
@@ -23,23 +31,13 @@ const QUIET_MILLIS: u64 = 1;
 /// its place.
 const GLANCE_SECONDS: u64 = 1;
 
-/// How many of the device's sectors are kept in memory, 16 MB: sixteen peers work on more than a
-/// journal keeps by itself.
-const CACHED_SECTORS: usize = 4096;
+/// How many connections are accepted before the peers have a step.
+const MAX_ARRIVALS: u32 = 16;
 
-/// How a volume is served.
-#[derive(Clone, Copy)]
-pub struct Settings {
-    /// After how long without a peer a new run begins, without clients; None: never.
-    pub forget_after: Option<Duration>,
-    /// Whether sessions may be persistent: they outlive a crash, and each of their requests waits
-    /// for a sync.
-    pub persistent: bool,
-}
-
-/// Mounts the device's volume, tells the door's address, and serves until the device, the clock or
-/// the system's telling of changes fails. Where no peer has been there for as long as the settings
-/// say, a new run of the server begins, without clients, and is told on `err`.
+/// Mounts the device's volume, tells the door's address on `out`, and serves until the device, the
+/// clock or the system's telling of changes fails. Where no peer has been there for as long as the
+/// settings say, a new run of the server begins, without clients and without their seats. What an
+/// operator wants to know is told on `err`: first the title and the run.
 ///
 /// # Errors
 /// As [`Hub::new`] and [`Hub::run`].
@@ -48,22 +46,39 @@ pub fn serve<R, D, O, E>(
     device: D,
     door: Door,
     settings: Settings,
+    title: &str,
     out: &mut O,
-    err: &mut E,
+    err: E,
 ) -> Result<(), Refused>
 where
-    R: Net + Clock + AllocGlobal,
+    R: Net + Env + Clock + AllocGlobal,
     D: Device,
     O: Write,
-    E: Write,
+    E: Write + AsRawFd + Drop,
 {
+    let mut lines = Lines::to(rt, err, settings.quiet);
     let mut hub = Hub::new(rt, device, door, settings)?;
-    writeln!(out, "serving {}", hub.sockets.address()?)?;
+    hub.begin(rt, title, &mut lines)?;
+    writeln!(out, "serving {}", hub.address()?)?;
     out.flush()?;
+    let outcome = serve_runs(rt, hub, &mut lines);
+    if let (Err(refused), Ok(now)) = (&outcome, Instant::now(rt)) {
+        lines.tell(&Line::Fails(*refused), now);
+    }
+    outcome
+}
+
+/// Serves one run after the other.
+fn serve_runs<R, D, E>(rt: &R, hub: Hub<D>, lines: &mut Lines<E>) -> Result<(), Refused>
+where
+    R: Clock + AllocGlobal,
+    D: Device,
+    E: Write + Drop,
+{
+    let mut hub = hub;
     for _ in 0..u64::MAX {
-        hub.run(rt, err)?;
-        hub = hub.begin_anew(rt.alloc())?;
-        let _ = writeln!(err, "run {}", hub.restart_count());
+        hub.run(rt, lines)?;
+        hub = hub.begin_anew(rt, lines)?;
     }
     Ok(())
 }
@@ -74,10 +89,13 @@ pub struct Hub<D: Device> {
     server: Server<D>,
     sockets: Sockets,
     told: Told,
+    counts: Counts,
     /// How soon to go on.
     pace: Pace,
     /// Whether nothing has changed since the last checkpoint.
     is_rested: bool,
+    /// Whether a client could have a persistent session, as far as was told.
+    has_seat: bool,
     /// Since when no peer has been there, where there was one in this run.
     alone_since: Option<Instant>,
     settings: Settings,
@@ -92,7 +110,7 @@ impl<D: Device> Hub<D> {
     where
         R: Net + AllocGlobal,
     {
-        let sockets = Sockets::new(rt, door)?;
+        let sockets = Sockets::new(rt, door, settings.metrics)?;
         Hub::over(rt.alloc(), device, sockets, settings)
     }
 
@@ -102,13 +120,15 @@ impl<D: Device> Hub<D> {
         sockets: Sockets,
         settings: Settings,
     ) -> Result<Hub<D>, Refused> {
-        let server = mounted(alloc, device, settings.persistent)?;
+        let server = calls::mounted(alloc, device, settings.of_server(alloc)?)?;
         Ok(Hub {
             server,
             sockets,
             told: Told::new(),
+            counts: Counts::new(),
             pace: Pace::Goes,
             is_rested: true,
+            has_seat: true,
             alone_since: None,
             settings,
         })
@@ -116,7 +136,31 @@ impl<D: Device> Hub<D> {
 
     /// How often the volume was mounted.
     pub fn restart_count(&self) -> u32 {
-        self.server.restart_count()
+        calls::restart_count(&self.server)
+    }
+
+    /// Where the door listens.
+    pub fn address(&self) -> Result<SocketAddr, Refused> {
+        Ok(self.sockets.address()?)
+    }
+
+    /// What was counted since the start.
+    pub fn counts(&self) -> Counts {
+        let mut counts = self.counts;
+        counts.bytes = self.sockets.bytes();
+        counts
+    }
+
+    /// What there is, now.
+    fn state(&self) -> State {
+        State {
+            run: self.restart_count(),
+            connections: self.server.connection_count(),
+            clients: self.server.client_count(),
+            sessions: self.server.session_count(),
+            opens: self.server.open_count(),
+            seats: seats::count(&self.server),
+        }
     }
 
     /// The device, as it is now: peers are gone, and what was not kept is lost.
@@ -125,38 +169,79 @@ impl<D: Device> Hub<D> {
         server.into_device()
     }
 
-    /// The same without a client, a session or an open: a new run on the same device.
+    /// Tells what is served, and frees the seats of earlier runs if the settings say so.
     ///
     /// # Errors
-    /// Those of a mount.
-    pub fn begin_anew(self, alloc: Global) -> Result<Hub<D>, Refused> {
+    /// Device and Memory, where seats are freed; Io where the clock fails.
+    pub fn begin<R, E>(&mut self, rt: &R, title: &str, lines: &mut Lines<E>) -> Result<(), Refused>
+    where
+        R: Clock + AllocGlobal,
+        E: Write + Drop,
+    {
+        let now = Instant::now(rt)?;
+        let run = self.restart_count();
+        lines.tell(&Line::Begins { title, run }, now);
+        if self.settings.free_seats {
+            self.free_seats(rt, lines)?;
+        }
+        seats::tell_seats(&self.server, lines, now);
+        lines.tell(&Line::Listens(self.address()?), now);
+        Ok(())
+    }
+
+    /// The same without a client, a session, a seat or an open: a new run on the same device.
+    ///
+    /// # Errors
+    /// Those of a mount; Io where the clock fails.
+    pub fn begin_anew<R, E>(self, rt: &R, lines: &mut Lines<E>) -> Result<Hub<D>, Refused>
+    where
+        R: Clock + AllocGlobal,
+        E: Write + Drop,
+    {
         let Hub {
             server,
             sockets,
             told,
+            counts,
             settings,
             ..
         } = self;
-        let mut hub = Hub::over(alloc, server.into_device(), sockets, settings)?;
+        let mut hub = Hub::over(rt.alloc(), server.into_device(), sockets, settings)?;
         hub.told = told;
+        hub.counts = counts;
+        let now = Instant::now(rt)?;
+        lines.tell(&Line::Run(hub.restart_count()), now);
+        hub.free_seats(rt, lines)?;
+        seats::tell_seats(&hub.server, lines, now);
         Ok(hub)
+    }
+
+    /// Frees the seats that earlier runs have left.
+    fn free_seats<R, E>(&mut self, rt: &R, lines: &mut Lines<E>) -> Result<(), Refused>
+    where
+        R: Clock + AllocGlobal,
+        E: Write + Drop,
+    {
+        let at = moment(rt)?;
+        let now = Instant::now(rt)?;
+        seats::free_dead_seats(rt.alloc(), &mut self.server, at, lines, now)
     }
 
     /// Serves until no peer has been there for as long as was given.
     ///
     /// # Errors
     /// Those of `go_on`.
-    pub fn run<R, E>(&mut self, rt: &R, err: &mut E) -> Result<(), Refused>
+    pub fn run<R, E>(&mut self, rt: &R, lines: &mut Lines<E>) -> Result<(), Refused>
     where
         R: Clock + AllocGlobal,
-        E: Write,
+        E: Write + Drop,
     {
         for _ in 0..u64::MAX {
             let timeout = self.timeout(Instant::now(rt)?);
             if timeout == Some(Duration::ZERO) && self.pace != Pace::Goes {
                 break;
             }
-            self.go_on(rt, timeout, err)?;
+            self.go_on(rt, timeout, lines)?;
         }
         Ok(())
     }
@@ -170,17 +255,17 @@ impl<D: Device> Hub<D> {
         &mut self,
         rt: &R,
         timeout: Option<Duration>,
-        err: &mut E,
+        lines: &mut Lines<E>,
     ) -> Result<Pace, Refused>
     where
         R: Clock + AllocGlobal,
-        E: Write,
+        E: Write + Drop,
     {
         let was_told = self.sockets.hear(timeout)?;
         if self.pace == Pace::Sleeps && !was_told {
             self.rest()?;
         }
-        self.pace = self.round(rt, Instant::now(rt)?, err)?;
+        self.pace = self.round(rt, Instant::now(rt)?, lines)?;
         Ok(self.pace)
     }
 
@@ -204,21 +289,23 @@ impl<D: Device> Hub<D> {
     /// Makes a checkpoint, if something has changed since the last one.
     fn rest(&mut self) -> Result<(), Refused> {
         if !self.is_rested {
-            self.server.checkpoint()?;
+            calls::checkpoint(&mut self.server)?;
             self.is_rested = true;
         }
         Ok(())
     }
 
     /// Connections that wait are given places, and each peer has a step.
-    fn round<R, E>(&mut self, rt: &R, now: Instant, err: &mut E) -> Result<Pace, Refused>
+    fn round<R, E>(&mut self, rt: &R, now: Instant, lines: &mut Lines<E>) -> Result<Pace, Refused>
     where
         R: Clock + AllocGlobal,
-        E: Write,
+        E: Write + Drop,
     {
-        let mut pace = self.welcome(rt, now)?;
+        self.show_counts(rt.alloc(), now);
+        let mut pace = self.receive(now, lines);
+        pace = pace.or(self.welcome(rt, now, lines)?);
         for key in 0..MAX_CONNECTIONS {
-            pace = pace.or(self.step(key, rt, now, err)?);
+            pace = pace.or(self.step(key, rt, now, lines)?);
         }
         if pace == Pace::Goes {
             self.is_rested = false;
@@ -226,39 +313,108 @@ impl<D: Device> Hub<D> {
         Ok(pace)
     }
 
-    /// Gives a connection that waits a place, if there is one, or makes room for it.
-    fn welcome<R>(&mut self, rt: &R, now: Instant) -> Result<Pace, Refused>
-    where
-        R: Clock + AllocGlobal,
-    {
-        match self.sockets.finds_waiting() {
-            Ok(true) => {}
-            Ok(false) => return Ok(Pace::Sleeps),
-            Err(_) => return Ok(Pace::Pauses),
+    /// Answers whoever has asked for counts. Without memory the page is empty.
+    fn show_counts(&mut self, alloc: Global, now: Instant) {
+        if !self.sockets.are_counts_asked() {
+            return;
         }
-        if self.sockets.are_full() {
-            return Ok(self.sockets.dismiss_the_quietest(now));
-        }
-        self.admit(rt, now)
+        let page = Page {
+            counts: self.counts(),
+            state: self.state(),
+            now,
+        };
+        let text = match page.to_string(alloc) {
+            Ok(text) => text,
+            Err(_) => String::new(alloc),
+        };
+        self.sockets.answer_counts(text.as_bytes());
     }
 
-    /// Has the connection that waits served. Where there is no memory for it, it waits on.
-    fn admit<R>(&mut self, rt: &R, now: Instant) -> Result<Pace, Refused>
+    /// Accepts the connections that the system has. Those that are served wait for a place.
+    fn receive<E>(&mut self, now: Instant, lines: &mut Lines<E>) -> Pace
+    where
+        E: Write + Drop,
+    {
+        for _ in 0..MAX_ARRIVALS {
+            match self.sockets.accept() {
+                Ok(Some(arrival)) => self.meet(arrival, now, lines),
+                Ok(None) => return Pace::Sleeps,
+                Err(_) => return Pace::Pauses,
+            }
+        }
+        Pace::Goes
+    }
+
+    /// Has a connection wait for a place, if it is served.
+    fn meet<E>(&mut self, arrival: Arrival, now: Instant, lines: &mut Lines<E>)
+    where
+        E: Write + Drop,
+    {
+        let from = arrival.from;
+        if !self.settings.guests.admit(from) {
+            self.counts.refuse();
+            if self.told.not_allowed.is_due(now) {
+                lines.tell(&Line::NotAllowed(from), now);
+            }
+            return;
+        }
+        if let Some(other) = self.sockets.keep(arrival) {
+            self.counts.refuse();
+            if self.told.turned_away.is_due(now) {
+                lines.tell(&Line::TurnedAway(other.from), now);
+            }
+        }
+    }
+
+    /// Gives a connection that waits a place, if there is one, or makes room for it.
+    fn welcome<R, E>(&mut self, rt: &R, now: Instant, lines: &mut Lines<E>) -> Result<Pace, Refused>
     where
         R: Clock + AllocGlobal,
+        E: Write + Drop,
+    {
+        let Some(number) = self.sockets.next() else {
+            return Ok(Pace::Sleeps);
+        };
+        if !self.sockets.are_full() {
+            return self.admit(rt, number, now, lines);
+        }
+        match self.sockets.make_way(number, now) {
+            Some((from, to)) => {
+                lines.tell(&Line::GivesWay { from, to }, now);
+                Ok(Pace::Goes)
+            }
+            None => Ok(Pace::Sleeps),
+        }
+    }
+
+    /// Has the connection of this number that waits served. Where there is no memory for it, it
+    /// waits on.
+    fn admit<R, E>(
+        &mut self,
+        rt: &R,
+        number: usize,
+        now: Instant,
+        lines: &mut Lines<E>,
+    ) -> Result<Pace, Refused>
+    where
+        R: Clock + AllocGlobal,
+        E: Write + Drop,
     {
         let Ok(inbox) = self.sockets.make_room(rt.alloc()) else {
             return Ok(Pace::Pauses);
         };
-        let conn = match self.server.connect() {
+        let conn = match calls::connect(&mut self.server) {
             Ok(conn) => conn,
-            Err(ServerFault::Memory) => return Ok(Pace::Pauses),
-            Err(fault) => return Err(fault.into()),
+            Err(Refused::Memory) => return Ok(Pace::Pauses),
+            Err(refused) => return Err(refused),
         };
-        if self.sockets.take_in(conn, inbox, now) {
+        if let Some(from) = self.sockets.take_in(number, conn, inbox, now) {
             self.alone_since = None;
+            self.counts.accept();
+            let taken = self.sockets.taken();
+            lines.tell(&Line::Comes { from, taken }, now);
         } else {
-            self.server.hangup(conn, moment(rt)?)?;
+            calls::hangup(&mut self.server, conn, moment(rt)?)?;
         }
         Ok(Pace::Goes)
     }
@@ -268,40 +424,68 @@ impl<D: Device> Hub<D> {
         key: usize,
         clock: &C,
         now: Instant,
-        err: &mut E,
+        lines: &mut Lines<E>,
     ) -> Result<Pace, Refused>
     where
         C: Clock,
-        E: Write,
+        E: Write + Drop,
     {
-        let Some(peer) = self.sockets.peer(key) else {
+        let Some(place) = self.sockets.place(key) else {
             return Ok(Pace::Sleeps);
         };
-        let step = peer.step(&mut self.server, clock, now)?;
-        if let Some(delayed) = peer.take_delayed() {
-            self.told.tell(delayed, now, err);
+        let from = place.from;
+        let step = place.peer.step(&mut self.server, clock, now)?;
+        if let Some(answered) = place.peer.take_answered() {
+            self.note(answered, from, now, lines);
         }
         match step {
             Step::Stays(pace) => Ok(pace),
             Step::Ended => {
-                self.remove(key, now);
+                self.remove(key, now, lines);
                 Ok(Pace::Goes)
             }
         }
     }
 
-    /// Its stream is closed with it, and another connection may have its place.
-    fn remove(&mut self, key: usize, now: Instant) {
-        if self.sockets.remove(key) {
-            self.alone_since = Some(now);
+    /// Counts a reply, and tells the operator of tables that are full.
+    fn note<E>(&mut self, answered: Answered, from: SocketAddr, now: Instant, lines: &mut Lines<E>)
+    where
+        E: Write + Drop,
+    {
+        self.counts.answer(answered, now);
+        if let Some(operation) = answered.delayed
+            && self.told.comes_again(operation).is_due(now)
+        {
+            lines.tell(&Line::ComesAgain { operation, from }, now);
+        }
+        self.note_seats(now, lines);
+    }
+
+    /// Tells the operator when the last seat was taken.
+    fn note_seats<E>(&mut self, now: Instant, lines: &mut Lines<E>)
+    where
+        E: Write + Drop,
+    {
+        let had_seat = self.has_seat;
+        self.has_seat = !seats::are_in_use(&self.server);
+        let is_new = had_seat && !self.has_seat && self.settings.persistent;
+        if is_new && self.told.no_seat.is_due(now) {
+            lines.tell(&Line::NoSeat, now);
         }
     }
-}
 
-fn mounted<D: Device>(alloc: Global, device: D, persistent: bool) -> Result<Server<D>, Refused> {
-    let cached = NonZeroUsize::new(CACHED_SECTORS).unwrap_or(NonZeroUsize::MIN);
-    match Server::mount_cached(alloc, device, cached, persistent) {
-        Ok(server) => Ok(server),
-        Err(unmounted) => Err(unmounted.fault.into()),
+    /// Its stream is closed with it, and another connection may have its place.
+    fn remove<E>(&mut self, key: usize, now: Instant, lines: &mut Lines<E>)
+    where
+        E: Write + Drop,
+    {
+        if let Some(from) = self.sockets.remove(key) {
+            self.counts.close();
+            let taken = self.sockets.taken();
+            lines.tell(&Line::Goes { from, taken }, now);
+            if taken == 0 {
+                self.alone_since = Some(now);
+            }
+        }
     }
 }

@@ -2,12 +2,28 @@
 //! over them sleeps where none has anything to do.
 #![tactic(auto)]
 
+mod calls;
+mod counted;
+mod counts;
 mod door;
+mod guests;
 mod hub;
+mod line;
+mod lines;
+mod monitor;
+mod origin;
+mod page;
+mod seats;
+mod settings;
 mod sockets;
 mod timeouts;
 mod told;
 
+pub use counted::Bytes;
+pub use counts::Counts;
 pub use door::Door;
-pub use hub::{Hub, Settings, serve};
+pub use guests::{Guests, Network};
+pub use hub::{Hub, serve};
+pub use lines::Lines;
 pub use peer::Pace;
+pub use settings::Settings;

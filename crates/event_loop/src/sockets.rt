@@ -1,10 +1,13 @@
 //! The sockets of a server: the door, its peers, and what the system tells of them.
 
-use crate::door::Door;
+use crate::counted::{Bytes, Counted};
+use crate::door::{Arrival, Door};
+use crate::monitor::{ASKER, MONITOR, Monitor};
+use crate::origin::Origin;
 use mio::event::Event;
 use mio::net::TcpStream;
 use mio::{Events, Interest, Poll, Token};
-use peer::{Inbox, Pace, Peer};
+use peer::{Inbox, Peer};
 use server::MAX_CONNECTIONS;
 use slab::Slab;
 use std::alloc::{AllocError, Global};
@@ -16,6 +19,10 @@ use system::Refused;
 /// The most changes that the system tells of at once.
 const MAX_EVENTS: usize = 64;
 
+/// By how many places the address that has most of them is ahead of the one that is to get one, so
+/// that it gives one away though its connections are in use: it has no fewer then than the other.
+const AHEAD: usize = 2;
+
 const DOOR: Token = Token(usize::MAX);
 
 #[derive(Drop)]
@@ -23,17 +30,53 @@ pub struct Sockets {
     poll: Poll,
     events: Events,
     door: Door,
-    peers: Slab<Peer<TcpStream>>,
+    /// Where counts are asked for.
+    monitor: Option<Monitor>,
+    places: Slab<Place>,
+    /// The bytes of the connections that are gone.
+    bytes: Bytes,
+}
+
+/// A peer in its place.
+#[derive(Drop)]
+pub struct Place {
+    pub peer: Peer<Counted>,
+    pub from: SocketAddr,
+}
+
+impl Place {
+    fn origin(&self) -> Origin {
+        Origin::of(self.from.ip())
+    }
+}
+
+/// How soon a connection gives way: later than those of addresses that have more places, and then
+/// than those that were quiet for longer.
+#[derive(Clone, Copy, PartialEq, Eq, PartialOrd, Ord)]
+struct Rank {
+    places: usize,
+    quiet: Duration,
 }
 
 impl Sockets {
-    /// A door, and no peer yet.
-    pub fn new<R: Net + AllocGlobal>(rt: &R, door: Door) -> Result<Sockets, Refused> {
+    /// A door, an address at which counts are served, if there is one, and no peer yet.
+    pub fn new<R: Net + AllocGlobal>(
+        rt: &R,
+        door: Door,
+        metrics: Option<SocketAddr>,
+    ) -> Result<Sockets, Refused> {
+        let poll = Poll::new(rt)?;
+        let monitor = match metrics {
+            Some(address) => Some(Monitor::listen(rt, address, &poll)?),
+            None => None,
+        };
         let mut sockets = Sockets {
-            poll: Poll::new(rt)?,
+            poll,
+            monitor,
             events: Events::with_capacity(rt.alloc(), MAX_EVENTS)?,
             door,
-            peers: Slab::with_capacity(rt.alloc(), MAX_CONNECTIONS)?,
+            places: Slab::with_capacity(rt.alloc(), MAX_CONNECTIONS)?,
+            bytes: Bytes::NONE,
         };
         sockets.door.register(&sockets.poll, DOOR)?;
         Ok(sockets)
@@ -51,100 +94,176 @@ impl Sockets {
         for event in &self.events {
             if event.token() == DOOR {
                 self.door.wake();
-            } else if let Some(peer) = self.peers.get_mut(event.token().0) {
-                let is_broken = is_broken(event);
-                peer.wake(
-                    event.is_readable() || is_broken,
-                    event.is_writable() || is_broken,
-                );
+            } else if let Some(place) = self.places.get_mut(event.token().0) {
+                wake_peer(place, event);
+            } else if let Some(monitor) = &mut self.monitor {
+                wake_monitor(monitor, event.token());
             }
         }
         Ok(!self.events.is_empty())
     }
 
-    /// Whether a connection was found waiting, and has no place yet.
-    pub fn has_waiting(&self) -> bool {
-        self.door.is_kept_waiting()
-    }
-
-    /// Looks whether a connection waits for a place.
-    ///
-    /// # Errors
-    /// The system may give one later.
-    pub fn finds_waiting(&mut self) -> io::Result<bool> {
-        self.door.has_waiting()
-    }
-
-    /// Whether no connection more has a place.
-    pub fn are_full(&self) -> bool {
-        self.peers.len() >= MAX_CONNECTIONS
-    }
-
-    /// Takes the memory of one more peer.
-    pub fn make_room(&mut self, alloc: Global) -> Result<Inbox, AllocError> {
-        self.peers.reserve(1)?;
-        Inbox::new(alloc)
-    }
-
-    /// Makes the connection that waits a peer, for whom there is room; where the system does not
-    /// tell of its changes, it is closed. Whether there is one more.
-    pub fn take_in(&mut self, conn: usize, inbox: Inbox, now: Instant) -> bool {
-        let token = Token(self.peers.vacant_key());
-        match taken_in(&mut self.door, &self.poll, token) {
-            // There is room, so this takes no memory.
-            Some(stream) => self.insert(Peer::new(conn, stream, inbox, now)),
+    /// Whether somebody has asked for counts, who is answered next.
+    pub fn are_counts_asked(&mut self) -> bool {
+        match &mut self.monitor {
+            Some(monitor) => monitor.is_asked(&self.poll),
             None => false,
         }
     }
 
-    fn insert(&mut self, peer: Peer<TcpStream>) -> bool {
-        self.peers.insert(peer).is_ok()
-    }
-
-    /// The peer of this place.
-    pub fn peer(&mut self, key: usize) -> Option<&mut Peer<TcpStream>> {
-        self.peers.get_mut(key)
-    }
-
-    /// A peer's stream is closed, and another connection may have its place. Whether it was the
-    /// last.
-    pub fn remove(&mut self, key: usize) -> bool {
-        self.peers.try_remove(key);
-        self.peers.is_empty()
-    }
-
-    /// Ends the peer that was quiet longest, of those that were quiet for long: its sessions live
-    /// on, and its client connects again.
-    pub fn dismiss_the_quietest(&mut self, now: Instant) -> Pace {
-        let Some(key) = quietest(&self.peers, now) else {
-            return Pace::Sleeps;
-        };
-        if let Some(peer) = self.peers.get_mut(key) {
-            peer.dismiss();
+    /// Answers whoever asked for counts.
+    pub fn answer_counts(&mut self, page: &[u8]) {
+        if let Some(monitor) = &mut self.monitor {
+            monitor.answer(page);
         }
-        Pace::Goes
+    }
+
+    /// Whether a connection waits for a place.
+    pub fn has_waiting(&self) -> bool {
+        !self.door.waiting().is_empty()
+    }
+
+    /// The next connection that the system has, if there is one.
+    ///
+    /// # Errors
+    /// The system may give one later.
+    pub fn accept(&mut self) -> io::Result<Option<Arrival>> {
+        self.door.accept()
+    }
+
+    /// Has a connection wait for a place. If too many do, one is handed out.
+    pub fn keep(&mut self, arrival: Arrival) -> Option<Arrival> {
+        self.door.keep(arrival)
+    }
+
+    /// Which of the connections that wait has a place next: the first of the address that has the
+    /// fewest places.
+    pub fn next(&self) -> Option<usize> {
+        let mut next = None;
+        let mut fewest = usize::MAX;
+        for (number, arrival) in self.door.waiting().iter().enumerate() {
+            let places = self.places_of(arrival.origin());
+            if places < fewest {
+                next = Some(number);
+                fewest = places;
+            }
+        }
+        next
+    }
+
+    /// How many places the address has.
+    fn places_of(&self, origin: Origin) -> usize {
+        let mut count = 0usize;
+        for (_, place) in self.places.iter() {
+            if place.origin() == origin {
+                count = count.saturating_add(1);
+            }
+        }
+        count
+    }
+
+    /// How many places are taken.
+    pub fn taken(&self) -> usize {
+        self.places.len()
+    }
+
+    /// Whether no connection more has a place.
+    pub fn are_full(&self) -> bool {
+        self.places.len() >= MAX_CONNECTIONS
+    }
+
+    /// Ends the peer that gives way to the connection of this number, if one does: its sessions live
+    /// on, and its client connects again. Tells both addresses.
+    pub fn make_way(&mut self, number: usize, now: Instant) -> Option<(SocketAddr, SocketAddr)> {
+        let to = self.door.waiting().get(number)?.from;
+        let key = self.gives_way(Origin::of(to.ip()), now)?;
+        let place = self.places.get_mut(key)?;
+        place.peer.dismiss();
+        Some((place.from, to))
+    }
+
+    /// Which peer gives way to a connection of this address: one of an address that has two places
+    /// more, or one that was quiet for long; of these one of the address that has most places, and
+    /// there the one that was quiet longest.
+    fn gives_way(&self, to: Origin, now: Instant) -> Option<usize> {
+        let enough = self.places_of(to).saturating_add(AHEAD);
+        let mut found = None;
+        for (key, place) in self.places.iter() {
+            let places = self.places_of(place.origin());
+            if places < enough && place.peer.quiet_for(now).is_none() {
+                continue;
+            }
+            let rank = Rank {
+                places,
+                quiet: place.peer.unheard_for(now),
+            };
+            if is_first(&found, rank) {
+                found = Some((key, rank));
+            }
+        }
+        let (key, _) = found?;
+        Some(key)
+    }
+
+    /// Has memory for one more peer, whose bytes the answer takes.
+    pub fn make_room(&mut self, alloc: Global) -> Result<Inbox, AllocError> {
+        self.places.reserve(1)?;
+        Inbox::new(alloc)
+    }
+
+    /// Makes the connection of this number that waits a peer, for whom there is room; if the system
+    /// does not tell of its changes, it is closed. Tells its address if there is one more.
+    pub fn take_in(
+        &mut self,
+        number: usize,
+        conn: usize,
+        inbox: Inbox,
+        now: Instant,
+    ) -> Option<SocketAddr> {
+        let token = Token(self.places.vacant_key());
+        let Arrival { stream, from } = self.door.take(number)?;
+        let stream = registered(&self.poll, stream, token)?;
+        let peer = Peer::new(conn, Counted::new(stream), inbox, now);
+        // There is room, so this takes no memory.
+        match self.places.insert(Place { peer, from }) {
+            Ok(_) => Some(from),
+            Err(_) => None,
+        }
+    }
+
+    /// What has this place.
+    pub fn place(&mut self, key: usize) -> Option<&mut Place> {
+        self.places.get_mut(key)
+    }
+
+    /// A peer's stream is closed, and another connection may have its place. Tells its address.
+    pub fn remove(&mut self, key: usize) -> Option<SocketAddr> {
+        let place = self.places.try_remove(key)?;
+        self.bytes = self.bytes.and(place.peer.stream().bytes);
+        Some(place.from)
+    }
+
+    /// How many bytes came and went over all connections.
+    pub fn bytes(&self) -> Bytes {
+        let mut bytes = self.bytes;
+        for (_, place) in self.places.iter() {
+            bytes = bytes.and(place.peer.stream().bytes);
+        }
+        bytes
     }
 }
 
-/// The peer that was quiet longest, if one was quiet for long.
-fn quietest(peers: &Slab<Peer<TcpStream>>, now: Instant) -> Option<usize> {
-    let mut quietest = None;
-    let mut longest = Duration::ZERO;
-    for (key, peer) in peers.iter() {
-        if let Some(quiet) = peer.quiet_for(now)
-            && quiet >= longest
-        {
-            quietest = Some(key);
-            longest = quiet;
-        }
+/// Whether a peer of this rank gives way before the one that was found.
+fn is_first(found: &Option<(usize, Rank)>, rank: Rank) -> bool {
+    match found {
+        Some((_, other)) => *other < rank,
+        None => true,
     }
-    quietest
 }
 
-/// The connection that waits, of which the system tells changes by this token from now on; where it
-/// does not, the connection is closed.
-fn taken_in(door: &mut Door, poll: &Poll, token: Token) -> Option<TcpStream> {
-    let mut stream = door.take_waiting()?;
+/// The stream, of which the system tells changes by this token from now on; if it does not, the
+/// connection is closed.
+fn registered(poll: &Poll, mut stream: TcpStream, token: Token) -> Option<TcpStream> {
     // Without this a reply may wait in the system for the peer's acknowledgement of the one before.
     // It is sent all the same.
     let _ = stream.set_nodelay(true);
@@ -152,6 +271,23 @@ fn taken_in(door: &mut Door, poll: &Poll, token: Token) -> Option<TcpStream> {
     match poll.registry().register(&mut stream, token, interests) {
         Ok(()) => Some(stream),
         Err(_) => None,
+    }
+}
+
+/// Tells a peer what the system told of its stream.
+fn wake_peer(place: &mut Place, event: &Event) {
+    let is_broken = is_broken(event);
+    place.peer.wake(
+        event.is_readable() || is_broken,
+        event.is_writable() || is_broken,
+    );
+}
+
+fn wake_monitor(monitor: &mut Monitor, token: Token) {
+    if token == MONITOR {
+        monitor.wake();
+    } else if token == ASKER {
+        monitor.wake_asker();
     }
 }
 

@@ -5,12 +5,12 @@ use super::player::{Arrival, CONNECTIONS, Stage, new_volume};
 use super::step::Step;
 use crate::device::TrialDevice;
 use crate::difference::{Answer, Difference, expect, expect_reply};
-use event_loop::{Door, Hub, Pace, Settings};
+use event_loop::{Door, Guests, Hub, Lines, Pace, Settings};
 use server::ServerFault;
 use slab::Slab;
 use std::alloc::Global;
 use std::io;
-use std::io::{ErrorKind, Read, Write};
+use std::io::{ErrorKind, Read, Sink, Write};
 use std::net::{Ipv4Addr, SocketAddr, TcpStream};
 use std::time::{Clock, Duration};
 use system::Refused;
@@ -46,6 +46,7 @@ pub struct Sockets {
     hub: Hub<TrialDevice>,
     address: SocketAddr,
     clock: (Still, Global),
+    lines: Lines<Sink>,
     /// How soon the loop is to go on.
     pace: Pace,
     peers: Slab<TcpStream>,
@@ -91,7 +92,12 @@ impl Sockets {
     ) -> Result<Sockets, Difference> {
         let settings = Settings {
             forget_after: None,
+            name: Vec::new(rt.alloc()),
             persistent,
+            free_seats: false,
+            guests: Guests::anybody(rt.alloc()),
+            quiet: true,
+            metrics: None,
         };
         let door = Door::listen(rt, SocketAddr::from((Ipv4Addr::LOCALHOST, 0)))?;
         let address = door.address()?;
@@ -99,6 +105,7 @@ impl Sockets {
             hub: Hub::new(rt, device, door, settings)?,
             address,
             clock: (Still, rt.alloc()),
+            lines: Lines::nowhere(rt.alloc()),
             pace: Pace::Goes,
             peers: Slab::new(rt.alloc()),
             arrival,
@@ -163,7 +170,7 @@ impl Sockets {
             Pace::Goes => Duration::ZERO,
             _ => Duration::from_millis(WAIT_MILLIS),
         };
-        self.pace = self.hub.go_on(&self.clock, Some(timeout), &mut io::sink())?;
+        self.pace = self.hub.go_on(&self.clock, Some(timeout), &mut self.lines)?;
         Ok(())
     }
 

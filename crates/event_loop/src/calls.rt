@@ -1,0 +1,67 @@
+//! The calls of the server that the loop itself makes. Each stands here once, so that what is above
+//! need not see all that they promise.
+
+use disk::Device;
+use server::{Server, Turn};
+use std::alloc::Global;
+use std::num::NonZeroUsize;
+use system::Refused;
+
+/// How many of the device's sectors are kept in memory, 16 MB: sixteen peers work on more than a
+/// journal keeps by itself.
+const CACHED_SECTORS: usize = 4096;
+
+/// Mounts the device's volume.
+pub fn mounted<D: Device>(
+    alloc: Global,
+    device: D,
+    settings: server::Settings,
+) -> Result<Server<D>, Refused> {
+    let cached = NonZeroUsize::new(CACHED_SECTORS).unwrap_or(NonZeroUsize::MIN);
+    match Server::mount_cached(alloc, device, cached, settings) {
+        Ok(server) => Ok(server),
+        Err(unmounted) => Err(unmounted.fault.into()),
+    }
+}
+
+/// How often the volume was mounted.
+pub fn restart_count<D: Device>(server: &Server<D>) -> u32 {
+    server.restart_count()
+}
+
+/// The number of a new connection.
+pub fn connect<D: Device>(server: &mut Server<D>) -> Result<usize, Refused> {
+    Ok(server.connect()?)
+}
+
+/// How many of the bytes the server took.
+pub fn feed<D: Device>(
+    server: &mut Server<D>,
+    conn: usize,
+    bytes: &[u8],
+) -> Result<usize, Refused> {
+    Ok(server.feed(conn, bytes)?)
+}
+
+/// What the connection's turn at this moment did, in nanoseconds since 1970.
+pub fn turn<D: Device>(server: &mut Server<D>, conn: usize, now: u64) -> Result<Turn, Refused> {
+    Ok(server.turn(conn, now)?)
+}
+
+/// The connection's reply, if there is one.
+pub fn take_output<D: Device>(
+    server: &mut Server<D>,
+    conn: usize,
+) -> Result<Option<Vec<u8>>, Refused> {
+    Ok(server.take_output(conn)?)
+}
+
+/// Ends the connection at this moment, in nanoseconds since 1970.
+pub fn hangup<D: Device>(server: &mut Server<D>, conn: usize, now: u64) -> Result<(), Refused> {
+    Ok(server.hangup(conn, now)?)
+}
+
+/// Makes a checkpoint, while no reply is due.
+pub fn checkpoint<D: Device>(server: &mut Server<D>) -> Result<(), Refused> {
+    Ok(server.checkpoint()?)
+}

@@ -1,0 +1,66 @@
+//! What is counted while a volume is served.
+
+use crate::counted::Bytes;
+use peer::{Answered, Delayed};
+use std::time::Instant;
+
+/// What was counted since the start.
+#[derive(Clone, Copy)]
+pub struct Counts {
+    /// Connections that have had a place, that were refused, and that are gone.
+    pub accepted: u64,
+    pub refused: u64,
+    pub closed: u64,
+    /// Requests that were answered, and among them those whose last operation is to come again.
+    pub answered: u64,
+    pub exchange_ids_delayed: u64,
+    pub create_sessions_delayed: u64,
+    pub opens_delayed: u64,
+    /// When a request was answered last.
+    pub last_answer: Option<Instant>,
+    /// Bytes that came and went.
+    pub bytes: Bytes,
+}
+
+impl Counts {
+    pub fn new() -> Counts {
+        Counts {
+            accepted: 0,
+            refused: 0,
+            closed: 0,
+            answered: 0,
+            exchange_ids_delayed: 0,
+            create_sessions_delayed: 0,
+            opens_delayed: 0,
+            last_answer: None,
+            bytes: Bytes::NONE,
+        }
+    }
+
+    pub fn accept(&mut self) {
+        raise(&mut self.accepted);
+    }
+
+    pub fn refuse(&mut self) {
+        raise(&mut self.refused);
+    }
+
+    pub fn close(&mut self) {
+        raise(&mut self.closed);
+    }
+
+    pub fn answer(&mut self, answered: Answered, now: Instant) {
+        raise(&mut self.answered);
+        self.last_answer = Some(now);
+        match answered.delayed {
+            Some(Delayed::ExchangeId) => raise(&mut self.exchange_ids_delayed),
+            Some(Delayed::CreateSession) => raise(&mut self.create_sessions_delayed),
+            Some(Delayed::Open) => raise(&mut self.opens_delayed),
+            None => {}
+        }
+    }
+}
+
+fn raise(count: &mut u64) {
+    *count = count.saturating_add(1);
+}

@@ -1,0 +1,153 @@
+//! What an operator is told, a line an event.
+
+use peer::Delayed;
+use server::MAX_CONNECTIONS;
+use std::fmt;
+use std::fmt::{Display, Formatter, Write};
+use std::net::SocketAddr;
+use system::Refused;
+
+/// The most bytes of a client's owner id that a line has.
+const MAX_OWNER_BYTES: usize = 64;
+
+/// How grave a line is, as syslog(3) has it.
+#[derive(Clone, Copy, PartialEq, Eq)]
+pub enum Gravity {
+    /// Something failed.
+    Failure,
+    /// Somebody was refused something.
+    Warning,
+    Note,
+}
+
+/// A line.
+#[derive(Clone, Copy)]
+pub enum Line<'a> {
+    /// What is served, in which run.
+    Begins { title: &'a str, run: u32 },
+    /// Where connections are accepted.
+    Listens(SocketAddr),
+    /// A new run has begun.
+    Run(u32),
+    /// A connection has a place.
+    Comes { from: SocketAddr, taken: usize },
+    /// A connection has none any more.
+    Goes { from: SocketAddr, taken: usize },
+    /// A connection loses its place to one that waits.
+    GivesWay { from: SocketAddr, to: SocketAddr },
+    /// A connection waits no longer, as too many do.
+    TurnedAway(SocketAddr),
+    /// A connection that is not served.
+    NotAllowed(SocketAddr),
+    /// An operation is to come again, as a table is full.
+    ComesAgain {
+        operation: Delayed,
+        from: SocketAddr,
+    },
+    /// A seat is taken.
+    Seat {
+        number: usize,
+        owner: &'a [u8],
+        run: u32,
+    },
+    /// A dead session's seat was not freed, for this status.
+    SeatStays { number: usize, status: u32 },
+    /// Every seat is that of a session of this run.
+    NoSeat,
+    /// Serving ends.
+    Fails(Refused),
+}
+
+impl Line<'_> {
+    pub fn gravity(&self) -> Gravity {
+        match self {
+            Line::Fails(_) => Gravity::Failure,
+            Line::GivesWay { .. }
+            | Line::TurnedAway(_)
+            | Line::NotAllowed(_)
+            | Line::ComesAgain { .. }
+            | Line::SeatStays { .. }
+            | Line::NoSeat => Gravity::Warning,
+            Line::Begins { .. }
+            | Line::Listens(_)
+            | Line::Run(_)
+            | Line::Comes { .. }
+            | Line::Goes { .. }
+            | Line::Seat { .. } => Gravity::Note,
+        }
+    }
+}
+
+impl Gravity {
+    /// What a line begins with where a service manager reads it (sd-daemon(3)).
+    pub fn prefix(self) -> &'static str {
+        match self {
+            Gravity::Failure => "<3>",
+            Gravity::Warning => "<4>",
+            Gravity::Note => "<6>",
+        }
+    }
+}
+
+impl Display for Line<'_> {
+    fn fmt<W: Write>(&self, f: &mut Formatter<W>) -> fmt::Result {
+        match *self {
+            Line::Begins { title, run } => write!(f, "{title}, run {run}"),
+            Line::Listens(address) => write!(f, "listening on {address}"),
+            Line::Run(run) => write!(f, "run {run}"),
+            Line::Comes { from, taken } => {
+                write!(f, "connection from {from}, {}", Places(taken))
+            }
+            Line::Goes { from, taken } => {
+                write!(f, "connection from {from} ended, {}", Places(taken))
+            }
+            Line::GivesWay { from, to } => {
+                write!(f, "connection from {from} gives way to one from {to}")
+            }
+            Line::TurnedAway(from) => write!(f, "refused connection from {from}: too many wait"),
+            Line::NotAllowed(from) => write!(f, "refused connection from {from}: not allowed"),
+            Line::ComesAgain { operation, from } => {
+                write!(f, "told to come again: {operation}, {from}")
+            }
+            Line::Seat { number, owner, run } => {
+                write!(f, "seat {number}: {}, session of run {run}", Escaped(owner))
+            }
+            Line::SeatStays { number, status } => {
+                write!(f, "seat {number} is not freed: status {status}")
+            }
+            Line::NoSeat => f.write_str("no seat is free: new clients get no persistent session"),
+            Line::Fails(refused) => write!(f, "serving ended: {refused}"),
+        }
+    }
+}
+
+/// How many places are taken.
+#[derive(Clone, Copy)]
+struct Places(usize);
+
+impl Display for Places {
+    fn fmt<W: Write>(&self, f: &mut Formatter<W>) -> fmt::Result {
+        let Places(taken) = *self;
+        write!(f, "{taken} of {MAX_CONNECTIONS} places taken")
+    }
+}
+
+/// Bytes as text: others than those of printed ASCII by their numbers.
+#[derive(Clone, Copy)]
+struct Escaped<'a>(&'a [u8]);
+
+impl Display for Escaped<'_> {
+    fn fmt<W: Write>(&self, f: &mut Formatter<W>) -> fmt::Result {
+        let Escaped(bytes) = *self;
+        for byte in bytes.iter().take(MAX_OWNER_BYTES) {
+            match *byte {
+                b' '..=b'[' | b']'..=b'~' => f.write_char(char::from(*byte))?,
+                other => write!(f, "\\x{other:02x}")?,
+            }
+        }
+        if MAX_OWNER_BYTES < bytes.len() {
+            f.write_str("..")?;
+        }
+        Ok(())
+    }
+}

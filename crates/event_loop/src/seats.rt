@@ -1,0 +1,171 @@
+//! The seats that earlier runs have left: who has them, and how they are freed. The server has no
+//! call for that, so the loop asks it as a client does (RFC 8881, section 18.37): one DESTROY_SESSION
+//! for each seat, over a connection without a socket.
+
+use crate::calls;
+use crate::line::Line;
+use crate::lines::Lines;
+use disk::Device;
+use model_tree::seats::{SEATS, Seat};
+use model_tree::status::Status;
+use peer::compound_status;
+use rpc::{
+    AUTH_NONE, AUTH_SYS, CALL, COMPOUND, HEADER_BYTES, LAST_FRAGMENT, MINOR_VERSION, NFS_VERSION,
+    PROGRAM, RPC_VERSION,
+};
+use server::{Server, Turn};
+use std::alloc::Global;
+use std::io::Write;
+use std::time::Instant;
+use system::Refused;
+use wire::Operation;
+use xdr::{Refusal, Writer};
+
+/// The bytes of a call's record, without its header.
+const CALL_BYTES: u32 = 92;
+
+/// The bytes of its credential, which tells user and group 0 (RFC 5531, appendix A).
+const CREDENTIAL_BYTES: u32 = 20;
+
+/// The number of each call: its connection has one at a time.
+const XID: u32 = 1;
+
+/// The seat of this number, if it is taken.
+fn seat<D: Device>(server: &Server<D>, number: usize) -> Option<&Seat> {
+    server.seats().places.get(number)?.as_ref()
+}
+
+/// Tells of each seat that is taken whose it is.
+pub fn tell_seats<D, E>(server: &Server<D>, lines: &mut Lines<E>, now: Instant)
+where
+    D: Device,
+    E: Write + Drop,
+{
+    for number in 0..SEATS {
+        if let Some(seat) = seat(server, number) {
+            let line = Line::Seat {
+                number: number.saturating_add(1),
+                owner: &seat.owner,
+                run: run_of(&seat.session),
+            };
+            lines.tell(&line, now);
+        }
+    }
+}
+
+/// How many seats are taken.
+pub fn count<D: Device>(server: &Server<D>) -> usize {
+    (0..SEATS)
+        .filter(|number| seat(server, *number).is_some())
+        .count()
+}
+
+/// Whether each seat is that of a session of this run.
+pub fn are_in_use<D: Device>(server: &Server<D>) -> bool {
+    (0..SEATS).all(|number| match seat(server, number) {
+        Some(seat) => server.has_session(&seat.session),
+        None => false,
+    })
+}
+
+/// Frees the seats whose sessions this run has not, at this moment, in nanoseconds since 1970. Where
+/// the server refuses that, the operator is told.
+///
+/// # Errors
+/// Device and Memory, as the server answers them.
+pub fn free_dead_seats<D, E>(
+    alloc: Global,
+    server: &mut Server<D>,
+    moment: u64,
+    lines: &mut Lines<E>,
+    now: Instant,
+) -> Result<(), Refused>
+where
+    D: Device,
+    E: Write + Drop,
+{
+    let conn = calls::connect(server)?;
+    for number in 0..SEATS {
+        if let Some(session) = dead_session(server, number) {
+            let status = destroy(alloc, server, conn, &session, moment)?;
+            if status != Status::Ok.code() {
+                let line = Line::SeatStays {
+                    number: number.saturating_add(1),
+                    status,
+                };
+                lines.tell(&line, now);
+            }
+        }
+    }
+    calls::hangup(server, conn, moment)
+}
+
+/// The session whose seat this is, if this run has it not.
+fn dead_session<D: Device>(server: &Server<D>, number: usize) -> Option<[u8; 16]> {
+    let seat = seat(server, number)?;
+    if server.has_session(&seat.session) {
+        None
+    } else {
+        Some(seat.session)
+    }
+}
+
+/// Destroys a session over this connection. The status of the reply.
+fn destroy<D: Device>(
+    alloc: Global,
+    server: &mut Server<D>,
+    conn: usize,
+    session: &[u8; 16],
+    moment: u64,
+) -> Result<u32, Refused> {
+    let Ok(call) = destroy_session_call(alloc, session) else {
+        return Err(Refused::Memory);
+    };
+    calls::feed(server, conn, &call)?;
+    for _ in 0..u64::MAX {
+        if calls::turn(server, conn, moment)? != Turn::Ran {
+            break;
+        }
+    }
+    match calls::take_output(server, conn)? {
+        Some(reply) => Ok(status_of(&reply)),
+        None => Ok(Status::ServerFault.code()),
+    }
+}
+
+fn status_of(reply: &[u8]) -> u32 {
+    compound_status(reply).unwrap_or(Status::ServerFault.code())
+}
+
+/// The record of a COMPOUND of one DESTROY_SESSION.
+fn destroy_session_call(alloc: Global, session: &[u8; 16]) -> Result<Vec<u8>, Refusal> {
+    let capacity = (CALL_BYTES as usize).saturating_add(HEADER_BYTES);
+    let mut call = Writer::with_capacity(alloc, capacity)?;
+    call.write_u32(LAST_FRAGMENT | CALL_BYTES)?;
+    write_header(&mut call)?;
+    // No tag, and one operation.
+    write_words(&mut call, &[0, MINOR_VERSION, 1])?;
+    call.write_u32(Operation::DestroySession.number())?;
+    call.write_fixed(session)?;
+    Ok(call.into_vec())
+}
+
+/// A call up to its arguments (RFC 5531, section 9), of user and group 0 without a machine's name.
+fn write_header(call: &mut Writer) -> Result<(), Refusal> {
+    write_words(call, &[XID, CALL, RPC_VERSION, PROGRAM, NFS_VERSION, COMPOUND])?;
+    write_words(call, &[AUTH_SYS, CREDENTIAL_BYTES, 0, 0, 0, 0, 0])?;
+    write_words(call, &[AUTH_NONE, 0])
+}
+
+fn write_words(call: &mut Writer, words: &[u32]) -> Result<(), Refusal> {
+    for word in words {
+        call.write_u32(*word)?;
+    }
+    Ok(())
+}
+
+/// The run whose session has this id, of which that is the front.
+fn run_of(session: &[u8; 16]) -> u32 {
+    let [a, b, c, d, ..] = *session;
+    u32::from_be_bytes([a, b, c, d])
+}

@@ -1,0 +1,51 @@
+//! How a volume is served.
+
+use crate::guests::Guests;
+use server::{NameFault, ServerName};
+use std::alloc::Global;
+use std::net::SocketAddr;
+use std::time::Duration;
+use system::Refused;
+
+/// How a volume is served.
+#[derive(Drop)]
+pub struct Settings {
+    /// After how long without a peer a new run begins, without clients; None: never.
+    pub forget_after: Option<Duration>,
+    /// The name by which clients tell this server from others; the standard one if it is empty.
+    pub name: Vec<u8>,
+    /// Whether sessions may be persistent: they outlive a crash, and each of their requests waits
+    /// for a sync.
+    pub persistent: bool,
+    /// Whether the seats that the last runs have left are freed at the start: their clients get new
+    /// sessions.
+    pub free_seats: bool,
+    /// Whose connections are served.
+    pub guests: Guests,
+    /// Whether the operator is told of failures only.
+    pub quiet: bool,
+    /// Where counts are served; None: nowhere.
+    pub metrics: Option<SocketAddr>,
+}
+
+impl Settings {
+    /// Those of the server.
+    pub fn of_server(&self, alloc: Global) -> Result<server::Settings, Refused> {
+        Ok(server::Settings {
+            name: name_of(alloc, &self.name)?,
+            persistent: self.persistent,
+            yields_when_full: true,
+        })
+    }
+}
+
+fn name_of(alloc: Global, name: &[u8]) -> Result<ServerName, Refused> {
+    if name.is_empty() {
+        return Ok(ServerName::standard(alloc)?);
+    }
+    match ServerName::new(alloc, name) {
+        Ok(name) => Ok(name),
+        Err(NameFault::TooLong) => Err(Refused::Size),
+        Err(NameFault::Memory) => Err(Refused::Memory),
+    }
+}
