@@ -1,16 +1,16 @@
 //! A mounted volume, its peers, and the loop over them.
 
-use crate::calls;
 use crate::counts::Counts;
 use crate::door::{Arrival, Door};
 use crate::line::Line;
 use crate::lines::Lines;
-use crate::page::{Page, State};
-use crate::seats;
+use crate::page::{State, page_of};
+use crate::readiness::tell_ready;
 use crate::settings::Settings;
 use crate::sockets::Sockets;
 use crate::told::Told;
-use disk::Device;
+use crate::watched::Watched;
+use crate::{calls, seating};
 use peer::{Answered, Pace, Step};
 use server::{MAX_CONNECTIONS, Server};
 use std::alloc::Global;
@@ -52,7 +52,7 @@ pub fn serve<R, D, O, E>(
 ) -> Result<(), Refused>
 where
     R: Net + Env + Clock + AllocGlobal,
-    D: Device,
+    D: Watched,
     O: Write,
     E: Write + AsRawFd + Drop,
 {
@@ -61,6 +61,7 @@ where
     hub.begin(rt, title, &mut lines)?;
     writeln!(out, "serving {}", hub.address()?)?;
     out.flush()?;
+    tell_ready(rt);
     let outcome = serve_runs(rt, hub, &mut lines);
     if let (Err(refused), Ok(now)) = (&outcome, Instant::now(rt)) {
         lines.tell(&Line::Fails(*refused), now);
@@ -72,7 +73,7 @@ where
 fn serve_runs<R, D, E>(rt: &R, hub: Hub<D>, lines: &mut Lines<E>) -> Result<(), Refused>
 where
     R: Clock + AllocGlobal,
-    D: Device,
+    D: Watched,
     E: Write + Drop,
 {
     let mut hub = hub;
@@ -85,7 +86,7 @@ where
 
 /// A mounted volume, and the peers that it is served to.
 #[derive(Drop)]
-pub struct Hub<D: Device> {
+pub struct Hub<D: Watched> {
     server: Server<D>,
     sockets: Sockets,
     told: Told,
@@ -101,7 +102,7 @@ pub struct Hub<D: Device> {
     settings: Settings,
 }
 
-impl<D: Device> Hub<D> {
+impl<D: Watched> Hub<D> {
     /// Mounts the device's volume.
     ///
     /// # Errors
@@ -159,7 +160,8 @@ impl<D: Device> Hub<D> {
             clients: self.server.client_count(),
             sessions: self.server.session_count(),
             opens: self.server.open_count(),
-            seats: seats::count(&self.server),
+            seats: seating::count(&self.server),
+            calls: self.server.device().calls(),
         }
     }
 
@@ -184,7 +186,7 @@ impl<D: Device> Hub<D> {
         if self.settings.free_seats {
             self.free_seats(rt, lines)?;
         }
-        seats::tell_seats(&self.server, lines, now);
+        seating::tell_seats(&self.server, lines, now);
         lines.tell(&Line::Listens(self.address()?), now);
         Ok(())
     }
@@ -212,7 +214,7 @@ impl<D: Device> Hub<D> {
         let now = Instant::now(rt)?;
         lines.tell(&Line::Run(hub.restart_count()), now);
         hub.free_seats(rt, lines)?;
-        seats::tell_seats(&hub.server, lines, now);
+        seating::tell_seats(&hub.server, lines, now);
         Ok(hub)
     }
 
@@ -224,7 +226,7 @@ impl<D: Device> Hub<D> {
     {
         let at = moment(rt)?;
         let now = Instant::now(rt)?;
-        seats::free_dead_seats(rt.alloc(), &mut self.server, at, lines, now)
+        seating::free_dead_seats(rt.alloc(), &mut self.server, at, lines, now)
     }
 
     /// Serves until no peer has been there for as long as was given.
@@ -301,8 +303,8 @@ impl<D: Device> Hub<D> {
         R: Clock + AllocGlobal,
         E: Write + Drop,
     {
-        self.show_counts(rt.alloc(), now);
-        let mut pace = self.receive(now, lines);
+        let mut pace = self.show_counts(rt.alloc(), now);
+        pace = pace.or(self.receive(now, lines));
         pace = pace.or(self.welcome(rt, now, lines)?);
         for key in 0..MAX_CONNECTIONS {
             pace = pace.or(self.step(key, rt, now, lines)?);
@@ -313,21 +315,24 @@ impl<D: Device> Hub<D> {
         Ok(pace)
     }
 
-    /// Answers whoever has asked for counts. Without memory the page is empty.
-    fn show_counts(&mut self, alloc: Global, now: Instant) {
-        if !self.sockets.are_counts_asked() {
-            return;
+    /// Serves whoever reads the counts: one read or one write. Without memory for the page the
+    /// visitor asks again.
+    fn show_counts(&mut self, alloc: Global, now: Instant) -> Pace {
+        match self.sockets.visit(now) {
+            metrics::Step::Waits => Pace::Sleeps,
+            metrics::Step::Goes | metrics::Step::Ended => Pace::Goes,
+            metrics::Step::Asks => self.give_counts(alloc, now),
         }
-        let page = Page {
-            counts: self.counts(),
-            state: self.state(),
-            now,
-        };
-        let text = match page.to_string(alloc) {
-            Ok(text) => text,
-            Err(_) => String::new(alloc),
-        };
-        self.sockets.answer_counts(text.as_bytes());
+    }
+
+    fn give_counts(&mut self, alloc: Global, now: Instant) -> Pace {
+        match page_of(alloc, &self.state(), &self.counts(), now) {
+            Ok(page) => {
+                self.sockets.give(&page);
+                Pace::Goes
+            }
+            Err(_) => Pace::Pauses,
+        }
     }
 
     /// Accepts the connections that the system has. Those that are served wait for a place.
@@ -467,7 +472,7 @@ impl<D: Device> Hub<D> {
         E: Write + Drop,
     {
         let had_seat = self.has_seat;
-        self.has_seat = !seats::are_in_use(&self.server);
+        self.has_seat = !seating::are_in_use(&self.server);
         let is_new = had_seat && !self.has_seat && self.settings.persistent;
         if is_new && self.told.no_seat.is_due(now) {
             lines.tell(&Line::NoSeat, now);

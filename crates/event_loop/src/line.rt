@@ -24,17 +24,29 @@ pub enum Gravity {
 #[derive(Clone, Copy)]
 pub enum Line<'a> {
     /// What is served, in which run.
-    Begins { title: &'a str, run: u32 },
+    Begins {
+        title: &'a str,
+        run: u32,
+    },
     /// Where connections are accepted.
     Listens(SocketAddr),
     /// A new run has begun.
     Run(u32),
     /// A connection has a place.
-    Comes { from: SocketAddr, taken: usize },
+    Comes {
+        from: SocketAddr,
+        taken: usize,
+    },
     /// A connection has none any more.
-    Goes { from: SocketAddr, taken: usize },
+    Goes {
+        from: SocketAddr,
+        taken: usize,
+    },
     /// A connection loses its place to one that waits.
-    GivesWay { from: SocketAddr, to: SocketAddr },
+    GivesWay {
+        from: SocketAddr,
+        to: SocketAddr,
+    },
     /// A connection waits no longer, as too many do.
     TurnedAway(SocketAddr),
     /// A connection that is not served.
@@ -51,7 +63,10 @@ pub enum Line<'a> {
         run: u32,
     },
     /// A dead session's seat was not freed, for this status.
-    SeatStays { number: usize, status: u32 },
+    SeatStays {
+        number: usize,
+        status: u32,
+    },
     /// Every seat is that of a session of this run.
     NoSeat,
     /// Serving ends.

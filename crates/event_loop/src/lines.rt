@@ -5,12 +5,11 @@ use crate::line::{Gravity, Line};
 use libc::net as c;
 use libc::types::pollfd;
 use std::alloc::{AllocError, Global};
-use std::env;
 use std::env::Env;
-use std::io;
 use std::io::{Sink, Write};
 use std::os::fd::{AsRawFd, RawFd};
 use std::time::{Duration, Instant};
+use std::{env, io};
 
 /// The most lines of a second.
 const MAX_LINES: u32 = 10;

@@ -1,93 +1,150 @@
-//! Where a monitor asks for counts, over HTTP, one at a time.
+//! Those who read the counts over HTTP, one after the other.
 
+use metrics::{Page, Step, Visit};
 use mio::net::{TcpListener, TcpStream};
 use mio::{Interest, Poll, Token};
+use std::alloc::Global;
 use std::io;
-use std::io::{ErrorKind, Read, Write};
 use std::net::{Net, SocketAddr};
+use std::time::{Duration, Instant};
 
-/// By which tokens the system tells that somebody asks, and what came.
+/// By which tokens the system tells of a visitor that waits, and of the visitor's stream.
 pub const MONITOR: Token = Token(usize::MAX - 1);
 
-pub const ASKER: Token = Token(usize::MAX - 2);
+pub const VISITOR: Token = Token(usize::MAX - 2);
 
-/// How much of a request is read. What it asks for makes no difference.
-const REQUEST_BYTES: usize = 4096;
+/// How long a visit may take before it gives way to the next one.
+const PATIENCE_SECONDS: u64 = 5;
 
-/// The listening socket, and who asks.
+/// The listening socket, and the visit that is served. Other visitors wait in the system.
 #[derive(Drop)]
 pub struct Monitor {
+    alloc: Global,
     listener: TcpListener,
-    /// Whether somebody may wait in the system.
+    /// Whether a visitor may wait in the system.
     can_accept: bool,
-    asker: Option<TcpStream>,
-    /// Whether a request may have come.
-    can_read: bool,
+    visit: Option<Guest>,
+}
+
+/// A visit that is served.
+#[derive(Drop)]
+struct Guest {
+    visit: Visit<TcpStream>,
+    began: Instant,
+    /// Whether its stream may be read or written.
+    can_go: bool,
 }
 
 impl Monitor {
     /// Listens on this address.
-    pub fn listen<R: Net>(rt: &R, address: SocketAddr, poll: &Poll) -> io::Result<Monitor> {
+    pub fn listen<R: Net + AllocGlobal>(
+        rt: &R,
+        address: SocketAddr,
+        poll: &Poll,
+    ) -> io::Result<Monitor> {
         let mut listener = TcpListener::bind(rt, address)?;
         poll.registry()
             .register(&mut listener, MONITOR, Interest::READABLE)?;
         Ok(Monitor {
+            alloc: rt.alloc(),
             listener,
             can_accept: true,
-            asker: None,
-            can_read: false,
+            visit: None,
         })
     }
 
-    /// The system told that somebody asks.
+    /// The system told of a visitor that waits.
     pub fn wake(&mut self) {
         self.can_accept = true;
     }
 
-    /// The system told that something came.
-    pub fn wake_asker(&mut self) {
-        self.can_read = true;
+    /// The system told of the visitor's stream.
+    pub fn wake_visitor(&mut self) {
+        if let Some(guest) = &mut self.visit {
+            guest.can_go = true;
+        }
     }
 
-    /// Whether somebody has asked, who is answered next.
-    pub fn is_asked(&mut self, poll: &Poll) -> bool {
-        self.accept(poll);
-        let Some(asker) = &mut self.asker else {
-            return false;
+    /// Reads or writes once. At [`Step::Asks`] the visitor wants the page, which [`Monitor::give`]
+    /// takes.
+    pub fn step(&mut self, poll: &Poll, now: Instant) -> Step {
+        self.end_slow(now);
+        if self.visit.is_none() {
+            self.accept(poll, now);
+        }
+        let Some(guest) = &mut self.visit else {
+            return Step::Waits;
         };
-        if !self.can_read {
-            return false;
+        if !guest.can_go {
+            return Step::Waits;
         }
-        let mut request = [0u8; REQUEST_BYTES];
-        match asker.read(&mut request) {
-            Ok(0) => self.asker = None,
-            Ok(_) => return true,
-            Err(error) if error.kind() == ErrorKind::WouldBlock => self.can_read = false,
-            Err(_) => self.asker = None,
-        }
-        false
+        let step = guest.visit.step();
+        self.leave(step)
     }
 
-    /// Takes the next connection. One over which nothing came gives way to it.
-    fn accept(&mut self, poll: &Poll) {
+    /// Replies with the page that was asked for.
+    pub fn give(&mut self, page: &Page) -> Step {
+        let Some(guest) = &mut self.visit else {
+            return Step::Waits;
+        };
+        let step = guest.visit.give(page);
+        self.leave(step)
+    }
+
+    fn leave(&mut self, step: Step) -> Step {
+        match step {
+            Step::Ended => {
+                self.visit = None;
+                Step::Goes
+            }
+            Step::Waits => {
+                if let Some(guest) = &mut self.visit {
+                    guest.can_go = false;
+                }
+                Step::Waits
+            }
+            Step::Goes | Step::Asks => step,
+        }
+    }
+
+    /// Ends a visit that takes too long, if another visitor waits.
+    fn end_slow(&mut self, now: Instant) {
+        let is_slow = match &self.visit {
+            Some(guest) => {
+                now.duration_since(guest.began) >= Duration::from_secs(PATIENCE_SECONDS)
+            }
+            None => false,
+        };
+        if is_slow && self.can_accept {
+            self.visit = None;
+        }
+    }
+
+    /// Takes the next visitor. One for whom there is no memory, or of whose stream the system does
+    /// not tell, is turned away.
+    fn accept(&mut self, poll: &Poll, now: Instant) {
         if !self.can_accept {
             return;
         }
         match self.listener.accept() {
-            Ok((mut stream, _)) => {
-                let interests = Interest::READABLE;
-                let told = poll.registry().register(&mut stream, ASKER, interests);
-                self.asker = told.ok().map(|_| stream);
-                self.can_read = true;
-            }
+            Ok((stream, _)) => self.visit = new_guest(self.alloc, stream, poll, now),
             Err(_) => self.can_accept = false,
         }
     }
+}
 
-    /// Answers whoever asked. A page has room in what the system holds for a new connection.
-    pub fn answer(&mut self, page: &[u8]) {
-        if let Some(mut asker) = self.asker.take() {
-            let _ = asker.write(page);
-        }
+fn new_guest(alloc: Global, mut stream: TcpStream, poll: &Poll, now: Instant) -> Option<Guest> {
+    let interests = Interest::READABLE | Interest::WRITABLE;
+    if poll
+        .registry()
+        .register(&mut stream, VISITOR, interests)
+        .is_err()
+    {
+        return None;
     }
+    Some(Guest {
+        visit: Visit::new(alloc, stream).ok()?,
+        began: now,
+        can_go: true,
+    })
 }

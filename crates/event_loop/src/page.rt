@@ -1,12 +1,10 @@
-//! The page of counts, in the form that Prometheus reads.
+//! The page of counts.
 
 use crate::counts::Counts;
-use std::fmt;
-use std::fmt::{Display, Formatter, Write};
+use disk::Counts as Calls;
+use metrics::{Kind, Page};
+use std::alloc::{AllocError, Global};
 use std::time::Instant;
-
-/// What comes before the lines.
-const HEAD: &str = "HTTP/1.0 200 OK\r\nContent-Type: text/plain; version=0.0.4\r\n\r\n";
 
 /// What there is of each thing, now.
 #[derive(Clone, Copy)]
@@ -17,61 +15,133 @@ pub struct State {
     pub sessions: usize,
     pub opens: usize,
     pub seats: usize,
+    /// How often the device was called, if it counts.
+    pub calls: Option<Calls>,
 }
 
-/// A page of counts.
-#[derive(Clone, Copy)]
-pub struct Page {
-    pub counts: Counts,
-    pub state: State,
-    pub now: Instant,
-}
-
-impl Display for Page {
-    fn fmt<W: Write>(&self, f: &mut Formatter<W>) -> fmt::Result {
-        f.write_str(HEAD)?;
-        write_state(f, &self.state)?;
-        write_counts(f, &self.counts)?;
-        write_delays(f, &self.counts)?;
-        if let Some(last) = self.counts.last_answer {
-            let seconds = self.now.duration_since(last).as_secs();
-            write_gauge(f, "last_answer_age_seconds", seconds)?;
-        }
-        Ok(())
+/// The page of these counts.
+pub fn page_of(
+    alloc: Global,
+    state: &State,
+    counts: &Counts,
+    now: Instant,
+) -> Result<Page, AllocError> {
+    let mut page = Page::new(alloc);
+    show_state(&mut page, state)?;
+    show_connections(&mut page, counts)?;
+    show_requests(&mut page, counts, now)?;
+    if let Some(calls) = &state.calls {
+        show_calls(&mut page, calls)?;
     }
+    Ok(page)
 }
 
-fn write_state<W: Write>(f: &mut Formatter<W>, state: &State) -> fmt::Result {
-    write_gauge(f, "run", u64::from(state.run))?;
-    write_gauge(f, "connections", state.connections as u64)?;
-    write_gauge(f, "clients", state.clients as u64)?;
-    write_gauge(f, "sessions", state.sessions as u64)?;
-    write_gauge(f, "opens", state.opens as u64)?;
-    write_gauge(f, "seats", state.seats as u64)
+fn show_state(page: &mut Page, state: &State) -> Result<(), AllocError> {
+    let gauges: [(&str, &str, u64); 6] = [
+        (
+            "nfs41_run",
+            "Restart count of the volume.",
+            u64::from(state.run),
+        ),
+        (
+            "nfs41_connections",
+            "Connections.",
+            state.connections as u64,
+        ),
+        ("nfs41_clients", "Client records.", state.clients as u64),
+        ("nfs41_sessions", "Sessions.", state.sessions as u64),
+        ("nfs41_opens", "Open files.", state.opens as u64),
+        (
+            "nfs41_seats",
+            "Seats of persistent sessions that are taken.",
+            state.seats as u64,
+        ),
+    ];
+    for (name, help, value) in gauges {
+        page.metric(Kind::Gauge, name, help, value)?;
+    }
+    Ok(())
 }
 
-fn write_counts<W: Write>(f: &mut Formatter<W>, counts: &Counts) -> fmt::Result {
-    write_counter(f, "connections_accepted", counts.accepted)?;
-    write_counter(f, "connections_refused", counts.refused)?;
-    write_counter(f, "connections_closed", counts.closed)?;
-    write_counter(f, "requests_answered", counts.answered)?;
-    write_counter(f, "received_bytes", counts.bytes.came)?;
-    write_counter(f, "sent_bytes", counts.bytes.went)
+fn show_connections(page: &mut Page, counts: &Counts) -> Result<(), AllocError> {
+    let counters: [(&str, &str, u64); 5] = [
+        (
+            "nfs41_connections_accepted_total",
+            "Connections that got a place.",
+            counts.accepted,
+        ),
+        (
+            "nfs41_connections_refused_total",
+            "Connections that are not allowed.",
+            counts.refused,
+        ),
+        (
+            "nfs41_connections_closed_total",
+            "Connections that ended.",
+            counts.closed,
+        ),
+        (
+            "nfs41_received_bytes_total",
+            "Bytes from clients.",
+            counts.bytes.came,
+        ),
+        (
+            "nfs41_sent_bytes_total",
+            "Bytes to clients.",
+            counts.bytes.went,
+        ),
+    ];
+    for (name, help, value) in counters {
+        page.metric(Kind::Counter, name, help, value)?;
+    }
+    Ok(())
 }
 
-fn write_delays<W: Write>(f: &mut Formatter<W>, counts: &Counts) -> fmt::Result {
-    write_counter(f, "delayed_exchange_ids", counts.exchange_ids_delayed)?;
-    write_counter(f, "delayed_create_sessions", counts.create_sessions_delayed)?;
-    write_counter(f, "delayed_opens", counts.opens_delayed)
+fn show_requests(page: &mut Page, counts: &Counts, now: Instant) -> Result<(), AllocError> {
+    page.metric(
+        Kind::Counter,
+        "nfs41_requests_total",
+        "Requests that were answered.",
+        counts.answered,
+    )?;
+    let name = "nfs41_delayed_total";
+    page.begin(
+        Kind::Counter,
+        name,
+        "Operations refused since a table is full.",
+    )?;
+    page.sample(
+        name,
+        "operation",
+        "EXCHANGE_ID",
+        counts.exchange_ids_delayed,
+    )?;
+    page.sample(
+        name,
+        "operation",
+        "CREATE_SESSION",
+        counts.create_sessions_delayed,
+    )?;
+    page.sample(name, "operation", "OPEN", counts.opens_delayed)?;
+    if let Some(last) = counts.last_answer {
+        page.metric(
+            Kind::Gauge,
+            "nfs41_last_request_age_seconds",
+            "Seconds since the last request was answered.",
+            now.duration_since(last).as_secs(),
+        )?;
+    }
+    Ok(())
 }
 
-fn write_gauge<W: Write>(f: &mut Formatter<W>, name: &str, value: u64) -> fmt::Result {
-    write!(f, "# TYPE nfs41_{name} gauge\nnfs41_{name} {value}\n")
-}
-
-fn write_counter<W: Write>(f: &mut Formatter<W>, name: &str, value: u64) -> fmt::Result {
-    write!(
-        f,
-        "# TYPE nfs41_{name}_total counter\nnfs41_{name}_total {value}\n"
-    )
+fn show_calls(page: &mut Page, calls: &Calls) -> Result<(), AllocError> {
+    let name = "nfs41_device_calls_total";
+    page.begin(
+        Kind::Counter,
+        name,
+        "Calls of the volume's file, of sectors of 4,096 bytes.",
+    )?;
+    page.sample(name, "call", "read", calls.reads)?;
+    page.sample(name, "call", "write", calls.writes)?;
+    page.sample(name, "call", "sync", calls.syncs)
 }

@@ -2,7 +2,7 @@
 
 use crate::counted::{Bytes, Counted};
 use crate::door::{Arrival, Door};
-use crate::monitor::{ASKER, MONITOR, Monitor};
+use crate::monitor::{MONITOR, Monitor, VISITOR};
 use crate::origin::Origin;
 use mio::event::Event;
 use mio::net::TcpStream;
@@ -103,18 +103,18 @@ impl Sockets {
         Ok(!self.events.is_empty())
     }
 
-    /// Whether somebody has asked for counts, who is answered next.
-    pub fn are_counts_asked(&mut self) -> bool {
+    /// Serves whoever reads the counts: one read or one write.
+    pub fn visit(&mut self, now: Instant) -> metrics::Step {
         match &mut self.monitor {
-            Some(monitor) => monitor.is_asked(&self.poll),
-            None => false,
+            Some(monitor) => monitor.step(&self.poll, now),
+            None => metrics::Step::Waits,
         }
     }
 
-    /// Answers whoever asked for counts.
-    pub fn answer_counts(&mut self, page: &[u8]) {
+    /// Gives the visitor the page that was asked for.
+    pub fn give(&mut self, page: &metrics::Page) {
         if let Some(monitor) = &mut self.monitor {
-            monitor.answer(page);
+            monitor.give(page);
         }
     }
 
@@ -286,8 +286,8 @@ fn wake_peer(place: &mut Place, event: &Event) {
 fn wake_monitor(monitor: &mut Monitor, token: Token) {
     if token == MONITOR {
         monitor.wake();
-    } else if token == ASKER {
-        monitor.wake_asker();
+    } else if token == VISITOR {
+        monitor.wake_visitor();
     }
 }
 

@@ -44,9 +44,9 @@ impl Clock for Still {
 #[derive(Drop)]
 pub struct Sockets {
     hub: Hub<TrialDevice>,
+    lines: Lines<Sink>,
     address: SocketAddr,
     clock: (Still, Global),
-    lines: Lines<Sink>,
     /// How soon the loop is to go on.
     pace: Pace,
     peers: Slab<TcpStream>,
@@ -95,7 +95,10 @@ impl Sockets {
             name: Vec::new(rt.alloc()),
             persistent,
             free_seats: false,
-            guests: Guests::anybody(rt.alloc()),
+            guests: Guests {
+                networks: Vec::new(rt.alloc()),
+                privileged_ports: false,
+            },
             quiet: true,
             metrics: None,
         };
@@ -103,9 +106,9 @@ impl Sockets {
         let address = door.address()?;
         let mut sockets = Sockets {
             hub: Hub::new(rt, device, door, settings)?,
+            lines: Lines::nowhere(rt.alloc()),
             address,
             clock: (Still, rt.alloc()),
-            lines: Lines::nowhere(rt.alloc()),
             pace: Pace::Goes,
             peers: Slab::new(rt.alloc()),
             arrival,

@@ -152,7 +152,10 @@ fn destroy_session_call(alloc: Global, session: &[u8; 16]) -> Result<Vec<u8>, Re
 
 /// A call up to its arguments (RFC 5531, section 9), of user and group 0 without a machine's name.
 fn write_header(call: &mut Writer) -> Result<(), Refusal> {
-    write_words(call, &[XID, CALL, RPC_VERSION, PROGRAM, NFS_VERSION, COMPOUND])?;
+    write_words(
+        call,
+        &[XID, CALL, RPC_VERSION, PROGRAM, NFS_VERSION, COMPOUND],
+    )?;
     write_words(call, &[AUTH_SYS, CREDENTIAL_BYTES, 0, 0, 0, 0, 0])?;
     write_words(call, &[AUTH_NONE, 0])
 }
