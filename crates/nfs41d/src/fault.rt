@@ -1,7 +1,9 @@
 //! Why the program fails.
 
+use disk::{CallKind, Failure};
 use std::alloc::{AllocError, AllocFailed};
-use std::io;
+use std::fmt::{Display, Formatter, Write};
+use std::{fmt, io};
 use std::net::AddrParseError;
 use system::{Refused, Unbegun};
 use thiserror::Error;
@@ -15,9 +17,33 @@ pub enum Fault {
     /// The file is a volume already.
     #[error("Volume (format --force overwrites it)")]
     Volume,
+    /// The volume's file failed, in this way.
+    #[error("Device ({0})")]
+    Device(DeviceFailure),
     /// What any program can fail by.
     #[error("{0}")]
     Refused(#[from] Refused),
+}
+
+/// Which call of the volume's file failed, and what the system said.
+#[derive(Clone, Copy, Debug)]
+pub struct DeviceFailure(Failure);
+
+impl From<Failure> for DeviceFailure {
+    fn from(failure: Failure) -> DeviceFailure {
+        DeviceFailure(failure)
+    }
+}
+
+impl Display for DeviceFailure {
+    fn fmt<W: Write>(&self, f: &mut Formatter<W>) -> fmt::Result {
+        let call = match self.0.call {
+            CallKind::Read => "read",
+            CallKind::Write => "write",
+            CallKind::Sync => "sync",
+        };
+        write!(f, "{call} failed: {}", self.0.kind)
+    }
 }
 
 /// What is wrong with the words.

@@ -4,7 +4,7 @@ use crate::fault::Fault;
 use crate::name::default_name;
 use crate::request::Serving;
 use crate::version::RELEASE;
-use disk::Device;
+use disk::{Device, FileDevice};
 use event_loop::{Door, Settings, serve};
 use std::net::SocketAddr;
 use system::{Refused, open_volume};
@@ -13,12 +13,23 @@ use system::{Refused, open_volume};
 /// restart count.
 pub fn serve_volume(rt: &HostRuntime, serving: Serving<'_>) -> Result<(), Fault> {
     let name = name_of(rt, serving.name, serving.file)?;
-    let device = open_volume(rt, serving.file)?;
+    let mut device = open_volume(rt, serving.file)?;
     let door = door_of(rt, serving.address)?;
     let title = title_of(rt, serving.file, device.sectors())?;
     let settings = settings_of(serving, name);
     let mut out = rt.stdout();
-    Ok(serve(rt, device, door, settings, &title, &mut out, rt.stderr())?)
+    match serve(rt, &mut device, door, settings, &title, &mut out, rt.stderr()) {
+        Err(Refused::Device) => Err(device_fault(&device)),
+        outcome => Ok(outcome?),
+    }
+}
+
+/// Why the device failed: which of its calls, and what the system said of it.
+fn device_fault(device: &FileDevice) -> Fault {
+    match device.last_failure() {
+        Some(failure) => Fault::Device(failure.into()),
+        None => Fault::Refused(Refused::Device),
+    }
 }
 
 fn name_of(rt: &HostRuntime, given: Option<&str>, file: &str) -> Result<Vec<u8>, Fault> {
