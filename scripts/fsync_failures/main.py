@@ -97,7 +97,7 @@ class Trial:
 
     def serve(self, client):
         """Serves the volume to the client, and ends the server. Returns its refusal, if any."""
-        words = [self.daemon, self.served, "127.0.0.1:0"]
+        words = [self.daemon, "--quiet", self.served, "127.0.0.1:0"]
         pipes = {"stdout": subprocess.PIPE, "stderr": subprocess.PIPE, "text": True}
         server = subprocess.Popen(words, stdin=subprocess.DEVNULL, **pipes)
         line = server.stdout.readline()
