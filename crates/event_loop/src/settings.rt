@@ -20,6 +20,8 @@ pub struct Settings {
     /// Whether the seats that the last runs have left are freed at the start: their clients get new
     /// sessions.
     pub free_seats: bool,
+    /// Whether full tables give up unconfirmed records and dead seats for who asks.
+    pub yields_when_full: bool,
     /// Whose connections are served.
     pub guests: Guests,
     /// Whether the operator is told of failures only.
@@ -34,7 +36,7 @@ impl Settings {
         Ok(server::Settings {
             name: name_of(alloc, &self.name)?,
             persistent: self.persistent,
-            yields_when_full: true,
+            yields_when_full: self.yields_when_full,
         })
     }
 }

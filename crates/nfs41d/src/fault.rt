@@ -3,8 +3,8 @@
 use disk::{CallKind, Failure};
 use std::alloc::{AllocError, AllocFailed};
 use std::fmt::{Display, Formatter, Write};
-use std::{fmt, io};
 use std::net::AddrParseError;
+use std::{fmt, io};
 use system::{Refused, Unbegun};
 use thiserror::Error;
 

@@ -18,7 +18,15 @@ pub fn serve_volume(rt: &HostRuntime, serving: Serving<'_>) -> Result<(), Fault>
     let title = title_of(rt, serving.file, device.sectors())?;
     let settings = settings_of(serving, name);
     let mut out = rt.stdout();
-    match serve(rt, &mut device, door, settings, &title, &mut out, rt.stderr()) {
+    match serve(
+        rt,
+        &mut device,
+        door,
+        settings,
+        &title,
+        &mut out,
+        rt.stderr(),
+    ) {
         Err(Refused::Device) => Err(device_fault(&device)),
         outcome => Ok(outcome?),
     }
@@ -57,6 +65,7 @@ fn settings_of(serving: Serving<'_>, name: Vec<u8>) -> Settings {
         name,
         persistent: serving.persistent,
         free_seats: serving.free_seats,
+        yields_when_full: true,
         guests: serving.guests,
         quiet: serving.quiet,
         metrics: serving.metrics,

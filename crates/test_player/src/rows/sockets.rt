@@ -95,6 +95,7 @@ impl Sockets {
             name: Vec::new(rt.alloc()),
             persistent,
             free_seats: false,
+            yields_when_full: false,
             guests: Guests {
                 networks: Vec::new(rt.alloc()),
                 privileged_ports: false,
