@@ -15,7 +15,6 @@ pub mod FlatSizes
 pub mod FlatWrites
 pub mod HandleLaws
 pub mod KeptLaws
-pub mod LastPlans
 pub mod ListLaws
 pub mod LookupTests
 pub mod MakingLaws
@@ -36,12 +35,12 @@ pub mod RenameDoable
 pub mod RenameFlat
 pub mod RenamePlans
 pub mod RenameSteps
+pub mod RoomTests
 pub mod SettingFlat
 pub mod SettingLaws
 pub mod SettingPlans
 pub mod SettingSteps
 pub mod SettingTests
 pub mod SizePlans
-pub mod SizesAlike
 pub mod VerdictLaws
 pub mod WrittenLaws

@@ -3,7 +3,6 @@ use Rattle.std.proofs.Common.{◌≡◌, ◌≢◌, ◌<◌, ◌+◌, ℕ, true,
 use Rattle.std.proofs.Math.Logic.{∥∥₁_map, ∥∥₁_elim}
 use Rattle.std.proofs.Props.{props}
 use Rattle.std.specs.Prelude.{IsTrue, option_map}
-use Rattle.tree_edits.specs.Making.{first_content}
 use Rattle.tree_edits.specs.Outlines.{blank, blank_node, without_data, zeros}
 use Rattle.tree_edits.proofs.BlankLaws.{at-without_data, without_data-with, without_data-twice, edits_blanked, names-without_data, length-zeros}
 use Rattle.model_tree.specs.declared.limits.Limits.{Limits}
@@ -20,7 +19,7 @@ use Rattle.model_tree.proofs.Trees.ChangeLaws.{IsChanged, creation_keeps}
 use Rattle.model_tree.proofs.Trees.KeyedLaws.{at-with_same, at-with_other}
 use Rattle.model_tree.proofs.Facts.OptionLaws.{none_unless}
 use Rattle.fs.specs.FileSystem.{FileSystem}
-use Rattle.fs.specs.Making.{first_node, tree_with, MayBeMade}
+use Rattle.fs.specs.Making.{first_content, first_node, tree_with, MayBeMade}
 use Rattle.fs.specs.Ready.{MayStand}
 use Rattle.volume.specs.Formed.{IsFormed}
 use Rattle.volume.proofs.EditLaws.{fits_alike}

@@ -1,75 +1,139 @@
 -- The edits of a node that is made, as code puts them together: what is proved of them, and what refuses them.
 use denote.Ref.{Bor}
-use Rattle.std.proofs.Common.{◌≡◌, ◌<◌, ◌+◌, ◌^◌, ◌++◌, ℕ, Bool, true, false, List, [], ◌∷◌, Option, Some, None, refl, sym, ap, ◌∙◌, subst, not}
-use Rattle.std.proofs.lemmas.Bool.{ltb-true, not-false}
+use Rattle.std.proofs.Common.{◌≡◌, ◌<◌, ◌+◌, ◌^◌, ◌++◌, ℕ, true, List, [], ◌∷◌, Option, Some, None, sym, ap, ◌∙◌, arith, subst}
+use Rattle.std.proofs.Math.Logic.{∥∥₁_elim}
+use Rattle.std.proofs.Props.{props}
+use Rattle.std.proofs.lemmas.Bool.{ltb-true}
 use Rattle.std.specs.Prelude.{IsTrue}
 use Rattle.directory.specs.Listing.{by_stamp}
 use Rattle.tree_transaction.specs.declared.nodes.Shown.{Shown}
-use Rattle.tree_transaction.specs.Nodes.{shown_of}
+use Rattle.tree_transaction.specs.Nodes.{no_content, shown_of}
 use Rattle.tree_edits.specs.declared.edit.Edit.{Edit}
 use Rattle.tree_edits.specs.declared.edit.Edit.TheVariants as edit
-use Rattle.tree_edits.specs.Edits.{AreEntries, AreDoable}
-use Rattle.tree_edits.specs.Making.{IsMaking, first_content}
+use Rattle.tree_edits.specs.Edits.{AreEntries, AreDoable, edits_of, fresh_node}
+use Rattle.tree_edits.specs.Measures.{AreMeasurable}
+use Rattle.tree_edits.specs.Outlines.{without_data, zeros}
+use Rattle.tree_edits.specs.Sizes.{size_of_content}
+use Rattle.tree_edits.proofs.BlankLaws.{length-zeros}
+use Rattle.tree_edits.proofs.RoomAlike.{AreNew, made, made_room, same_length}
 use Rattle.layout.specs.CachedNodes.{CachedNode}
 use Rattle.model_tree.specs.declared.node.NodeKind.{NodeKind}
-use Rattle.model_tree.specs.declared.status.Status.TheVariants as status
-use Rattle.model_tree.specs.Trees.Changes.{made_edits, touched}
+use Rattle.model_tree.specs.declared.node.NodeKind.TheVariants as kind
+use Rattle.model_tree.specs.Trees.Changes.{touched}
 use Rattle.model_tree.specs.Trees.Charge.{fits}
-use Rattle.model_tree.specs.Trees.Keyed.{at}
+use Rattle.model_tree.specs.Trees.Edit.{SetSize, done, edited, name_put, resized, with_content}
+use Rattle.model_tree.specs.Trees.Keyed.{IsAbove, at, with}
 use Rattle.model_tree.specs.Trees.Limits.{limits_of}
-use Rattle.model_tree.specs.Refusals.Refusal.{first_refusal, refused_or}
-use Rattle.model_tree.specs.Trees.Stamp.{next_stamp, is_stamp_left}
-use Rattle.model_tree.specs.Trees.Tree.{Tree, Node, Directory, is_directory, is_directory_at, is_directory_node, names_of_node}
-use Rattle.model.proofs.Operations.RefusalLaws.{none_in_front}
+use Rattle.model_tree.specs.Refusals.Refusal.{first_refusal}
+use Rattle.model_tree.specs.Trees.Stamp.{next_stamp}
+use Rattle.model_tree.specs.Trees.Tree.{Tree, Node, DirEntry, File, Directory, bytes_of, is_directory, is_directory_at, is_directory_node, names_at, names_of_node}
+use Rattle.model_tree.specs.Trees.WellFormed.{IsWellFormed}
+use Rattle.model_tree.proofs.Trees.KeyedLaws.{IsAbove-with, at-below, at-with_other, at-with_same, with-with_same}
+use Rattle.model_tree.proofs.Trees.NodeChangeLaws.{altered-once, length-resized}
 use Rattle.fs.specs.FileSystem.{FileSystem}
-use Rattle.fs.specs.Making.{first_node, room_tests, tree_with, IsDirectoryOf, IsSizeOf, MayBeMade}
+use Rattle.fs.specs.Making.{AsRoomy, first_content, first_node, room_tests, tree_with, IsDirectoryOf, IsSizeOf, MayBeMade}
 use Rattle.fs.specs.Planned.{IsPlanned, shown_by}
 use Rattle.fs.specs.Ready.{MayStand}
 use Rattle.fs.proofs.CachedNodeViews.{names_are}
 use Rattle.fs.proofs.MakingLaws as laws
 use Rattle.fs.proofs.MakingPlans as plans
 use Rattle.fs.proofs.RemovalPlans.{shown_touched, entries_shown}
+use Rattle.fs.proofs.RoomTests.{above_all, names_above, passed_room, rising_by}
 use Rattle.volume.specs.Edits.{edited_by}
 use Rattle.volume.specs.Forms.{sizing}
+use Rattle.volume.proofs.RoomLaws.{above_altered, show_room}
 
--- What the tests of room and stamps come to
+-- The room of a node that is made does not depend on its number: it is asked for the number 0
 
-pub no_room : (fs : FileSystem) (after : Tree) → fits fs.volume.limits after ≡ false → first_refusal (room_tests fs after) ≡ Some status.NoSpc
-no_room fs after full = ap (λ (b : Bool). refused_or (not b) status.NoSpc (refused_or (not (is_stamp_left fs.changes)) status.ServerFault None)) full
+module _ (fs : FileSystem) (formed : MayStand fs.volume fs.changes) (number : ℕ) (spelled : Bor (List ℕ)) (of : NodeKind) (card : CachedNode) (parent : IsDirectoryOf fs.volume.tree number card) (blank : Shown) where
+  abbrev first : Node
+  first = fresh_node of (shown_of blank)
 
-pub no_stamp : (fs : FileSystem) (after : Tree) → fits fs.volume.limits after ≡ true → is_stamp_left fs.changes ≡ false → first_refusal (room_tests fs after) ≡ Some status.ServerFault
-no_stamp fs after fit none = ap (λ (b : Bool). refused_or (not b) status.NoSpc (refused_or (not (is_stamp_left fs.changes)) status.ServerFault None)) fit
-    ∙ ap (λ (b : Bool). refused_or (not b) status.ServerFault None) none
+  abbrev naming : List Edit
+  naming = edit.PutName number 0 spelled 0 ∷ []
 
-pub has_room : (fs : FileSystem) (after : Tree) → fits fs.volume.limits after ≡ true → is_stamp_left fs.changes ≡ true → first_refusal (room_tests fs after) ≡ None
-has_room fs after fit left = ap (λ (b : Bool). refused_or (not b) status.NoSpc (refused_or (not (is_stamp_left fs.changes)) status.ServerFault None)) fit
-    ∙ ap (λ (b : Bool). refused_or (not b) status.ServerFault None) left
+  -- the node after its size is set
+  abbrev sized : (size : ℕ) → Node
+  sized size = with_content first (File (resized (bytes_of first.content) size))
 
--- The room of a node that is made does not depend on its number
-module _ (fs : FileSystem) (formed : MayStand fs.volume fs.changes) (number : ℕ) (name : List ℕ) (of : NodeKind) (size : ℕ) (card : CachedNode) (parent : IsDirectoryOf fs.volume.tree number card) where
+  sized_is : (size : ℕ) → done (SetSize 0 size) (with fs.volume.tree 0 first) ≡ with fs.volume.tree 0 (sized size)
+  sized_is size =
+      altered-once (λ (node : Node). with_content node (File (resized (bytes_of node.content) size))) (with fs.volume.tree 0 first) 0 first (at-with_same fs.volume.tree 0 first)
+      ∙ with-with_same fs.volume.tree 0 first (sized size)
+
   names : parent.node.node.content ≡ Directory (by_stamp card.names)
   names = names_are fs.volume.tree number card parent.node parent.directory
 
   pub there : is_directory_at fs.volume.tree number ≡ true
   there = ap is_directory_node parent.node.there ∙ ap is_directory names
 
-  pub making : (now : ℕ) (node : Node) → node.content ≡ first_content of size
-      → IsMaking fs.volume.tree number of size (made_edits fs.volume.tree number name node (next_stamp fs.volume.run fs.changes) now)
-  making now node content =
-      let own = next_stamp fs.volume.run fs.changes in
-      record {
-        number = own;
-        stamp = own;
-        node = node;
-        entry = record { name = name; number = own };
-        shown = touched (at number fs.volume.tree) own now;
-        is = refl;
-        content = content;
-        some = laws.high fs formed now number name parent.node.node (by_stamp card.names) parent.node.there names;
-        fresh = laws.fresh fs formed now number name parent.node.node (by_stamp card.names) parent.node.there names;
-        new_stamp = ap (λ (found : Option Node). at own (names_of_node found)) parent.node.there
-            ∙ laws.new_stamp fs formed now number name parent.node.node (by_stamp card.names) parent.node.there names;
-      }
+  -- no node has the number 0, and no name the stamp
+  zero_new : AreNew fs.volume.tree number 0 0
+  zero_new = record {
+    fresh = ∥∥₁_elim formed.well_formed (Prim.hlevel props) (λ well. at-below fs.volume.tree 0 0 (above_all fs.volume.limits fs.volume.tree well) (omega arith));
+    new_stamp = ∥∥₁_elim formed.well_formed (Prim.hlevel props)
+        (λ well. at-below (names_at fs.volume.tree number) 0 0 (names_above fs.volume.limits fs.volume.tree well number) (omega arith));
+  }
+
+  parent_was : (node : Node) → at number (with fs.volume.tree 0 node) ≡ at number fs.volume.tree
+  parent_was node = at-with_other fs.volume.tree 0 number node
+      (λ same. none_there (at 0 fs.volume.tree) zero_new.fresh (ap (λ (n : ℕ). is_directory_at fs.volume.tree n) (sym same) ∙ there))
+    where
+      none_there : (found : Option Node) → found ≡ None → is_directory_node found ≡ true → ⊥
+      none_there None none has = absurd cc
+      none_there (Some other) none has = absurd cc
+
+  naming_measured : (node : Node) → AreMeasurable (with fs.volume.tree 0 node) naming
+  naming_measured node = (
+    record {
+      there = ap is_directory_node (parent_was node) ∙ there;
+      new_stamp = ap (λ (found : Option Node). at 0 (names_of_node found)) (parent_was node) ∙ zero_new.new_stamp;
+    },
+    tt,
+  )
+
+  pub directory_measured : AreMeasurable fs.volume.tree (edit.PutNode 0 of blank ∷ naming)
+  directory_measured = (tt, naming_measured first)
+
+  pub file_measured : (size : ℕ) → AreMeasurable fs.volume.tree (edit.PutNode 0 of blank ∷ edit.SetSize 0 size ∷ naming)
+  file_measured size = (tt, (tt, subst (λ (t : Tree). AreMeasurable t naming) (sym (sized_is size)) (naming_measured (sized size))))
+
+  module _ (now : ℕ) (node : Node) where
+    abbrev new : ℕ
+    new = next_stamp fs.volume.run fs.changes
+
+    abbrev entry : DirEntry
+    entry = record { name = spelled.now; number = new }
+
+    is_new : AreNew fs.volume.tree number new new
+    is_new = record {
+      fresh = laws.fresh fs formed now number spelled.now parent.node.node (by_stamp card.names) parent.node.there names;
+      new_stamp = ap (λ (found : Option Node). at new (names_of_node found)) parent.node.there
+          ∙ laws.new_stamp fs formed now number spelled.now parent.node.node (by_stamp card.names) parent.node.there names;
+    }
+
+    above_made : IsWellFormed fs.volume.limits (without_data fs.volume.tree) → IsAbove 0 (made fs.volume.tree number new new node entry)
+    above_made well = above_altered (name_put new entry) (with fs.volume.tree new node) number
+        (IsAbove-with fs.volume.tree new 0 node (above_all fs.volume.limits fs.volume.tree well) (laws.high fs formed now number spelled.now parent.node.node (by_stamp card.names) parent.node.there names))
+
+    room_by : (zero : Node) → size_of_content node.content ≡ size_of_content zero.content
+        → AsRoomy fs (tree_with fs number spelled.now node now) (made fs.volume.tree number 0 0 zero (record { name = spelled.now; number = 0 }))
+    room_by zero same = ∥∥₁_elim formed.well_formed (Prim.hlevel props) (λ well.
+        show_room fs.volume.limits (made fs.volume.tree number new new node entry) number (touched (at number fs.volume.tree) new now) (above_made well)
+        ∙ made_room fs.volume.tree (rising_by fs.volume.limits fs.volume.tree well) number there fs.volume.limits new new 0 0 node zero entry (record { name = spelled.now; number = 0 })
+        is_new zero_new same)
+
+    pub directory_room : node.content ≡ first_content kind.Directory 0 → of ≡ kind.Directory
+        → AsRoomy fs (tree_with fs number spelled.now node now) (edited_by fs.volume (edit.PutNode 0 of blank ∷ naming))
+    directory_room content is =
+        room_by first (ap size_of_content content ∙ sym (ap (λ (k : NodeKind). size_of_content (no_content k)) is))
+
+    pub file_room : (size : ℕ) → node.content ≡ first_content kind.File size
+        → AsRoomy fs (tree_with fs number spelled.now node now) (edited_by fs.volume (edit.PutNode 0 of blank ∷ edit.SetSize 0 size ∷ naming))
+    file_room size content =
+        room_by (sized size) (ap size_of_content content
+        ∙ same_length (zeros size) (resized (bytes_of first.content) size) (length-zeros size ∙ sym (length-resized (bytes_of first.content) size)))
+        ∙ ap (λ (t : Tree). fits fs.volume.limits (edited (edits_of naming) t)) (sym (sized_is size))
 
 module _ (fs : FileSystem) (formed : MayStand fs.volume fs.changes) (counted : fs.changes < 2 ^ 32) (limited : fs.volume.limits ≡ limits_of fs.volume.sectors fs.volume.limits.nodes)
     (now number : ℕ) (spelled : Bor (List ℕ)) (of : NodeKind) (size : ℕ) (child_shown parent_shown : Shown) (card : CachedNode) (parent : IsDirectoryOf fs.volume.tree number card) (has : IsSizeOf of size)
@@ -119,6 +183,5 @@ module _ (fs : FileSystem) (formed : MayStand fs.volume fs.changes) (counted : f
   pub planned_where : first_refusal (room_tests fs (tree_with fs number spelled.now (first_node of size (shown_of child_shown)) now)) ≡ None → IsPlanned fs edits
   planned_where passed =
       let wanted = tree_with fs number spelled.now (first_node of size (shown_of child_shown)) now in
-      let first = none_in_front (not (fits fs.volume.limits wanted)) status.NoSpc _ passed in
-      let second = none_in_front (not (is_stamp_left fs.changes)) status.ServerFault None first.1 in
-      planned (ap (fits fs.volume.limits) after ∙ not-false _ first.0) (ltb-true (fs.changes + 1) (2 ^ 32) (not-false _ second.0))
+      let has = passed_room fs wanted passed in
+      planned (ap (fits fs.volume.limits) after ∙ has.fit) (ltb-true (fs.changes + 1) (2 ^ 32) has.left)

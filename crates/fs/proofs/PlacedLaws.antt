@@ -8,13 +8,13 @@ use Rattle.tree_edits.specs.declared.edit.Edit.{Edit}
 use Rattle.tree_edits.specs.Edits.{AreEntries, AreDoable}
 use Rattle.model_tree.specs.declared.limits.Limits.{Limits}
 use Rattle.model_tree.specs.Trees.Edit.{DropName, DropNode, PutName, done, name_put, name_dropped, showing, altered_at}
-use Rattle.model_tree.specs.Trees.Keyed.{Keyed, at, is_key, without, kept_or_not, worth_at}
+use Rattle.model_tree.specs.Trees.Keyed.{IsAbove, Keyed, at, is_key, without, kept_or_not}
 use Rattle.model_tree.specs.Trees.Tree.{Tree, Node, DirEntry, names_of_node, names_at, is_directory_node, is_directory_at, entry_of, found_or}
-use Rattle.model_tree.specs.Trees.WellFormed.{one_if, is_stamped, times_named, AreNames, IsWellFormed, IsBefore}
+use Rattle.model_tree.specs.Trees.WellFormed.{one_if, times_named, IsWellFormed, IsBefore}
 use Rattle.model_tree.proofs.Trees.ChangeLaws.{entry_found, names_in, led_to, never_named, directory_key}
 use Rattle.model_tree.proofs.Trees.EditLaws.{IsForest, forest_of, directory_at}
 use Rattle.model_tree.proofs.Trees.EditViews.{entry_before, NameDropped, name_is_dropped, NodeDropped, node_is_dropped}
-use Rattle.model_tree.proofs.Trees.KeyedLaws.{at-above, at-with_same, at-without_same, at-without_other, total-without, IsAbove-without}
+use Rattle.model_tree.proofs.Trees.KeyedLaws.{at-below, at-with_same, IsAbove-without}
 use Rattle.model_tree.proofs.Facts.OptionLaws.{none_unless, some≢none}
 use Rattle.fs.specs.declared.renaming.Renaming.{Renaming}
 use Rattle.fs.specs.RenameTests.{new_place, old_place}
@@ -166,40 +166,22 @@ can_move limits tree own number old_stamp asked free =
       new_stamp = none_unless (at own (names_at first asked.to)) (λ one is. lt_irrefl own (entry_before own first (dropped.before own free.before) asked.to own one is));
     }
 
--- The stamp of the entry that goes stands in no directory then
+-- No name has the stamp 0
 
-key_worth : (stamp : ℕ) (found : Option Node) (entry : DirEntry) → at stamp (names_of_node found) ≡ Some entry → worth_at (is_stamped stamp) found ≡ 1
-key_worth stamp None entry is = absurd cc
-key_worth stamp (Some one) entry is = ap (λ (o : Option DirEntry). one_if (is_some o)) is
-
-pub stamp_goes : (limits : Limits) (tree : Tree) (own from to : ℕ) (old_name new_name : List ℕ) (stamp : ℕ) (entry : DirEntry) → IsFree limits own tree from to old_name new_name (stamp, entry)
-    → (0 < stamp) × (at stamp (names_at (done (DropName from stamp) tree) to) ≡ None)
-stamp_goes limits tree own from to old_name new_name stamp entry free =
-    (at-above (names_at tree from) 0 stamp entry names.rising stands.0, by_place (cases_eq to from))
+pub zero_open : (limits : Limits) (tree : Tree) (own from to : ℕ) (old_name new_name : List ℕ) (stamp : ℕ) (entry : DirEntry) → IsFree limits own tree from to old_name new_name (stamp, entry)
+    → at 0 (names_at (done (DropName from stamp) tree) to) ≡ None
+zero_open limits tree own from to old_name new_name stamp entry free = by_place (cases_eq to from)
   where
-    names : AreNames limits (names_at tree from)
-    names = names_in limits tree free.forest from
-
-    stands : (at stamp (names_at tree from) ≡ Some entry) × (bytes_eq old_name entry.name ≡ true)
-    stands = entry_found old_name (names_at tree from) 0 (names_in limits tree free.forest from).rising (stamp, entry) free.entry
+    above : (place : ℕ) → IsAbove 0 (names_at tree place)
+    above place = (let names = names_in limits tree free.forest place in names.rising)
 
     dropped : NameDropped limits tree (done (DropName from stamp) tree) from stamp entry
     dropped = name_is_dropped limits tree free.forest from stamp entry free.from_directory (entry_found old_name (names_at tree from) 0 (names_in limits tree free.forest from).rising (stamp, entry) free.entry).0
 
-    twice : to ≢ from → (other : DirEntry) → at stamp (names_at tree to) ≡ Some other → ⊥
-    twice apart other is =
-        let most = free.forest.stamped stamp in
-        let sum = total-without (is_stamped stamp) tree from 0 free.forest.numbered in
-        let rest = total-without (is_stamped stamp) (without tree from) to 0 (IsAbove-without tree from 0 free.forest.numbered) in
-        let here = key_worth stamp (at from tree) entry (entry_found old_name (names_at tree from) 0 (names_in limits tree free.forest from).rising (stamp, entry) free.entry).0 in
-        let there = key_worth stamp (at to tree) other is in
-        let same = ap (worth_at (is_stamped stamp)) (at-without_other tree from to apart) in
-        omega (arith, most, sum, rest, here, there, same)
-
-    by_place : (to ≡ from) ⊎ (to ≢ from) → at stamp (names_at (done (DropName from stamp) tree) to) ≡ None
-    by_place (inl same) = ap (λ (n : ℕ). at stamp (names_at (done (DropName from stamp) tree) n)) same
-        ∙ ap (at stamp) (names-dropped tree from stamp free.from_directory) ∙ at-without_same (names_at tree from) stamp
-    by_place (inr apart) = ap (λ (o : Option Node). at stamp (names_of_node o)) ((dropped).elsewhere to apart) ∙ none_unless (at stamp (names_at tree to)) (twice apart)
+    by_place : (to ≡ from) ⊎ (to ≢ from) → at 0 (names_at (done (DropName from stamp) tree) to) ≡ None
+    by_place (inl same) = ap (λ (n : ℕ). at 0 (names_at (done (DropName from stamp) tree) n)) same ∙ ap (at 0) (names-dropped tree from stamp free.from_directory)
+        ∙ at-below (without (names_at tree from) stamp) 0 0 (IsAbove-without (names_at tree from) stamp 0 (above from)) (omega arith)
+    by_place (inr apart) = ap (λ (o : Option Node). at 0 (names_of_node o)) ((dropped).elsewhere to apart) ∙ at-below (names_at tree to) 0 0 (above to) (omega arith)
 
 -- Then it goes to its place
 

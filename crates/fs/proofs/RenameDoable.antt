@@ -1,5 +1,5 @@
--- The edits of a rename can be done one after the other, under the next stamp or under that of the entry which goes, and there is room for the one where there is for the other.
-use Rattle.std.proofs.Common.{◌≡◌, ◌≤◌, ◌<◌, ◌^◌, ◌++◌, ℕ, true, false, List, [], ◌∷◌, Option, Some, None, length, refl, sym, ap, ◌∙◌, arith, subst}
+-- The edits of a rename can be done one after the other, and there is room for them where there is for those with the stamp 0.
+use Rattle.std.proofs.Common.{◌≡◌, ◌≤◌, ◌<◌, ◌^◌, ◌++◌, ℕ, true, false, List, [], ◌∷◌, Option, Some, None, length, refl, sym, ap, ◌∙◌, arith, inl, inr, subst, ◌⊎◌}
 use denote.Ref.{Bor}
 use Rattle.std.proofs.Math.Logic.{∥∥₁_elim}
 use Rattle.std.proofs.Props.{props}
@@ -11,10 +11,12 @@ use Rattle.tree_edits.specs.declared.edit.Edit.TheVariants as edit
 use Rattle.tree_edits.specs.Sizes.{resized_by}
 use Rattle.tree_edits.proofs.SizeLaws.{IsRising}
 use Rattle.tree_edits.specs.Edits.{AreEntries, AreDoable, edits_of}
+use Rattle.tree_edits.specs.Measures.{AreMeasurable}
 use Rattle.tree_edits.specs.Outlines.{without_data}
 use Rattle.tree_edits.proofs.BlankLaws.{without_data-twice, directory-without_data}
 use Rattle.tree_edits.proofs.BlankLaws.{names-without_data}
-use Rattle.tree_edits.proofs.DoableLaws.{doable_alike}
+use Rattle.tree_edits.proofs.DoableLaws.{doable_alike, measurable, measurable_alike}
+use Rattle.tree_edits.proofs.RoomAlike.{AlikeEdits, same_room}
 use Rattle.model_tree.specs.declared.acl.Cred.{Cred}
 use Rattle.model_tree.specs.declared.limits.Limits.{Limits}
 use Rattle.model_tree.specs.Trees.Charge.{fits}
@@ -26,8 +28,6 @@ use Rattle.model_tree.specs.Refusals.Refusal.{first_refusal}
 use Rattle.model_tree.specs.Trees.Stamp.{next_stamp}
 use Rattle.model_tree.specs.Trees.Tree.{Tree, DirEntry, entry_of, names_at, is_directory_at}
 use Rattle.model_tree.specs.Trees.WellFormed.{IsWellFormed}
-use Rattle.model_tree.proofs.Trees.ChangeLaws.{names_in}
-use Rattle.model_tree.proofs.Trees.EditLaws.{forest_of}
 use Rattle.model_tree.proofs.Trees.KeyedLaws.{IsAbove-without}
 use Rattle.fs.specs.declared.renaming.Renaming.{Renaming}
 use Rattle.fs.specs.FileSystem.{FileSystem}
@@ -35,12 +35,11 @@ use Rattle.fs.specs.Ready.{MayStand}
 use Rattle.fs.specs.Renaming.{arguments_of, is_itself}
 use Rattle.fs.specs.RenameTests.{moving_refusals, placing_refusals, IsTarget}
 use Rattle.fs.proofs.FlatLaws.{key-altered}
-use Rattle.fs.proofs.PlacedLaws.{CanMove, can_move, moved_doable, moving_edits, stamp_goes, target_there}
-use Rattle.fs.proofs.SizesAlike.{AlikeEdits, same_room}
+use Rattle.fs.proofs.PlacedLaws.{CanMove, can_move, moved_doable, moving_edits, target_there, zero_open}
 use Rattle.fs.proofs.MakingPlans.{name_some, name_short}
 use Rattle.fs.proofs.RenamedLaws as laws
 use Rattle.volume.specs.Forms.{replacing}
-use Rattle.volume.proofs.RoomLaws.{above_altered, above_flat, show_room}
+use Rattle.volume.proofs.RoomLaws.{above_altered, show_room}
 
 module _ (fs : FileSystem) (formed : MayStand fs.volume fs.changes) (counted : fs.changes < 2 ^ 32) (limited : fs.volume.limits ≡ limits_of fs.volume.sectors fs.volume.limits.nodes)
     (cred : Cred) (now : ℕ) (asked : Renaming) (old_stamp number : ℕ) (target : Option (ℕ × ℕ))
@@ -81,22 +80,8 @@ module _ (fs : FileSystem) (formed : MayStand fs.volume fs.changes) (counted : f
   pub name_high : 0 < own
   name_high = omega arith
 
-  -- which stamp it gets does not matter, where its directory has none such
-  abbrev pub IsOpen : (stamp : ℕ) → Type 0
-  IsOpen stamp = at stamp (names_at (done (DropName asked.from old_stamp) (laws.cleared asked.to target flat)) asked.to) ≡ None
-
-  can_at : (stamp : ℕ) → IsOpen stamp → CanMove (laws.cleared asked.to target flat) asked old_stamp number stamp
-  can_at stamp none = record {
-    from_directory = can_move_there.from_directory;
-    entry = can_move_there.entry;
-    to_key = can_move_there.to_key;
-    to_directory = can_move_there.to_directory;
-    new_name = can_move_there.new_name;
-    new_stamp = none;
-  }
-
-  moved : (stamp : ℕ) → 0 < stamp → IsOpen stamp → AreDoable (laws.cleared asked.to target flat) (moving_edits asked old_stamp number stamp from_shown to_shown)
-  moved stamp above none = moved_doable (laws.cleared asked.to target flat) stamp number old_stamp asked from_shown to_shown (can_at stamp none) above name_is_some name_is_short from_entries to_entries
+  moved : AreDoable (laws.cleared asked.to target flat) (moving_edits asked old_stamp number own from_shown to_shown)
+  moved = moved_doable (laws.cleared asked.to target flat) own number old_stamp asked from_shown to_shown can_move_there name_high name_is_some name_is_short from_entries to_entries
 
   to_flat : is_directory_at flat asked.to ≡ true
   to_flat = directory-without_data fs.volume.tree asked.to ∙ places.to_directory
@@ -112,10 +97,10 @@ module _ (fs : FileSystem) (formed : MayStand fs.volume fs.changes) (counted : f
           (names-without_data fs.volume.tree one.1 ∙ laws.empty_by fs.volume.tree cred asked one there placed)
           (laws.differs fs formed counted limited cred now asked old_stamp number target found under passed placed other)
 
-  doable_by : (stamp : ℕ) (o : Option (ℕ × ℕ)) → IsTarget fs.volume.tree asked o → AreDoable (laws.cleared asked.to o flat) (moving_edits asked old_stamp number stamp from_shown to_shown)
-      → AreDoable flat (replacing asked.to asked.new_name o ++ moving_edits asked old_stamp number stamp from_shown to_shown)
-  doable_by stamp None there rest = rest
-  doable_by stamp (Some one) there rest = (
+  doable_by : (o : Option (ℕ × ℕ)) → IsTarget fs.volume.tree asked o → AreDoable (laws.cleared asked.to o flat) (moving_edits asked old_stamp number own from_shown to_shown)
+      → AreDoable flat (replacing asked.to asked.new_name o ++ moving_edits asked old_stamp number own from_shown to_shown)
+  doable_by None there rest = rest
+  doable_by (Some one) there rest = (
     record { there = to_flat; number = one.1; named = ap (entry_of asked.new_name.now) (names-without_data fs.volume.tree asked.to) ∙ there },
     (target_key one there, rest),
   )
@@ -123,29 +108,36 @@ module _ (fs : FileSystem) (formed : MayStand fs.volume fs.changes) (counted : f
   abbrev pub list_at : (stamp : ℕ) → List Edit
   list_at stamp = replacing asked.to asked.new_name target ++ moving_edits asked old_stamp number stamp from_shown to_shown
 
-  pub doable_at : (stamp : ℕ) → 0 < stamp → IsOpen stamp → AreDoable fs.volume.tree (list_at stamp)
-  doable_at stamp above none = doable_alike flat fs.volume.tree (list_at stamp) (sym (without_data-twice fs.volume.tree)) (doable_by stamp target under (moved stamp above none))
-
-  -- the next stamp is such, and that of the entry which goes
+  flat_doable : AreDoable flat (list_at own)
+  flat_doable = doable_by target under moved
 
   pub doable_own : AreDoable fs.volume.tree (list_at own)
-  doable_own = doable_at own name_high can_move_there.new_stamp
+  doable_own = doable_alike flat fs.volume.tree (list_at own) (sym (without_data-twice fs.volume.tree)) flat_doable
 
-  goes_by : IsWellFormed fs.volume.limits flat → (0 < old_stamp) × IsOpen old_stamp
-  goes_by well = stamp_goes fs.volume.limits (laws.cleared asked.to target flat) own asked.from asked.to asked.old_name.now asked.new_name.now old_stamp
+  -- Room can be asked for the next stamp, and for 0
+
+  zero_by : IsWellFormed fs.volume.limits flat → at 0 (names_at (done (DropName asked.from old_stamp) (laws.cleared asked.to target flat)) asked.to) ≡ None
+  zero_by well = zero_open fs.volume.limits (laws.cleared asked.to target flat) own asked.from asked.to asked.old_name.now asked.new_name.now old_stamp
       (record { name = asked.old_name.now; number = number }) (laws.free fs formed counted limited cred now asked old_stamp number target found under passed placed other well)
 
-  pub doable_old : AreDoable fs.volume.tree (list_at old_stamp)
-  doable_old = doable_at old_stamp (∥∥₁_elim formed.well_formed (Prim.hlevel props) (λ well. (goes_by well).0))
-      (∥∥₁_elim formed.well_formed (Prim.hlevel props) (λ well. (goes_by well).1))
+  measured_by : (o : Option (ℕ × ℕ)) → AreMeasurable flat (replacing asked.to asked.new_name o ++ moving_edits asked old_stamp number own from_shown to_shown)
+      → at 0 (names_at (done (DropName asked.from old_stamp) (laws.cleared asked.to o flat)) asked.to) ≡ None
+      → AreMeasurable flat (replacing asked.to asked.new_name o ++ moving_edits asked old_stamp number 0 from_shown to_shown)
+  measured_by None can none = (can.0, (record { there = can.1.0.there; new_stamp = none }, (tt, (tt, tt))))
+  measured_by (Some one) can none = (can.0, (can.1.0, (can.1.1.0, (record { there = can.1.1.1.0.there; new_stamp = none }, (tt, (tt, tt))))))
 
-  -- What the edits ask of a tree of which the numbers rise
+  measured_alike : (stamp : ℕ) → AreMeasurable flat (list_at stamp) → AreMeasurable fs.volume.tree (list_at stamp)
+  measured_alike stamp can = measurable_alike flat fs.volume.tree (list_at stamp) (sym (without_data-twice fs.volume.tree)) can
 
-  pub rising_by : IsWellFormed fs.volume.limits flat → IsRising fs.volume.tree
-  rising_by well = record {
-    above = above_flat 0 fs.volume.tree well.numbered;
-    names = λ place. subst (IsAbove 0) (names-without_data fs.volume.tree place) ((names_in fs.volume.limits flat (forest_of fs.volume.limits flat well) place).rising);
-  }
+  measured_zero : AreMeasurable fs.volume.tree (list_at 0)
+  measured_zero = measured_alike 0 (measured_by target (measurable flat (list_at own) flat_doable) (∥∥₁_elim formed.well_formed (Prim.hlevel props) (λ well. zero_by well)))
+
+  pub measured_own : AreMeasurable fs.volume.tree (list_at own)
+  measured_own = measured_alike own (measurable flat (list_at own) flat_doable)
+
+  pub measured_at : (stamp : ℕ) → (stamp ≡ own) ⊎ (stamp ≡ 0) → AreMeasurable fs.volume.tree (list_at stamp)
+  measured_at stamp (inl same) = subst (λ (s : ℕ). AreMeasurable fs.volume.tree (list_at s)) (sym same) measured_own
+  measured_at stamp (inr none) = subst (λ (s : ℕ). AreMeasurable fs.volume.tree (list_at s)) (sym none) measured_zero
 
 -- As much room is left under any two stamps
 
@@ -159,8 +151,8 @@ alike_by to name (Some one) rest others alike =
     (record { number = refl; resized = λ size. refl }, (record { number = refl; resized = λ size. refl }, alike))
 
 pub moved_room : (limits : Limits) (tree : Tree) (asked : Renaming) (old_stamp number stamp other : ℕ) (target : Option (ℕ × ℕ)) (from_shown to_shown from_other to_other : Shown) → IsRising tree
-    → AreDoable tree (replacing asked.to asked.new_name target ++ moving_edits asked old_stamp number stamp from_shown to_shown)
-    → AreDoable tree (replacing asked.to asked.new_name target ++ moving_edits asked old_stamp number other from_other to_other)
+    → AreMeasurable tree (replacing asked.to asked.new_name target ++ moving_edits asked old_stamp number stamp from_shown to_shown)
+    → AreMeasurable tree (replacing asked.to asked.new_name target ++ moving_edits asked old_stamp number other from_other to_other)
     → fits limits (edited (edits_of (replacing asked.to asked.new_name target ++ moving_edits asked old_stamp number stamp from_shown to_shown)) tree)
     ≡ fits limits (edited (edits_of (replacing asked.to asked.new_name target ++ moving_edits asked old_stamp number other from_other to_other)) tree)
 moved_room limits tree asked old_stamp number stamp other target from_shown to_shown from_other to_other rising can could =

@@ -3,7 +3,7 @@ use Rattle.std.proofs.Common.{◌≡◌, ◌<◌, ◌+◌, ◌^◌, ℕ, true, f
 use denote.Ref.{Bor}
 use Rattle.std.proofs.Math.Logic.{∥∥₁_elim}
 use Rattle.std.proofs.Props.{props}
-use Rattle.std.proofs.lemmas.Bool.{lt-ltb}
+use Rattle.std.proofs.lemmas.Bool.{lt-ltb, ltb-true}
 use Rattle.std.specs.Prelude.{IsTrue, option_map, unwrap_or, MatchOption}
 use Rattle.directory.specs.Listing.{by_stamp}
 use Rattle.directory.specs.Records.{Record, NamesStamped, record_from}
@@ -11,10 +11,11 @@ use Rattle.tree_transaction.specs.declared.nodes.Shown.{Shown}
 use Rattle.tree_transaction.specs.Nodes.{shown_of}
 use Rattle.tree_edits.specs.declared.edit.Edit.{Edit}
 use Rattle.tree_edits.specs.Edits.{AreEntries, AreDoable, edits_of}
+use Rattle.tree_edits.specs.Measures.{AreMeasurable}
 use Rattle.model_tree.specs.declared.acl.Cred.{Cred}
 use Rattle.layout.specs.CachedNodes.{CachedNode}
 use Rattle.layout.specs.Known.{IsCard}
-use Rattle.model_tree.specs.declared.status.Status.TheVariants as status
+use Rattle.model_tree.specs.declared.status.Status.{Status}
 use Rattle.model_tree.specs.Trees.Changes.{touched}
 use Rattle.model_tree.specs.Trees.Charge.{fits}
 use Rattle.model_tree.specs.Trees.Edit.{DropName, PutName, Show, edited}
@@ -29,6 +30,7 @@ use Rattle.model_tree.specs.Trees.Tree.{Tree, DirEntry, entry_of, names_at, is_d
 use Rattle.fs.specs.declared.renaming.Moving.{Moving}
 use Rattle.fs.specs.declared.renaming.Renaming.{Renaming}
 use Rattle.fs.specs.FileSystem.{FileSystem}
+use Rattle.fs.specs.Making.{AsRoomy, room_tests}
 use Rattle.fs.specs.Planned.{IsPlanned, shown_by}
 use Rattle.fs.specs.Ready.{MayStand}
 use Rattle.fs.specs.Renaming.{IsOnBoth, arguments_of, is_itself, renamed}
@@ -36,9 +38,10 @@ use Rattle.fs.specs.RenameTests.{FindsMoving, moving_refusals, placing_refusals,
 use Rattle.fs.proofs.CachedNodeViews.{entry_at, kind_told}
 use Rattle.fs.proofs.KeptLaws.{planned_by}
 use Rattle.fs.proofs.PlacedLaws.{moving_edits}
-use Rattle.fs.proofs.RenameDoable.{doable_old, doable_own, moved_room, rising_by, shown_room}
+use Rattle.fs.proofs.RenameDoable.{doable_own, measured_at, measured_own, moved_room, shown_room}
 use Rattle.fs.proofs.RemovalPlans.{shown_touched, change_shown, entries_shown}
 use Rattle.fs.proofs.RenamedLaws as laws
+use Rattle.fs.proofs.RoomTests.{HasRoom, above_all, rising_by, told_by}
 use Rattle.volume.specs.Edits.{edited_by}
 use Rattle.volume.specs.Formed.{IsFormed}
 use Rattle.volume.specs.Forms.{replacing}
@@ -80,32 +83,29 @@ module _ (fs : FileSystem) (formed : MayStand fs.volume fs.changes) (counted : f
   pub after_is : edited_by fs.volume list ≡ after
   after_is = ap (λ (l : List model.Edit). edited l fs.volume.tree) wanted_is
 
-  pub doable : AreDoable fs.volume.tree list
+  doable : AreDoable fs.volume.tree list
   doable = doable_own fs formed counted limited cred now asked old_stamp number target found under passed placed other from_shown to_shown from_entries to_entries
 
-  module _ (fit : IsTrue (fits fs.volume.limits (edited_by fs.volume list))) (left : fs.changes + 1 < 2 ^ 32) where
-    fit_after : IsTrue (fits fs.volume.limits after)
-    fit_after = sym (ap (fits fs.volume.limits) after_is) ∙ fit
-
+  module _ (fit_after : IsTrue (fits fs.volume.limits after)) (left : fs.changes + 1 < 2 ^ 32) where
     pub planned : IsPlanned fs list
     planned = planned_by fs formed counted limited (form.Moving number (old_place asked old_stamp) (new_place asked own) target from_shown to_shown) tt doable
-        fit left
+        (ap (fits fs.volume.limits) after_is ∙ fit_after) left
         (subst (IsFormed fs.volume.limits (next_stamp fs.volume.run (fs.changes + 1))) (sym after_is)
         (laws.formed_after fs formed counted limited cred now asked old_stamp number target found under passed placed other fit_after (lt-ltb (fs.changes + 1) (2 ^ 32) left)))
 
--- The stamp of its edits: the next one, or that of the entry which goes
+-- The stamp of its edits: the next one, or 0 where none is left
 
-pub stamp_of : (fs : FileSystem) (old : ℕ) (next : Option ℕ)
+pub stamp_of : (fs : FileSystem) (next : Option ℕ)
     → MatchOption next (is_stamp_left fs.changes ≡ false) (λ stamp. (stamp ≡ next_stamp fs.volume.run fs.changes) × (fs.changes + 1 < 2 ^ 32))
-    → (unwrap_or next old ≡ next_stamp fs.volume.run fs.changes) ⊎ (unwrap_or next old ≡ old)
-stamp_of fs old None none = inr refl
-stamp_of fs old (Some stamp) is = inl is.0
+    → (unwrap_or next 0 ≡ next_stamp fs.volume.run fs.changes) ⊎ (unwrap_or next 0 ≡ 0)
+stamp_of fs None none = inr refl
+stamp_of fs (Some stamp) is = inl is.0
 
-pub own_stamp : (fs : FileSystem) (old : ℕ) (next : Option ℕ)
+pub own_stamp : (fs : FileSystem) (next : Option ℕ)
     → MatchOption next (is_stamp_left fs.changes ≡ false) (λ stamp. (stamp ≡ next_stamp fs.volume.run fs.changes) × (fs.changes + 1 < 2 ^ 32))
-    → fs.changes + 1 < 2 ^ 32 → unwrap_or next old ≡ next_stamp fs.volume.run fs.changes
-own_stamp fs old None none left = absurd (true≢false (sym (lt-ltb (fs.changes + 1) (2 ^ 32) left) ∙ none))
-own_stamp fs old (Some stamp) is left = is.0
+    → fs.changes + 1 < 2 ^ 32 → unwrap_or next 0 ≡ next_stamp fs.volume.run fs.changes
+own_stamp fs None none left = absurd (true≢false (sym (lt-ltb (fs.changes + 1) (2 ^ 32) left) ∙ none))
+own_stamp fs (Some stamp) is left = is.0
 
 -- By what memory has of both directories
 
@@ -133,7 +133,7 @@ module _ (fs : FileSystem) (formed : MayStand fs.volume fs.changes) (counted : f
   abbrev stamp_now : ℕ
   stamp_now = next_stamp fs.volume.run fs.changes
 
-  is_target : IsTarget fs.volume.tree asked target
+  pub is_target : IsTarget fs.volume.tree asked target
   is_target = target_told fs.volume.tree asked moving.to.now moved.to moved.to_fits (laws.places_by fs.volume.limits fs.volume.tree asked passed).to_directory names names_are target told
 
   from_list : AreEntries (shown_of from_shown).acl
@@ -142,40 +142,35 @@ module _ (fs : FileSystem) (formed : MayStand fs.volume fs.changes) (counted : f
   to_list : AreEntries (shown_of to_shown).acl
   to_list = entries_shown fs formed limited asked.to moving.to.now moved.to moved.to_fits to_shown stamp now to_told
 
+  abbrev pub tree_after : Tree
+  tree_after = laws.after fs formed counted limited cred now asked moving.stamp moving.number target moved.entry is_target passed placed other
+
   -- Which stamp it has does not matter to the room
 
-  doable_by_stamp : (stamp ≡ stamp_now) ⊎ (stamp ≡ moving.stamp) → AreDoable fs.volume.tree edits
-  doable_by_stamp (inl own) = subst (AreDoable fs.volume.tree)
-      (sym (edits_told ∙ ap (λ (s : ℕ). replacing asked.to asked.new_name target ++ moving_edits asked moving.stamp moving.number s from_shown to_shown) own))
-      (doable_own fs formed counted limited cred now asked moving.stamp moving.number target moved.entry is_target passed placed other from_shown to_shown from_list to_list)
-  doable_by_stamp (inr old) = subst (AreDoable fs.volume.tree)
-      (sym (edits_told ∙ ap (λ (s : ℕ). replacing asked.to asked.new_name target ++ moving_edits asked moving.stamp moving.number s from_shown to_shown) old))
-      (doable_old fs formed counted limited cred now asked moving.stamp moving.number target moved.entry is_target passed placed other from_shown to_shown from_list to_list)
+  module _ (stamp_in : (stamp ≡ next_stamp fs.volume.run fs.changes) ⊎ (stamp ≡ 0)) where
+    list_measured : AreMeasurable fs.volume.tree (replacing asked.to asked.new_name target ++ moving_edits asked moving.stamp moving.number stamp from_shown to_shown)
+    list_measured = measured_at fs formed counted limited cred now asked moving.stamp moving.number target moved.entry is_target passed placed other from_shown to_shown from_list to_list stamp stamp_in
 
-  module _ (stamp_in : (stamp ≡ next_stamp fs.volume.run fs.changes) ⊎ (stamp ≡ moving.stamp)) where
-    pub doable_edits : AreDoable fs.volume.tree edits
-    doable_edits = doable_by_stamp stamp_in
+    pub measured_edits : AreMeasurable fs.volume.tree edits
+    measured_edits = subst (AreMeasurable fs.volume.tree) (sym edits_told) list_measured
 
-    room_is : fits fs.volume.limits (edited_by fs.volume edits) ≡ fits fs.volume.limits (laws.after fs formed counted limited cred now asked moving.stamp moving.number target moved.entry is_target passed placed other)
-    room_is = ∥∥₁_elim formed.well_formed (Prim.hlevel props) (λ well.
-        let rises = rising_by fs formed counted limited cred now asked moving.stamp moving.number target moved.entry is_target passed placed other from_shown to_shown from_list to_list well in
+    pub room_asked : AsRoomy fs tree_after (edited_by fs.volume edits)
+    room_asked = sym (∥∥₁_elim formed.well_formed (Prim.hlevel props) (λ well.
         let put : DirEntry = record { name = asked.new_name.now; number = moving.number } in
         ap (λ (l : List Edit). fits fs.volume.limits (edited_by fs.volume l)) edits_told
         ∙ moved_room fs.volume.limits fs.volume.tree asked moving.stamp moving.number stamp stamp_now target from_shown to_shown from_shown to_shown
-        rises (subst (AreDoable fs.volume.tree) edits_told doable_edits) (doable_own fs formed counted limited cred now asked moving.stamp moving.number target moved.entry is_target passed placed other from_shown to_shown from_list to_list)
+        (rising_by fs.volume.limits fs.volume.tree well) list_measured
+        (measured_own fs formed counted limited cred now asked moving.stamp moving.number target moved.entry is_target passed placed other from_shown to_shown from_list to_list)
         ∙ ap (λ (l : List model.Edit). fits fs.volume.limits (edited l fs.volume.tree))
         (edits_are_of asked.to asked.new_name target (moving_edits asked moving.stamp moving.number stamp_now from_shown to_shown))
         ∙ shown_room fs.volume.limits fs.volume.tree asked moving.stamp stamp_now put target (shown_of from_shown) (shown_of to_shown)
-        (touched (at asked.from fs.volume.tree) stamp_now now) (touched (at asked.to fs.volume.tree) stamp_now now) rises.above)
+        (touched (at asked.from fs.volume.tree) stamp_now now) (touched (at asked.to fs.volume.tree) stamp_now now) (above_all fs.volume.limits fs.volume.tree well)))
 
-    module _ (state : State) (on : IsOnBoth fs cred asked.from asked.to state) where
-      pub full : fits fs.volume.limits (edited_by fs.volume edits) ≡ false
-          → does fs.volume.limits state now (Argument.Rename (arguments_of asked)) ≡ refused state (Argument.Rename (arguments_of asked)) status.NoSpc
-      full none = laws.full fs formed counted limited cred now asked moving.stamp moving.number target moved.entry is_target passed placed other state on (sym room_is ∙ none)
-
-      pub used_up : fits fs.volume.limits (edited_by fs.volume edits) ≡ true → is_stamp_left fs.changes ≡ false
-          → does fs.volume.limits state now (Argument.Rename (arguments_of asked)) ≡ refused state (Argument.Rename (arguments_of asked)) status.ServerFault
-      used_up fit none = laws.used_up fs formed counted limited cred now asked moving.stamp moving.number target moved.entry is_target passed placed other state on (sym room_is ∙ fit) none
+  pub late : (reason : Status) → first_refusal (room_tests fs tree_after) ≡ Some reason → (state : State) → IsOnBoth fs cred asked.from asked.to state
+      → does fs.volume.limits state now (Argument.Rename (arguments_of asked)) ≡ refused state (Argument.Rename (arguments_of asked)) reason
+  late reason first state on = told_by fs (λ (it : Status). does fs.volume.limits state now (Argument.Rename (arguments_of asked)) ≡ refused state (Argument.Rename (arguments_of asked)) it) tree_after
+      (laws.full fs formed counted limited cred now asked moving.stamp moving.number target moved.entry is_target passed placed other state on)
+      (λ fit none. laws.used_up fs formed counted limited cred now asked moving.stamp moving.number target moved.entry is_target passed placed other state on fit none) reason first
 
   module _ (stamp_is : stamp ≡ next_stamp fs.volume.run fs.changes) where
     from_then : shown_of from_shown ≡ touched (at asked.from fs.volume.tree) stamp_now now
@@ -187,26 +182,27 @@ module _ (fs : FileSystem) (formed : MayStand fs.volume fs.changes) (counted : f
     edits_are : edits ≡ replacing asked.to asked.new_name target ++ moving_edits asked moving.stamp moving.number stamp_now from_shown to_shown
     edits_are = edits_told ∙ ap (λ (s : ℕ). replacing asked.to asked.new_name target ++ moving_edits asked moving.stamp moving.number s from_shown to_shown) stamp_is
 
-    pub planned_edits : IsTrue (fits fs.volume.limits (edited_by fs.volume edits)) → fs.changes + 1 < 2 ^ 32 → IsPlanned fs edits
-    planned_edits fit left = subst (IsPlanned fs) (sym edits_are)
-        (planned fs formed counted limited cred now asked moving.stamp moving.number target moved.entry is_target passed placed other from_shown to_shown from_then to_then from_list to_list
-        (ap (λ (l : List Edit). fits fs.volume.limits (edited_by fs.volume l)) (sym edits_are) ∙ fit) left)
+    module _ (room : HasRoom fs tree_after) where
+      pub planned_where : IsPlanned fs edits
+      planned_where = subst (IsPlanned fs) (sym edits_are)
+          (planned fs formed counted limited cred now asked moving.stamp moving.number target moved.entry is_target passed placed other from_shown to_shown from_then to_then from_list to_list
+          room.fit (ltb-true (fs.changes + 1) (2 ^ 32) room.left))
 
     edits_after : edited_by fs.volume edits ≡ laws.after fs formed counted limited cred now asked moving.stamp moving.number target moved.entry is_target passed placed other
     edits_after = ap (edited_by fs.volume) edits_are
         ∙ after_is fs formed counted limited cred now asked moving.stamp moving.number target moved.entry is_target passed placed other from_shown to_shown from_then to_then from_list to_list
 
-    module _ (state : State) (on : IsOnBoth fs cred asked.from asked.to state) where
-      module _ (fit : fits fs.volume.limits (edited_by fs.volume edits) ≡ true) where
-        pub goes_on : is_stamp_left fs.changes ≡ true → (from_before to_before : ℕ) → from_before ≡ moving.from.now.fields.change → to_before ≡ moving.to.now.fields.change
+    module _ (room : HasRoom fs tree_after) where
+      module _ (state : State) (on : IsOnBoth fs cred asked.from asked.to state) where
+        pub goes_on : (from_before to_before : ℕ) → from_before ≡ moving.from.now.fields.change → to_before ≡ moving.to.now.fields.change
             → (replaced : Option ℕ) → replaced ≡ option_map (λ (f : ℕ × ℕ). f.1) target
             → does fs.volume.limits state now (Argument.Rename (arguments_of asked))
             ≡ renamed (edited_by fs.volume edits) (fs.changes + 1) state (arguments_of asked)
             (record { source = record { before = from_before; after = stamp }; target = record { before = to_before; after = stamp }; replaced = replaced })
-        goes_on left from_before to_before from_is to_is replaced replaced_is =
+        goes_on from_before to_before from_is to_is replaced replaced_is =
             let out = λ (t : Tree) (s : ℕ) (gone : Option ℕ). renamed t (fs.changes + 1) state (arguments_of asked)
             (record { source = record { before = from_before; after = s }; target = record { before = to_before; after = s }; replaced = gone }) in
-            laws.goes_on fs formed counted limited cred now asked moving.stamp moving.number target moved.entry is_target passed placed other state on (ap (fits fs.volume.limits) (sym edits_after) ∙ fit) left
+            laws.goes_on fs formed counted limited cred now asked moving.stamp moving.number target moved.entry is_target passed placed other state on room.fit room.left
             from_before to_before (change_shown fs.volume.tree asked.from moving.from.now moved.from ∙ sym from_is) (change_shown fs.volume.tree asked.to moving.to.now moved.to ∙ sym to_is)
             ∙ ap (λ (t : Tree). out t stamp_now (option_map (λ (f : ℕ × ℕ). f.1) target)) (sym edits_after)
             ∙ ap₂ (out (edited_by fs.volume edits)) (sym stamp_is) (sym replaced_is)

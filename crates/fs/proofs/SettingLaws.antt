@@ -21,13 +21,21 @@ use Rattle.model.specs.declared.not_done.NotDone.TheVariants as refusal
 use Rattle.set_attributes.specs.Given.{IsRefusedBy, given_of}
 use Rattle.fs.specs.declared.setting.Setting.{Setting}
 use Rattle.fs.specs.FileSystem.{FileSystem}
+use Rattle.fs.specs.Making.{room_tests}
 use Rattle.fs.specs.Operations.{IsOn, IsNotDone, does_on}
 use Rattle.fs.specs.Refusals.{fault_of}
 use Rattle.fs.specs.Setting.{IsSet, IsSetting, SetsTree, StaysSet, after_setting, setting_tests}
+use Rattle.fs.proofs.RoomTests.{told_by}
 use Rattle.fs.proofs.SettingSteps as steps
 use Rattle.volume.specs.Changes.{IsTree}
 use Rattle.volume.specs.Edits.{edited_by}
 use Rattle.volume.specs.VolumeState.{with_tree}
+
+-- the tree that it leaves
+abbrev pub tree_set : FileSystem → (now : ℕ) → Setting → Node → Tree
+tree_set fs now asked node =
+    edited (size_edits asked.number (size_given (given_of asked.attributes)) ++ (Show asked.number (shown_set (Some node) (given_of asked.attributes) (next_stamp fs.volume.run fs.changes) now) ∷ []))
+    fs.volume.tree
 
 module _ (fs : FileSystem) (cred : Cred) (now : ℕ) (asked : Setting) (state : State) (arguments : SetAttrArguments) (on : IsOn fs cred asked.number state) (is : IsSetting state asked arguments) where
   abbrev limits : Limits
@@ -62,16 +70,16 @@ module _ (fs : FileSystem) (cred : Cred) (now : ℕ) (asked : Setting) (state : 
       has = sets_same ∙ ap not some
 
       abbrev after : Tree
-      after = edited (size_edits asked.number (size_given given) ++ (Show asked.number (shown_set (Some node) given (next_stamp fs.volume.run fs.changes) now) ∷ [])) fs.volume.tree
+      after = tree_set fs now asked node
 
       state_tree : (set_attributes true state now arguments).state.tree ≡ after
       state_tree = rw (on.is_state.tree_is, on.is_state.current_is, on.run, on.changes, is.attributes_are, there) refl
 
-      pub full : fits limits after ≡ false → does_on fs state now (Argument.SetAttr arguments) ≡ refused state (Argument.SetAttr arguments) status.NoSpc
+      full : fits limits after ≡ false → does_on fs state now (Argument.SetAttr arguments) ≡ refused state (Argument.SetAttr arguments) status.NoSpc
       full none = steps.no_room limits state now on.is_state.has_current arguments asked.verdict is.verdict_is (first_same ∙ passed) has (ap (fits limits) state_tree ∙ none)
 
       module _ (fit : fits limits after ≡ true) where
-        pub used_up : is_stamp_left fs.changes ≡ false → does_on fs state now (Argument.SetAttr arguments) ≡ refused state (Argument.SetAttr arguments) status.ServerFault
+        used_up : is_stamp_left fs.changes ≡ false → does_on fs state now (Argument.SetAttr arguments) ≡ refused state (Argument.SetAttr arguments) status.ServerFault
         used_up none = steps.no_stamp limits state now on.is_state.has_current arguments asked.verdict is.verdict_is (first_same ∙ passed) has (ap (fits limits) state_tree ∙ fit)
             (ap is_stamp_left on.changes ∙ none)
 
@@ -80,6 +88,9 @@ module _ (fs : FileSystem) (cred : Cred) (now : ℕ) (asked : Setting) (state : 
             steps.done limits state now on.is_state.has_current arguments asked.verdict is.verdict_is (first_same ∙ passed) has (ap (fits limits) state_tree ∙ fit) (ap is_stamp_left on.changes ∙ left)
             ∙ ap (λ (t : Tree). after_setting t (state.changes + 1) state arguments) state_tree
             ∙ ap (λ (n : ℕ). after_setting after (n + 1) state arguments) on.changes
+
+      pub late : (reason : Status) → first_refusal (room_tests fs after) ≡ Some reason → does_on fs state now (Argument.SetAttr arguments) ≡ refused state (Argument.SetAttr arguments) reason
+      late = told_by fs (λ (reason : Status). does_on fs state now (Argument.SetAttr arguments) ≡ refused state (Argument.SetAttr arguments) reason) after full used_up
 
 -- What it leaves by the definition is what its edits make
 

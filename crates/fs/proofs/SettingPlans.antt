@@ -2,9 +2,9 @@
 use Rattle.std.proofs.Common.{◌≡◌, ◌≤◌, ◌<◌, ◌+◌, ◌^◌, ℕ, Bool, true, false, List, [], ◌∷◌, ◌++◌, Option, Some, None, length, refl, sym, ap, ◌∙◌, arith, subst, not, is_some}
 use Rattle.std.proofs.Math.Logic.{∥∥₁_elim}
 use Rattle.std.proofs.Props.{props}
-use Rattle.std.proofs.lemmas.Bool.{lt-ltb}
+use Rattle.std.proofs.lemmas.Bool.{ltb-true}
 use Rattle.std.specs.Option.{ForSome}
-use Rattle.std.specs.Prelude.{IsTrue, Result, option_map}
+use Rattle.std.specs.Prelude.{Result, option_map}
 use Rattle.tree_transaction.specs.declared.nodes.Shown.{Shown}
 use Rattle.tree_transaction.specs.Nodes.{shown_of}
 use Rattle.tree_edits.specs.declared.edit.Edit.{Edit}
@@ -28,11 +28,11 @@ use Rattle.model_tree.specs.Trees.Edit as model
 use Rattle.model_tree.specs.Trees.Keyed.{at, is_key}
 use Rattle.model_tree.specs.Trees.Limits.{limits_of}
 use Rattle.model.specs.Operations.Need.{granted_on}
-use Rattle.model.specs.Operations.Operation.{Argument, Attributes, SetAttrArguments}
+use Rattle.model.specs.Operations.Operation.{Attributes, SetAttrArguments}
 use Rattle.model_tree.specs.Refusals.Refusal.{first_refusal}
 use Rattle.model.specs.Operations.SetAttr.{kind_at, sets_size, shown_set, size_edits}
-use Rattle.model_tree.specs.Trees.Stamp.{next_stamp, is_stamp_left}
-use Rattle.model.specs.Operations.Step.{State, refused}
+use Rattle.model_tree.specs.Trees.Stamp.{next_stamp}
+use Rattle.model.specs.Operations.Step.{State}
 use Rattle.model_tree.specs.Trees.Tree.{Tree, Node, Content, File, Directory, bytes_of, kind_of, is_directory_at}
 use Rattle.model_tree.specs.Trees.WellFormed.{IsContent}
 use Rattle.model_tree.proofs.Trees.KeyedLaws.{at-with_same}
@@ -43,13 +43,13 @@ use Rattle.set_attributes.specs.Given.{AreSettings, WithinLimits, given_of}
 use Rattle.fs.specs.declared.setting.Setting.{Setting}
 use Rattle.fs.specs.FileSystem.{FileSystem}
 use Rattle.fs.specs.Files.{verdict_refusals}
-use Rattle.fs.specs.Making.{last_refusal}
-use Rattle.fs.specs.Operations.{IsOn, does_on}
+use Rattle.fs.specs.Making.{AsRoomy}
+use Rattle.fs.specs.Operations.{IsOn}
 use Rattle.fs.specs.Planned.{IsList, IsPlanned}
 use Rattle.fs.specs.Ready.{MayStand}
 use Rattle.fs.specs.Setting.{IsSet, IsSetting, after_setting, may_set, setting_tests, shown_with, sized_refusals}
 use Rattle.fs.proofs.KeptLaws.{planned_by}
-use Rattle.fs.proofs.LastPlans.{resized_room, resizing_doable, told_as}
+use Rattle.fs.proofs.RoomTests.{HasRoom, resized_room}
 use Rattle.fs.proofs.SettingFlat as flat
 use Rattle.fs.proofs.SettingLaws as laws
 use Rattle.volume.specs.Edits.{edited_by}
@@ -99,28 +99,14 @@ no_directory_at fs cred asked passed sized =
 low_size : (limits : Limits) (of : NodeKind) (settings : Settings) → WithinLimits limits of settings → (size : ℕ) → settings.size ≡ Some size → size ≤ limits.file_bytes
 low_size limits of settings within size is = (subst (λ (o : Option ℕ). ForSome o (λ (n : ℕ). n ≤ limits.file_bytes)) is within.size) size refl
 
--- Where no stamp is left
+-- The tree that it leaves has room where that with the size has
 
-module _ (fs : FileSystem) (formed : MayStand fs.volume fs.changes) (limited : fs.volume.limits ≡ limits_of fs.volume.sectors fs.volume.limits.nodes)
-    (cred : Cred) (now : ℕ) (asked : Setting) (card : CachedNode) (is_node : IsNodeOf fs.volume.tree asked.number card)
-    (passed : first_refusal (setting_tests fs.volume.limits fs.volume.tree cred asked.number asked.verdict (given_of asked.attributes)) ≡ None)
-    (settings : Settings) (are : AreSettings settings (given_of asked.attributes)) (within : WithinLimits fs.volume.limits card.fields.kind settings) where
-  pub last_doable : AreDoable fs.volume.tree (resizing asked.number settings.size)
-  last_doable = resizing_doable fs formed limited asked.number is_node.node is_node.there settings.size
-      (λ sized. no_directory_at fs cred asked passed (ap is_some (sym are.size) ∙ sized))
-      (low_size fs.volume.limits card.fields.kind settings within)
-
-  pub last_refused : settings.is_empty ≡ false → is_stamp_left fs.changes ≡ false → (state : State) (arguments : SetAttrArguments) → IsOn fs cred asked.number state → IsSetting state asked arguments
-      → does_on fs state now (Argument.SetAttr arguments) ≡ refused state (Argument.SetAttr arguments) (last_refusal fs (edited_by fs.volume (resizing asked.number settings.size)))
-  last_refused some none state arguments on is =
-      let given = given_of asked.attributes in
-      let shown = shown_set (Some is_node.node) given (next_stamp fs.volume.run fs.changes) now in
-      let not_empty = sym are.empty ∙ some in
-      told_as fs (λ (reason : Status). does_on fs state now (Argument.SetAttr arguments) ≡ refused state (Argument.SetAttr arguments) reason)
-      (edited (size_edits asked.number (size_given given) ++ (Show asked.number shown ∷ [])) fs.volume.tree) (edited_by fs.volume (resizing asked.number settings.size))
-      (resized_room fs formed limited asked.number (size_given given) shown ∙ ap (λ (size : Option ℕ). fits fs.volume.limits (edited_by fs.volume (resizing asked.number size))) (sym are.size))
-      (laws.full fs cred now asked state arguments on is passed not_empty is_node.node is_node.there)
-      (λ fit. laws.used_up fs cred now asked state arguments on is passed not_empty is_node.node is_node.there fit none)
+pub room_asked : (fs : FileSystem) → MayStand fs.volume fs.changes → (now : ℕ) (asked : Setting) (node : Node) (settings : Settings) → AreSettings settings (given_of asked.attributes)
+    → AsRoomy fs (laws.tree_set fs now asked node) (edited_by fs.volume (resizing asked.number settings.size))
+room_asked fs formed now asked node settings are =
+    let given = given_of asked.attributes in
+    resized_room fs formed asked.number (size_given given) (shown_set (Some node) given (next_stamp fs.volume.run fs.changes) now)
+    ∙ ap (λ (size : Option ℕ). fits fs.volume.limits (edited_by fs.volume (resizing asked.number size))) (sym are.size)
 
 module _ (fs : FileSystem) (formed : MayStand fs.volume fs.changes) (counted : fs.changes < 2 ^ 32) (limited : fs.volume.limits ≡ limits_of fs.volume.sectors fs.volume.limits.nodes)
     (cred : Cred) (now : ℕ) (asked : Setting) (card : CachedNode) (is_node : IsNodeOf fs.volume.tree asked.number card)
@@ -175,7 +161,7 @@ module _ (fs : FileSystem) (formed : MayStand fs.volume fs.changes) (counted : f
   wanted_is : edits_of edits ≡ wanted (size_given given)
   wanted_is = ap edits_of edits_is ∙ same_edits (size_given given)
 
-  pub after_is : edited_by fs.volume edits ≡ edited (wanted (size_given given)) tree
+  after_is : edited_by fs.volume edits ≡ edited (wanted (size_given given)) tree
   after_is = ap (λ (l : List model.Edit). edited l tree) wanted_is
 
   most : limits.file_bytes ≡ 16777216
@@ -219,31 +205,18 @@ module _ (fs : FileSystem) (formed : MayStand fs.volume fs.changes) (counted : f
     (record { there = key_sized size; entries = entries }, tt),
   )
 
-  pub doable : AreDoable tree edits
-  doable = subst (AreDoable tree) (sym edits_is) (doable_with (size_given given) refl)
-
   abbrev stands : Tree → Type 0
   stands t = IsFormed limits (next_stamp fs.volume.run (fs.changes + 1)) t
 
-  fit_there : fits limits (edited_by fs.volume edits) ≡ true → fits limits (edited (wanted (size_given given)) tree) ≡ true
-  fit_there fit = ap (fits limits) (sym after_is) ∙ fit
+  module _ (room : HasRoom fs (laws.tree_set fs now asked node)) where
+    pub planned_where : IsPlanned fs edits
+    planned_where =
+        let whole = subst stands (sym after_is) (flat.formed_after fs formed counted limited cred now number asked.verdict given node is_node.there passed (ap not not_empty) room.fit room.left) in
+        subst (IsPlanned fs) (sym edits_is) (planned_by fs formed counted limited (form.Setting number (size_given given) shown) tt (doable_with (size_given given) refl)
+        (ap (λ (l : List Edit). fits fs.volume.limits (edited_by fs.volume l)) (sym edits_is) ∙ ap (fits limits) after_is ∙ room.fit) (ltb-true (fs.changes + 1) (2 ^ 32) room.left)
+        (subst (λ (l : List Edit). stands (edited_by fs.volume l)) edits_is whole))
 
-  pub planned : IsTrue (fits fs.volume.limits (edited_by fs.volume edits)) → fs.changes + 1 < 2 ^ 32 → IsPlanned fs edits
-  planned fit left =
-      let whole = subst stands (sym after_is)
-      (flat.formed_after fs formed counted limited cred now number asked.verdict given node is_node.there passed (ap not not_empty) (fit_there fit) (lt-ltb (fs.changes + 1) (2 ^ 32) left)) in
-      subst (IsPlanned fs) (sym edits_is) (planned_by fs formed counted limited (form.Setting number (size_given given) shown) tt (doable_with (size_given given) refl)
-      (ap (λ (l : List Edit). fits fs.volume.limits (edited_by fs.volume l)) (sym edits_is) ∙ fit) left (subst (λ (l : List Edit). stands (edited_by fs.volume l)) edits_is whole))
-
-  -- In each state of the operation
-  module _ (state : State) (arguments : SetAttrArguments) (on : IsOn fs cred number state) (is : IsSetting state asked arguments) where
-    pub plan_full : fits limits (edited_by fs.volume edits) ≡ false → does_on fs state now (Argument.SetAttr arguments) ≡ refused state (Argument.SetAttr arguments) status.NoSpc
-    plan_full none = laws.full fs cred now asked state arguments on is passed not_empty node is_node.there (ap (fits limits) (sym after_is) ∙ none)
-
-    module _ (fit : fits limits (edited_by fs.volume edits) ≡ true) where
-      pub plan_used_up : is_stamp_left fs.changes ≡ false → does_on fs state now (Argument.SetAttr arguments) ≡ refused state (Argument.SetAttr arguments) status.ServerFault
-      plan_used_up none = laws.used_up fs cred now asked state arguments on is passed not_empty node is_node.there (fit_there fit) none
-
-      pub plan_goes_on : is_stamp_left fs.changes ≡ true → IsSet fs state now arguments edits
-      plan_goes_on left = laws.goes_on fs cred now asked state arguments on is passed not_empty node is_node.there (fit_there fit) left
-          ∙ ap (λ (t : Tree). after_setting t (fs.changes + 1) state arguments) (sym after_is)
+    -- In each state of the operation
+    pub plan_goes_on : (state : State) (arguments : SetAttrArguments) → IsOn fs cred number state → IsSetting state asked arguments → IsSet fs state now arguments edits
+    plan_goes_on state arguments on is = laws.goes_on fs cred now asked state arguments on is passed not_empty node is_node.there room.fit room.left
+        ∙ ap (λ (t : Tree). after_setting t (fs.changes + 1) state arguments) (sym after_is)

@@ -98,9 +98,6 @@ module _ (fs : FileSystem) (formed : MayStand fs.volume fs.changes) (counted : f
     ),
   )
 
-  pub doable : AreDoable tree edits
-  doable = subst (AreDoable tree) (sym edits_are) list_doable
-
   pub after : edited_by fs.volume edits ≡ edited (SetSize number size ∷ Show number (touched (at number tree) own now) ∷ []) tree
   after = ap (edited_by fs.volume) edits_are ∙ ap (λ (s : model.Shown). edited (SetSize number size ∷ Show number s ∷ []) tree) shown_then
 
@@ -108,5 +105,6 @@ module _ (fs : FileSystem) (formed : MayStand fs.volume fs.changes) (counted : f
   list_planned fit left = planned_by fs formed counted limited (form.Setting number (Some size) shown) tt list_doable
       fit left (flat.formed_after fs formed number node.node node.there no_directory size low (shown_of shown) stamped listed fit)
 
-  pub planned : IsTrue (fits fs.volume.limits (edited_by fs.volume edits)) → fs.changes + 1 < 2 ^ 32 → IsPlanned fs edits
-  planned fit left = subst (IsPlanned fs) (sym edits_are) (list_planned (ap (λ (l : List Edit). fits fs.volume.limits (edited_by fs.volume l)) (sym edits_are) ∙ fit) left)
+  pub planned_where : IsTrue (fits fs.volume.limits (edited (SetSize number size ∷ Show number (touched (at number tree) own now) ∷ []) tree)) → fs.changes + 1 < 2 ^ 32 → IsPlanned fs edits
+  planned_where fit left = subst (IsPlanned fs) (sym edits_are)
+      (list_planned (ap (λ (l : List Edit). fits fs.volume.limits (edited_by fs.volume l)) (sym edits_are) ∙ ap (fits fs.volume.limits) after ∙ fit) left)

@@ -1,7 +1,7 @@
 -- WRITE that was permitted: what it comes to by the definition, and that its edits are a change that may be kept.
 use denote.Ref.{Bor}
 use Rattle.std.proofs.Common.{◌≡◌, ◌≤◌, ◌<◌, ◌+◌, ◌^◌, ℕ, Bool, true, false, List, [], ◌∷◌, Some, None, length, take, refl, sym, ap, ap₂, ◌∙◌, arith, subst, not, is_some, ◌&&◌, ◌||◌}
-use Rattle.std.proofs.lemmas.Bool.{lt-ltb, le-ltb}
+use Rattle.std.proofs.lemmas.Bool.{lt-ltb, le-ltb, ltb-true}
 use Rattle.std.proofs.lemmas.List.{length-take}
 use Rattle.std.specs.Prelude.{IsTrue, Result, nat_lt, ◌==◌}
 use Rattle.tree_transaction.specs.declared.nodes.Shown.{Shown}
@@ -38,7 +38,7 @@ use Rattle.model_tree.proofs.Trees.NodeChangeLaws.{altered-once}
 use Rattle.fs.specs.declared.writing.Writing.{Writing}
 use Rattle.fs.specs.FileSystem.{FileSystem}
 use Rattle.fs.specs.Files.{permit_refusals}
-use Rattle.fs.specs.Making.{last_refusal}
+use Rattle.fs.specs.Making.{AsRoomy, room_tests}
 use Rattle.fs.specs.Operations.{IsOn, does_on}
 use Rattle.fs.specs.Planned.{IsPlanned, shown_by}
 use Rattle.fs.specs.Ready.{MayStand}
@@ -46,13 +46,26 @@ use Rattle.fs.specs.Writing.{IsWrittenTree, IsWriting, WritesTree, after_write, 
 use Rattle.fs.proofs.FileSteps as steps
 use Rattle.fs.proofs.FlatWrites as flat
 use Rattle.fs.proofs.KeptLaws.{planned_by}
-use Rattle.fs.proofs.LastPlans.{file_to, put_room, told_as}
+use Rattle.fs.proofs.RoomTests.{HasRoom, put_room, told_by}
 use Rattle.volume.specs.Edits.{edited_by}
 use Rattle.volume.specs.Formed.{IsFormed}
 use Rattle.volume.specs.Forms as form
 use Rattle.volume.specs.Nodes.{IsNodeOf, IsFile, ShowsContent}
 use Rattle.volume.specs.VolumeState.{with_tree}
 use Rattle.fs.proofs.EntryLaws.{few_listed}
+
+-- The tree that it leaves
+
+abbrev pub tree_written : FileSystem → (now number : ℕ) → Writing → Node → Tree
+tree_written fs now number asked node =
+    edited (PutBytes number asked.offset (bytes_taken fs asked) ∷ Show number (touched (Some node) (next_stamp fs.volume.run fs.changes) now) ∷ []) fs.volume.tree
+
+-- has room where the bytes have
+pub room_asked : (fs : FileSystem) → MayStand fs.volume fs.changes → (now number : ℕ) (asked : Writing) (node : Node) (place : ℕ) (spelled : Bor (List ℕ)) → place ≡ asked.offset → spelled.now ≡ bytes_taken fs asked
+    → AsRoomy fs (tree_written fs now number asked node) (edited_by fs.volume (edit.PutBytes number place spelled ∷ []))
+room_asked fs formed now number asked node place spelled place_is spelled_is =
+    put_room fs formed number asked.offset (bytes_taken fs asked) (touched (Some node) (next_stamp fs.volume.run fs.changes) now)
+    ∙ ap₂ (λ (offset : ℕ) (l : List ℕ). fits fs.volume.limits (done (PutBytes number offset l) fs.volume.tree)) (sym place_is) (sym spelled_is)
 
 -- In each state of the operation
 
@@ -102,16 +115,16 @@ module _ (fs : FileSystem) (cred : Cred) (now number : ℕ) (verdict : Result (U
         low_there = le-ltb limits.file_bytes (arguments.offset + length (taken_bytes limits arguments)) (omega (arith, low, end_is))
 
         abbrev after : Tree
-        after = edited (PutBytes number asked.offset (bytes_taken fs asked) ∷ Show number (touched (Some node) (next_stamp fs.volume.run fs.changes) now) ∷ []) fs.volume.tree
+        after = tree_written fs now number asked node
 
         state_tree : (write true limits state now arguments).state.tree ≡ after
         state_tree = rw (on.is_state.tree_is, on.is_state.current_is, on.run, on.changes, is.offset_is, is.bytes_are, there) refl
 
-        pub full : fits limits after ≡ false → does_on fs state now (Argument.Write arguments) ≡ refused state (Argument.Write arguments) status.NoSpc
+        full : fits limits after ≡ false → does_on fs state now (Argument.Write arguments) ≡ refused state (Argument.Write arguments) status.NoSpc
         full none = steps.no_room limits state now on.is_state.has_current arguments verdict is.verdict_is bytes_are passed_there has low_there (ap (fits limits) state_tree ∙ none)
 
         module _ (fit : fits limits after ≡ true) where
-          pub used_up : is_stamp_left fs.changes ≡ false → does_on fs state now (Argument.Write arguments) ≡ refused state (Argument.Write arguments) status.ServerFault
+          used_up : is_stamp_left fs.changes ≡ false → does_on fs state now (Argument.Write arguments) ≡ refused state (Argument.Write arguments) status.ServerFault
           used_up none = steps.no_stamp limits state now on.is_state.has_current arguments verdict is.verdict_is bytes_are passed_there has low_there (ap (fits limits) state_tree ∙ fit)
               (ap is_stamp_left on.changes ∙ none)
 
@@ -123,6 +136,9 @@ module _ (fs : FileSystem) (cred : Cred) (now number : ℕ) (verdict : Result (U
               ∙ ap (λ (t : Tree). after_write t (state.changes + 1) state arguments (length (taken_bytes limits arguments))) state_tree
               ∙ ap (λ (n : ℕ). after_write after (n + 1) state arguments (length (taken_bytes limits arguments))) on.changes
               ∙ ap (after_write after (fs.changes + 1) state arguments) count
+
+        pub late : (reason : Status) → first_refusal (room_tests fs after) ≡ Some reason → does_on fs state now (Argument.Write arguments) ≡ refused state (Argument.Write arguments) reason
+        late = told_by fs (λ (reason : Status). does_on fs state now (Argument.Write arguments) ≡ refused state (Argument.Write arguments) reason) after full used_up
 
 -- What it leaves by the definition is what its edits put, and need not last where it is not to be stable
 
@@ -142,35 +158,6 @@ puts_tree fs cred now number verdict asked edits step then lasts made = (
   λ lasting. unless_stable (has_bytes made.arguments) (is_done (does_on fs made.state now (Argument.Write made.arguments)).outcome) asked.is_stable (made.arguments.stable == 0)
       made.writing.stable_is (sym made.lasting_is ∙ lasting),
 )
-
--- Where no stamp is left
-
-module _ (fs : FileSystem) (formed : MayStand fs.volume fs.changes) (limited : fs.volume.limits ≡ limits_of fs.volume.sectors fs.volume.limits.nodes)
-    (cred : Cred) (now number : ℕ) (verdict : Result (Unit {0}) Status) (asked : Writing) (card : CachedNode) (node : IsNodeOf fs.volume.tree number card) (file : card.fields.kind ≡ kind.File)
-    (low : asked.offset + length (bytes_taken fs asked) ≤ fs.volume.limits.file_bytes) (place : ℕ) (spelled : Bor (List ℕ)) (place_is : place ≡ asked.offset) (spelled_is : spelled.now ≡ bytes_taken fs asked) where
-  abbrev put : List Edit
-  put = edit.PutBytes number place spelled ∷ []
-
-  of_file : IsFile card.fields.size node.node.content
-  of_file = subst (λ (of : NodeKind). ShowsContent of card node.node.content) file node.content
-
-  pub last_doable : AreDoable fs.volume.tree put
-  last_doable =
-      let count : length spelled.now ≡ length (bytes_taken fs asked) = ap (λ (l : List ℕ). length l) spelled_is in
-      (file_to fs formed limited number node.node node.there (place + length spelled.now) (ap is_directory_node node.there ∙ ap is_directory of_file.file) (omega (arith, low, count, place_is)), tt)
-
-  pub last_refused : first_refusal (permit_refusals fs.volume.tree cred number write_data verdict) ≡ None → 0 < length asked.bytes.now → are_bytes asked.bytes.now ≡ true → is_stamp_left fs.changes ≡ false
-      → (state : State) (arguments : WriteArguments) → IsOn fs cred number state → IsWriting state verdict asked arguments
-      → does_on fs state now (Argument.Write arguments) ≡ refused state (Argument.Write arguments) (last_refusal fs (edited_by fs.volume put))
-  last_refused passed some bytes none state arguments on is =
-      let shown = touched (Some node.node) (next_stamp fs.volume.run fs.changes) now in
-      let part = bytes_taken fs asked in
-      told_as fs (λ (reason : Status). does_on fs state now (Argument.Write arguments) ≡ refused state (Argument.Write arguments) reason)
-      (edited (PutBytes number asked.offset part ∷ Show number shown ∷ []) fs.volume.tree) (edited_by fs.volume put)
-      (put_room fs formed limited number asked.offset part shown
-      ∙ ap₂ (λ (offset : ℕ) (l : List ℕ). fits fs.volume.limits (done (PutBytes number offset l) fs.volume.tree)) (sym place_is) (sym spelled_is))
-      (full fs cred now number verdict asked bytes state arguments on is passed some low node.node node.there)
-      (λ fit. used_up fs cred now number verdict asked bytes state arguments on is passed some low node.node node.there fit none)
 
 -- The edits, as they stand in memory
 
@@ -210,7 +197,7 @@ module _ (fs : FileSystem) (formed : MayStand fs.volume fs.changes) (counted : f
       ∙ ap₂ (λ (offset : ℕ) (bytes : List ℕ). PutBytes number offset bytes ∷ Show number (shown_of shown) ∷ []) place_is spelled_is
       ∙ ap (λ (s : model.Shown). PutBytes number asked.offset part ∷ Show number s ∷ []) new_shown
 
-  pub after_is : edited_by fs.volume edits ≡ edited wanted fs.volume.tree
+  after_is : edited_by fs.volume edits ≡ edited wanted fs.volume.tree
   after_is = ap (λ (l : List model.Edit). edited l fs.volume.tree) wanted_is
 
   transfer : fs.volume.limits.transfer_bytes ≡ 8192
@@ -239,7 +226,7 @@ module _ (fs : FileSystem) (formed : MayStand fs.volume fs.changes) (counted : f
       let put : Node → Node = λ old. with_content old (File (overwritten (bytes_of old.content) place spelled.now)) in
       ap (at number) (altered-once put fs.volume.tree number node.node node.there) ∙ at-with_same fs.volume.tree number (put node.node)
 
-  pub doable : AreDoable fs.volume.tree edits
+  doable : AreDoable fs.volume.tree edits
   doable = subst (AreDoable fs.volume.tree) (sym edits_are) (
     record {
       there = key;
@@ -278,24 +265,17 @@ module _ (fs : FileSystem) (formed : MayStand fs.volume fs.changes) (counted : f
       (flat.formed_after fs formed counted limited cred now number verdict node.node node.there passed asked.offset part part_some part_few low
       (sym (ap (fits fs.volume.limits) tree_is) ∙ fit) (lt-ltb (fs.changes + 1) (2 ^ 32) left)))
 
-  pub planned : IsTrue (fits fs.volume.limits (edited_by fs.volume edits)) → fs.changes + 1 < 2 ^ 32 → IsPlanned fs edits
+  planned : IsTrue (fits fs.volume.limits (edited_by fs.volume edits)) → fs.changes + 1 < 2 ^ 32 → IsPlanned fs edits
   planned fit left = subst (IsPlanned fs) (sym edits_are)
       (planned_list (subst (AreDoable fs.volume.tree) edits_are doable) (ap edits_of (sym edits_are) ∙ wanted_is)
       (ap (λ (l : List Edit). fits fs.volume.limits (edited_by fs.volume l)) (sym edits_are) ∙ fit) left)
 
-  -- In each state of the operation
-  module _ (bytes : are_bytes asked.bytes.now ≡ true) (state : State) (arguments : WriteArguments) (on : IsOn fs cred number state) (is : IsWriting state verdict asked arguments) where
-    pub plan_full : fits fs.volume.limits (edited_by fs.volume edits) ≡ false → does_on fs state now (Argument.Write arguments) ≡ refused state (Argument.Write arguments) status.NoSpc
-    plan_full none = full fs cred now number verdict asked bytes state arguments on is passed some low node.node node.there (ap (fits fs.volume.limits) (sym after_is) ∙ none)
+  module _ (room : HasRoom fs (tree_written fs now number asked node.node)) where
+    pub planned_where : IsPlanned fs edits
+    planned_where = planned (ap (fits fs.volume.limits) after_is ∙ room.fit) (ltb-true (fs.changes + 1) (2 ^ 32) room.left)
 
-    module _ (fit : fits fs.volume.limits (edited_by fs.volume edits) ≡ true) where
-      fit_there : fits fs.volume.limits (edited wanted fs.volume.tree) ≡ true
-      fit_there = ap (fits fs.volume.limits) (sym after_is) ∙ fit
-
-      pub plan_used_up : is_stamp_left fs.changes ≡ false → does_on fs state now (Argument.Write arguments) ≡ refused state (Argument.Write arguments) status.ServerFault
-      plan_used_up none = used_up fs cred now number verdict asked bytes state arguments on is passed some low node.node node.there fit_there none
-
-      pub plan_goes_on : is_stamp_left fs.changes ≡ true
-          → does_on fs state now (Argument.Write arguments) ≡ after_write (edited_by fs.volume edits) (fs.changes + 1) state arguments (length (bytes_taken fs asked))
-      plan_goes_on left = goes_on fs cred now number verdict asked bytes state arguments on is passed some low node.node node.there fit_there left
+    -- In each state of the operation
+    module _ (bytes : are_bytes asked.bytes.now ≡ true) (state : State) (arguments : WriteArguments) (on : IsOn fs cred number state) (is : IsWriting state verdict asked arguments) where
+      pub plan_goes_on : does_on fs state now (Argument.Write arguments) ≡ after_write (edited_by fs.volume edits) (fs.changes + 1) state arguments (length (bytes_taken fs asked))
+      plan_goes_on = goes_on fs cred now number verdict asked bytes state arguments on is passed some low node.node node.there room.fit room.left
           ∙ ap (λ (t : Tree). after_write t (fs.changes + 1) state arguments (length (bytes_taken fs asked))) (sym after_is)

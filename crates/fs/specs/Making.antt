@@ -1,11 +1,10 @@
 -- A node and its name more, whichever operation makes them.
-use Rattle.std.specs.Prelude.{◌≡◌, ◌≤◌, ◌∷◌, [], ℕ, not, List, None, if◌then◌else◌}
-use Rattle.tree_edits.specs.Making.{first_content}
+use Rattle.std.specs.Prelude.{◌≡◌, ◌≤◌, ◌∷◌, [], ℕ, not, List, None}
+use Rattle.tree_edits.specs.Outlines.{zeros}
 use Rattle.layout.specs.CachedNodes.{CachedNode}
 use Rattle.layout.specs.Known.{IsCard}
 use Rattle.model_tree.specs.declared.node.NodeKind.{NodeKind}
 use Rattle.model_tree.specs.declared.node.NodeKind.TheVariants as kind
-use Rattle.model_tree.specs.declared.status.Status.{Status}
 use Rattle.model_tree.specs.declared.status.Status.TheVariants as status
 use Rattle.model_tree.specs.Trees.Changes.{made_edits}
 use Rattle.model_tree.specs.Trees.Charge.{fits}
@@ -13,10 +12,15 @@ use Rattle.model_tree.specs.Trees.Edit.{Shown, edited}
 use Rattle.model_tree.specs.Refusals.Name.{name_refusals}
 use Rattle.model_tree.specs.Refusals.Refusal.{Refusals, first_refusal}
 use Rattle.model_tree.specs.Trees.Stamp.{next_stamp, is_stamp_left}
-use Rattle.model_tree.specs.Trees.Tree.{Tree, Node, entry_of, names_at}
+use Rattle.model_tree.specs.Trees.Tree.{Tree, Node, Content, File, Directory, entry_of, names_at}
 use Rattle.model_tree.specs.Trees.WellFormed.{IsNode}
 use Rattle.volume.specs.Nodes.{IsNodeOf}
 use Rattle.fs.specs.FileSystem.{FileSystem}
+
+-- a file of so many zeros, or a directory without names
+abbrev pub first_content : NodeKind → (size : ℕ) → Content
+first_content kind.File size = File (zeros size)
+first_content kind.Directory size = Directory []
 
 abbrev pub first_node : NodeKind → (size : ℕ) → Shown → Node
 first_node of size shown = record {
@@ -34,9 +38,9 @@ room_tests fs after = (not (fits fs.volume.limits after), status.NoSpc)
     ∷ (not (is_stamp_left fs.changes), status.ServerFault)
     ∷ []
 
--- where no stamp is left, what refuses a change whose tree has room as this one has
-abbrev pub last_refusal : FileSystem → Tree → Status
-last_refusal fs tree = if fits fs.volume.limits tree then status.ServerFault else status.NoSpc
+-- a tree fits where the other one does
+abbrev pub AsRoomy : FileSystem → (after asked : Tree) → Type 0
+AsRoomy fs after asked = fits fs.volume.limits after ≡ fits fs.volume.limits asked
 
 -- what the next change leaves, where it makes this node under a name
 abbrev pub tree_with : FileSystem → (directory : ℕ) → (name : List ℕ) → Node → (now : ℕ) → Tree

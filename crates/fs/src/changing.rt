@@ -10,7 +10,6 @@ use crate::fault::FsFault;
 use crate::fs::Fs;
 use acl_eval::NodeKind;
 use disk::Device;
-use model::not_done::NotDone;
 use model_tree::status::Status;
 use node_table::CachedNode;
 use std::alloc::{AllocError, Global};
@@ -149,10 +148,12 @@ pub(crate) fn set_edits<'a>(
 impl<D: Device> Fs<D> {
     ghost use Rattle.fs.specs.Changes.{fs_ending};
     ghost use Rattle.fs.specs.Views.{fs_of, AltersFs};
-    ghost use Rattle.tree_edits.specs.Edits.{AreDoable};
-    ghost use Rattle.fs.specs.Making.{last_refusal};
+    ghost use Rattle.tree_edits.specs.Measures.{AreMeasurable};
+    ghost use Rattle.fs.specs.Making.{AsRoomy, room_tests};
     ghost use Rattle.fs.specs.Planned.{IsPlanned};
     ghost use Rattle.model_tree.specs.Trees.Stamp.{next_stamp, is_stamp_left};
+    ghost use Rattle.model_tree.specs.Trees.Tree.{Tree};
+    ghost use Rattle.set_attributes.specs.Given.{IsChecked};
     ghost use Rattle.volume.specs.Changes.{IsTree};
     ghost use Rattle.volume.specs.Edits.{IsEdited, edited_by};
     ghost use Rattle.volume.specs.Formed.{ShowsTree};
@@ -181,30 +182,43 @@ impl<D: Device> Fs<D> {
         Some(first + (u64::from(self.changes) + 1))
     }
 
-    /// Why a change is refused for which no stamp is left: NOSPC where the tree after these edits
-    /// has no room, and else SERVERFAULT. They need no stamp, since which numbers stand in a tree
-    /// does not matter to its room, and no memory is taken.
-    pub(crate) fn refuse_last(&self, edits: &[Edit<'_>]) -> NotDone
-        requires { AreDoable (fs_of self.now).volume.tree edits.now }
-        ensures { result ≡ NotDone.Status (last_refusal (fs_of self.now)
-            (edited_by (fs_of self.now).volume edits.now)) }
+    /// The stamp of a change, if the tree after it has room and a stamp is left: NOSPC, SERVERFAULT.
+    /// The edits are those of the change, or others that need as much room: what a node shows needs
+    /// none, and a new node and its name need the same whichever number they get.
+    pub(crate) fn stamp_for(&self, edits: &[Edit<'_>]) -> Result<u64, Status>
+        requires { AreMeasurable (fs_of self.now).volume.tree edits.now }
+        // Its tests, in their order
+        ensures tests { (after : Tree)
+            → AsRoomy (fs_of self.now) after (edited_by (fs_of self.now).volume edits.now)
+            → IsChecked (room_tests (fs_of self.now) after) result }
+        // Where none holds
+        ensures stamp { IfOk result (λ stamp.
+            stamp ≡ next_stamp (fs_of self.now).volume.run (fs_of self.now).changes) }
+        ensures left { OnOk result ((fs_of self.now).changes + 1 < 2 ^ 32) }
     {
-        if self.volume.fits(edits) {
-            NotDone::Status(Status::ServerFault)
-        } else {
-            NotDone::Status(Status::NoSpc)
+        if !self.volume.fits(edits) {
+            return Err(Status::NoSpc);
+        }
+        match self.stamp_left() {
+            Some(stamp) => Ok(stamp),
+            None => Err(Status::ServerFault),
         }
     }
 
     /// The same, of a change that sets a node's size, or of one that sets none.
-    pub(crate) fn refuse_last_size(&self, number: u64, size: Option<u64>) -> NotDone
-        requires { AreDoable (fs_of self.now).volume.tree (resizing number size) }
-        ensures { result ≡ NotDone.Status (last_refusal (fs_of self.now)
-            (edited_by (fs_of self.now).volume (resizing number size))) }
+    pub(crate) fn stamp_to_resize(&self, number: u64, size: Option<u64>) -> Result<u64, Status>
+        // Its tests, in their order
+        ensures tests { (after : Tree) → AsRoomy (fs_of self.now) after
+            (edited_by (fs_of self.now).volume (resizing number size))
+            → IsChecked (room_tests (fs_of self.now) after) result }
+        // Where none holds
+        ensures stamp { IfOk result (λ stamp.
+            stamp ≡ next_stamp (fs_of self.now).volume.run (fs_of self.now).changes) }
+        ensures left { OnOk result ((fs_of self.now).changes + 1 < 2 ^ 32) }
     {
         match size {
-            None => self.refuse_last(&[]),
-            Some(size) => self.refuse_last(&[Edit::SetSize { file: number, size }]),
+            None => self.stamp_for(&[]),
+            Some(size) => self.stamp_for(&[Edit::SetSize { file: number, size }]),
         }
     }
 

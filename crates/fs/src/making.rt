@@ -11,10 +11,11 @@ use acl_eval::{Cred, Mask, NodeKind};
 use directory::check_name;
 use disk::Device;
 use model::not_done::NotDone;
+use model_tree::acl::Acl;
 use model_tree::status::Status;
 use node_table::CachedNode;
 use set_attributes::{GivenAttributes, SETTABLE_AT_CREATION, Settings, check_attributes};
-use std::alloc::AllocError;
+use std::alloc::{AllocError, Global};
 use tree_edits::Edit;
 use tree_transaction::Shown;
 
@@ -36,12 +37,22 @@ struct Planned<'a> {
     created: Created,
 }
 
+/// What a node shows of which only the room matters. Takes no memory.
+fn blank_shown(alloc: Global) -> Shown {
+    Shown {
+        owner: 0,
+        group: 0,
+        acl: Acl::new(alloc),
+        change: 0,
+        time_modify: 0,
+    }
+}
+
 #[tactic(auto, unfolding(crate::specs::Views::fs_of, crate::specs::Views::fs_failures))]
 impl<D: Device> Fs<D> {
     ghost use Rattle.std.specs.Prelude.{◌≡◌, ◌≤◌, ◌<◌, ◌+◌, ◌^◌, ℕ, true, false, None, length, OnOk, IfOk, IfErr, IsErrOf};
     ghost use Rattle.tree_transaction.specs.Nodes.{shown_of};
     ghost use Rattle.tree_edits.specs.Edits.{AreEntries};
-    ghost use Rattle.tree_edits.specs.Making.{first_content};
     ghost use Rattle.layout.specs.Known.{IsCard};
     ghost use Rattle.model_tree.specs.Refusals.Refusal.{first_refusal};
     ghost use Rattle.model_tree.specs.Trees.Stamp.{next_stamp};
@@ -52,7 +63,7 @@ impl<D: Device> Fs<D> {
     ghost use Rattle.fs.specs.Changes.{fs_ending};
     ghost use Rattle.fs.specs.Views.{fs_of, AltersFs};
     ghost use Rattle.fs.specs.Operations.{IsOn, MakesDir, MakesDirBy, MakesTree, IsNotDone, new_directory};
-    ghost use Rattle.fs.specs.Making.{IsDirectoryOf, IsSizeOf, MayBeMade, first_node, room_tests};
+    ghost use Rattle.fs.specs.Making.{IsDirectoryOf, IsSizeOf, MayBeMade, first_content, first_node, room_tests};
     ghost use Rattle.fs.specs.Making.{tree_with};
     ghost use Rattle.fs.specs.Planned.{IsList, IsPlanned, child_shown, list_by};
     ghost use Rattle.fs.specs.Refusals.{MindsRoom, fault_of};
@@ -125,7 +136,7 @@ impl<D: Device> Fs<D> {
             kind: NodeKind::Directory,
             size: 0,
         };
-        let stamp = self.stamp_for(parent, new)?;
+        let stamp = self.stamp_for_node(parent, new)?;
         let shown = self.new_node(cred, parent, NodeKind::Directory, settings, stamp, now)?;
         let edits = self.plan_node(parent, new, shown, stamp, now)?;
         Ok(Planned {
@@ -183,9 +194,13 @@ impl<D: Device> Fs<D> {
         Ok((parent, settings))
     }
 
-    /// The stamp of the change that makes a node below a directory, where the tree has room for it
-    /// and a stamp is left. NOSPC, SERVERFAULT.
-    pub(crate) fn stamp_for(&self, parent: &CachedNode, new: NewNode<'_>) -> Result<u64, Status>
+    /// The stamp of the change that makes a node below a directory, if the tree has room for it and
+    /// a stamp is left: NOSPC, SERVERFAULT. It is asked for a node of the number 0.
+    pub(crate) fn stamp_for_node(
+        &self,
+        parent: &CachedNode,
+        new: NewNode<'_>,
+    ) -> Result<u64, Status>
         requires up { (fs_of self.now).volume.is_down ≡ false }
         requires parent { IsDirectoryOf (fs_of self.now).volume.tree new.directory parent.now }
         // Its tests, in their order
@@ -199,12 +214,26 @@ impl<D: Device> Fs<D> {
             stamp ≡ next_stamp (fs_of self.now).volume.run (fs_of self.now).changes) }
         ensures left { OnOk result ((fs_of self.now).changes + 1 < 2 ^ 32) }
     {
-        if !self.volume.has_room(new.directory, new.kind, new.size) {
-            return Err(Status::NoSpc);
-        }
-        match self.stamp_left() {
-            Some(stamp) => Ok(stamp),
-            None => Err(Status::ServerFault),
+        let node = Edit::PutNode {
+            number: 0,
+            kind: new.kind,
+            shown: blank_shown(self.alloc),
+        };
+        let name = Edit::PutName {
+            directory: new.directory,
+            stamp: 0,
+            name: new.name,
+            number: 0,
+        };
+        match new.kind {
+            NodeKind::Directory => self.stamp_for(&[node, name]),
+            NodeKind::File => {
+                let size = Edit::SetSize {
+                    file: 0,
+                    size: new.size,
+                };
+                self.stamp_for(&[node, size, name])
+            }
         }
     }
 

@@ -329,14 +329,9 @@ impl<D: Device> Fs<D> {
         ensures after { IfOk result (λ edits. edited_by (fs_of self.now).volume edits.items
             ≡ tree_cut (fs_of self.now) number now) }
     {
-        let Some(stamp) = self.stamp_left() else {
-            return Err(self.refuse_last_size(number, Some(0)));
-        };
+        let stamp = self.stamp_to_resize(number, Some(0))?;
         let shown = metadata_with_change(cached, stamp, now)?;
         let edits = set_edits(self.alloc, number, Some(0), shown)?;
-        if !self.volume.fits(&edits) {
-            return Err(NotDone::Status(Status::NoSpc));
-        }
         Ok(edits)
     }
 
@@ -381,7 +376,7 @@ impl<D: Device> Fs<D> {
             kind: NodeKind::File,
             size: settings.size.unwrap_or(0),
         };
-        let stamp = self.stamp_for(directory, new)?;
+        let stamp = self.stamp_for_node(directory, new)?;
         let shown = self.new_node(cred, directory, NodeKind::File, settings, stamp, now)?;
         let edits = self.plan_node(directory, new, shown, stamp, now)?;
         Ok(Planned {

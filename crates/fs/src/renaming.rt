@@ -322,19 +322,14 @@ impl<D: Device> Fs<D> {
         let (from, to) = (moving.from, moving.to);
         let target = to.names.get(asked.new_name);
         self.permit_rename(cred, asked, moving, target)?;
-        // where none is left: the stamp of the entry that goes, whose edits need as much room
-        let stamp = self.stamp_left().unwrap_or(moving.stamp);
+        // which stamp the new name gets does not matter to the room: 0 where none is left
+        let stamp = self.stamp_left().unwrap_or(0);
         let from_shown = metadata_with_change(from, stamp, now)?;
         let to_shown = metadata_with_change(to, stamp, now)?;
         let edits = renamed_edits(
             self.alloc, asked, moving, target, stamp, from_shown, to_shown,
         )?;
-        if !self.volume.fits(&edits) {
-            return Err(NotDone::Status(Status::NoSpc));
-        }
-        if self.changes == u32::MAX {
-            return Err(NotDone::Status(Status::ServerFault));
-        }
+        self.stamp_for(&edits)?;
         Ok(Planned {
             edits: Some(edits),
             renamed: Renamed {

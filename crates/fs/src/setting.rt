@@ -161,14 +161,9 @@ impl<D: Device> Fs<D> {
             return Ok(None);
         }
         let size = settings.size;
-        let Some(stamp) = self.stamp_left() else {
-            return Err(self.refuse_last_size(asked.number, size));
-        };
+        let stamp = self.stamp_to_resize(asked.number, size)?;
         let shown = self.shown_set(cached, settings, stamp, now)?;
         let edits = set_edits(self.alloc, asked.number, size, shown)?;
-        if !self.volume.fits(&edits) {
-            return Err(NotDone::Status(Status::NoSpc));
-        }
         Ok(Some(edits))
     }
 

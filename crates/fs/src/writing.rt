@@ -123,19 +123,14 @@ impl<D: Device> Fs<D> {
         let Some(offset) = self.place_in_file(asked.offset, part.len()) else {
             return Err(NotDone::Status(Status::FBig));
         };
-        let Some(stamp) = self.stamp_left() else {
-            return Err(self.refuse_last(&[Edit::PutBytes {
-                file: number,
-                offset,
-                bytes: part,
-            }]));
+        let put = Edit::PutBytes {
+            file: number,
+            offset,
+            bytes: part,
         };
+        let stamp = self.stamp_for(&[put])?;
         let shown = metadata_with_change(cached, stamp, now)?;
-        let edits = written_edits(number, offset, part, shown);
-        if !self.volume.fits(&edits) {
-            return Err(NotDone::Status(Status::NoSpc));
-        }
-        Ok(edits)
+        Ok(written_edits(number, offset, part, shown))
     }
 
     /// The bytes that one WRITE takes of these: the first of them.

@@ -4,37 +4,38 @@ use Rattle.std.proofs.lemmas.Bool.{cases_eq}
 use Rattle.std.specs.Prelude.{option_map, nat_le, IsTrue, bytes_eq, ◌&&◌}
 use Rattle.model_tree.specs.Trees.Charge.{few_names}
 use Rattle.model_tree.specs.Trees.Edit.{altered, altered_at}
-use Rattle.model_tree.specs.Trees.Keyed.{Keyed, at, with, without, here_or, total, worth_at, IsAbove}
+use Rattle.model_tree.specs.Trees.Keyed.{Keyed, at, with, without, here_or, total, worth_at}
 use Rattle.model_tree.specs.Trees.Tree.{Tree, Node, DirEntry, names_of, names_at, names_of_node, entry_of, found_or}
+use Rattle.tree_edits.proofs.KeyLaws.{Rises, rises_above, rises_with, rises_without, total_with, total_without}
 use Rattle.tree_edits.proofs.NamedLaws.{few-at}
-use Rattle.model_tree.proofs.Trees.KeyedLaws.{at-below, at-first, at-rest, at-above, at-with_same, at-with_other, at-without_same, at-without_other, IsAbove-with, IsAbove-without, total-with, total-without}
+use Rattle.model_tree.proofs.Trees.KeyedLaws.{at-below, at-first, at-rest, at-with_same, at-with_other, at-without_same, at-without_other}
 
 -- every other node stays, the numbers rise, and what the nodes are worth changes by what this one is
 pub record ChangesOne (number : ℕ) (old new : Tree) : Type 0 where
   pub other : (key : ℕ) → key ≢ number → at key new ≡ at key old
-  pub above : IsAbove 0 new
+  pub rises : Rises new
   pub sum : (worth : Node → ℕ) → total worth new + worth_at worth (at number old) ≡ total worth old + worth_at worth (at number new)
 
-pub change_with : (tree : Tree) (number : ℕ) (node : Node) → IsAbove 0 tree → 0 < number → ChangesOne number tree (with tree number node)
-change_with tree number node above some = record {
+pub change_with : (tree : Tree) (number : ℕ) (node : Node) → Rises tree → ChangesOne number tree (with tree number node)
+change_with tree number node rises = record {
   other = λ key off. at-with_other tree number key node off;
-  above = IsAbove-with tree number 0 node above some;
-  sum = λ worth. omega (arith, total-with worth tree number 0 node above, ap (worth_at worth) (at-with_same tree number node));
+  rises = rises_with tree number node rises;
+  sum = λ worth. omega (arith, total_with worth tree number node rises, ap (worth_at worth) (at-with_same tree number node));
 }
 
-pub change_without : (tree : Tree) (number : ℕ) → IsAbove 0 tree → ChangesOne number tree (without tree number)
-change_without tree number above = record {
+pub change_without : (tree : Tree) (number : ℕ) → Rises tree → ChangesOne number tree (without tree number)
+change_without tree number rises = record {
   other = λ key off. at-without_other tree number key off;
-  above = IsAbove-without tree number 0 above;
-  sum = λ worth. omega (arith, total-without worth tree number 0 above, ap (worth_at worth) (at-without_same tree number));
+  rises = rises_without tree number rises;
+  sum = λ worth. omega (arith, total_without worth tree number rises, ap (worth_at worth) (at-without_same tree number));
 }
 
-pub change_altered : (alter : Node → Node) (tree : Tree) (number : ℕ) → IsAbove 0 tree → ChangesOne number tree (altered alter tree number)
-change_altered alter tree number above = by_node (at number tree) refl
+pub change_altered : (alter : Node → Node) (tree : Tree) (number : ℕ) → Rises tree → ChangesOne number tree (altered alter tree number)
+change_altered alter tree number rises = by_node (at number tree) refl
   where
     by_node : (found : Option Node) → at number tree ≡ found → ChangesOne number tree (altered_at alter tree number found)
-    by_node None e = record { other = λ key off. refl; above = above; sum = λ worth. refl }
-    by_node (Some node) e = change_with tree number (alter node) above (at-above tree 0 number node above e)
+    by_node None e = record { other = λ key off. refl; rises = rises; sum = λ worth. refl }
+    by_node (Some node) e = change_with tree number (alter node) rises
 
 pub at_altered : (alter : Node → Node) (tree : Tree) (number : ℕ) → at number (altered alter tree number) ≡ option_map alter (at number tree)
 at_altered alter tree number = by_node (at number tree) refl
@@ -67,16 +68,16 @@ and_true : (a b : Bool) → a ≡ true → b ≡ true → a && b ≡ true
 and_true true b left right = right
 and_true false b left right = absurd cc
 
-pub few_each : (most least : ℕ) (tree : Tree) → IsAbove least tree → ((number : ℕ) → length (names_at tree number) ≤ most) → few_names most tree ≡ true
-few_each most least [] above each = refl
-few_each most least (entry ∷ rest) above each = and_true (nat_le (length (names_of entry.1.content)) most) (few_names most rest)
+pub few_each : (most : ℕ) (tree : Tree) → Rises tree → ((number : ℕ) → length (names_at tree number) ≤ most) → few_names most tree ≡ true
+few_each most [] rises each = refl
+few_each most (entry ∷ rest) rises each = and_true (nat_le (length (names_of entry.1.content)) most) (few_names most rest)
     (le-leb (length (names_of entry.1.content)) most
     (omega (arith, each entry.0, ap (λ (found : Option Node). length (names_of_node found)) (at-first entry.0 entry.0 entry.1 rest refl))))
-    (few_each most entry.0 rest above.1 later)
+    (few_each most rest (rises_above rest entry.0 rises) later)
   where
     later : (number : ℕ) → length (names_at rest number) ≤ most
     later number = elim (cases_eq number entry.0) [
-      | inl e ↦ omega (arith, ap (λ (found : Option Node). length (names_of_node found)) (at-below rest entry.0 number above.1 (omega (arith, e))))
+      | inl e ↦ omega (arith, ap (λ (found : Option Node). length (names_of_node found)) (at-below rest entry.0 number rises (omega (arith, e))))
       | inr off ↦ omega (arith, each number, ap (λ (found : Option Node). length (names_of_node found)) (at-rest entry.0 number entry.1 rest off))
     ]
 

@@ -1,16 +1,14 @@
--- What can be done to a tree can be done to each that is blanked alike.
+-- What can be done to a tree, or measured in it, can be in each that is blanked alike.
 use Rattle.std.proofs.Common.{◌≡◌, ℕ, false, List, [], ◌∷◌, Option, Some, None, refl, sym, ap, ◌∙◌, arith, subst}
 use Rattle.std.specs.Prelude.{is_some, IsTrue, IsFalse}
 use Rattle.tree_edits.specs.declared.edit.Edit.{Edit}
 use Rattle.tree_edits.specs.declared.edit.Edit.TheVariants as declared
-use Rattle.tree_edits.specs.Edits.{edit_of, size_of, CanDo, DoableAlike, FewAlike}
-use Rattle.tree_edits.specs.Making.{IsMaking}
+use Rattle.tree_edits.specs.Edits.{edit_of, size_of, CanDo, AreDoable, DoableAlike, FewAlike}
+use Rattle.tree_edits.specs.Measures.{CanMeasure, AreMeasurable, MeasurableAlike}
 use Rattle.tree_edits.specs.Outlines.{without_data}
 use Rattle.tree_edits.proofs.BlankLaws.{key-without_data, directory-without_data, names-without_data, size-without_data, few-without_data, done-without_data}
 use Rattle.model_tree.specs.Trees.Charge.{few_names}
-use Rattle.model_tree.specs.declared.node.NodeKind.{NodeKind}
 use Rattle.model_tree.specs.Trees.Edit.{done}
-use Rattle.model_tree.specs.Trees.Edit as model
 use Rattle.model_tree.specs.Trees.Keyed.{at, is_key}
 use Rattle.model_tree.specs.Trees.Tree.{Tree, Node, names_at, is_directory_at, entry_of}
 use Rattle.directory.specs.declared.names.TheConstants.Names.{MAX_NAMES}
@@ -19,7 +17,7 @@ module _ (tree other : Tree) (alike : without_data other ≡ without_data tree) 
   key_alike : (number : ℕ) → is_key number other ≡ is_key number tree
   key_alike number = sym (key-without_data other number) ∙ ap (is_key number) alike ∙ key-without_data tree number
 
-  pub directory_alike : (number : ℕ) → is_directory_at other number ≡ is_directory_at tree number
+  directory_alike : (number : ℕ) → is_directory_at other number ≡ is_directory_at tree number
   directory_alike number = sym (directory-without_data other number) ∙ ap (λ (t : Tree). is_directory_at t number) alike ∙ directory-without_data tree number
 
   names_alike : (number : ℕ) → names_at other number ≡ names_at tree number
@@ -35,7 +33,7 @@ module _ (tree other : Tree) (alike : without_data other ≡ without_data tree) 
   fresh_alike : (number : ℕ) → at number tree ≡ None → at number other ≡ None
   fresh_alike number fresh = none (at number other) (key_alike number ∙ ap is_some fresh)
 
-  pub can_alike : (edit : Edit) → CanDo tree edit → CanDo other edit
+  can_alike : (edit : Edit) → CanDo tree edit → CanDo other edit
   can_alike (declared.PutNode number kind shown) can = record { some = can.some; fresh = fresh_alike number can.fresh; entries = can.entries }
   can_alike (declared.DropNode number) can = subst IsTrue (sym (key_alike number)) can
   can_alike (declared.Show number shown) can = record { there = subst IsTrue (sym (key_alike number)) can.there; entries = can.entries }
@@ -67,34 +65,50 @@ module _ (tree other : Tree) (alike : without_data other ≡ without_data tree) 
     low = can.low;
   }
 
-  -- and a node more can be made
-  pub making_alike : (directory : ℕ) (of : NodeKind) (size : ℕ) (edits : List model.Edit) → IsMaking tree directory of size edits → IsMaking other directory of size edits
-  making_alike directory of size edits is = record {
-    number = is.number;
-    stamp = is.stamp;
-    node = is.node;
-    entry = is.entry;
-    shown = is.shown;
-    is = is.is;
-    content = is.content;
-    some = is.some;
-    fresh = fresh_alike is.number is.fresh;
-    new_stamp = ap (at is.stamp) (names_alike directory) ∙ is.new_stamp;
+  measured_alike : (edit : Edit) → CanMeasure tree edit → CanMeasure other edit
+  measured_alike (declared.PutNode number kind shown) can = tt
+  measured_alike (declared.DropNode number) can = tt
+  measured_alike (declared.Show number shown) can = tt
+  measured_alike (declared.PutName directory stamp name number) can = record {
+    there = subst IsTrue (sym (directory_alike directory)) can.there;
+    new_stamp = ap (at stamp) (names_alike directory) ∙ can.new_stamp;
   }
+  measured_alike (declared.DropName directory stamp name) can = can_alike (declared.DropName directory stamp name) can
+  measured_alike (declared.PutBytes file offset bytes) can = subst IsFalse (sym (directory_alike file)) can
+  measured_alike (declared.SetSize file size) can = tt
+
+  next_alike : (edit : Edit) → without_data (done (edit_of edit) other) ≡ without_data (done (edit_of edit) tree)
+  next_alike edit = sym (done-without_data (edit_of edit) other) ∙ ap (λ (t : Tree). without_data (done (edit_of edit) t)) alike ∙ done-without_data (edit_of edit) tree
 
 pub doable_alike : DoableAlike
 doable_alike tree other [] alike can = tt
-doable_alike tree other (edit ∷ edits) alike can = (
-  can_alike tree other alike edit can.0,
-  doable_alike (done (edit_of edit) tree) (done (edit_of edit) other) edits
-      (sym (done-without_data (edit_of edit) other) ∙ ap (λ (t : Tree). without_data (done (edit_of edit) t)) alike ∙ done-without_data (edit_of edit) tree) can.1,
-)
+doable_alike tree other (edit ∷ edits) alike can =
+    (can_alike tree other alike edit can.0, doable_alike (done (edit_of edit) tree) (done (edit_of edit) other) edits (next_alike tree other alike edit) can.1)
+
+pub measurable_alike : MeasurableAlike
+measurable_alike tree other [] alike can = tt
+measurable_alike tree other (edit ∷ edits) alike can =
+    (measured_alike tree other alike edit can.0, measurable_alike (done (edit_of edit) tree) (done (edit_of edit) other) edits (next_alike tree other alike edit) can.1)
+
+-- Edits that can be done can be measured
+
+measured : (tree : Tree) (edit : Edit) → CanDo tree edit → CanMeasure tree edit
+measured tree (declared.PutNode number kind shown) can = tt
+measured tree (declared.DropNode number) can = tt
+measured tree (declared.Show number shown) can = tt
+measured tree (declared.PutName directory stamp name number) can = record { there = can.there; new_stamp = can.new_stamp }
+measured tree (declared.DropName directory stamp name) can = can
+measured tree (declared.PutBytes file offset bytes) can = can.is_file
+measured tree (declared.SetSize file size) can = tt
+
+pub measurable : (tree : Tree) (edits : List Edit) → AreDoable tree edits → AreMeasurable tree edits
+measurable tree [] can = tt
+measurable tree (edit ∷ edits) can = (measured tree edit can.0, measurable (done (edit_of edit) tree) edits can.1)
 
 pub few_alike : FewAlike
 few_alike tree other [] alike few = tt
 few_alike tree other (edit ∷ edits) alike few =
-    let next : without_data (done (edit_of edit) other) ≡ without_data (done (edit_of edit) tree) =
-    sym (done-without_data (edit_of edit) other) ∙ ap (λ (t : Tree). without_data (done (edit_of edit) t)) alike ∙ done-without_data (edit_of edit) tree in (
+    let next = next_alike tree other alike edit in (
       subst IsTrue (sym (few-without_data MAX_NAMES (done (edit_of edit) tree)) ∙ ap (few_names MAX_NAMES) (sym next) ∙ few-without_data MAX_NAMES (done (edit_of edit) other)) few.0,
       few_alike (done (edit_of edit) tree) (done (edit_of edit) other) edits next few.1,
     )

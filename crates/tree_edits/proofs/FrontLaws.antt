@@ -2,13 +2,16 @@
 use Rattle.std.proofs.Common.{◌≡◌, ◌≢◌, ◌≤◌, ◌<◌, ◌+◌, ◌⊎◌, ℕ, zero, suc, List, [], ◌∷◌, Option, Some, None, length, take, get_or, refl, sym, ap, ◌∙◌, arith, inl, inr, subst}
 use Rattle.std.proofs.lemmas.Bool.{cases_eq}
 use Rattle.std.proofs.Math.Seq.{take-length}
+use Rattle.directory.specs.Listing.{by_stamp}
 use Rattle.node_table.specs.Tables.{HasNoNode}
 use Rattle.tree_transaction.proofs.KnownLaws.{card_at}
 use Rattle.tree_edits.specs.declared.edit.Edit.{Edit}
 use Rattle.tree_edits.specs.declared.room.Size.{Size}
-use Rattle.tree_edits.specs.Edits.{edit_of, edits_of, CanDo, AreDoable}
+use Rattle.tree_edits.specs.Edits.{edit_of, edits_of}
+use Rattle.tree_edits.specs.Measures.{CanMeasure, AreMeasurable}
 use Rattle.tree_edits.specs.Outlines.{tree_without_data}
 use Rattle.tree_edits.specs.Sizes.{size_of_content, size_there, size_at, charge_of_size, nodes_in, IsBelow, edited_number, resized_by}
+use Rattle.tree_edits.proofs.KeyLaws.{Rises, rises_above}
 use Rattle.tree_edits.proofs.PlaceLaws.{IsThere, there_is, no_number}
 use Rattle.tree_edits.proofs.SizeLaws.{IsRising, behind, still_rising, charge_behind, nodes_behind}
 use Rattle.layout.specs.CachedNodes.{CachedNode, node_of, content_of}
@@ -20,7 +23,7 @@ use Rattle.model_tree.specs.declared.node.NodeKind.{NodeKind}
 use Rattle.model_tree.specs.declared.node.NodeKind.TheVariants as kind
 use Rattle.model_tree.specs.Trees.Charge.{charge}
 use Rattle.model_tree.specs.Trees.Edit.{done, edited}
-use Rattle.model_tree.specs.Trees.Keyed.{at, with, total, IsAbove}
+use Rattle.model_tree.specs.Trees.Keyed.{at, with, total}
 use Rattle.model_tree.specs.Trees.Tree.{Tree, Node, names_of, names_at, names_of_node}
 use Rattle.model_tree.proofs.Trees.KeyedLaws.{at-with_same, at-with_other}
 use Rattle.directory.specs.declared.names.TheConstants.Names.{MAX_NAMES}
@@ -29,33 +32,33 @@ use Rattle.directory.specs.declared.names.TheConstants.Names.{MAX_NAMES}
 abbrev pub behind_front : Tree → List Edit → ℕ → Tree
 behind_front tree edits count = edited (edits_of (take count edits)) tree
 
--- the edit after a front can be done, and makes the next tree
+-- the edit after a front can be measured, and makes the next tree
 pub record IsNext (tree : Tree) (edits : List Edit) (count : ℕ) (edit : Edit) : Type 0 where
-  pub can : CanDo (behind_front tree edits count) edit
+  pub can : CanMeasure (behind_front tree edits count) edit
   pub next : behind_front tree edits (suc count) ≡ done (edit_of edit) (behind_front tree edits count)
 
 take_none : (edits : List Edit) → take 0 edits ≡ []
 take_none [] = refl
 take_none (edit ∷ edits) = refl
 
-pub is_next : (tree : Tree) (edits : List Edit) (count : ℕ) (edit : Edit) → AreDoable tree edits → count < length edits → edit ≡ get_or edits count edit → IsNext tree edits count edit
+pub is_next : (tree : Tree) (edits : List Edit) (count : ℕ) (edit : Edit) → AreMeasurable tree edits → count < length edits → edit ≡ get_or edits count edit → IsNext tree edits count edit
 is_next tree [] count edit can within is = absurd (omega (arith, within))
 is_next tree (first ∷ edits) zero edit can within is = record {
-  can = subst (CanDo tree) (sym is) can.0;
+  can = subst (CanMeasure tree) (sym is) can.0;
   next = ap (λ (rest : List Edit). edited (edits_of rest) (done (edit_of first) tree)) (take_none edits) ∙ ap (λ (e : Edit). done (edit_of e) tree) (sym is);
 }
 is_next tree (first ∷ edits) (suc count) edit can within is =
     let it = is_next (done (edit_of first) tree) edits count edit can.1 (omega (arith, within)) is in
     record { can = it.can; next = it.next }
 
--- the first edits are such as can be done one after the other
-pub doable_front : (tree : Tree) (edits : List Edit) (count : ℕ) → AreDoable tree edits → AreDoable tree (take count edits)
-doable_front tree [] zero can = tt
-doable_front tree [] (suc count) can = tt
-doable_front tree (edit ∷ edits) zero can = tt
-doable_front tree (edit ∷ edits) (suc count) can = (can.0, doable_front (done (edit_of edit) tree) edits count can.1)
+-- the first edits are measurable
+pub measurable_front : (tree : Tree) (edits : List Edit) (count : ℕ) → AreMeasurable tree edits → AreMeasurable tree (take count edits)
+measurable_front tree [] zero can = tt
+measurable_front tree [] (suc count) can = tt
+measurable_front tree (edit ∷ edits) zero can = tt
+measurable_front tree (edit ∷ edits) (suc count) can = (can.0, measurable_front (done (edit_of edit) tree) edits count can.1)
 
-pub rising_behind : (tree : Tree) (edits : List Edit) → AreDoable tree edits → IsRising tree → IsRising (edited (edits_of edits) tree)
+pub rising_behind : (tree : Tree) (edits : List Edit) → AreMeasurable tree edits → IsRising tree → IsRising (edited (edits_of edits) tree)
 rising_behind tree [] can rising = rising
 rising_behind tree (edit ∷ edits) can rising = rising_behind (done (edit_of edit) tree) edits can.1 (still_rising tree edit can.0 rising)
 
@@ -69,7 +72,7 @@ behind_all tree edits count all = ap (behind_front tree edits) all ∙ ap (λ (f
 
 -- One edit more
 
-module _ (tree : Tree) (edits : List Edit) (can : AreDoable tree edits) (rising : IsRising tree) (count : ℕ) (edit : Edit) (within : count < length edits) (is : edit ≡ get_or edits count edit) where
+module _ (tree : Tree) (edits : List Edit) (can : AreMeasurable tree edits) (rising : IsRising tree) (count : ℕ) (edit : Edit) (within : count < length edits) (is : edit ≡ get_or edits count edit) where
   front : Tree
   front = behind_front tree edits count
 
@@ -77,7 +80,7 @@ module _ (tree : Tree) (edits : List Edit) (can : AreDoable tree edits) (rising 
   next = is_next tree edits count edit can within is
 
   rising_front : IsRising (behind_front tree edits count)
-  rising_front = rising_behind tree (take count edits) (doable_front tree edits count can) rising
+  rising_front = rising_behind tree (take count edits) (measurable_front tree edits count can) rising
 
   next_tree : behind_front tree edits (count + 1) ≡ done (edit_of edit) (behind_front tree edits count)
   next_tree = ap (behind_front tree edits) (let e : count + 1 ≡ suc count = omega arith in e) ∙ next.next
@@ -123,7 +126,7 @@ pub record IsTouched (edits : List Edit) (number : ℕ) : Type 0 where
   pub same : edited_number (get_or edits place edit) ≡ number
 
 -- what no edit changes stays
-pub touched : (tree : Tree) (edits : List Edit) (number : ℕ) → AreDoable tree edits → IsRising tree → IsTouched edits number ⊎ (at number (edited (edits_of edits) tree) ≡ at number tree)
+pub touched : (tree : Tree) (edits : List Edit) (number : ℕ) → AreMeasurable tree edits → IsRising tree → IsTouched edits number ⊎ (at number (edited (edits_of edits) tree) ≡ at number tree)
 touched tree [] number can rising = inr refl
 touched tree (edit ∷ edits) number can rising =
     by_first (touched (done (edit_of edit) tree) edits number can.1 (still_rising tree edit can.0 rising)) (cases_eq number (edited_number edit))
@@ -135,7 +138,7 @@ touched tree (edit ∷ edits) number can rising =
     by_first (inr stays) (inr off) = (let it = behind tree edit can.0 rising in inr (stays ∙ it.one.other number off))
 
 -- so each directory has few names where those have that an edit changes
-pub few_numbers : (tree : Tree) (edits : List Edit) (most : ℕ) → AreDoable tree edits → IsRising tree → ((number : ℕ) → length (names_at tree number) ≤ most)
+pub few_numbers : (tree : Tree) (edits : List Edit) (most : ℕ) → AreMeasurable tree edits → IsRising tree → ((number : ℕ) → length (names_at tree number) ≤ most)
     → ((place : ℕ) (edit : Edit) → place < length edits → length (names_at (edited (edits_of edits) tree) (edited_number (get_or edits place edit))) ≤ most)
     → (number : ℕ) → length (names_at (edited (edits_of edits) tree) number) ≤ most
 few_numbers tree edits most can rising low each number = by_edit (touched tree edits number can rising)
@@ -182,13 +185,13 @@ each_node P (Some card ∷ cards) each number node is =
 
 -- a directory's names rise, and are MAX_NAMES at most
 record HasFewNames (node : Node) : Type 0 where
-  rising : IsAbove 0 (names_of node.content)
+  rising : Rises (names_of node.content)
   few : length (names_of node.content) ≤ MAX_NAMES
 
 module _ (nodes : ℕ) (mark : ℕ → ℕ) (cards : List (Option CachedNode)) (known : AreCards nodes mark cards) where
-  content_rising : (of : NodeKind) (card : CachedNode) → HasContent of card → IsAbove 0 (names_of (content_of (λ n. []) of card))
+  content_rising : (of : NodeKind) (card : CachedNode) → HasContent of card → Rises (names_of (content_of (λ n. []) of card))
   content_rising kind.File card has = tt
-  content_rising kind.Directory card has = above_by_stamp card.names has.stamped
+  content_rising kind.Directory card has = rises_above (by_stamp card.names) 0 (above_by_stamp card.names has.stamped)
 
   content_few : (of : NodeKind) (card : CachedNode) → HasContent of card → length (names_of (content_of (λ n. []) of card)) ≤ MAX_NAMES
   content_few kind.File card has = omega arith
@@ -202,11 +205,11 @@ module _ (nodes : ℕ) (mark : ℕ → ℕ) (cards : List (Option CachedNode)) (
 
   pub rising_outline : IsRising (tree_without_data cards)
   rising_outline = record {
-    above = tree-above (λ n. []) cards (λ place card there. let is = card_at nodes mark cards place card known there in is.number);
+    rises = rises_above (tree_without_data cards) 0 (tree-above (λ n. []) cards (λ place card there. let is = card_at nodes mark cards place card known there in is.number));
     names = λ number. by_node number (at number (tree_without_data cards)) refl;
   }
     where
-      by_node : (number : ℕ) (found : Option Node) → at number (tree_without_data cards) ≡ found → IsAbove 0 (names_of_node found)
+      by_node : (number : ℕ) (found : Option Node) → at number (tree_without_data cards) ≡ found → Rises (names_of_node found)
       by_node number None is = tt
       by_node number (Some node) is = (let it = each_node HasFewNames cards card_few number node is in it.rising)
 

@@ -5,10 +5,11 @@ pub mod DoingLaws
 pub mod FileLaws
 pub mod FitLaws
 pub mod FrontLaws
+pub mod KeyLaws
 pub mod ListLaws
-pub mod MakingLaws
 pub mod NamedLaws
 pub mod OutcomeLaws
 pub mod PlaceLaws
+pub mod RoomAlike
 pub mod RoomLaws
 pub mod SizeLaws

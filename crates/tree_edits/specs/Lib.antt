@@ -1,6 +1,6 @@
 pub mod Doing
 pub mod Edits
-pub mod Making
+pub mod Measures
 pub mod Outcomes
 pub mod Outlines
 pub mod Parts

@@ -10,4 +10,4 @@ mod room;
 pub use edit::Edit;
 pub use laws::outlines;
 pub use outcome::outcome_of;
-pub use room::{fits, has_room};
+pub use room::fits;

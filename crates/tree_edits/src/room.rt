@@ -1,8 +1,8 @@
 //! Whether there is room for the tree after edits.
 
-ghost use Rattle.std.specs.Prelude.{◌≡◌, ◌≤◌, ◌<◌, ◌+◌, ◌^◌, ℕ, true, length};
-ghost use Rattle.tree_edits.specs.Edits.{AreDoable, edits_of};
-ghost use Rattle.tree_edits.specs.Making.{IsMaking, size_of_new};
+ghost use Rattle.std.specs.Prelude.{◌≡◌, ◌≤◌, ◌<◌, ◌+◌, ◌^◌, ℕ, length};
+ghost use Rattle.tree_edits.specs.Edits.{edits_of};
+ghost use Rattle.tree_edits.specs.Measures.{AreMeasurable};
 ghost use Rattle.tree_edits.specs.Outlines.{tree_without_data};
 ghost use Rattle.tree_edits.specs.Sizes.{size_at, charge_of_size, nodes_in, names_in, IsBelow};
 ghost use Rattle.tree_edits.specs.Sizes.{edited_number, resized_by};
@@ -10,7 +10,6 @@ ghost use Rattle.layout.specs.Known.{AreCards};
 ghost use Rattle.model_tree.specs.Trees.Charge.{charge, few_names, fits};
 ghost use Rattle.model_tree.specs.Trees.Edit.{edited};
 ghost use Rattle.model_tree.specs.Trees.Keyed.{total};
-ghost use Rattle.model_tree.specs.Trees.Tree.{is_directory_at};
 
 use crate::edit::Edit;
 use directory::{Names, RECORDS};
@@ -115,7 +114,7 @@ fn resized(size: Option<Size>, edit: &Edit<'_>) -> Option<Size>
 /// What a node has in the tree after edits: each of them that changes it is gone through.
 fn size_after(table: &Table, edits: &[Edit<'_>], number: u64) -> Option<Size>
     requires cards { (nodes : ℕ) × (mark : ℕ → ℕ) × AreCards nodes mark table.now }
-    requires can { AreDoable (tree_without_data table.now) edits.now }
+    requires can { AreMeasurable (tree_without_data table.now) edits.now }
     ensures size { result
         ≡ size_at (edited (edits_of edits.now) (tree_without_data table.now)) number }
     ensures small { IsBelow (2 ^ 65 + length edits.now) result }
@@ -172,7 +171,7 @@ fn names_in(size: Option<Size>) -> u128
 /// What the nodes of the tree after edits take: each edit changes what one of them does.
 fn taken_after(table: &Table, edits: &[Edit<'_>]) -> Taken
     requires cards { (nodes : ℕ) × (mark : ℕ → ℕ) × AreCards nodes mark table.now }
-    requires can { AreDoable (tree_without_data table.now) edits.now }
+    requires can { AreMeasurable (tree_without_data table.now) edits.now }
     ensures charge { result.charge
         ≡ total charge (edited (edits_of edits.now) (tree_without_data table.now)) }
     ensures nodes { result.nodes
@@ -193,7 +192,7 @@ fn taken_after(table: &Table, edits: &[Edit<'_>]) -> Taken
 /// `Names::MAX_NAMES` at most.
 fn have_few_names(table: &Table, edits: &[Edit<'_>], most: usize) -> bool
     requires cards { (nodes : ℕ) × (mark : ℕ → ℕ) × AreCards nodes mark table.now }
-    requires can { AreDoable (tree_without_data table.now) edits.now }
+    requires can { AreMeasurable (tree_without_data table.now) edits.now }
     requires most { Names.MAX_NAMES ≤ most }
     ensures { result
         ≡ few_names most (edited (edits_of edits.now) (tree_without_data table.now)) }
@@ -207,12 +206,13 @@ fn have_few_names(table: &Table, edits: &[Edit<'_>], most: usize) -> bool
 }
 
 /// Whether the tree after edits has room: its charges come to the data region at most, its nodes
-/// to their limit, and no directory has too many names. Each edit must be one that can be done in
-/// the tree that those before it give. Takes no memory, and steps as the square of the edits, of
-/// which there are few, with two searches by number for each of them.
+/// to their limit, and no directory has too many names. Each edit must be one whose room can be told
+/// in the tree that those before it give; a new node may have the number 0 there, and a new name the
+/// stamp 0. Takes no memory, and steps as the square of the edits, of which there are few, with two
+/// searches by number for each of them.
 pub fn fits(table: &Table, limits: &Limits, edits: &[Edit<'_>]) -> bool
     requires cards { (nodes : ℕ) × (mark : ℕ → ℕ) × AreCards nodes mark table.now }
-    requires can { AreDoable (tree_without_data table.now) edits.now }
+    requires can { AreMeasurable (tree_without_data table.now) edits.now }
     requires names { Names.MAX_NAMES ≤ limits.now.names }
     ensures { result ≡ fits limits.now (edited (edits_of edits.now) (tree_without_data table.now)) }
 {
@@ -224,55 +224,4 @@ pub fn fits(table: &Table, limits: &Limits, edits: &[Edit<'_>]) -> bool
         return false;
     }
     have_few_names(table, edits, limits.names)
-}
-
-/// What a node takes that is made with no names, or as a file of so many bytes.
-fn new_size(kind: NodeKind, size: u64) -> Option<Size>
-    ensures size { result ≡ Some (size_of_new kind size) }
-    ensures small { IsBelow (2 ^ 65) result }
-{
-    match kind {
-        NodeKind::File => file(u128::from(size)),
-        NodeKind::Directory => directory(0),
-    }
-}
-
-/// What the nodes of the tree take with one more of the size `child`, which has a name in a
-/// directory that had the size `parent` before.
-fn taken_with(table: &Table, parent: Option<Size>, child: Option<Size>) -> Taken
-    requires cards { (nodes : ℕ) × (mark : ℕ → ℕ) × AreCards nodes mark table.now }
-    requires parent { (number : ℕ) × (parent ≡ size_at (tree_without_data table.now) number) }
-    requires small { IsBelow (2 ^ 65) parent × IsBelow (2 ^ 65) child }
-    ensures charge { result.charge + charge_of_size parent
-        ≡ total charge (tree_without_data table.now) + charge_of_size child + charge_of_size
-        (Some (record { kind = NodeKind.Directory; count = names_in parent + 1 })) }
-    ensures nodes { result.nodes ≡ length (tree_without_data table.now) + 1 }
-{
-    let grown = directory(names_in(parent) + 1);
-    let charge = u128::from(table.charge()) + charge_of(child) + charge_of(grown);
-    Taken {
-        charge: charge - charge_of(parent),
-        nodes: u128::from(table.count()) + 1,
-    }
-}
-
-/// Whether the tree has room for one node more, of this kind, and for its name in a directory. Of a
-/// file the size counts, in bytes. Which number and which stamp it gets does not matter. Takes no
-/// memory, and one search by number.
-pub fn has_room(table: &Table, limits: &Limits, parent: u64, kind: NodeKind, size: u64) -> bool
-    requires cards { (nodes : ℕ) × (mark : ℕ → ℕ) × AreCards nodes mark table.now }
-    requires there { is_directory_at (tree_without_data table.now) parent ≡ true }
-    requires names { Names.MAX_NAMES ≤ limits.now.names }
-    ensures { (edits : _) → IsMaking (tree_without_data table.now) parent kind size edits
-        → result ≡ fits limits.now (edited edits (tree_without_data table.now)) }
-{
-    let own = size_in(table, parent);
-    let taken = taken_with(table, own, new_size(kind, size));
-    if taken.charge > limits.data_sectors as u128 {
-        return false;
-    }
-    if taken.nodes > limits.nodes as u128 {
-        return false;
-    }
-    names_in(own) < limits.names as u128
 }

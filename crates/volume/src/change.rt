@@ -7,8 +7,7 @@ use crate::fault::VolumeFault;
 use crate::parent_calls::{put_by, put_parent};
 use crate::volume::Volume;
 use disk::Device;
-use model_tree::node::NodeKind;
-use tree_edits::{Edit, fits, has_room, outcome_of};
+use tree_edits::{Edit, fits, outcome_of};
 use tree_transaction::{PreparedTransaction, TransactionFault};
 
 impl From<TransactionFault> for VolumeFault {
@@ -26,11 +25,8 @@ impl From<TransactionFault> for VolumeFault {
 #[tactic(auto, unfolding(crate::specs::Views::volume_state, crate::specs::Views::volume_failures))]
 impl<D: Device> Volume<D> {
     ghost use Rattle.std.specs.Prelude.{◌≡◌, ◌↔◌, true, false, OnOk, OnErr, IsErrOf};
-    ghost use Rattle.tree_edits.specs.Edits.{AreDoable};
-    ghost use Rattle.tree_edits.specs.Making.{IsMaking};
+    ghost use Rattle.tree_edits.specs.Measures.{AreMeasurable};
     ghost use Rattle.model_tree.specs.Trees.Charge.{fits};
-    ghost use Rattle.model_tree.specs.Trees.Edit.{edited};
-    ghost use Rattle.model_tree.specs.Trees.Tree.{is_directory_at};
     ghost use Rattle.volume.specs.Changes.{IsTree, ending_of};
     ghost use Rattle.volume.specs.Edits.{IsChange, IsEdited, edited_by};
     ghost use Rattle.volume.specs.Formed.{ShowsTree};
@@ -38,26 +34,15 @@ impl<D: Device> Volume<D> {
     ghost use Rattle.volume.specs.Views.{volume_state, AltersVolume};
 
     /// Whether the tree after edits has room: what [`Volume::change`] asks first. Each must be one
-    /// that can be done in the tree that those before it give. It is answered where the volume is
-    /// down too, as [`Volume::node`] is.
+    /// whose room can be told in the tree that those before it give: it need not be possible, and a
+    /// new node or name may have the number 0 for one that is not known yet. It is answered where
+    /// the volume is down too, as [`Volume::node`] is.
     pub fn fits(&self, edits: &[Edit<'_>]) -> bool
-        requires { AreDoable (volume_state self.now).tree edits.now }
+        requires { AreMeasurable (volume_state self.now).tree edits.now }
         ensures { result ≡ fits (volume_state self.now).limits
             (edited_by (volume_state self.now) edits.now) }
     {
         fits(&self.table, &self.limits, edits)
-    }
-
-    /// Whether the tree has room for one node more, of this kind and, of a file, of this size in
-    /// bytes, and for its name in a directory. It is answered as [`Volume::fits`] is, and the same
-    /// whichever number and stamp the node and the name get.
-    pub fn has_room(&self, directory: u64, kind: NodeKind, size: u64) -> bool
-        requires { is_directory_at (volume_state self.now).tree directory ≡ true }
-        ensures { (edits : _) → IsMaking (volume_state self.now).tree directory kind size edits
-            → result ≡ fits (volume_state self.now).limits
-            (edited edits (volume_state self.now).tree) }
-    {
-        has_room(&self.table, &self.limits, directory, kind, size)
     }
 
     /// Changes the tree by edits, one after the other, as one transaction: a crash leaves all of

@@ -22,7 +22,7 @@ returns c =
     let edits = c.args.edits.now in
     let rising = rising_outline known.0 known.1 cards known.2 in
     let last = rising_behind (tree_without_data cards) edits c.requires.can rising in
-    sym (few_each c.args.most 0 (edited (edits_of edits) (tree_without_data cards)) last.above
+    sym (few_each c.args.most (edited (edits_of edits) (tree_without_data cards)) last.rises
     (few_numbers (tree_without_data cards) edits c.args.most c.requires.can rising
     (λ number. omega (arith, c.requires.most, few_outline known.0 known.1 cards known.2 number))
     (λ place edit within. c.loop-edit.invariant place edit (omega (arith, within, c.loop-edit-test.false)))))

@@ -1,7 +1,7 @@
 use Rattle.std.proofs.Common.{◌+◌, ◌^◌, length, take, sym, ◌∙◌, arith}
 use Rattle.std.proofs.lemmas.List.{length-take}
 use Rattle.tree_edits.specs.Outlines.{tree_without_data}
-use Rattle.tree_edits.proofs.FrontLaws.{below_more, doable_front, rising_outline, charge_next, nodes_next}
+use Rattle.tree_edits.proofs.FrontLaws.{below_more, measurable_front, rising_outline, charge_next, nodes_next}
 use Rattle.tree_edits.proofs.RoomLaws.{charge_all, count_all}
 use Rattle.tree_edits.proofs.room.taken_after.Goals as goal
 
@@ -16,7 +16,7 @@ loop-i-init c =
     }
 
 pub size_after-before-requires-clause-can : goal.size_after-before-requires-clause-can
-size_after-before-requires-clause-can c = doable_front (tree_without_data c.args.table.now) c.args.edits.now c.loop-i.i c.requires.can
+size_after-before-requires-clause-can c = measurable_front (tree_without_data c.args.table.now) c.args.edits.now c.loop-i.i c.requires.can
 
 pub charge_of-requires : goal.charge_of-requires
 charge_of-requires c =

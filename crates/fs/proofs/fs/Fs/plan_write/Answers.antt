@@ -1,13 +1,10 @@
-use Rattle.std.proofs.Common.{◌≡◌, ◌≤◌, ◌+◌, ◌^◌, ◌∙◌, length, sym, subst}
+use Rattle.std.proofs.Common.{◌≤◌, ◌+◌, ◌^◌, ◌∙◌, length, sym, true≢false}
 use Rattle.std.proofs.lemmas.Bool.{lt-ltb}
 use Rattle.std.proofs.lemmas.Result.{err_from_is_err_and}
-use Rattle.model.specs.declared.not_done.NotDone.{NotDone}
-use Rattle.model.specs.Operations.Operation.{Argument}
-use Rattle.fs.specs.Operations.{IsNotDone}
-use Rattle.fs.specs.Refusals.{fault_of}
 use Rattle.fs.specs.Views.{fs_of}
 use Rattle.fs.specs.Writing.{bytes_taken}
-use Rattle.fs.proofs.WrittenLaws.{early, too_big, doable, last_doable, last_refused, planned, plan_full, plan_goes_on}
+use Rattle.fs.proofs.RoomTests.{file_of, passed_room}
+use Rattle.fs.proofs.WrittenLaws.{early, late, too_big, planned_where, plan_goes_on, room_asked, tree_written}
 use Rattle.volume.specs.Views.{volume_state}
 use Rattle.model.specs.declared.not_done.NotDone.TheVariants as refusal
 use Rattle.volume.proofs.ServeLaws.{told_err}
@@ -40,64 +37,58 @@ returns-in_default-clause-refused g c state arguments on is =
     too_big fs c.args.cred.now c.args.now c.args.number c.args.verdict c.args.asked c.taken-part.ensures.bytes state arguments on is
     c.in_ok-cached.ensures.tests c.requires.some (rw (← c.taken-part.ensures.taken) c.in_default.ensures.none)
 
-pub refuse_last-requires : goal.refuse_last-requires
+pub stamp_for-requires : goal.stamp_for-requires
 unfolding fs_of volume_state
-refuse_last-requires g c =
-    let fs = fs_of c.args.self.now in
-    let low : c.args.asked.offset + length (bytes_taken fs c.args.asked) ≤ fs.volume.limits.file_bytes = rw (← c.taken-part.ensures.taken) c.in-Some.ensures.some.1 in
-    last_doable fs (c.args.self.now.ready c.requires.up) c.args.self.now.volume.limited c.args.cred.now c.args.now c.args.number c.args.verdict c.args.asked c.in_ok-cached.cached.now
-    c.in_ok-cached.ensures.node c.in_ok-cached.ensures.file low c.in-Some.offset c.taken-part.result c.in-Some.ensures.some.0 c.taken-part.ensures.taken
+stamp_for-requires g c =
+    (file_of (fs_of c.args.self.now).volume.tree c.args.number c.in_ok-cached.cached.now c.in_ok-cached.ensures.node c.in_ok-cached.ensures.file, tt)
 
-pub returns-in_default-stamp_left-clause-refused : goal.returns-in_default-stamp_left-clause-refused
-unfolding fs_of volume_state
-returns-in_default-stamp_left-clause-refused g c state arguments on is =
-    let fs = fs_of c.args.self.now in
-    let low : c.args.asked.offset + length (bytes_taken fs c.args.asked) ≤ fs.volume.limits.file_bytes = rw (← c.taken-part.ensures.taken) c.in-Some.ensures.some.1 in
-    subst (λ (reason : NotDone). IsNotDone fs state c.args.now (Argument.Write arguments) (fault_of reason)) (sym c.refuse_last.ensures)
-    (last_refused fs (c.args.self.now.ready c.requires.up) c.args.self.now.volume.limited c.args.cred.now c.args.now c.args.number c.args.verdict c.args.asked c.in_ok-cached.cached.now
-    c.in_ok-cached.ensures.node c.in_ok-cached.ensures.file low c.in-Some.offset c.taken-part.result c.in-Some.ensures.some.0 c.taken-part.ensures.taken
-    c.in_ok-cached.ensures.tests c.requires.some c.taken-part.ensures.bytes c.in_default-stamp_left.ensures state arguments on is)
+pub returns-in_err-stamp-clause-planned : goal.returns-in_err-stamp-clause-planned
+returns-in_err-stamp-clause-planned g c = rw (told_err c.from_residual-in_err-stamp.result (refusal.Status c.in_err-stamp.field-0.0) c.from_residual-in_err-stamp.ensures.1) (tt)
 
-pub fits-requires : goal.fits-requires
-unfolding fs_of volume_state
-fits-requires g c =
-    let fs = fs_of c.args.self.now in
-    let low : c.args.asked.offset + length (bytes_taken fs c.args.asked) ≤ fs.volume.limits.file_bytes = rw (← c.taken-part.ensures.taken) c.in-Some.ensures.some.1 in
-    doable fs (c.args.self.now.ready c.requires.up) c.args.self.now.counted c.args.self.now.volume.limited c.args.cred.now c.args.now c.args.number c.args.verdict c.args.asked c.in_ok-cached.cached.now
-    c.in_ok-cached.ensures.node c.in_ok-cached.ensures.file c.in_ok-cached.ensures.fit c.in_ok-cached.ensures.tests c.requires.some low
-    c.in-Some-stamp_left.stamp c.in-Some.offset c.taken-part.result c.in_ok-shown.shown c.written_edits-edits.result
-    c.in-Some-stamp_left.ensures.0 c.in-Some.ensures.some.0 c.taken-part.ensures.taken c.in_ok-shown.ensures c.written_edits-edits.ensures
+pub returns-in_err-stamp-clause-step : goal.returns-in_err-stamp-clause-step
+returns-in_err-stamp-clause-step g c = rw (told_err c.from_residual-in_err-stamp.result (refusal.Status c.in_err-stamp.field-0.0) c.from_residual-in_err-stamp.ensures.1) (λ state arguments on is. tt)
 
-pub returns-then-not-fits-clause-refused : goal.returns-then-not-fits-clause-refused
+pub returns-in_err-stamp-clause-refused : goal.returns-in_err-stamp-clause-refused
 unfolding fs_of volume_state
-returns-then-not-fits-clause-refused g c state arguments on is =
+returns-in_err-stamp-clause-refused g c state arguments on is =
     let fs = fs_of c.args.self.now in
+    let node = c.in_ok-cached.ensures.node in
     let low : c.args.asked.offset + length (bytes_taken fs c.args.asked) ≤ fs.volume.limits.file_bytes = rw (← c.taken-part.ensures.taken) c.in-Some.ensures.some.1 in
-    plan_full fs (c.args.self.now.ready c.requires.up) c.args.self.now.counted c.args.self.now.volume.limited c.args.cred.now c.args.now c.args.number c.args.verdict c.args.asked c.in_ok-cached.cached.now
-    c.in_ok-cached.ensures.node c.in_ok-cached.ensures.file c.in_ok-cached.ensures.fit c.in_ok-cached.ensures.tests c.requires.some low
-    c.in-Some-stamp_left.stamp c.in-Some.offset c.taken-part.result c.in_ok-shown.shown c.written_edits-edits.result
-    c.in-Some-stamp_left.ensures.0 c.in-Some.ensures.some.0 c.taken-part.ensures.taken c.in_ok-shown.ensures c.written_edits-edits.ensures
-    c.taken-part.ensures.bytes state arguments on is (sym c.fits.ensures ∙ c.if-not-fits.true)
+    let p = err_from_is_err_and c.from_residual-in_err-stamp.result c.from_residual-in_err-stamp.ensures.1 in
+    rw (p.1, p.2) (late fs c.args.cred.now c.args.now c.args.number c.args.verdict c.args.asked c.taken-part.ensures.bytes state arguments on is
+    c.in_ok-cached.ensures.tests c.requires.some low node.node node.there c.in_err-stamp.field-0.0
+    (c.in_err-stamp.ensures.tests (tree_written fs c.args.now c.args.number c.args.asked node.node)
+    (room_asked fs (c.args.self.now.ready c.requires.up) c.args.now c.args.number c.args.asked node.node c.in-Some.offset c.taken-part.result c.in-Some.ensures.some.0 c.taken-part.ensures.taken)))
+
+-- a stamp was left
+pub returns-in_err-shown-clause-memory : goal.returns-in_err-shown-clause-memory
+unfolding fs_of
+returns-in_err-shown-clause-memory g c none =
+    absurd (true≢false (sym (lt-ltb ((fs_of c.args.self.now).changes + 1) (2 ^ 32) c.in_ok-stamp.ensures.left) ∙ none))
 
 pub returns-clause-planned : goal.returns-clause-planned
 unfolding fs_of volume_state
 returns-clause-planned g c =
     let fs = fs_of c.args.self.now in
+    let node = c.in_ok-cached.ensures.node in
     let low : c.args.asked.offset + length (bytes_taken fs c.args.asked) ≤ fs.volume.limits.file_bytes = rw (← c.taken-part.ensures.taken) c.in-Some.ensures.some.1 in
-    planned fs (c.args.self.now.ready c.requires.up) c.args.self.now.counted c.args.self.now.volume.limited c.args.cred.now c.args.now c.args.number c.args.verdict c.args.asked c.in_ok-cached.cached.now
-    c.in_ok-cached.ensures.node c.in_ok-cached.ensures.file c.in_ok-cached.ensures.fit c.in_ok-cached.ensures.tests c.requires.some low
-    c.in-Some-stamp_left.stamp c.in-Some.offset c.taken-part.result c.in_ok-shown.shown c.written_edits-edits.result
-    c.in-Some-stamp_left.ensures.0 c.in-Some.ensures.some.0 c.taken-part.ensures.taken c.in_ok-shown.ensures c.written_edits-edits.ensures
-    (sym c.fits.ensures ∙ c.if-not-fits.false) c.in-Some-stamp_left.ensures.1
+    planned_where fs (c.args.self.now.ready c.requires.up) c.args.self.now.counted c.args.self.now.volume.limited c.args.cred.now c.args.now c.args.number c.args.verdict c.args.asked c.in_ok-cached.cached.now
+    node c.in_ok-cached.ensures.file c.in_ok-cached.ensures.fit c.in_ok-cached.ensures.tests c.requires.some low
+    c.in_ok-stamp.stamp c.in-Some.offset c.taken-part.result c.in_ok-shown.shown c.written_edits.result
+    c.in_ok-stamp.ensures.stamp c.in-Some.ensures.some.0 c.taken-part.ensures.taken c.in_ok-shown.ensures c.written_edits.ensures
+    (passed_room fs (tree_written fs c.args.now c.args.number c.args.asked node.node) (c.in_ok-stamp.ensures.tests (tree_written fs c.args.now c.args.number c.args.asked node.node)
+    (room_asked fs (c.args.self.now.ready c.requires.up) c.args.now c.args.number c.args.asked node.node c.in-Some.offset c.taken-part.result c.in-Some.ensures.some.0 c.taken-part.ensures.taken)))
 
 pub returns-clause-step : goal.returns-clause-step
 unfolding fs_of volume_state
 returns-clause-step g c state arguments on is =
     let fs = fs_of c.args.self.now in
+    let node = c.in_ok-cached.ensures.node in
     let low : c.args.asked.offset + length (bytes_taken fs c.args.asked) ≤ fs.volume.limits.file_bytes = rw (← c.taken-part.ensures.taken) c.in-Some.ensures.some.1 in
     plan_goes_on fs (c.args.self.now.ready c.requires.up) c.args.self.now.counted c.args.self.now.volume.limited c.args.cred.now c.args.now c.args.number c.args.verdict c.args.asked c.in_ok-cached.cached.now
-    c.in_ok-cached.ensures.node c.in_ok-cached.ensures.file c.in_ok-cached.ensures.fit c.in_ok-cached.ensures.tests c.requires.some low
-    c.in-Some-stamp_left.stamp c.in-Some.offset c.taken-part.result c.in_ok-shown.shown c.written_edits-edits.result
-    c.in-Some-stamp_left.ensures.0 c.in-Some.ensures.some.0 c.taken-part.ensures.taken c.in_ok-shown.ensures c.written_edits-edits.ensures
-    c.taken-part.ensures.bytes state arguments on is (sym c.fits.ensures ∙ c.if-not-fits.false)
-    (lt-ltb (fs.changes + 1) (2 ^ 32) c.in-Some-stamp_left.ensures.1)
+    node c.in_ok-cached.ensures.file c.in_ok-cached.ensures.fit c.in_ok-cached.ensures.tests c.requires.some low
+    c.in_ok-stamp.stamp c.in-Some.offset c.taken-part.result c.in_ok-shown.shown c.written_edits.result
+    c.in_ok-stamp.ensures.stamp c.in-Some.ensures.some.0 c.taken-part.ensures.taken c.in_ok-shown.ensures c.written_edits.ensures
+    (passed_room fs (tree_written fs c.args.now c.args.number c.args.asked node.node) (c.in_ok-stamp.ensures.tests (tree_written fs c.args.now c.args.number c.args.asked node.node)
+    (room_asked fs (c.args.self.now.ready c.requires.up) c.args.now c.args.number c.args.asked node.node c.in-Some.offset c.taken-part.result c.in-Some.ensures.some.0 c.taken-part.ensures.taken)))
+    c.taken-part.ensures.bytes state arguments on is

@@ -2,6 +2,7 @@ use Rattle.std.proofs.Common.{◌≡◌, ◌≤◌, ◌+◌, ◌∙◌, ℕ, fal
 use Rattle.std.specs.Prelude.{IsTrue, Err}
 use Rattle.tree_edits.specs.Outcomes.{cards_after}
 use Rattle.tree_edits.proofs.BlankLaws.{each_outline}
+use Rattle.tree_edits.proofs.DoableLaws.{measurable}
 use Rattle.journal.specs.Calls.{IsSafe, HasApplied}
 use Rattle.journal.specs.Journal.{log_of, journal_failures}
 use Rattle.journal.specs.Layout.{AreTargets, targets}
@@ -38,6 +39,10 @@ returns-then-not-fits-clause-volume g c = left g.D.Device.keeps_word _ (volume_s
 
 pub returns-in_err-apply-clause-shows : goal.returns-in_err-apply-clause-shows
 returns-in_err-apply-clause-shows g c = rw (told_err c.from_residual-in_err-apply.result (fault_of c.in_err-apply.field-0.0) c.from_residual-in_err-apply.ensures.1) (tt)
+
+pub fits-requires : goal.fits-requires
+unfolding volume_state
+fits-requires g c = measurable (volume_state c.args.self.now).tree c.args.edits.now c.requires.doable
 
 pub outcome_of-requires-clause-can : goal.outcome_of-requires-clause-can
 unfolding volume_state

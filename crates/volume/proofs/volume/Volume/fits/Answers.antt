@@ -1,6 +1,6 @@
 use Rattle.std.proofs.Common.{◌∙◌, []}
 use Rattle.tree_edits.specs.Edits.{edits_of}
-use Rattle.tree_edits.proofs.DoableLaws.{doable_alike}
+use Rattle.tree_edits.proofs.DoableLaws.{measurable_alike}
 use Rattle.journal.specs.Journal.{log_of}
 use Rattle.journal.specs.Log.{Log, contents}
 use Rattle.layout.specs.CachedNodes.{tree_of}
@@ -13,7 +13,7 @@ unfolding volume_state
 fits-requires-clause-can g c =
     let volume = c.args.self.now in
     let log : Log = log_of volume.store.journal in
-    doable_alike (tree_of (contents log) volume.table) (tree_of (λ n. []) volume.table) c.args.edits.now (outline_alike (contents log) volume.table) c.requires
+    measurable_alike (tree_of (contents log) volume.table) (tree_of (λ n. []) volume.table) c.args.edits.now (outline_alike (contents log) volume.table) c.requires
 
 pub returns : goal.returns
 unfolding volume_state
