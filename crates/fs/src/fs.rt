@@ -10,7 +10,7 @@ use model_tree::limits::Limits;
 use model_tree::seats::{SeatEdits, Seats};
 use std::alloc::Global;
 use std::num::NonZeroUsize;
-use volume::{Checked, FormatFault, MountFault, Unmounted, Volume};
+use volume::{Checked, FormatFault, MountFault, Room, Unmounted, Volume};
 
 /// A mounted file system.
 #[derive(Drop)]
@@ -42,6 +42,7 @@ impl<D: Device> Fs<D> {
     ghost use Rattle.volume.specs.Formed.{ShowsTree};
     ghost use Rattle.volume.specs.VolumeState.{KeepsRecent};
     ghost use Rattle.volume.specs.MountAnswers.{FindsSeats, MountGivesBack};
+    ghost use Rattle.volume.specs.Rooms.{IsLeftOf};
 
     /// Makes the device a new volume of this many nodes, with an empty root: `volume::format`.
     ///
@@ -148,6 +149,20 @@ impl<D: Device> Fs<D> {
         ensures { result.now ≡ (fs_of self.now).volume.limits }
     {
         self.volume.limits()
+    }
+
+    /// How many sectors and nodes are left of these limits: `Volume::room`.
+    pub fn room(&self) -> Room
+        ensures { IsLeftOf (fs_of self.now).volume result }
+    {
+        self.volume.room()
+    }
+
+    /// How many changes of the tree this run has had. Their stamps are `run * 2^32 + 1` and so on.
+    pub fn change_count(&self) -> u32
+        ensures { result ≡ (fs_of self.now).changes }
+    {
+        self.changes
     }
 
     /// The device, as it is now. What stands on it is the next mount's.

@@ -38,5 +38,5 @@ pub use removing::Removed;
 pub use renaming::{Change, Renamed, Renaming};
 pub use setting::Setting;
 pub use volume::superblock::is_volume_size;
-pub use volume::{Checked, FormatFault, MountFault, Unmounted};
+pub use volume::{Checked, FormatFault, MountFault, Room, Unmounted};
 pub use writing::Writing;

@@ -12,6 +12,7 @@ pub mod FormedLaws
 pub mod FoundLaws
 pub mod FrontLaws
 pub mod KeepLaws
+pub mod LeftLaws
 pub mod LoadLaws
 pub mod MountLaws
 pub mod MountedLaws

@@ -21,6 +21,7 @@ pub mod Parents
 pub mod Reading
 pub mod Refusals
 pub mod Remounts
+pub mod Rooms
 pub mod SeatTransactions
 pub mod SeatUpdates
 pub mod Shown

@@ -25,8 +25,8 @@ pub const MAX_NODES: u32 = Table::MAX_NODES;
 /// The fewest sectors behind those of the nodes.
 const MIN_DATA: u32 = 16;
 
-/// What the first sector begins with.
-const MAGIC: [u8; 8] = *b"NFS41VOL";
+/// What the first sector of a volume of any version begins with.
+pub const MAGIC: [u8; 8] = *b"NFS41VOL";
 
 /// What a mount makes of sector 0, the first that holds.
 #[derive(Clone, Copy, Debug, PartialEq, Eq)]
