@@ -23,7 +23,7 @@ use Rattle.model_tree.specs.declared.status.Status.{Status}
 use Rattle.model_tree.specs.declared.status.Status.TheVariants as status
 use Rattle.model.proofs.Sessions.KeptLaws.{refused_length}
 use Rattle.wire.specs.Short.{IsRefusal}
-use Rattle.compound.specs.Operates.{RunsTo, GivesIn, IsAnswered, IsReplyKept, ChangesTreeAndOpens, run_in_room, tree_by}
+use Rattle.compound.specs.Operates.{RunsTo, GivesIn, HasResult, ChangesTreeAndOpens, run_in_room, tree_by}
 use Rattle.compound.specs.Runs.{with_rest}
 use Rattle.compound.specs.States.{HasState, shared}
 use Rattle.compound.specs.Trees.{IsHere, IsUp, refusal, fault_told}
@@ -220,7 +220,7 @@ is_up now fs state kind fault.Down up bad step = gone fs.volume.is_down up step
 
 -- a refusal is spelled, and sends nothing again
 
-refusal_spelled : (request : InProgress) (operation : ℕ) (reason : Status) → operation < 2 ^ 32 → IsRefusal reason → IsAnswered request (refusal operation reason)
+refusal_spelled : (request : InProgress) (operation : ℕ) (reason : Status) → operation < 2 ^ 32 → IsRefusal reason → HasResult request (refusal operation reason)
 refusal_spelled request operation reason fits bad = record {
   fits = (fits, bad);
   small = omega (arith, refused_length operation reason);
@@ -228,16 +228,9 @@ refusal_spelled request operation reason fits bad = record {
 }
 
 pub told_spelled : (request : InProgress) (operation : ℕ) (why : FsFault) → operation < 2 ^ 32 → IsUp why
-    → IfOk (fault_told operation why) (IsAnswered request)
+    → IfOk (fault_told operation why) (HasResult request)
 told_spelled request operation (fault.Status reason) fits is = refusal_spelled request operation reason fits is
 told_spelled request operation fault.NoRoom fits is = refusal_spelled request operation status.RepTooBig fits (λ zero. omega (arith, zero))
 told_spelled request operation fault.Memory fits is = tt
 told_spelled request operation fault.Device fits is = tt
 told_spelled request operation fault.Down fits is = tt
-
-pub told_kept : (table : Table) (operation : ℕ) (why : FsFault) → IfOk (fault_told operation why) (IsReplyKept table)
-told_kept table operation (fault.Status reason) = tt
-told_kept table operation fault.NoRoom = tt
-told_kept table operation fault.Memory = tt
-told_kept table operation fault.Device = tt
-told_kept table operation fault.Down = tt

@@ -1,4 +1,5 @@
 pub mod Agreeing
+pub mod AheadLaws
 pub mod BesideLaws
 pub mod Changing
 pub mod CloseLaws
@@ -9,6 +10,7 @@ pub mod Identity
 pub mod ListLaws
 pub mod OpenLaws
 pub mod OpenNamedLaws
+pub mod OwnResults
 pub mod Pages
 pub mod Parts
 pub mod QuietLaws
@@ -17,8 +19,8 @@ pub mod Refusals
 pub mod RemoveLaws
 pub mod RenameLaws
 pub mod Replies
-pub mod Resuming
 pub mod Rests
+pub mod Resuming
 pub mod Rooms
 pub mod Sequencing
 pub mod SettingLaws

@@ -1,3 +1,4 @@
+pub mod Ahead
 pub mod Beside
 pub mod EncodedResult
 pub mod Files

@@ -15,6 +15,7 @@ use Rattle.model.specs.Server.World.{World, InProgress, HasRun, run, in_room, ou
 use Rattle.session.specs.Views.{reply_kept}
 use Rattle.wire.specs.Numbers.{number_of}
 use Rattle.wire.specs.OutcomeView.{outcome_view}
+use Rattle.wire.specs.declared.outcome.Outcome.{Outcome}
 use Rattle.wire.specs.SmallViews.{state_view}
 use Rattle.xdr.specs.Forms.{counted}
 use Rattle.xdr.specs.Grammar.{number}
@@ -127,6 +128,12 @@ HasRoom request (model.Done answer) =
     length (reply_with request (model.Done answer)) ≤ MAX_REPLY_BYTES
 HasRoom request (model.Refused operation reason) = ⊤
 
+-- the OK result of this answer, which is spelled in few bytes
+pub record IsShortOutcome (answer : model.Answer) (outcome : Outcome) : Type 0 where
+  pub is : outcome_view outcome ≡ model.Done answer
+  pub fits : answers.outcome.Fits (outcome_view outcome)
+  pub small : length (outcome_text (outcome_view outcome)) < 2 ^ 63
+
 -- a reply has room for these bytes after the results so far
 abbrev pub HasRoomFor : InProgress → (text : List ℕ) → Type 0
 HasRoomFor request text =
@@ -139,6 +146,20 @@ pub record IsSpelled (request : InProgress) (outcome : model.Outcome) : Type 0 w
   pub small : length (outcome_text outcome) < 2 ^ 63
   pub room : HasRoom request outcome
 
+-- an operation that ran has a result of its own, and the reply has room for it
+abbrev pub HasResult : InProgress → Executed → Type 0
+HasResult request (execution.Gives outcome left) = IsSpelled request (outcome_view outcome)
+HasResult request (execution.GivesSpelled kind values) =
+    HasRoomFor request (spelled_text (number_of kind) values.items)
+HasResult request (execution.Replays slot) = ⊥
+
+-- it only reads, and has a result
+pub record Reads (files : FileSystem) (request : InProgress) (operation : Argument)
+    (done : Executed) : Type 0 where
+  pub answered : HasResult request done
+  pub gives : OnlyReads files request operation done
+
+-- or its slot keeps the whole reply
 abbrev pub IsAnswered : InProgress → Executed → Type 0
 IsAnswered request (execution.Gives outcome left) = IsSpelled request (outcome_view outcome)
 IsAnswered request (execution.GivesSpelled kind values) =

@@ -1,12 +1,12 @@
 -- What all COMPOUNDs of a server work on: the file system, the clients and sessions, and what these
 -- have open.
-use Rattle.std.specs.Prelude.{ℕ, ◌≡◌}
+use Rattle.std.specs.Prelude.{ℕ, ◌≡◌, false}
 use Rattle.fs.specs.FileSystem.{FileSystem}
 use Rattle.fs.specs.Views.{fs_of}
 use Rattle.fs.specs.declared.fs.Fs.{Fs}
 use Rattle.model.specs.Sessions.Opens.{Opens}
 use Rattle.model.specs.Sessions.Session.{Table}
-use Rattle.model.specs.Server.World.{World}
+use Rattle.model.specs.Server.World.{World, InProgress}
 use Rattle.session.specs.Limits.{served}
 use Rattle.session.specs.Views.{table_of}
 use Rattle.session.specs.declared.table.Table as code
@@ -44,6 +44,16 @@ pub record HasState (world : World) (state : SharedState) : Type 0 where
 pub record Agrees (files : FileSystem) (table : Table) : Type 0 where
   pub run : table.run ≡ files.volume.run
   pub seats : table.seats ≡ files.volume.seats
+
+-- a file system that is up, in the run in which the request began
+pub record CanServe (files : FileSystem) (request : InProgress) : Type 0 where
+  pub up : files.volume.is_down ≡ false
+  pub run : request.context.run ≡ files.volume.run
+
+-- a file system that is up, and the table that has its seats if the device keeps its word
+pub record CanSeat (keeps_word : Type 0) (files : FileSystem) (table : Table) : Type 0 where
+  pub up : files.volume.is_down ≡ false
+  pub agrees : keeps_word → Agrees files table
 
 -- the world with what it is now
 abbrev pub with_state : World → SharedState → World

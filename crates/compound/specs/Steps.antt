@@ -4,16 +4,19 @@ use Rattle.std.specs.Prelude.{◌≡◌, ◌+◌, ℕ, Bool, true, false, None}
 use Rattle.fs.specs.FileSystem.{FileSystem}
 use Rattle.model.specs.Server.World as world
 use Rattle.model.specs.Server.World.{World, Connection, Busy, Replied, Turn, Turned, InProgress, further, with_connection}
-use Rattle.compound.specs.States.{SharedState, HasState, with_state}
+use Rattle.model.specs.Sessions.Session.{Table}
+use Rattle.compound.specs.States.{Agrees, SharedState, HasState, with_state}
 use Rattle.compound.specs.Views.{Asked, resumed, fits_operations}
 use Rattle.compound.specs.declared.step.Stepped.{Stepped}
 use Rattle.compound.specs.declared.step.Stepped.TheVariants as stepped
 
 -- a request that has not ended, in the run of a file system that is up
-pub record CanRun (files : FileSystem) (request : InProgress) : Type 0 where
+pub record CanRun (keeps_word : Type 0) (files : FileSystem) (table : Table)
+    (request : InProgress) : Type 0 where
   pub up : files.volume.is_down ≡ false
   pub run : request.context.run ≡ files.volume.run
   pub more : request.ended ≡ None
+  pub agrees : keeps_word → Agrees files table
 
 -- a turn of the request
 abbrev pub stepped_on : World → (number now : ℕ) → InProgress → Turned

@@ -8,20 +8,18 @@ use fs::{Access, Fs};
 use wire::{AccessAnswer, Answer, Operation};
 
 impl Running<'_> {
-    ghost use Rattle.std.specs.Prelude.{◌≡◌, false};
     ghost use Rattle.fs.specs.Views.{fs_of};
     ghost use Rattle.model.specs.Operations.Operation as operations;
-    ghost use Rattle.compound.specs.Operates.{OnlyReads, IsAnswered};
+    ghost use Rattle.compound.specs.Operates.{Reads};
+    ghost use Rattle.compound.specs.States.{CanServe};
     ghost use Rattle.compound.specs.Views.{in_progress_of};
 
     /// ACCESS: of the bits that are asked those that the current node has, and those of them that
     /// the caller is granted.
     pub(crate) fn access<D: Device>(&self, fs: &Fs<D>, asked: u32) -> Executed
-        requires up { (fs_of fs.now).volume.is_down ≡ false }
-        requires run { (in_progress_of self.now).context.run ≡ (fs_of fs.now).volume.run }
-        ensures gives { OnlyReads (fs_of fs.now) (in_progress_of self.now)
+        requires { CanServe (fs_of fs.now) (in_progress_of self.now) }
+        ensures { Reads (fs_of fs.now) (in_progress_of self.now)
             (operations.Argument.Access asked) result }
-        ensures answered { IsAnswered (in_progress_of self.now) result }
     {
         let number = match self.current_node() {
             Ok(number) => number,

@@ -12,10 +12,11 @@ use wire_attributes::AttributesAnswer;
 use xdr::Writer;
 
 impl Running<'_> {
-    ghost use Rattle.std.specs.Prelude.{◌≡◌, false, IfOk, IfErr};
+    ghost use Rattle.std.specs.Prelude.{◌≡◌, IfOk, IfErr};
     ghost use Rattle.fs.specs.Views.{fs_of};
     ghost use Rattle.model.specs.Operations.Operation as operations;
-    ghost use Rattle.compound.specs.Operates.{OnlyReads, IsAnswered};
+    ghost use Rattle.compound.specs.Operates.{Reads};
+    ghost use Rattle.compound.specs.States.{CanServe};
     ghost use Rattle.compound.specs.Views.{in_progress_of};
     ghost use Rattle.compound.specs.declared.fault.Fault.TheVariants.{Memory};
 
@@ -25,11 +26,9 @@ impl Running<'_> {
         fs: &Fs<D>,
         asked: &Bitmap,
     ) -> Result<Executed, Fault>
-        requires up { (fs_of fs.now).volume.is_down ≡ false }
-        requires run { (in_progress_of self.now).context.run ≡ (fs_of fs.now).volume.run }
-        ensures gives { IfOk result (OnlyReads (fs_of fs.now) (in_progress_of self.now)
+        requires { CanServe (fs_of fs.now) (in_progress_of self.now) }
+        ensures gives { IfOk result (Reads (fs_of fs.now) (in_progress_of self.now)
             (operations.Argument.GetAttr asked.now)) }
-        ensures answered { IfOk result (IsAnswered (in_progress_of self.now)) }
         ensures err { IfErr result (λ fault. fault ≡ Memory) }
     {
         let number = match self.current_node() {

@@ -21,15 +21,15 @@ const IDENTITY_BYTES: usize = 2_088;
 
 #[tactic(auto, unfolding(crate::specs::Views::in_progress_of))]
 impl Running<'_> {
-    ghost use Rattle.std.specs.Prelude.{◌≡◌, ℕ, false, IfOk, IfErr, OnErr};
+    ghost use Rattle.std.specs.Prelude.{◌≡◌, ℕ, IfOk, IfErr, OnErr};
     ghost use Rattle.fs.specs.Views.{fs_of, AltersFs};
     ghost use Rattle.model.specs.Sessions.Opens.{Opens as Known};
     ghost use Rattle.model.specs.Operations.Operation as operations;
     ghost use Rattle.session.specs.Views.{table_of};
     ghost use Rattle.wire.specs.ArgumentViews.{exchange_id_view, create_session_view};
     ghost use Rattle.opens.specs.Views.{opens_of};
-    ghost use Rattle.compound.specs.Operates.{Operates, ChangesTableAndOpens, IsAnswered, IsReplyKept};
-    ghost use Rattle.compound.specs.States.{Agrees, shared, shared_of};
+    ghost use Rattle.compound.specs.Operates.{Operates, ChangesTableAndOpens, HasResult};
+    ghost use Rattle.compound.specs.States.{CanSeat, shared, shared_of};
     ghost use Rattle.compound.specs.Views.{in_progress_of};
     ghost use Rattle.compound.specs.Volumes.{RunGives, ending};
     ghost use Rattle.compound.specs.declared.fault.Fault.TheVariants.{Memory};
@@ -45,7 +45,7 @@ impl Running<'_> {
         ensures gives { IfOk result (ChangesTableAndOpens (table_of table.old) (table_of table.new)
             (opens_of opens.now) (opens_of opens.now) (in_progress_of self.now)
             (operations.Argument.ExchangeId (exchange_id_view arguments.now))) }
-        ensures answered { IfOk result (IsAnswered (in_progress_of self.now)) }
+        ensures answered { IfOk result (HasResult (in_progress_of self.now)) }
         ensures err { IfErr result (λ fault.
             (fault ≡ Memory) × (table_of table.new ≡ table_of table.old)) }
     {
@@ -71,14 +71,12 @@ impl Running<'_> {
         arguments: &CreateSessionArguments<'_>,
     ) -> Result<Executed, Fault>
         requires first { (in_progress_of self.now).answered ≡ 0 }
-        requires up { (fs_of fs.old).volume.is_down ≡ false }
-        requires agrees { D.keeps_word → Agrees (fs_of fs.old) (table_of table.old) }
+        requires ready { CanSeat D.keeps_word (fs_of fs.old) (table_of table.old) }
         ensures gives { (now : ℕ) → D.keeps_word → IfOk result (Operates now
             (shared_of fs.old table.old opens.old) (shared_of fs.new table.new opens.new)
             (in_progress_of self.now)
             (operations.Argument.CreateSession (create_session_view arguments.now))) }
-        ensures answered { IfOk result (IsAnswered (in_progress_of self.now)) }
-        ensures kept { IfOk result (IsReplyKept (table_of table.new)) }
+        ensures answered { IfOk result (HasResult (in_progress_of self.now)) }
         ensures others { OnErr result ((table_of table.new ≡ table_of table.old)
             × (opens_of opens.new ≡ opens_of opens.old)) }
         ensures volume { (now : ℕ) → AltersFs fs.old fs.new (RunGives
@@ -110,14 +108,12 @@ impl Running<'_> {
         id: &[u8; 16],
     ) -> Result<Executed, Fault>
         requires first { (in_progress_of self.now).answered ≡ 0 }
-        requires up { (fs_of fs.old).volume.is_down ≡ false }
-        requires agrees { D.keeps_word → Agrees (fs_of fs.old) (table_of table.old) }
+        requires ready { CanSeat D.keeps_word (fs_of fs.old) (table_of table.old) }
         ensures gives { (now : ℕ) (opens : Known) → D.keeps_word → IfOk result (Operates now
             (shared (fs_of fs.old) (table_of table.old) opens)
             (shared (fs_of fs.new) (table_of table.new) opens) (in_progress_of self.now)
             (operations.Argument.DestroySession id.now)) }
-        ensures answered { IfOk result (IsAnswered (in_progress_of self.now)) }
-        ensures kept { IfOk result (IsReplyKept (table_of table.new)) }
+        ensures answered { IfOk result (HasResult (in_progress_of self.now)) }
         ensures table { OnErr result (table_of table.new ≡ table_of table.old) }
         ensures volume { (now : ℕ) (opens : Known) → AltersFs fs.old fs.new (RunGives
             (shared (fs_of fs.old) (table_of table.old) opens) (in_progress_of self.now) now
@@ -146,7 +142,7 @@ impl Running<'_> {
         ensures gives { IfOk result (ChangesTableAndOpens (table_of table.old) (table_of table.new)
             (opens_of opens.now) (opens_of opens.now) (in_progress_of self.now)
             (operations.Argument.DestroyClientId client)) }
-        ensures answered { IfOk result (IsAnswered (in_progress_of self.now)) }
+        ensures answered { IfOk result (HasResult (in_progress_of self.now)) }
         ensures err { IfErr result (λ fault.
             (fault ≡ Memory) × (table_of table.new ≡ table_of table.old)) }
     {

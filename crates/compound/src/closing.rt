@@ -1,11 +1,7 @@
 //! CLOSE (RFC 8881, section 18.2).
 
-ghost use Rattle.std.specs.Prelude.{◌≡◌, ◌<◌, ◌^◌, length};
-ghost use Rattle.model.specs.Operations.Answer.{Done};
-ghost use Rattle.model.specs.Server.World.{outcome_text};
-ghost use Rattle.model.specs.Wire.WireAnswers as answers;
-ghost use Rattle.wire.specs.OutcomeView.{outcome_view};
 ghost use Rattle.compound.specs.Beside.{closed_answer};
+ghost use Rattle.compound.specs.Operates.{IsShortOutcome};
 
 use crate::executed::{Effect, Executed};
 use crate::results::MAX_REPLY_BYTES;
@@ -23,7 +19,7 @@ pub(crate) const CLOSED: StateId = StateId {
 };
 
 impl Running<'_> {
-    ghost use Rattle.std.specs.Prelude.{◌≡◌, ℕ, false, nat_le, length, IfErr};
+    ghost use Rattle.std.specs.Prelude.{◌≡◌, ℕ, nat_le, length, IfErr};
     ghost use Rattle.fs.specs.Views.{fs_of};
     ghost use Rattle.model.specs.Operations.Answer.{Done};
     ghost use Rattle.model.specs.Operations.Operation as operations;
@@ -34,7 +30,8 @@ impl Running<'_> {
     ghost use Rattle.wire.specs.Short.{IsRefusal};
     ghost use Rattle.wire.specs.SmallViews.{state_view};
     ghost use Rattle.compound.specs.Beside.{Closes, EndsOpen, closed_answer};
-    ghost use Rattle.compound.specs.Operates.{ChangesTreeAndOpens, IsAnswered};
+    ghost use Rattle.compound.specs.Operates.{ChangesTreeAndOpens, HasResult};
+    ghost use Rattle.compound.specs.States.{CanServe};
     ghost use Rattle.compound.specs.Views.{in_progress_of};
 
     /// CLOSE: the open that the stateid names has ended, and the current filehandle keeps no
@@ -45,12 +42,11 @@ impl Running<'_> {
         opens: &mut Opens,
         arguments: &CloseArguments,
     ) -> Executed
-        requires up { (fs_of fs.now).volume.is_down ≡ false }
-        requires run { (in_progress_of self.now).context.run ≡ (fs_of fs.now).volume.run }
+        requires { CanServe (fs_of fs.now) (in_progress_of self.now) }
         ensures gives { (now : ℕ) → ChangesTreeAndOpens (fs_of fs.now) (fs_of fs.now)
             (opens_of opens.old) (opens_of opens.new) now (in_progress_of self.now)
             (operations.Argument.Close (close_view arguments.now)) result }
-        ensures answered { IsAnswered (in_progress_of self.now) result }
+        ensures answered { HasResult (in_progress_of self.now) result }
     {
         let serial = match self.open_to_close(fs, opens, arguments) {
             Ok(serial) => serial,
@@ -73,8 +69,7 @@ impl Running<'_> {
         opens: &Opens,
         arguments: &CloseArguments,
     ) -> Result<u64, Status>
-        requires up { (fs_of fs.now).volume.is_down ≡ false }
-        requires run { (in_progress_of self.now).context.run ≡ (fs_of fs.now).volume.run }
+        requires { CanServe (fs_of fs.now) (in_progress_of self.now) }
         ensures step { Closes (fs_of fs.now) (opens_of opens.now) (in_progress_of self.now)
             (close_view arguments.now) result }
         ensures refused { IfErr result IsRefusal }
@@ -109,9 +104,7 @@ impl Running<'_> {
 
 /// The result of a CLOSE.
 fn closed() -> Outcome<'static>
-    ensures is { outcome_view result ≡ Done closed_answer }
-    ensures fits { answers.outcome.Fits (outcome_view result) }
-    ensures small { length (outcome_text (outcome_view result)) < 2 ^ 63 }
+    ensures { IsShortOutcome closed_answer result }
 {
     Outcome::short(Answer::Close(CLOSED))
 }

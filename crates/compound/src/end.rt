@@ -24,13 +24,13 @@ use session::Table;
 use xdr::Writer;
 
 impl Running<'_> {
-    ghost use Rattle.std.specs.Prelude.{◌≡◌, ℕ, List, false, Some, IfOk, IfErr, OnOk};
+    ghost use Rattle.std.specs.Prelude.{◌≡◌, ℕ, List, Some, IfOk, IfErr, OnOk};
     ghost use Rattle.fs.specs.Views.{fs_of, AltersFs};
     ghost use Rattle.model.specs.Wire.Record.{framed};
     ghost use Rattle.model.specs.Wire.Rpc.{Success, reply_text};
     ghost use Rattle.model.specs.Server.World.{kept_by, result_of};
     ghost use Rattle.session.specs.Views.{table_of, reply_kept};
-    ghost use Rattle.compound.specs.States.{Agrees};
+    ghost use Rattle.compound.specs.States.{CanSeat};
     ghost use Rattle.compound.specs.Turns.{AreOfReply};
     ghost use Rattle.compound.specs.Views.{in_progress_of};
     ghost use Rattle.compound.specs.Volumes.{IsSeated, HasSameTree, ending};
@@ -88,8 +88,7 @@ impl Running<'_> {
         table: &Table,
         last: Status,
     ) -> Result<Option<SeatEdits>, Fault>
-        requires up { (fs_of fs.old).volume.is_down ≡ false }
-        requires agrees { D.keeps_word → Agrees (fs_of fs.old) (table_of table.now) }
+        requires { CanSeat D.keeps_word (fs_of fs.old) (table_of table.now) }
         ensures edits { IfOk result (AreOfReply (in_progress_of self.now).slot
             (result_of (in_progress_of self.now) last) (table_of table.now)) }
         ensures same { D.keeps_word → OnOk result (HasSameTree (fs_of fs.old) (fs_of fs.new)) }

@@ -16,23 +16,21 @@ use xdr::Writer;
 
 #[tactic(auto, unfolding(crate::specs::Views::in_progress_of, model::specs::Server::World::outcome_text))]
 impl Running<'_> {
-    ghost use Rattle.std.specs.Prelude.{◌≡◌, ◌<◌, true, false, IfOk, IfErr};
+    ghost use Rattle.std.specs.Prelude.{◌≡◌, true, false, IfOk, IfErr};
     ghost use Rattle.fs.specs.FileSystem.{FileSystem};
     ghost use Rattle.fs.specs.Views.{fs_of};
-    ghost use Rattle.model.specs.Operations.Answer.{GetFh};
     ghost use Rattle.model.specs.Operations.Context.{has_current, current_number, has_saved, saved_number};
     ghost use Rattle.model.specs.Operations.Operation as operations;
-    ghost use Rattle.model.specs.Server.World.{outcome_text};
     ghost use Rattle.model_tree.specs.declared.status.Status.TheVariants as status;
-    ghost use Rattle.compound.specs.Operates.{OnlyReads, IsAnswered};
+    ghost use Rattle.compound.specs.Operates.{Reads};
+    ghost use Rattle.compound.specs.States.{CanServe};
     ghost use Rattle.compound.specs.Views.{in_progress_of};
     ghost use Rattle.compound.specs.declared.fault.Fault.TheVariants.{Memory};
 
     /// PUTROOTFH (section 18.21): the root is the current node, whether it is there or not.
     pub(crate) fn put_root(&self) -> Executed
-        ensures gives { (files : FileSystem)
-            → OnlyReads files (in_progress_of self.now) operations.Argument.PutRootFh result }
-        ensures answered { IsAnswered (in_progress_of self.now) result }
+        ensures { (files : FileSystem)
+            → Reads files (in_progress_of self.now) operations.Argument.PutRootFh result }
     {
         self.settle(Answer::PutRootFh, Effect::Moves(ROOT))
     }
@@ -40,9 +38,8 @@ impl Running<'_> {
     /// PUTFH (section 18.19): the node that the filehandle names is the current one.
     pub(crate) fn put_handle<D: Device>(&self, fs: &Fs<D>, handle: &[u8]) -> Executed
         requires { (fs_of fs.now).volume.is_down ≡ false }
-        ensures gives { OnlyReads (fs_of fs.now) (in_progress_of self.now)
+        ensures { Reads (fs_of fs.now) (in_progress_of self.now)
             (operations.Argument.PutFh handle.now) result }
-        ensures answered { IsAnswered (in_progress_of self.now) result }
     {
         match fs.put_handle(handle) {
             Ok(number) => self.settle(Answer::PutFh, Effect::Moves(number)),
@@ -52,11 +49,9 @@ impl Running<'_> {
 
     /// GETFH (section 18.8).
     pub(crate) fn get_handle<D: Device>(&self, fs: &Fs<D>) -> Result<Executed, Fault>
-        requires up { (fs_of fs.now).volume.is_down ≡ false }
-        requires run { (in_progress_of self.now).context.run ≡ (fs_of fs.now).volume.run }
-        ensures gives { IfOk result (OnlyReads (fs_of fs.now) (in_progress_of self.now)
+        requires { CanServe (fs_of fs.now) (in_progress_of self.now) }
+        ensures gives { IfOk result (Reads (fs_of fs.now) (in_progress_of self.now)
             operations.Argument.GetFh) }
-        ensures answered { IfOk result (IsAnswered (in_progress_of self.now)) }
         ensures err { IfErr result (λ fault. fault ≡ Memory) }
     {
         let number = match self.current_node() {
@@ -74,11 +69,9 @@ impl Running<'_> {
 
     /// SAVEFH (section 18.28): the current node is the saved one too.
     pub(crate) fn save_handle<D: Device>(&self, fs: &Fs<D>) -> Executed
-        requires up { (fs_of fs.now).volume.is_down ≡ false }
-        requires run { (in_progress_of self.now).context.run ≡ (fs_of fs.now).volume.run }
-        ensures gives { OnlyReads (fs_of fs.now) (in_progress_of self.now)
+        requires { CanServe (fs_of fs.now) (in_progress_of self.now) }
+        ensures { Reads (fs_of fs.now) (in_progress_of self.now)
             operations.Argument.SaveFh result }
-        ensures answered { IsAnswered (in_progress_of self.now) result }
     {
         match self.check_current(fs) {
             Ok(()) => self.settle(Answer::SaveFh, Effect::Saves),
@@ -89,9 +82,8 @@ impl Running<'_> {
     /// RESTOREFH (section 18.27): the saved node is the current one too, whether it is there or
     /// not. NOFILEHANDLE where none is saved.
     pub(crate) fn restore_handle(&self) -> Executed
-        ensures gives { (files : FileSystem)
-            → OnlyReads files (in_progress_of self.now) operations.Argument.RestoreFh result }
-        ensures answered { IsAnswered (in_progress_of self.now) result }
+        ensures { (files : FileSystem)
+            → Reads files (in_progress_of self.now) operations.Argument.RestoreFh result }
     {
         match self.saved_node() {
             Ok(_) => self.settle(Answer::RestoreFh, Effect::Restores),

@@ -5,6 +5,7 @@
 #![tactic(auto)]
 
 mod access;
+mod ahead;
 mod attributes;
 mod begin;
 mod clients;
@@ -33,6 +34,7 @@ mod step;
 mod tree;
 mod writing;
 
+pub use ahead::Ahead;
 pub use fault::Fault;
 pub use progress::Progress;
 pub use results::MAX_REPLY_BYTES;

@@ -23,11 +23,12 @@ use xdr::{Refusal, Writer};
 const PAGE_BYTES: usize = 8_192;
 
 impl Running<'_> {
-    ghost use Rattle.std.specs.Prelude.{◌≡◌, false, IfOk, IfErr};
+    ghost use Rattle.std.specs.Prelude.{◌≡◌, IfOk, IfErr};
     ghost use Rattle.fs.specs.Views.{fs_of};
     ghost use Rattle.model.specs.Operations.Operation as operations;
     ghost use Rattle.wire.specs.ArgumentViews.{read_dir_view};
-    ghost use Rattle.compound.specs.Operates.{OnlyReads, IsAnswered};
+    ghost use Rattle.compound.specs.Operates.{OnlyReads, HasResult};
+    ghost use Rattle.compound.specs.States.{CanServe};
     ghost use Rattle.compound.specs.Views.{in_progress_of};
     ghost use Rattle.compound.specs.declared.fault.Fault.TheVariants.{Memory};
 
@@ -37,11 +38,10 @@ impl Running<'_> {
         fs: &Fs<D>,
         arguments: &ReadDirArguments,
     ) -> Result<Executed, Fault>
-        requires up { (fs_of fs.now).volume.is_down ≡ false }
-        requires run { (in_progress_of self.now).context.run ≡ (fs_of fs.now).volume.run }
+        requires { CanServe (fs_of fs.now) (in_progress_of self.now) }
         ensures gives { IfOk result (OnlyReads (fs_of fs.now) (in_progress_of self.now)
             (operations.Argument.ReadDir (read_dir_view arguments.now))) }
-        ensures answered { IfOk result (IsAnswered (in_progress_of self.now)) }
+        ensures answered { IfOk result (HasResult (in_progress_of self.now)) }
         ensures err { IfErr result (λ fault. fault ≡ Memory) }
     {
         let directory = match self.current_node() {

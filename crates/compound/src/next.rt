@@ -20,7 +20,7 @@ use wire::{Argument, Claim, CreateArguments, Opening, Operation};
 use xdr::{Reader, Refusal};
 
 /// The number of a result whose operation is none (RFC 8881, section 15.2).
-const OP_ILLEGAL: u32 = 10044;
+pub(crate) const OP_ILLEGAL: u32 = 10044;
 
 /// What comes next of a COMPOUND.
 #[derive(Drop)]
@@ -179,7 +179,7 @@ fn later_refusal(number: u32) -> Option<(u32, Status)>
     }
 }
 
-fn is_no_operation(number: u32) -> bool
+pub(crate) fn is_no_operation(number: u32) -> bool
     ensures { result ≡ world.is_no_operation number }
 {
     number < Operation::Access.number() || Operation::ReclaimComplete.number() < number

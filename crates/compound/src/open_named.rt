@@ -24,7 +24,7 @@ use wire::{Attributes, Bitmap, OpenArguments, OpenType, Operation};
 const SIZE: u32 = 0x10;
 
 impl Running<'_> {
-    ghost use Rattle.std.specs.Prelude.{◌≡◌, ◌≤◌, ◌^◌, ℕ, false, IfOk, OnErr};
+    ghost use Rattle.std.specs.Prelude.{◌≡◌, ◌≤◌, ◌^◌, ℕ, IfOk, OnErr};
     ghost use Rattle.fs.specs.Opening.{IsFileToOpen};
     ghost use Rattle.fs.specs.Views.{fs_of, AltersFs};
     ghost use Rattle.model.specs.Operations.Operation as operations;
@@ -32,8 +32,8 @@ impl Running<'_> {
     ghost use Rattle.opens.specs.Views.{opens_of};
     ghost use Rattle.wire.specs.ArgumentViews.{open_type_view, open_view, opening_view};
     ghost use Rattle.compound.specs.Beside.{AsksFor, HasOpenRoom};
-    ghost use Rattle.compound.specs.Operates.{ChangesTreeAndOpens, IsAnswered, IsReplyKept};
-    ghost use Rattle.compound.specs.States.{shared};
+    ghost use Rattle.compound.specs.Operates.{ChangesTreeAndOpens, HasResult};
+    ghost use Rattle.compound.specs.States.{CanServe, shared};
     ghost use Rattle.compound.specs.Views.{in_progress_of};
     ghost use Rattle.compound.specs.Volumes.{OperationGives, ending};
 
@@ -48,9 +48,7 @@ impl Running<'_> {
         how: &OpenType<'_>,
         name: &[u8],
     ) -> Result<Executed, Fault>
-        // It is up, in the run in which the request began
-        requires up { (fs_of fs.old).volume.is_down ≡ false }
-        requires run { (in_progress_of self.now).context.run ≡ (fs_of fs.old).volume.run }
+        requires ready { CanServe (fs_of fs.old) (in_progress_of self.now) }
         requires opening { opening_view arguments.now.opening
             ≡ operations.Opens (open_type_view how.now) (operations.ByName name.now) }
         // What it answers
@@ -58,8 +56,7 @@ impl Running<'_> {
             (ChangesTreeAndOpens (fs_of fs.old) (fs_of fs.new)
             (opens_of opens.old) (opens_of opens.new) now (in_progress_of self.now)
             (operations.Argument.Open (open_view arguments.now))) }
-        ensures answered { IfOk result (IsAnswered (in_progress_of self.now)) }
-        ensures kept { (table : Table) → IfOk result (IsReplyKept table) }
+        ensures answered { IfOk result (HasResult (in_progress_of self.now)) }
         // Refused
         ensures opens { OnErr result (opens_of opens.new ≡ opens_of opens.old) }
         // In any case
@@ -105,9 +102,7 @@ impl Running<'_> {
         how: &OpenType<'_>,
         opening: Opening<'_>,
     ) -> Result<Executed, Fault>
-        // It is up, in the run in which the request began
-        requires up { (fs_of fs.old).volume.is_down ≡ false }
-        requires run { (in_progress_of self.now).context.run ≡ (fs_of fs.old).volume.run }
+        requires ready { CanServe (fs_of fs.old) (in_progress_of self.now) }
         requires asked { AsksFor (in_progress_of self.now) (open_view arguments.now)
             (open_type_view how.now) opening }
         requires high { (number : ℕ) × (2 ^ 64 ≤ number)
@@ -117,8 +112,7 @@ impl Running<'_> {
             (ChangesTreeAndOpens (fs_of fs.old) (fs_of fs.new)
             (opens_of opens.now) (opens_of opens.now) now (in_progress_of self.now)
             (operations.Argument.Open (open_view arguments.now))) }
-        ensures answered { IfOk result (IsAnswered (in_progress_of self.now)) }
-        ensures kept { (table : Table) → IfOk result (IsReplyKept table) }
+        ensures answered { IfOk result (HasResult (in_progress_of self.now)) }
         // In any case
         ensures volume { (table : Table) → AltersFs fs.old fs.new (OperationGives
             (shared (fs_of fs.old) table (opens_of opens.now)) (in_progress_of self.now) now

@@ -1,15 +1,12 @@
 //! OPEN (RFC 8881, section 18.16).
 
-ghost use Rattle.std.specs.Prelude.{◌≡◌, ◌<◌, ◌^◌, IsTrue, length};
+ghost use Rattle.std.specs.Prelude.{◌≡◌, IsTrue};
 ghost use Rattle.xdr.specs.Forms.{is_trimmed};
-ghost use Rattle.model.specs.Operations.Answer.{Done};
 ghost use Rattle.model.specs.Operations.Open.{creates};
-ghost use Rattle.model.specs.Server.World.{outcome_text};
-ghost use Rattle.model.specs.Wire.WireAnswers as answers;
 ghost use Rattle.wire.specs.ArgumentViews.{open_type_view};
-ghost use Rattle.wire.specs.OutcomeView.{outcome_view};
 ghost use Rattle.wire.specs.SmallViews.{change_view, state_view};
 ghost use Rattle.compound.specs.Beside.{opened_answer};
+ghost use Rattle.compound.specs.Operates.{IsShortOutcome};
 
 use crate::closing::CLOSED;
 use crate::executed::{Effect, Executed};
@@ -28,7 +25,7 @@ use wire::{
 };
 
 impl Running<'_> {
-    ghost use Rattle.std.specs.Prelude.{◌≡◌, Some, true, false, IsTrue, IfOk, IfErr, OnErr};
+    ghost use Rattle.std.specs.Prelude.{◌≡◌, Some, true, IsTrue, IfOk, IfErr, OnErr};
     ghost use Rattle.fs.specs.Views.{fs_of, AltersFs};
     ghost use Rattle.model.specs.Operations.Open.{opening_refusals};
     ghost use Rattle.model.specs.Operations.Operation as operations;
@@ -41,8 +38,8 @@ impl Running<'_> {
     ghost use Rattle.wire.specs.SmallViews.{change_view};
     ghost use Rattle.xdr.specs.Forms.{is_trimmed};
     ghost use Rattle.compound.specs.Beside.{has_opened_room, ComesToOpen};
-    ghost use Rattle.compound.specs.Operates.{Operates, ChangesTreeAndOpens, OnlyReads, IsAnswered, IsReplyKept};
-    ghost use Rattle.compound.specs.States.{SharedState, shared};
+    ghost use Rattle.compound.specs.Operates.{Operates, ChangesTreeAndOpens, OnlyReads, HasResult};
+    ghost use Rattle.compound.specs.States.{CanServe, SharedState, shared};
     ghost use Rattle.compound.specs.declared.fault.Fault.TheVariants.{Memory};
     ghost use Rattle.compound.specs.Views.{in_progress_of};
     ghost use Rattle.compound.specs.Volumes.{OperationGives, ending};
@@ -55,16 +52,13 @@ impl Running<'_> {
         now: u64,
         arguments: &OpenArguments<'_>,
     ) -> Result<Executed, Fault>
-        // It is up, in the run in which the request began
-        requires up { (fs_of fs.old).volume.is_down ≡ false }
-        requires run { (in_progress_of self.now).context.run ≡ (fs_of fs.old).volume.run }
+        requires { CanServe (fs_of fs.old) (in_progress_of self.now) }
         // What it answers
         ensures gives { D.keeps_word → IfOk result
             (ChangesTreeAndOpens (fs_of fs.old) (fs_of fs.new)
             (opens_of opens.old) (opens_of opens.new) now (in_progress_of self.now)
             (operations.Argument.Open (open_view arguments.now))) }
-        ensures answered { IfOk result (IsAnswered (in_progress_of self.now)) }
-        ensures kept { (table : Table) → IfOk result (IsReplyKept table) }
+        ensures answered { IfOk result (HasResult (in_progress_of self.now)) }
         // Refused
         ensures opens { OnErr result (opens_of opens.new ≡ opens_of opens.old) }
         // In any case
@@ -91,17 +85,14 @@ impl Running<'_> {
         arguments: &OpenArguments<'_>,
         how: &OpenType<'_>,
     ) -> Result<Executed, Fault>
-        // It is up, in the run in which the request began
-        requires up { (fs_of fs.now).volume.is_down ≡ false }
-        requires run { (in_progress_of self.now).context.run ≡ (fs_of fs.now).volume.run }
+        requires ready { CanServe (fs_of fs.now) (in_progress_of self.now) }
         requires opening { opening_view arguments.now.opening
             ≡ operations.Opens (open_type_view how.now) operations.ByHandle }
         // What it answers
         ensures gives { (now : _) → IfOk result (ChangesTreeAndOpens (fs_of fs.now) (fs_of fs.now)
             (opens_of opens.old) (opens_of opens.new) now (in_progress_of self.now)
             (operations.Argument.Open (open_view arguments.now))) }
-        ensures answered { IfOk result (IsAnswered (in_progress_of self.now)) }
-        ensures kept { (table : Table) → IfOk result (IsReplyKept table) }
+        ensures answered { IfOk result (HasResult (in_progress_of self.now)) }
         // Refused
         ensures opens { OnErr result (opens_of opens.new ≡ opens_of opens.old) }
         ensures memory { IfErr result (λ fault. fault ≡ Memory) }
@@ -165,8 +156,7 @@ impl Running<'_> {
             → old.opens ≡ opens_of opens.old → ComesToOpen now old new (in_progress_of self.now)
             (open_of asked) (change_view change) was_set operation
             → Operates now old new (in_progress_of self.now) operation result }
-        ensures answered { IsAnswered (in_progress_of self.now) result }
-        ensures kept { (table : Table) → IsReplyKept table result }
+        ensures answered { HasResult (in_progress_of self.now) result }
         ensures opens { opens_of opens.new
             ≡ (opened (opens_of opens.old) (open_of asked)).opens }
     {
@@ -190,14 +180,12 @@ impl Running<'_> {
     /// OPEN that is not served: an exclusive create, or a claim other than by name or by
     /// filehandle.
     pub(crate) fn refuse_opening<D: Device>(&self, fs: &Fs<D>) -> Executed
-        requires up { (fs_of fs.now).volume.is_down ≡ false }
-        requires run { (in_progress_of self.now).context.run ≡ (fs_of fs.now).volume.run }
+        requires { CanServe (fs_of fs.now) (in_progress_of self.now) }
         ensures gives { (arguments : operations.OpenArguments)
             → first_refusal (opening_refusals arguments.opening) ≡ Some NotSupp
             → OnlyReads (fs_of fs.now) (in_progress_of self.now)
             (operations.Argument.Open arguments) result }
-        ensures answered { IsAnswered (in_progress_of self.now) result }
-        ensures kept { (table : Table) → IsReplyKept table result }
+        ensures answered { HasResult (in_progress_of self.now) result }
     {
         match self.check_current(fs) {
             Ok(()) => self.refuse(Operation::Open, Status::NotSupp),
@@ -228,10 +216,7 @@ fn creates(how: &OpenType<'_>) -> bool
 #[tactic(auto, unfolding(model::specs::Server::World::outcome_text))]
 fn opened(state: StateId, change: ChangeInfo, was_set: Bitmap) -> Outcome<'static>
     requires { IsTrue (is_trimmed was_set) }
-    ensures is { outcome_view result
-        ≡ Done (opened_answer (state_view state) (change_view change) was_set) }
-    ensures fits { answers.outcome.Fits (outcome_view result) }
-    ensures small { length (outcome_text (outcome_view result)) < 2 ^ 63 }
+    ensures { IsShortOutcome (opened_answer (state_view state) (change_view change) was_set) result }
 {
     Outcome::short(Answer::Open(OpenAnswer {
         state,

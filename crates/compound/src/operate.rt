@@ -10,13 +10,13 @@ use session::Table;
 use wire::Argument;
 
 impl Running<'_> {
-    ghost use Rattle.std.specs.Prelude.{◌≡◌, true, false, IfOk, OnErr};
+    ghost use Rattle.std.specs.Prelude.{◌≡◌, true, IfOk, OnErr};
     ghost use Rattle.fs.specs.Views.{fs_of, AltersFs};
     ghost use Rattle.opens.specs.Views.{opens_of};
     ghost use Rattle.session.specs.Views.{table_of};
     ghost use Rattle.wire.specs.ArgumentView.{argument_view};
     ghost use Rattle.compound.specs.Operates.{Operates, IsAnswered, IsReplyKept, comes_first};
-    ghost use Rattle.compound.specs.States.{Agrees, shared_of};
+    ghost use Rattle.compound.specs.States.{Agrees, CanServe, shared_of};
     ghost use Rattle.compound.specs.Views.{in_progress_of};
     ghost use Rattle.compound.specs.Volumes.{RunGives, ending};
 
@@ -33,9 +33,7 @@ impl Running<'_> {
         now: u64,
         argument: &Argument<'_>,
     ) -> Result<Executed, Fault>
-        // It is up, in the run in which the request began
-        requires up { (fs_of fs.old).volume.is_down ≡ false }
-        requires run { (in_progress_of self.now).context.run ≡ (fs_of fs.old).volume.run }
+        requires ready { CanServe (fs_of fs.old) (in_progress_of self.now) }
         requires agrees { D.keeps_word → Agrees (fs_of fs.old) (table_of table.old) }
         requires first { comes_first (argument_view argument.now) ≡ true
             → (in_progress_of self.now).answered ≡ 0 }

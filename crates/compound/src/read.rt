@@ -27,14 +27,14 @@ const PART_BYTES: usize = 8_192;
 const MAX_PAD: usize = 3;
 
 impl Running<'_> {
-    ghost use Rattle.std.specs.Prelude.{◌≡◌, ℕ, false, IfOk};
+    ghost use Rattle.std.specs.Prelude.{ℕ, IfOk};
     ghost use Rattle.fs.specs.Views.{fs_of, AltersFs};
     ghost use Rattle.model.specs.Operations.Operation as operations;
     ghost use Rattle.model.specs.Sessions.Session.{Table};
     ghost use Rattle.opens.specs.Views.{opens_of};
     ghost use Rattle.wire.specs.ArgumentViews.{read_view};
-    ghost use Rattle.compound.specs.Operates.{ChangesTreeAndOpens, IsAnswered, IsReplyKept};
-    ghost use Rattle.compound.specs.States.{shared};
+    ghost use Rattle.compound.specs.Operates.{ChangesTreeAndOpens, HasResult};
+    ghost use Rattle.compound.specs.States.{CanServe, shared};
     ghost use Rattle.compound.specs.Views.{in_progress_of};
     ghost use Rattle.compound.specs.Volumes.{OperationGives, ending};
 
@@ -45,15 +45,12 @@ impl Running<'_> {
         opens: &Opens,
         arguments: &ReadArguments,
     ) -> Result<Executed, Fault>
-        // It is up, in the run in which the request began
-        requires up { (fs_of fs.old).volume.is_down ≡ false }
-        requires run { (in_progress_of self.now).context.run ≡ (fs_of fs.old).volume.run }
+        requires { CanServe (fs_of fs.old) (in_progress_of self.now) }
         // What it answers
         ensures gives { (now : ℕ) → D.keeps_word → IfOk result (ChangesTreeAndOpens (fs_of fs.old)
             (fs_of fs.new) (opens_of opens.now) (opens_of opens.now) now (in_progress_of self.now)
             (operations.Argument.Read (read_view arguments.now))) }
-        ensures answered { IfOk result (IsAnswered (in_progress_of self.now)) }
-        ensures kept { (table : Table) → IfOk result (IsReplyKept table) }
+        ensures answered { IfOk result (HasResult (in_progress_of self.now)) }
         // In any case
         ensures volume { (now : ℕ) (table : Table) → AltersFs fs.old fs.new (OperationGives
             (shared (fs_of fs.old) table (opens_of opens.now)) (in_progress_of self.now) now

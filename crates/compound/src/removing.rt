@@ -1,11 +1,8 @@
 //! REMOVE (RFC 8881, section 18.25).
 
-ghost use Rattle.std.specs.Prelude.{◌≡◌, ◌<◌, ◌^◌, length};
-ghost use Rattle.model.specs.Operations.Answer.{Done};
-ghost use Rattle.model.specs.Server.World.{outcome_text};
-ghost use Rattle.model.specs.Wire.WireAnswers as answers;
-ghost use Rattle.wire.specs.OutcomeView.{outcome_view};
+ghost use Rattle.std.specs.Prelude.{◌≡◌};
 ghost use Rattle.wire.specs.SmallViews.{change_view};
+ghost use Rattle.compound.specs.Operates.{IsShortOutcome};
 ghost use Rattle.compound.specs.Trees.{change_answer, removed_answer};
 
 use crate::executed::{Effect, Executed};
@@ -18,15 +15,15 @@ use opens::Opens;
 use wire::{Answer, ChangeInfo, Operation, Outcome};
 
 impl Running<'_> {
-    ghost use Rattle.std.specs.Prelude.{◌≡◌, false, nat_le, length, IfOk, OnErr};
+    ghost use Rattle.std.specs.Prelude.{◌≡◌, nat_le, length, IfOk, OnErr};
     ghost use Rattle.fs.specs.Views.{fs_of, AltersFs};
     ghost use Rattle.model.specs.Operations.Answer.{Done};
     ghost use Rattle.model.specs.Operations.Operation as operations;
     ghost use Rattle.model.specs.Sessions.Session.{Table};
     ghost use Rattle.model.specs.Server.World.{reply_with};
-    ghost use Rattle.compound.specs.Operates.{ChangesTreeAndOpens, IsAnswered, IsReplyKept};
+    ghost use Rattle.compound.specs.Operates.{ChangesTreeAndOpens, HasResult};
     ghost use Rattle.opens.specs.Views.{opens_of};
-    ghost use Rattle.compound.specs.States.{shared};
+    ghost use Rattle.compound.specs.States.{CanServe, shared};
     ghost use Rattle.compound.specs.Trees.{removed_answer};
     ghost use Rattle.compound.specs.Views.{in_progress_of};
     ghost use Rattle.compound.specs.Volumes.{OperationGives, ending};
@@ -40,16 +37,13 @@ impl Running<'_> {
         now: u64,
         name: &[u8],
     ) -> Result<Executed, Fault>
-        // It is up, in the run in which the request began
-        requires up { (fs_of fs.old).volume.is_down ≡ false }
-        requires run { (in_progress_of self.now).context.run ≡ (fs_of fs.old).volume.run }
+        requires { CanServe (fs_of fs.old) (in_progress_of self.now) }
         // What it answers
         ensures gives { D.keeps_word → IfOk result
             (ChangesTreeAndOpens (fs_of fs.old) (fs_of fs.new)
             (opens_of opens.old) (opens_of opens.new) now (in_progress_of self.now)
             (operations.Argument.Remove name.now)) }
-        ensures answered { IfOk result (IsAnswered (in_progress_of self.now)) }
-        ensures kept { (table : Table) → IfOk result (IsReplyKept table) }
+        ensures answered { IfOk result (HasResult (in_progress_of self.now)) }
         // Refused
         ensures opens { OnErr result (opens_of opens.new ≡ opens_of opens.old) }
         // In any case
@@ -85,9 +79,7 @@ impl Running<'_> {
 
 /// The result of a REMOVE: its directory's change value before and after.
 fn removed(before: u64, after: u64) -> Outcome<'static>
-    ensures is { outcome_view result ≡ Done (removed_answer before after) }
-    ensures fits { answers.outcome.Fits (outcome_view result) }
-    ensures small { length (outcome_text (outcome_view result)) < 2 ^ 63 }
+    ensures { IsShortOutcome (removed_answer before after) result }
 {
     Outcome::short(Answer::Remove(change_info(before, after)))
 }

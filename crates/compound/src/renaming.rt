@@ -1,12 +1,9 @@
 //! RENAME (RFC 8881, section 18.26).
 
-ghost use Rattle.std.specs.Prelude.{◌≡◌, ◌<◌, ◌^◌, length};
-ghost use Rattle.model.specs.Operations.Answer.{Done};
-ghost use Rattle.model.specs.Server.World.{outcome_text};
-ghost use Rattle.model.specs.Wire.WireAnswers as answers;
-ghost use Rattle.wire.specs.OutcomeView.{outcome_view};
+ghost use Rattle.std.specs.Prelude.{◌≡◌};
 ghost use Rattle.fs.specs.Renaming.{arguments_of, is_itself, opens_after};
 ghost use Rattle.opens.specs.Views.{opens_of};
+ghost use Rattle.compound.specs.Operates.{IsShortOutcome};
 ghost use Rattle.compound.specs.Trees.{renamed_answer};
 
 use crate::executed::{Effect, Executed};
@@ -27,7 +24,7 @@ const NO_CHANGE: Change = Change {
 };
 
 impl Running<'_> {
-    ghost use Rattle.std.specs.Prelude.{◌≡◌, false, nat_le, length, IfOk, IfErr, OnErr};
+    ghost use Rattle.std.specs.Prelude.{◌≡◌, nat_le, length, IfOk, IfErr, OnErr};
     ghost use Rattle.fs.specs.Views.{fs_of, AltersFs};
     ghost use Rattle.model.specs.Operations.Answer.{Done};
     ghost use Rattle.model.specs.Operations.Operation as operations;
@@ -35,9 +32,9 @@ impl Running<'_> {
     ghost use Rattle.model.specs.Server.World.{reply_with};
     ghost use Rattle.wire.specs.ArgumentViews.{rename_view};
     ghost use Rattle.wire.specs.Short.{IsRefusal};
-    ghost use Rattle.compound.specs.Operates.{ChangesTreeAndOpens, IsAnswered, IsReplyKept};
+    ghost use Rattle.compound.specs.Operates.{ChangesTreeAndOpens, HasResult};
     ghost use Rattle.opens.specs.Views.{opens_of};
-    ghost use Rattle.compound.specs.States.{shared};
+    ghost use Rattle.compound.specs.States.{CanServe, shared};
     ghost use Rattle.compound.specs.Trees.{AreBoth, RefusesRename, no_change, renamed_answer};
     ghost use Rattle.compound.specs.Views.{in_progress_of};
     ghost use Rattle.compound.specs.Volumes.{OperationGives, ending};
@@ -51,16 +48,13 @@ impl Running<'_> {
         now: u64,
         arguments: &RenameArguments<'_>,
     ) -> Result<Executed, Fault>
-        // It is up, in the run in which the request began
-        requires up { (fs_of fs.old).volume.is_down ≡ false }
-        requires run { (in_progress_of self.now).context.run ≡ (fs_of fs.old).volume.run }
+        requires { CanServe (fs_of fs.old) (in_progress_of self.now) }
         // What it answers
         ensures gives { D.keeps_word → IfOk result
             (ChangesTreeAndOpens (fs_of fs.old) (fs_of fs.new)
             (opens_of opens.old) (opens_of opens.new) now (in_progress_of self.now)
             (operations.Argument.Rename (rename_view arguments.now))) }
-        ensures answered { IfOk result (IsAnswered (in_progress_of self.now)) }
-        ensures kept { (table : Table) → IfOk result (IsReplyKept table) }
+        ensures answered { IfOk result (HasResult (in_progress_of self.now)) }
         // Refused
         ensures opens { OnErr result (opens_of opens.new ≡ opens_of opens.old) }
         // In any case
@@ -97,8 +91,7 @@ impl Running<'_> {
     /// The first of these that holds: NOFILEHANDLE where none is current, STALE where the current
     /// one is gone, and NOFILEHANDLE where none is saved.
     fn both_nodes<D: Device>(&self, fs: &Fs<D>) -> Result<(u64, u64), Status>
-        requires up { (fs_of fs.now).volume.is_down ≡ false }
-        requires run { (in_progress_of self.now).context.run ≡ (fs_of fs.now).volume.run }
+        requires { CanServe (fs_of fs.now) (in_progress_of self.now) }
         ensures ok { IfOk result (AreBoth (in_progress_of self.now).context) }
         ensures err { IfErr result (RefusesRename (fs_of fs.now) (in_progress_of self.now)) }
         ensures refused { IfErr result IsRefusal }
@@ -133,9 +126,7 @@ fn end_replaced(opens: &mut Opens, asked: Renaming<'_>, replaced: Option<u64>)
 /// The result of a RENAME: the change values before and after, of the directory that had the node
 /// and of the one that has it.
 fn renamed(source: Change, target: Change) -> Outcome<'static>
-    ensures is { outcome_view result ≡ Done (renamed_answer source target) }
-    ensures fits { answers.outcome.Fits (outcome_view result) }
-    ensures small { length (outcome_text (outcome_view result)) < 2 ^ 63 }
+    ensures { IsShortOutcome (renamed_answer source target) result }
 {
     Outcome::short(Answer::Rename(RenameAnswer {
         source: change_info(source.before, source.after),

@@ -1,7 +1,5 @@
 //! The results of a COMPOUND (RFC 8881, section 16.2).
 
-ghost use Rattle.std.specs.Prelude.{◌≡◌};
-
 use crate::encoded_result::EncodedResult;
 use crate::executed::{Effect, Executed};
 use crate::fault::Fault;
@@ -31,14 +29,13 @@ impl Running<'_> {
     ghost use Rattle.xdr.specs.Forms.{counted};
     ghost use Rattle.model.specs.Operations.Answer.{Answer as Answered, Done, Refused};
     ghost use Rattle.model.specs.Operations.Operation.{Argument as Kind, operation_of};
-    ghost use Rattle.model.specs.Sessions.Session.{Table as Sessions};
     ghost use Rattle.model.specs.Server.World.{reply_with, outcome_text};
     ghost use Rattle.model.specs.Wire.WireAnswers as answers;
     ghost use Rattle.wire.specs.OutcomeView.{answer_view, outcome_view};
     ghost use Rattle.wire.specs.Numbers.{number_of};
     ghost use Rattle.wire.specs.Short.{IsRefusal, IsShortAnswer};
     ghost use Rattle.wire.specs.declared.outcome.Outcome.TheVariants as outcomes;
-    ghost use Rattle.compound.specs.Operates.{Operates, RunsTo, GivesIn, Spells, IsAnswered, IsReplyKept, left_by_effect};
+    ghost use Rattle.compound.specs.Operates.{Operates, RunsTo, GivesIn, Spells, HasResult, left_by_effect};
     ghost use Rattle.compound.specs.States.{SharedState};
     ghost use Rattle.compound.specs.Trees.{IsUp, refusal, fault_told};
     ghost use Rattle.compound.specs.Views.{in_progress_of};
@@ -79,7 +76,7 @@ impl Running<'_> {
             → RunsTo now state state (in_progress_of self.now)
             (left_by_effect effect (in_progress_of self.now)) kind (Done (answer_view answer.entry))
             → Operates now state state (in_progress_of self.now) kind result }
-        ensures answered { IsAnswered (in_progress_of self.now) result }
+        ensures answered { HasResult (in_progress_of self.now) result }
     {
         let operation = answer.operation();
         let outcome = Outcome::short(answer);
@@ -98,8 +95,7 @@ impl Running<'_> {
             → RunsTo now state state (in_progress_of self.now) (in_progress_of self.now) kind
             (Done answer)
             → Operates now state state (in_progress_of self.now) kind result }
-        ensures answered { IsAnswered (in_progress_of self.now) result }
-        ensures kept { (table : Sessions) → IsReplyKept table result }
+        ensures answered { HasResult (in_progress_of self.now) result }
     {
         if !self.has_room_for(RESULT_FRONT + values.as_slice().len()) {
             return self.refuse(operation, Status::RepTooBig);
@@ -114,8 +110,7 @@ impl Running<'_> {
             → GivesIn now old new (in_progress_of self.now) (in_progress_of self.now) kind
             (Refused (number_of operation) status)
             → Operates now old new (in_progress_of self.now) kind result }
-        ensures answered { IsAnswered (in_progress_of self.now) result }
-        ensures kept { (table : Sessions) → IsReplyKept table result }
+        ensures answered { HasResult (in_progress_of self.now) result }
         ensures is { result ≡ refusal (number_of operation) status }
     {
         Executed::Gives {
@@ -150,7 +145,7 @@ impl Running<'_> {
             → RunsTo now old new (in_progress_of self.now)
             (left_by_effect effect (in_progress_of self.now)) kind (Done (answer_view answer.entry))
             → Operates now old new (in_progress_of self.now) kind result }
-        ensures answered { IsAnswered (in_progress_of self.now) result }
+        ensures answered { HasResult (in_progress_of self.now) result }
         ensures is { result ≡ execution.Gives (outcomes.Done answer.entry) effect }
     {
         Executed::Gives {
@@ -169,7 +164,7 @@ impl Running<'_> {
             → RunsTo now old new (in_progress_of self.now) (in_progress_of self.now) kind
             (Done answer)
             → Operates now old new (in_progress_of self.now) kind result }
-        ensures answered { IsAnswered (in_progress_of self.now) result }
+        ensures answered { HasResult (in_progress_of self.now) result }
     {
         Executed::GivesSpelled { operation, values }
     }

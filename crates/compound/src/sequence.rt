@@ -1,7 +1,5 @@
 //! SEQUENCE and RECLAIM_COMPLETE (RFC 8881, sections 18.46 and 18.51).
 
-ghost use Rattle.std.specs.Prelude.{◌≡◌};
-
 use crate::executed::{Effect, Executed};
 use crate::progress::SlotId;
 use crate::results::MAX_REPLY_BYTES;
@@ -24,8 +22,8 @@ impl Running<'_> {
     ghost use Rattle.model.specs.Server.World.{reply_with, outcome_text};
     ghost use Rattle.session.specs.Views.{table_of};
     ghost use Rattle.wire.specs.ArgumentViews.{sequence_view};
-    ghost use Rattle.compound.specs.Operates.{Operates, OnlyReads, ChangesTable, IsAnswered};
-    ghost use Rattle.compound.specs.States.{shared};
+    ghost use Rattle.compound.specs.Operates.{Operates, Reads, ChangesTable, HasResult, IsAnswered};
+    ghost use Rattle.compound.specs.States.{CanServe, shared};
     ghost use Rattle.compound.specs.Views.{in_progress_of};
 
     /// SEQUENCE. Where a slot runs the COMPOUND, its client is the session's from then on.
@@ -51,13 +49,12 @@ impl Running<'_> {
 
     /// RECLAIM_COMPLETE.
     pub(crate) fn reclaim<D: Device>(&self, fs: &Fs<D>, table: &mut Table, one_fs: bool) -> Executed
-        requires up { (fs_of fs.now).volume.is_down ≡ false }
-        requires run { (in_progress_of self.now).context.run ≡ (fs_of fs.now).volume.run }
+        requires { CanServe (fs_of fs.now) (in_progress_of self.now) }
         ensures gives { (now : ℕ) (opens : Opens)
             → Operates now (shared (fs_of fs.now) (table_of table.old) opens)
             (shared (fs_of fs.now) (table_of table.new) opens) (in_progress_of self.now)
             (operations.Argument.ReclaimComplete one_fs) result }
-        ensures answered { IsAnswered (in_progress_of self.now) result }
+        ensures answered { HasResult (in_progress_of self.now) result }
     {
         if one_fs {
             self.reclaim_one(fs)
@@ -71,7 +68,7 @@ impl Running<'_> {
     fn reclaim_all(&self, table: &mut Table) -> Executed
         ensures gives { ChangesTable (table_of table.old) (table_of table.new)
             (in_progress_of self.now) (operations.Argument.ReclaimComplete false) result }
-        ensures answered { IsAnswered (in_progress_of self.now) result }
+        ensures answered { HasResult (in_progress_of self.now) result }
     {
         match table.check_reclaim(self.progress.client) {
             Ok(()) => self.reclaim_in_room(table),
@@ -85,7 +82,7 @@ impl Running<'_> {
             (table_of table.old)).0 ≡ None }
         ensures gives { ChangesTable (table_of table.old) (table_of table.new)
             (in_progress_of self.now) (operations.Argument.ReclaimComplete false) result }
-        ensures answered { IsAnswered (in_progress_of self.now) result }
+        ensures answered { HasResult (in_progress_of self.now) result }
     {
         if !self.has_reclaim_room() {
             return self.refuse(Operation::ReclaimComplete, Status::RepTooBig);
@@ -112,11 +109,9 @@ impl Running<'_> {
 
     /// RECLAIM_COMPLETE for the file system of the current filehandle: it is answered each time.
     fn reclaim_one<D: Device>(&self, fs: &Fs<D>) -> Executed
-        requires up { (fs_of fs.now).volume.is_down ≡ false }
-        requires run { (in_progress_of self.now).context.run ≡ (fs_of fs.now).volume.run }
-        ensures gives { OnlyReads (fs_of fs.now) (in_progress_of self.now)
+        requires { CanServe (fs_of fs.now) (in_progress_of self.now) }
+        ensures { Reads (fs_of fs.now) (in_progress_of self.now)
             (operations.Argument.ReclaimComplete true) result }
-        ensures answered { IsAnswered (in_progress_of self.now) result }
     {
         match self.check_current(fs) {
             Ok(()) => self.settle(Answer::ReclaimComplete, Effect::Stays),

@@ -1,12 +1,10 @@
 //! SETATTR (RFC 8881, section 18.30).
 
-ghost use Rattle.std.specs.Prelude.{◌≡◌, ◌<◌, ◌^◌, IsTrue, length};
+ghost use Rattle.std.specs.Prelude.{◌≡◌, IsTrue};
 ghost use Rattle.xdr.specs.Forms.{is_trimmed};
-ghost use Rattle.model.specs.Operations.Answer.{Answer as Answered, Done};
+ghost use Rattle.model.specs.Operations.Answer.{Answer as Answered};
 ghost use Rattle.model.specs.Attributes.Attribute.{trimmed};
-ghost use Rattle.model.specs.Server.World.{outcome_text};
-ghost use Rattle.model.specs.Wire.WireAnswers as answers;
-ghost use Rattle.wire.specs.OutcomeView.{outcome_view};
+ghost use Rattle.compound.specs.Operates.{IsShortOutcome};
 
 use crate::executed::{Effect, Executed};
 use crate::fault::Fault;
@@ -20,7 +18,7 @@ use set_attributes::GivenAttributes;
 use wire::{Answer, Bitmap, CreateAnswer, Operation, Outcome, SetAttrArguments};
 
 impl Running<'_> {
-    ghost use Rattle.std.specs.Prelude.{◌≡◌, false, nat_le, length, IfOk};
+    ghost use Rattle.std.specs.Prelude.{◌≡◌, nat_le, length, IfOk};
     ghost use Rattle.fs.specs.Views.{fs_of, AltersFs};
     ghost use Rattle.model.specs.Operations.Answer.{Answer as Answered, Done};
     ghost use Rattle.model.specs.Attributes.Attribute.{trimmed};
@@ -29,8 +27,8 @@ impl Running<'_> {
     ghost use Rattle.model.specs.Server.World.{reply_with};
     ghost use Rattle.opens.specs.Views.{opens_of};
     ghost use Rattle.wire.specs.ArgumentViews.{set_attr_view};
-    ghost use Rattle.compound.specs.Operates.{ChangesTreeAndOpens, IsAnswered, IsReplyKept};
-    ghost use Rattle.compound.specs.States.{shared};
+    ghost use Rattle.compound.specs.Operates.{ChangesTreeAndOpens, HasResult};
+    ghost use Rattle.compound.specs.States.{CanServe, shared};
     ghost use Rattle.compound.specs.Views.{in_progress_of};
     ghost use Rattle.compound.specs.Volumes.{OperationGives, ending};
 
@@ -42,16 +40,13 @@ impl Running<'_> {
         now: u64,
         arguments: &SetAttrArguments<'_>,
     ) -> Result<Executed, Fault>
-        // It is up, in the run in which the request began
-        requires up { (fs_of fs.old).volume.is_down ≡ false }
-        requires run { (in_progress_of self.now).context.run ≡ (fs_of fs.old).volume.run }
+        requires { CanServe (fs_of fs.old) (in_progress_of self.now) }
         // What it answers
         ensures gives { D.keeps_word → IfOk result
             (ChangesTreeAndOpens (fs_of fs.old) (fs_of fs.new)
             (opens_of opens.now) (opens_of opens.now) now (in_progress_of self.now)
             (operations.Argument.SetAttr (set_attr_view arguments.now))) }
-        ensures answered { IfOk result (IsAnswered (in_progress_of self.now)) }
-        ensures kept { (table : Table) → IfOk result (IsReplyKept table) }
+        ensures answered { IfOk result (HasResult (in_progress_of self.now)) }
         // In any case
         ensures volume { (table : Table) → AltersFs fs.old fs.new (OperationGives
             (shared (fs_of fs.old) table (opens_of opens.now)) (in_progress_of self.now) now
@@ -91,9 +86,7 @@ impl Running<'_> {
 
 /// The result of a SETATTR: which attributes were set.
 fn attributes_set(bitmap: &Bitmap) -> Outcome<'static>
-    ensures is { outcome_view result ≡ Done (Answered.SetAttr (trimmed bitmap.now)) }
-    ensures fits { answers.outcome.Fits (outcome_view result) }
-    ensures small { length (outcome_text (outcome_view result)) < 2 ^ 63 }
+    ensures { IsShortOutcome (Answered.SetAttr (trimmed bitmap.now)) result }
 {
     Outcome::short(Answer::SetAttr(was_set(bitmap)))
 }

@@ -48,7 +48,7 @@ impl Running<'_> {
     ghost use Rattle.model.specs.Sessions.Opens.{Opens as Known};
     ghost use Rattle.model.specs.Server.World.{is_to_hold};
     ghost use Rattle.compound.specs.Operates.{IsAnswered, IsReplyKept, left_by_effect};
-    ghost use Rattle.compound.specs.States.{Agrees, shared, shared_of};
+    ghost use Rattle.compound.specs.States.{Agrees, CanSeat, shared, shared_of};
     ghost use Rattle.compound.specs.Steps.{CanRun, RequestSteps, RequestGoesOn, stepped_on};
     ghost use Rattle.compound.specs.EncodedResult.{CanBeTold, Tells, with_last};
     ghost use Rattle.compound.specs.Turns.{TurnsExecuted, ResultLeaves};
@@ -108,8 +108,7 @@ impl Running<'_> {
         now: u64,
         results_buffer: &mut Writer,
     ) -> Result<Stepped, StepError>
-        requires ready { CanRun (fs_of fs.old) (in_progress_of self) }
-        requires agrees { D.keeps_word → Agrees (fs_of fs.old) (table_of table.old) }
+        requires { CanRun D.keeps_word (fs_of fs.old) (table_of table.old) (in_progress_of self) }
         // Done
         ensures step { D.keeps_word
             → IfOk result (RequestSteps now (shared_of fs.old table.old opens.old)
@@ -163,8 +162,7 @@ impl Running<'_> {
         opens: &mut Opens,
         now: u64,
     ) -> Result<Ran, Fault>
-        requires ready { CanRun (fs_of fs.old) (in_progress_of self.now) }
-        requires agrees { D.keeps_word → Agrees (fs_of fs.old) (table_of table.old) }
+        requires { CanRun D.keeps_word (fs_of fs.old) (table_of table.old) (in_progress_of self.now) }
         // What it answers
         ensures turns { D.keeps_word → IfOk result
             (λ ran. TurnsExecuted now (shared_of fs.old table.old opens.old)
@@ -301,9 +299,8 @@ impl Running<'_> {
         last: Status,
         results_buffer: &mut Writer,
     ) -> Result<Vec<u8>, StepError>
-        requires up { (fs_of fs.old).volume.is_down ≡ false }
+        requires ready { CanSeat D.keeps_word (fs_of fs.old) (table_of table.old) }
         requires ended { (in_progress_of self).ended ≡ Some last }
-        requires agrees { D.keeps_word → Agrees (fs_of fs.old) (table_of table.old) }
         // Done
         ensures step { (now : ℕ) (known : Known) → D.keeps_word → IfOk result (λ reply.
             RequestSteps now (shared (fs_of fs.old) (table_of table.old) known)

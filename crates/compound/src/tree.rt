@@ -15,7 +15,7 @@ use wire::{
 };
 
 impl Running<'_> {
-    ghost use Rattle.std.specs.Prelude.{◌≡◌, true, false, nat_le, length, IfOk, IfErr};
+    ghost use Rattle.std.specs.Prelude.{◌≡◌, nat_le, length, IfOk, IfErr};
     ghost use Rattle.fs.specs.Views.{fs_of, AltersFs};
     ghost use Rattle.fs.specs.Operations.{new_directory};
     ghost use Rattle.model.specs.Sessions.Opens.{Opens};
@@ -27,8 +27,8 @@ impl Running<'_> {
     ghost use Rattle.wire.specs.ArgumentViews.{create_view};
     ghost use Rattle.wire.specs.SmallViews.{attributes_view};
     ghost use Rattle.wire.specs.Short.{IsRefusal};
-    ghost use Rattle.compound.specs.Operates.{OnlyReads, ChangesTree, IsAnswered, IsReplyKept};
-    ghost use Rattle.compound.specs.States.{shared};
+    ghost use Rattle.compound.specs.Operates.{Reads, ChangesTree, HasResult};
+    ghost use Rattle.compound.specs.States.{CanServe, shared};
     ghost use Rattle.compound.specs.Trees.{TestsHandle, made_answer};
     ghost use Rattle.compound.specs.Views.{in_progress_of};
     ghost use Rattle.compound.specs.Volumes.{OperationGives, ending};
@@ -36,8 +36,7 @@ impl Running<'_> {
     /// The tests of the current filehandle: NOFILEHANDLE where there is none, STALE where its node
     /// is gone.
     pub(crate) fn check_current<D: Device>(&self, fs: &Fs<D>) -> Result<(), Status>
-        requires up { (fs_of fs.now).volume.is_down ≡ false }
-        requires run { (in_progress_of self.now).context.run ≡ (fs_of fs.now).volume.run }
+        requires { CanServe (fs_of fs.now) (in_progress_of self.now) }
         ensures tests { TestsHandle (fs_of fs.now) (in_progress_of self.now) result }
         ensures refused { IfErr result IsRefusal }
     {
@@ -53,11 +52,9 @@ impl Running<'_> {
 
     /// LOOKUP (section 18.13): the node that the name leads to is the current one.
     pub(crate) fn look_up<D: Device>(&self, fs: &Fs<D>, name: &[u8]) -> Executed
-        requires up { (fs_of fs.now).volume.is_down ≡ false }
-        requires run { (in_progress_of self.now).context.run ≡ (fs_of fs.now).volume.run }
-        ensures gives { OnlyReads (fs_of fs.now) (in_progress_of self.now)
+        requires { CanServe (fs_of fs.now) (in_progress_of self.now) }
+        ensures { Reads (fs_of fs.now) (in_progress_of self.now)
             (operations.Argument.Lookup name.now) result }
-        ensures answered { IsAnswered (in_progress_of self.now) result }
     {
         let directory = match self.current_node() {
             Ok(number) => number,
@@ -72,11 +69,9 @@ impl Running<'_> {
     /// LOOKUPP (section 18.14): the directory that has the name of the current one is the current
     /// node.
     pub(crate) fn look_up_parent<D: Device>(&self, fs: &Fs<D>) -> Executed
-        requires up { (fs_of fs.now).volume.is_down ≡ false }
-        requires run { (in_progress_of self.now).context.run ≡ (fs_of fs.now).volume.run }
-        ensures gives { OnlyReads (fs_of fs.now) (in_progress_of self.now)
+        requires { CanServe (fs_of fs.now) (in_progress_of self.now) }
+        ensures { Reads (fs_of fs.now) (in_progress_of self.now)
             operations.Argument.LookupParent result }
-        ensures answered { IsAnswered (in_progress_of self.now) result }
     {
         let directory = match self.current_node() {
             Ok(number) => number,
@@ -95,15 +90,12 @@ impl Running<'_> {
         now: u64,
         arguments: &CreateArguments<'_>,
     ) -> Result<Executed, Fault>
-        // It is up, in the run in which the request began
-        requires up { (fs_of fs.old).volume.is_down ≡ false }
-        requires run { (in_progress_of self.now).context.run ≡ (fs_of fs.old).volume.run }
+        requires { CanServe (fs_of fs.old) (in_progress_of self.now) }
         // What it answers
         ensures gives { D.keeps_word → IfOk result (ChangesTree (fs_of fs.old) (fs_of fs.new)
             now (in_progress_of self.now)
             (operations.Argument.Create (create_view arguments.now))) }
-        ensures answered { IfOk result (IsAnswered (in_progress_of self.now)) }
-        ensures kept { (table : Table) → IfOk result (IsReplyKept table) }
+        ensures answered { IfOk result (HasResult (in_progress_of self.now)) }
         // In any case
         ensures volume { (table : Table) (opens : Opens) → AltersFs fs.old fs.new
             (OperationGives (shared (fs_of fs.old) table opens) (in_progress_of self.now) now
@@ -119,12 +111,9 @@ impl Running<'_> {
 
     /// CREATE of another type than a directory: nothing else is made by it.
     pub(crate) fn create_other<D: Device>(&self, fs: &Fs<D>, kind: u32) -> Executed
-        requires up { (fs_of fs.now).volume.is_down ≡ false }
-        requires run { (in_progress_of self.now).context.run ≡ (fs_of fs.now).volume.run }
-        ensures gives { OnlyReads (fs_of fs.now) (in_progress_of self.now)
+        requires { CanServe (fs_of fs.now) (in_progress_of self.now) }
+        ensures { Reads (fs_of fs.now) (in_progress_of self.now)
             (operations.Argument.Create (operations.OtherType kind)) result }
-        ensures answered { IsAnswered (in_progress_of self.now) result }
-        ensures kept { (table : Table) → IsReplyKept table result }
     {
         match self.check_current(fs) {
             Ok(()) => self.refuse(Operation::Create, Status::BadType),
@@ -141,15 +130,12 @@ impl Running<'_> {
         name: &[u8],
         attributes: &Attributes<'_>,
     ) -> Result<Executed, Fault>
-        // It is up, in the run in which the request began
-        requires up { (fs_of fs.old).volume.is_down ≡ false }
-        requires run { (in_progress_of self.now).context.run ≡ (fs_of fs.old).volume.run }
+        requires { CanServe (fs_of fs.old) (in_progress_of self.now) }
         // What it answers
         ensures gives { D.keeps_word → IfOk result (ChangesTree (fs_of fs.old) (fs_of fs.new)
             now (in_progress_of self.now)
             (new_directory name.now (attributes_view attributes.now))) }
-        ensures answered { IfOk result (IsAnswered (in_progress_of self.now)) }
-        ensures kept { (table : Table) → IfOk result (IsReplyKept table) }
+        ensures answered { IfOk result (HasResult (in_progress_of self.now)) }
         // In any case
         ensures volume { (table : Table) (opens : Opens) → AltersFs fs.old fs.new
             (OperationGives (shared (fs_of fs.old) table opens) (in_progress_of self.now) now
@@ -191,20 +177,14 @@ impl Running<'_> {
     }
 }
 
-ghost use Rattle.std.specs.Prelude.{◌<◌, ◌^◌, true, length};
-ghost use Rattle.model.specs.Operations.Answer.{Done};
 ghost use Rattle.model.specs.Attributes.Attribute.{trimmed};
-ghost use Rattle.model.specs.Server.World.{outcome_text};
-ghost use Rattle.model.specs.Wire.WireAnswers as answers;
-ghost use Rattle.wire.specs.OutcomeView.{outcome_view};
+ghost use Rattle.compound.specs.Operates.{IsShortOutcome};
 ghost use Rattle.compound.specs.Trees.{IsStatus, made_answer};
 ghost use Rattle.fs.specs.declared.fault.FsFault.TheVariants as faults;
 
 /// The result of a CREATE that made a directory: its parent's change value before and after.
 fn created(bitmap: &Bitmap, before: u64, after: u64) -> Outcome<'static>
-    ensures is { outcome_view result ≡ Done (made_answer before after (trimmed bitmap.now)) }
-    ensures fits { answers.outcome.Fits (outcome_view result) }
-    ensures small { length (outcome_text (outcome_view result)) < 2 ^ 63 }
+    ensures { IsShortOutcome (made_answer before after (trimmed bitmap.now)) result }
 {
     let change = ChangeInfo {
         is_atomic: true,

@@ -1,13 +1,10 @@
 //! WRITE (RFC 8881, section 18.32).
 
-ghost use Rattle.std.specs.Prelude.{◌≡◌, ◌==◌, ◌<◌, ◌^◌, true, not, length};
+ghost use Rattle.std.specs.Prelude.{◌≡◌, ◌==◌, true, not};
 ghost use Rattle.model.specs.Operations.Files.{are_bytes, committed_as};
-ghost use Rattle.model.specs.Operations.Answer.{Done};
-ghost use Rattle.model.specs.Server.World.{outcome_text};
-ghost use Rattle.model.specs.Wire.WireAnswers as answers;
 ghost use Rattle.wire.specs.ArgumentViews.{stable_number};
-ghost use Rattle.wire.specs.OutcomeView.{outcome_view};
 ghost use Rattle.compound.specs.Files.{committed_answer, written_answer};
+ghost use Rattle.compound.specs.Operates.{IsShortOutcome};
 
 use crate::executed::{Effect, Executed};
 use crate::fault::Fault;
@@ -19,7 +16,7 @@ use opens::{Access, Opens};
 use wire::{Answer, Operation, Outcome, StableHow, WriteAnswer, WriteArguments};
 
 impl Running<'_> {
-    ghost use Rattle.std.specs.Prelude.{◌≡◌, false, nat_le, length, IfOk};
+    ghost use Rattle.std.specs.Prelude.{◌≡◌, nat_le, length, IfOk};
     ghost use Rattle.fs.specs.Views.{fs_of, AltersFs};
     ghost use Rattle.model.specs.Operations.Answer.{Done};
     ghost use Rattle.model.specs.Operations.Operation as operations;
@@ -28,8 +25,8 @@ impl Running<'_> {
     ghost use Rattle.opens.specs.Views.{opens_of};
     ghost use Rattle.wire.specs.ArgumentViews.{write_view};
     ghost use Rattle.compound.specs.Files.{committed_answer, written_answer};
-    ghost use Rattle.compound.specs.Operates.{ChangesTreeAndOpens, IsAnswered, IsReplyKept};
-    ghost use Rattle.compound.specs.States.{shared};
+    ghost use Rattle.compound.specs.Operates.{ChangesTreeAndOpens, HasResult};
+    ghost use Rattle.compound.specs.States.{CanServe, shared};
     ghost use Rattle.compound.specs.Views.{in_progress_of};
     ghost use Rattle.compound.specs.Volumes.{OperationGives, ending};
 
@@ -41,16 +38,13 @@ impl Running<'_> {
         now: u64,
         arguments: &WriteArguments<'_>,
     ) -> Result<Executed, Fault>
-        // It is up, in the run in which the request began
-        requires up { (fs_of fs.old).volume.is_down ≡ false }
-        requires run { (in_progress_of self.now).context.run ≡ (fs_of fs.old).volume.run }
+        requires { CanServe (fs_of fs.old) (in_progress_of self.now) }
         // What it answers
         ensures gives { D.keeps_word → IfOk result
             (ChangesTreeAndOpens (fs_of fs.old) (fs_of fs.new)
             (opens_of opens.now) (opens_of opens.now) now (in_progress_of self.now)
             (operations.Argument.Write (write_view arguments.now))) }
-        ensures answered { IfOk result (IsAnswered (in_progress_of self.now)) }
-        ensures kept { (table : Table) → IfOk result (IsReplyKept table) }
+        ensures answered { IfOk result (HasResult (in_progress_of self.now)) }
         // In any case
         ensures volume { (table : Table) → AltersFs fs.old fs.new (OperationGives
             (shared (fs_of fs.old) table (opens_of opens.now)) (in_progress_of self.now) now
@@ -88,16 +82,13 @@ impl Running<'_> {
     /// COMMIT (section 18.3): all changes so far are kept. Nothing is where the reply has no room
     /// for the result.
     pub(crate) fn commit<D: Device>(&self, fs: &mut Fs<D>) -> Result<Executed, Fault>
-        // It is up, in the run in which the request began
-        requires up { (fs_of fs.old).volume.is_down ≡ false }
-        requires run { (in_progress_of self.now).context.run ≡ (fs_of fs.old).volume.run }
+        requires { CanServe (fs_of fs.old) (in_progress_of self.now) }
         // What it answers
         ensures gives { (arguments : operations.CommitArguments) (now : _) (opens : _)
             → D.keeps_word → IfOk result
             (ChangesTreeAndOpens (fs_of fs.old) (fs_of fs.new) opens opens
             now (in_progress_of self.now) (operations.Argument.Commit arguments)) }
-        ensures answered { IfOk result (IsAnswered (in_progress_of self.now)) }
-        ensures kept { (table : Table) → IfOk result (IsReplyKept table) }
+        ensures answered { IfOk result (HasResult (in_progress_of self.now)) }
         // In any case
         ensures volume { (arguments : operations.CommitArguments) (now : _) (table : Table)
             (opens : _) → AltersFs fs.old fs.new (OperationGives
@@ -145,9 +136,7 @@ fn is_to_be_stable(stable: StableHow) -> bool
 /// The result of a WRITE in this run of the server: how many bytes it took. What is to be stable is
 /// on the device.
 fn written(run: u32, stable: StableHow, count: u32) -> Outcome<'static>
-    ensures is { outcome_view result ≡ Done (written_answer run (stable_number stable) count) }
-    ensures fits { answers.outcome.Fits (outcome_view result) }
-    ensures small { length (outcome_text (outcome_view result)) < 2 ^ 63 }
+    ensures { IsShortOutcome (written_answer run (stable_number stable) count) result }
 {
     Outcome::short(Answer::Write(WriteAnswer {
         count,
@@ -169,9 +158,7 @@ fn committed_as(stable: StableHow) -> StableHow
 
 /// The result of a COMMIT in this run of the server.
 fn committed(run: u32) -> Outcome<'static>
-    ensures is { outcome_view result ≡ Done (committed_answer run) }
-    ensures fits { answers.outcome.Fits (outcome_view result) }
-    ensures small { length (outcome_text (outcome_view result)) < 2 ^ 63 }
+    ensures { IsShortOutcome (committed_answer run) result }
 {
     Outcome::short(Answer::Commit(u64::from(run).to_be_bytes()))
 }

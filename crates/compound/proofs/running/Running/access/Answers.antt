@@ -15,15 +15,18 @@ use Rattle.compound.proofs.Trees.{is_on, is_there, of_request, wants}
 use Rattle.wire.specs.AnswerViews.{access_view}
 use Rattle.compound.proofs.running.Running.access.Goals as goal
 
-pub returns-in-Err-clause-gives : goal.returns-in-Err-clause-gives
+pub returns-in-Err : goal.returns-in-Err
 unfolding in_progress_of
-returns-in-Err-clause-gives g c = λ now table opens.
-    let fs = fs_of c.args.fs.now in
-    let request = in_progress_of c.args.self.now in
-    let kind = Argument.Access c.args.asked in
-    c.refuse.ensures.gives now (shared fs table opens) (shared fs table opens) kind
-    (subst (λ (reason : Status). GivesIn now (shared fs table opens) (shared fs table opens) request request kind (Refused 3 reason)) (sym c.in-Err.ensures.err.0)
-    (gives_refusal now (shared fs table opens) (shared fs table opens) request kind 3 _ (wants now fs table opens request kind refl c.in-Err.ensures.err.1)))
+returns-in-Err g c = record {
+  answered = c.refuse.ensures.answered;
+  gives = λ now table opens.
+      let fs = fs_of c.args.fs.now in
+      let request = in_progress_of c.args.self.now in
+      let kind = Argument.Access c.args.asked in
+      c.refuse.ensures.gives now (shared fs table opens) (shared fs table opens) kind
+      (subst (λ (reason : Status). GivesIn now (shared fs table opens) (shared fs table opens) request request kind (Refused 3 reason)) (sym c.in-Err.ensures.err.0)
+      (gives_refusal now (shared fs table opens) (shared fs table opens) request kind 3 _ (wants now fs table opens request kind refl c.in-Err.ensures.err.1)));
+}
 
 pub status_of-requires : goal.status_of-requires
 unfolding in_progress_of
@@ -43,25 +46,31 @@ refuse-requires-in-Err-access g c =
     (subst (λ (why : FsFault). TellsAccess fs state 0 c.args.asked (Err why)) c.status_of.ensures
     (c.in-Err-access.ensures.step state 0 (is_on fs request _ _ c.requires.run c.in-Ok.ensures.ok.0 c.in-Ok.ensures.ok.1 (is_there fs request))))
 
-pub returns-in-Ok-access-clause-gives : goal.returns-in-Ok-access-clause-gives
+pub returns-in-Ok-access : goal.returns-in-Ok-access
 unfolding in_progress_of
-returns-in-Ok-access-clause-gives g c = λ now table opens.
-    let fs = fs_of c.args.fs.now in
-    let request = in_progress_of c.args.self.now in
-    let kind = Argument.Access c.args.asked in
-    c.settle.ensures.gives now (shared fs table opens) kind refl
-    (tells_ok now fs table opens request kind (access_on_tree c.args.asked) (Answer.Access (access_view c.answered.result))
-    (λ state there. c.in-Ok-access.ensures.step state now (is_on fs request _ _ c.requires.run c.in-Ok.ensures.ok.0 c.in-Ok.ensures.ok.1 there)
-    ∙ ap (λ (told : AccessAnswer). answered state (Answer.Access told)) (sym c.answered.ensures)))
+returns-in-Ok-access g c = record {
+  answered = c.settle.ensures.answered;
+  gives = λ now table opens.
+      let fs = fs_of c.args.fs.now in
+      let request = in_progress_of c.args.self.now in
+      let kind = Argument.Access c.args.asked in
+      c.settle.ensures.gives now (shared fs table opens) kind refl
+      (tells_ok now fs table opens request kind (access_on_tree c.args.asked) (Answer.Access (access_view c.answered.result))
+      (λ state there. c.in-Ok-access.ensures.step state now (is_on fs request _ _ c.requires.run c.in-Ok.ensures.ok.0 c.in-Ok.ensures.ok.1 there)
+      ∙ ap (λ (told : AccessAnswer). answered state (Answer.Access told)) (sym c.answered.ensures)));
+}
 
-pub returns-in-Err-access-clause-gives : goal.returns-in-Err-access-clause-gives
+pub returns-in-Err-access : goal.returns-in-Err-access
 unfolding in_progress_of
-returns-in-Err-access-clause-gives g c = λ now table opens.
-    let fs = fs_of c.args.fs.now in
-    let request = in_progress_of c.args.self.now in
-    let kind = Argument.Access c.args.asked in
-    c.refuse-in-Err-access.ensures.gives now (shared fs table opens) (shared fs table opens) kind
-    (gives_refusal now (shared fs table opens) (shared fs table opens) request kind 3 c.status_of.result
-    (tells_err now fs table opens request kind (access_on_tree c.args.asked) c.status_of.result
-    (λ state there. subst (λ (why : FsFault). TellsAccess fs state now c.args.asked (Err why)) c.status_of.ensures
-    (c.in-Err-access.ensures.step state now (is_on fs request _ _ c.requires.run c.in-Ok.ensures.ok.0 c.in-Ok.ensures.ok.1 there)))))
+returns-in-Err-access g c = record {
+  answered = c.refuse-in-Err-access.ensures.answered;
+  gives = λ now table opens.
+      let fs = fs_of c.args.fs.now in
+      let request = in_progress_of c.args.self.now in
+      let kind = Argument.Access c.args.asked in
+      c.refuse-in-Err-access.ensures.gives now (shared fs table opens) (shared fs table opens) kind
+      (gives_refusal now (shared fs table opens) (shared fs table opens) request kind 3 c.status_of.result
+      (tells_err now fs table opens request kind (access_on_tree c.args.asked) c.status_of.result
+      (λ state there. subst (λ (why : FsFault). TellsAccess fs state now c.args.asked (Err why)) c.status_of.ensures
+      (c.in-Err-access.ensures.step state now (is_on fs request _ _ c.requires.run c.in-Ok.ensures.ok.0 c.in-Ok.ensures.ok.1 there)))));
+}

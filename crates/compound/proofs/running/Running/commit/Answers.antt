@@ -8,14 +8,14 @@ use Rattle.model.specs.Sessions.Opens.{no_opens}
 use Rattle.model.specs.Operations.Step.{State}
 use Rattle.model_tree.specs.declared.status.Status.{Status}
 use Rattle.compound.specs.Files.{committed_answer}
-use Rattle.compound.specs.Operates.{GivesIn, HasRoom, ChangesTreeAndOpens, IsAnswered, IsReplyKept}
+use Rattle.compound.specs.Operates.{GivesIn, HasRoom, ChangesTreeAndOpens, HasResult}
 use Rattle.compound.specs.States.{shared}
 use Rattle.compound.specs.Trees.{IsHere}
 use Rattle.compound.specs.Volumes.{OperationGives, ending}
 use Rattle.compound.specs.Views.{in_progress_of}
 use Rattle.compound.specs.declared.fault.Fault.{Fault}
 use Rattle.compound.specs.declared.executed.Executed.{Executed}
-use Rattle.compound.proofs.Changing.{done_runs, told_gives, told_changes, told_spelled, told_kept, is_short}
+use Rattle.compound.proofs.Changing.{done_runs, told_gives, told_changes, told_spelled, is_short}
 use Rattle.compound.proofs.Rooms.{gives_in_room, gives_refusal}
 use Rattle.compound.proofs.Trees.{is_on, wants}
 use Rattle.compound.proofs.VolumeLaws.{refusal_changes}
@@ -107,13 +107,9 @@ returns-in-Err-commit-clause-answered g c =
     let fs = fs_of c.args.fs.now in
     let request = in_progress_of c.args.self.now in
     let none : CommitArguments = record { offset = 0; count = 0 } in
-    subst (λ (r : Result Executed Fault). IfOk r (IsAnswered request)) (sym c.tell_fault.ensures)
+    subst (λ (r : Result Executed Fault). IfOk r (HasResult request)) (sym c.tell_fault.ensures)
     (told_spelled request 5 c.in-Err-commit.fault (omega arith) (commit_up 0 fs request none no_opens c.in-Err-commit.fault c.requires.up
     (λ state there known. commit_not_done g.D.Device.keeps_word fs (fs_of c.commit.new.self) state 0 none c.in-Err-commit.fault (c.in-Err-commit.ensures.step state 0 none (is_on fs request _ state c.requires.run c.in-Ok.ensures.ok.0 c.in-Ok.ensures.ok.1 there)))))
-
-pub returns-in-Err-commit-clause-kept : goal.returns-in-Err-commit-clause-kept
-returns-in-Err-commit-clause-kept g c = λ table.
-    subst (λ (r : Result Executed Fault). IfOk r (IsReplyKept table)) (sym c.tell_fault.ensures) (told_kept table 5 c.in-Err-commit.fault)
 
 pub returns-in-Err-commit-clause-volume : goal.returns-in-Err-commit-clause-volume
 unfolding in_progress_of

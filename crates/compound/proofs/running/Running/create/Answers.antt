@@ -17,3 +17,6 @@ returns-in-OtherType-clause-gives g c = λ keeps table opens. rw c.in-OtherType.
 
 pub returns-in-NewDirectory-clause-gives : goal.returns-in-NewDirectory-clause-gives
 returns-in-NewDirectory-clause-gives g c = rw c.in-NewDirectory.is c.create_directory.ensures.gives
+
+pub returns-in-OtherType-clause-answered : goal.returns-in-OtherType-clause-answered
+returns-in-OtherType-clause-answered g c = c.create_other.ensures.answered

@@ -7,19 +7,25 @@ use Rattle.compound.proofs.Rooms.{gives_refusal}
 use Rattle.compound.proofs.Trees.{other_ok, other_err}
 use Rattle.compound.proofs.running.Running.create_other.Goals as goal
 
-pub returns-in-Ok-clause-gives : goal.returns-in-Ok-clause-gives
-returns-in-Ok-clause-gives g c = λ now table opens.
-    let fs = fs_of c.args.fs.now in
-    let request = in_progress_of c.args.self.now in
-    let kind = Argument.Create (OtherType c.args.kind) in
-    c.refuse.ensures.gives now (shared fs table opens) (shared fs table opens) kind
-    (gives_refusal now (shared fs table opens) (shared fs table opens) request kind 6 status.BadType (other_ok now fs table opens request c.args.kind c.in-Ok.ensures.tests))
+pub returns-in-Ok : goal.returns-in-Ok
+returns-in-Ok g c = record {
+  answered = c.refuse.ensures.answered;
+  gives = λ now table opens.
+      let fs = fs_of c.args.fs.now in
+      let request = in_progress_of c.args.self.now in
+      let kind = Argument.Create (OtherType c.args.kind) in
+      c.refuse.ensures.gives now (shared fs table opens) (shared fs table opens) kind
+      (gives_refusal now (shared fs table opens) (shared fs table opens) request kind 6 status.BadType (other_ok now fs table opens request c.args.kind c.in-Ok.ensures.tests));
+}
 
-pub returns-in-Err-clause-gives : goal.returns-in-Err-clause-gives
-returns-in-Err-clause-gives g c = λ now table opens.
-    let fs = fs_of c.args.fs.now in
-    let request = in_progress_of c.args.self.now in
-    let kind = Argument.Create (OtherType c.args.kind) in
-    c.refuse-in-Err.ensures.gives now (shared fs table opens) (shared fs table opens) kind
-    (gives_refusal now (shared fs table opens) (shared fs table opens) request kind 6 c.in-Err.status
-    (other_err now fs table opens request c.args.kind c.in-Err.status c.in-Err.ensures.tests))
+pub returns-in-Err : goal.returns-in-Err
+returns-in-Err g c = record {
+  answered = c.refuse-in-Err.ensures.answered;
+  gives = λ now table opens.
+      let fs = fs_of c.args.fs.now in
+      let request = in_progress_of c.args.self.now in
+      let kind = Argument.Create (OtherType c.args.kind) in
+      c.refuse-in-Err.ensures.gives now (shared fs table opens) (shared fs table opens) kind
+      (gives_refusal now (shared fs table opens) (shared fs table opens) request kind 6 c.in-Err.status
+      (other_err now fs table opens request c.args.kind c.in-Err.status c.in-Err.ensures.tests));
+}

@@ -14,7 +14,7 @@ use Rattle.volume.proofs.ServeLaws.{told_err}
 use Rattle.volume.specs.Changes as ends
 use Rattle.wire.specs.AnswerViews as answers
 use Rattle.wire.specs.ArgumentViews.{create_session_view}
-use Rattle.compound.specs.Operates.{GivesIn, IsReplyKept, Operates, RunsTo}
+use Rattle.compound.specs.Operates.{GivesIn, Operates, RunsTo}
 use Rattle.compound.specs.States.{shared}
 use Rattle.compound.specs.Views.{in_progress_of}
 use Rattle.compound.proofs.Storing.{seated_as, seated_still, seats_change}
@@ -44,9 +44,6 @@ returns-in_ok-put_seats-in-Ok-New-clause-gives g c = λ now keeps.
     (subst (λ (opens : Opens). RunsTo now (shared fs old before) (shared new table opens) request request (Argument.CreateSession arguments) (Done (Answer.CreateSession known)))
     (sym (c.remove_clients.ensures ∙ ap (λ clients. without_clients clients before) c.deref.ensures.value)) runs)
 
-pub returns-in_ok-put_seats-in-Ok-New-clause-kept : goal.returns-in_ok-put_seats-in-Ok-New-clause-kept
-returns-in_ok-put_seats-in-Ok-New-clause-kept g c = subst (IsReplyKept (table_of c.add_session-created.new.self)) (sym c.answer_first-done.ensures.is) tt
-
 pub returns-in_ok-put_seats-in-Ok-New-clause-volume : goal.returns-in_ok-put_seats-in-Ok-New-clause-volume
 unfolding in_progress_of
 returns-in_ok-put_seats-in-Ok-New-clause-volume g c = λ now.
@@ -66,7 +63,7 @@ returns-in_ok-put_seats-in-Ok-New-clause-volume g c = λ now.
     (create_runs now fs fs old wanted.table before request arguments known plan.ended.items planned.answer planned.ended refl (same_tree fs))) in
     seats_change g.D.Device.keeps_word (shared fs old before) wanted.table opens request request now (Argument.CreateSession arguments) (Done (Answer.CreateSession known)) refl gives _ _ _ ends.Done
     (seated_as g.D.Device.keeps_word fs _ _ _ ends.Done (edited_all (edits_view plan.edits) fs.volume.seats) wanted.table.seats
-    (λ keeps. planned.seats ∙ ap (edited_all (edits_view plan.edits)) (c.requires.agrees keeps).seats) (rw c.in_ok-put_seats-in-Ok-New.was at c.put_seats.ensures.volume))
+    (λ keeps. planned.seats ∙ ap (edited_all (edits_view plan.edits)) (c.requires.ready.agrees keeps).seats) (rw c.in_ok-put_seats-in-Ok-New.was at c.put_seats.ensures.volume))
 
 pub returns-in_err-put_seats-in-Ok-New-clause-volume : goal.returns-in_err-put_seats-in-Ok-New-clause-volume
 unfolding in_progress_of
@@ -88,7 +85,7 @@ returns-in_err-put_seats-in-Ok-New-clause-volume g c = λ now.
     rw (told_err c.from_residual.result c.in_err-put_seats-in-Ok-New.field-0.0 c.from_residual.ensures.1)
     (seats_change g.D.Device.keeps_word (shared fs old before) wanted.table opens request request now (Argument.CreateSession arguments) (Done (Answer.CreateSession known)) refl gives _ _ _ _
     (seated_as g.D.Device.keeps_word fs _ _ _ _ (edited_all (edits_view plan.edits) fs.volume.seats) wanted.table.seats
-    (λ keeps. planned.seats ∙ ap (edited_all (edits_view plan.edits)) (c.requires.agrees keeps).seats) (rw c.in_err-put_seats-in-Ok-New.was at c.put_seats.ensures.volume)))
+    (λ keeps. planned.seats ∙ ap (edited_all (edits_view plan.edits)) (c.requires.ready.agrees keeps).seats) (rw c.in_err-put_seats-in-Ok-New.was at c.put_seats.ensures.volume)))
 
 -- A kept result is answered again
 
@@ -109,9 +106,6 @@ returns-in-Ok-Again-clause-gives g c = λ now keeps.
     (c.answer_first.ensures.gives now (shared fs old before) (shared fs old before) kind
     (subst (λ (opens : Opens). RunsTo now (shared fs old before) (shared fs old opens) request request kind (Done (Answer.CreateSession known))) (none_ended before) runs))
 
-pub returns-in-Ok-Again-clause-kept : goal.returns-in-Ok-Again-clause-kept
-returns-in-Ok-Again-clause-kept g c = subst (IsReplyKept (table_of c.plan_session.new.self)) (sym c.answer_first.ensures.is) tt
-
 pub returns-in-Ok-Again-clause-volume : goal.returns-in-Ok-Again-clause-volume
 unfolding in_progress_of
 returns-in-Ok-Again-clause-volume g c = λ now.
@@ -130,7 +124,7 @@ returns-in-Ok-Again-clause-volume g c = λ now.
     (create_runs now fs fs old old before request arguments known [] (ap (λ (o : CreateSessionOutcome). o.answer) is) (ap (λ (o : CreateSessionOutcome). o.ended_clients) is)
     (ap (λ (o : CreateSessionOutcome). o.table) is) (same_tree fs))) in
     seats_change g.D.Device.keeps_word (shared fs old before) old opens request request now kind (Done (Answer.CreateSession known)) refl gives fs _ _ ends.Done
-    (seated_still g.D.Device.keeps_word fs (fs_failures c.args.fs.now) old.seats c.requires.up (λ keeps. (c.requires.agrees keeps).seats))
+    (seated_still g.D.Device.keeps_word fs (fs_failures c.args.fs.now) old.seats c.requires.ready.up (λ keeps. (c.requires.ready.agrees keeps).seats))
 
 -- Refused
 
@@ -158,4 +152,4 @@ returns-in-Err-Status-clause-volume g c = λ now.
     let is = rw c.in-Err-Status.field-0-is at c.in-Err-Status.ensures.planned in
     seats_change g.D.Device.keeps_word (shared fs old before) old before request request now (Argument.CreateSession arguments) (Refused 43 c.in-Err-Status.status) refl
     (create_refuses now fs old before request arguments c.in-Err-Status.status is) fs _ _ ends.Done
-    (seated_still g.D.Device.keeps_word fs (fs_failures c.args.fs.now) old.seats c.requires.up (λ keeps. (c.requires.agrees keeps).seats))
+    (seated_still g.D.Device.keeps_word fs (fs_failures c.args.fs.now) old.seats c.requires.ready.up (λ keeps. (c.requires.ready.agrees keeps).seats))

@@ -7,7 +7,7 @@ use Rattle.model.specs.Sessions.Session.{destroy_session}
 use Rattle.session.specs.Views.{table_of}
 use Rattle.volume.proofs.ServeLaws.{told_err}
 use Rattle.volume.specs.Changes as ends
-use Rattle.compound.specs.Operates.{GivesIn, IsReplyKept, Operates}
+use Rattle.compound.specs.Operates.{GivesIn, Operates}
 use Rattle.compound.specs.States.{shared}
 use Rattle.compound.specs.Views.{in_progress_of}
 use Rattle.compound.proofs.Storing.{seated_as, seated_still, seats_change}
@@ -27,9 +27,6 @@ returns-in_ok-put_seats-in-Ok-clause-gives g c = λ now opens keeps.
     c.answer_first-done.ensures.gives now (shared fs old opens) (shared new table opens) (Argument.DestroySession id)
     (destroy_runs now fs new old table opens request id (destroy_done id old table planned.done (c.end_session.ensures planned.done)) (c.in_ok-put_seats-in-Ok.ensures.same keeps))
 
-pub returns-in_ok-put_seats-in-Ok-clause-kept : goal.returns-in_ok-put_seats-in-Ok-clause-kept
-returns-in_ok-put_seats-in-Ok-clause-kept g c = subst (IsReplyKept (table_of c.end_session.new.self)) (sym c.answer_first-done.ensures.is) tt
-
 pub returns-in_ok-put_seats-in-Ok-clause-volume : goal.returns-in_ok-put_seats-in-Ok-clause-volume
 unfolding in_progress_of
 returns-in_ok-put_seats-in-Ok-clause-volume g c = λ now opens.
@@ -45,7 +42,7 @@ returns-in_ok-put_seats-in-Ok-clause-volume g c = λ now opens.
     (destroy_runs now fs fs old table opens request id (destroy_done id old table planned.done refl) (same_tree fs))) in
     seats_change g.D.Device.keeps_word (shared fs old opens) table opens request request now (Argument.DestroySession id) (Done Answer.DestroySession) refl gives _ _ _ ends.Done
     (seated_as g.D.Device.keeps_word fs _ _ _ ends.Done (edited_all (edits_view c.in-Ok.edits) fs.volume.seats) table.seats
-    (λ keeps. planned.left ∙ ap (edited_all (edits_view c.in-Ok.edits)) (c.requires.agrees keeps).seats) (rw c.in_ok-put_seats-in-Ok.was at c.put_seats.ensures.volume))
+    (λ keeps. planned.left ∙ ap (edited_all (edits_view c.in-Ok.edits)) (c.requires.ready.agrees keeps).seats) (rw c.in_ok-put_seats-in-Ok.was at c.put_seats.ensures.volume))
 
 pub returns-in_err-put_seats-in-Ok-clause-volume : goal.returns-in_err-put_seats-in-Ok-clause-volume
 unfolding in_progress_of
@@ -63,7 +60,7 @@ returns-in_err-put_seats-in-Ok-clause-volume g c = λ now opens.
     rw (told_err c.from_residual.result c.in_err-put_seats-in-Ok.field-0.0 c.from_residual.ensures.1)
     (seats_change g.D.Device.keeps_word (shared fs old opens) table opens request request now (Argument.DestroySession id) (Done Answer.DestroySession) refl gives _ _ _ _
     (seated_as g.D.Device.keeps_word fs _ _ _ _ (edited_all (edits_view c.in-Ok.edits) fs.volume.seats) table.seats
-    (λ keeps. planned.left ∙ ap (edited_all (edits_view c.in-Ok.edits)) (c.requires.agrees keeps).seats) (rw c.in_err-put_seats-in-Ok.was at c.put_seats.ensures.volume)))
+    (λ keeps. planned.left ∙ ap (edited_all (edits_view c.in-Ok.edits)) (c.requires.ready.agrees keeps).seats) (rw c.in_err-put_seats-in-Ok.was at c.put_seats.ensures.volume)))
 
 pub returns-in-Err-Status-clause-gives : goal.returns-in-Err-Status-clause-gives
 unfolding in_progress_of
@@ -83,4 +80,4 @@ returns-in-Err-Status-clause-volume g c = λ now opens.
     let is = rw c.in-Err-Status.field-0-is at c.in-Err-Status.ensures.planned in
     seats_change g.D.Device.keeps_word (shared fs old opens) old opens request request now (Argument.DestroySession c.args.id.now) (Refused 44 c.in-Err-Status.status) refl
     (destroy_refuses now fs old opens request c.args.id.now c.in-Err-Status.status is) fs _ _ ends.Done
-    (seated_still g.D.Device.keeps_word fs (fs_failures c.args.fs.now) old.seats c.requires.up (λ keeps. (c.requires.agrees keeps).seats))
+    (seated_still g.D.Device.keeps_word fs (fs_failures c.args.fs.now) old.seats c.requires.ready.up (λ keeps. (c.requires.ready.agrees keeps).seats))

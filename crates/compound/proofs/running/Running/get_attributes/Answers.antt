@@ -16,13 +16,16 @@ use Rattle.compound.proofs.running.Running.get_attributes.Goals as goal
 
 pub returns-in-Err-clause-gives : goal.returns-in-Err-clause-gives
 unfolding in_progress_of
-returns-in-Err-clause-gives g c = λ now table opens.
-    let fs = fs_of c.args.fs.now in
-    let request = in_progress_of c.args.self.now in
-    let kind = Argument.GetAttr c.args.asked.now in
-    c.refuse.ensures.gives now (shared fs table opens) (shared fs table opens) kind
-    (subst (λ (reason : Status). GivesIn now (shared fs table opens) (shared fs table opens) request request kind (Refused 9 reason)) (sym c.in-Err.ensures.err.0)
-    (gives_refusal now (shared fs table opens) (shared fs table opens) request kind 9 _ (wants now fs table opens request kind refl c.in-Err.ensures.err.1)))
+returns-in-Err-clause-gives g c = record {
+  answered = c.refuse.ensures.answered;
+  gives = λ now table opens.
+      let fs = fs_of c.args.fs.now in
+      let request = in_progress_of c.args.self.now in
+      let kind = Argument.GetAttr c.args.asked.now in
+      c.refuse.ensures.gives now (shared fs table opens) (shared fs table opens) kind
+      (subst (λ (reason : Status). GivesIn now (shared fs table opens) (shared fs table opens) request request kind (Refused 9 reason)) (sym c.in-Err.ensures.err.0)
+      (gives_refusal now (shared fs table opens) (shared fs table opens) request kind 9 _ (wants now fs table opens request kind refl c.in-Err.ensures.err.1)));
+}
 
 pub status_of-requires : goal.status_of-requires
 unfolding in_progress_of
@@ -46,26 +49,32 @@ refuse-requires-in-Err-attributes g c =
 
 pub returns-in_ok-values-in-Ok-attributes-clause-gives : goal.returns-in_ok-values-in-Ok-attributes-clause-gives
 unfolding in_progress_of
-returns-in_ok-values-in-Ok-attributes-clause-gives g c = λ now table opens.
-    let fs = fs_of c.args.fs.now in
-    let request = in_progress_of c.args.self.now in
-    let kind = Argument.GetAttr c.args.asked.now in
-    let answer = Answer.GetAttr (answer_view c.in-Ok-attributes.answer) in
-    c.settle_spelled.ensures.gives now (shared fs table opens) kind answer
-    (record { number_is = refl; values_are = sym c.in_ok-values-in-Ok-attributes.ensures.ok }) refl
-    (tells_ok now fs table opens request kind (attributes_on_tree c.args.asked.now) answer
-    (λ state there. subst (λ (bitmap : List ℕ). GetsAttributes fs state now bitmap (Ok c.in-Ok-attributes.answer)) c.as_slice.ensures.numbers
-    (c.in-Ok-attributes.ensures.step state now (is_on fs request _ _ c.requires.run c.in-Ok.ensures.ok.0 c.in-Ok.ensures.ok.1 there))))
+returns-in_ok-values-in-Ok-attributes-clause-gives g c = record {
+  answered = c.settle_spelled.ensures.answered;
+  gives = λ now table opens.
+      let fs = fs_of c.args.fs.now in
+      let request = in_progress_of c.args.self.now in
+      let kind = Argument.GetAttr c.args.asked.now in
+      let answer = Answer.GetAttr (answer_view c.in-Ok-attributes.answer) in
+      c.settle_spelled.ensures.gives now (shared fs table opens) kind answer
+      (record { number_is = refl; values_are = sym c.in_ok-values-in-Ok-attributes.ensures.ok }) refl
+      (tells_ok now fs table opens request kind (attributes_on_tree c.args.asked.now) answer
+      (λ state there. subst (λ (bitmap : List ℕ). GetsAttributes fs state now bitmap (Ok c.in-Ok-attributes.answer)) c.as_slice.ensures.numbers
+      (c.in-Ok-attributes.ensures.step state now (is_on fs request _ _ c.requires.run c.in-Ok.ensures.ok.0 c.in-Ok.ensures.ok.1 there))));
+}
 
 pub returns-in-Err-attributes-clause-gives : goal.returns-in-Err-attributes-clause-gives
 unfolding in_progress_of
-returns-in-Err-attributes-clause-gives g c = λ now table opens.
-    let fs = fs_of c.args.fs.now in
-    let request = in_progress_of c.args.self.now in
-    let kind = Argument.GetAttr c.args.asked.now in
-    c.refuse-in-Err-attributes.ensures.gives now (shared fs table opens) (shared fs table opens) kind
-    (gives_refusal now (shared fs table opens) (shared fs table opens) request kind 9 c.status_of.result
-    (tells_err now fs table opens request kind (attributes_on_tree c.args.asked.now) c.status_of.result
-    (λ state there. subst (λ (why : FsFault). GetsAttributes fs state now c.args.asked.now (Err why)) c.status_of.ensures
-    (subst (λ (bitmap : List ℕ). GetsAttributes fs state now bitmap (Err c.in-Err-attributes.fault)) c.as_slice.ensures.numbers
-    (c.in-Err-attributes.ensures.step state now (is_on fs request _ _ c.requires.run c.in-Ok.ensures.ok.0 c.in-Ok.ensures.ok.1 there))))))
+returns-in-Err-attributes-clause-gives g c = record {
+  answered = c.refuse-in-Err-attributes.ensures.answered;
+  gives = λ now table opens.
+      let fs = fs_of c.args.fs.now in
+      let request = in_progress_of c.args.self.now in
+      let kind = Argument.GetAttr c.args.asked.now in
+      c.refuse-in-Err-attributes.ensures.gives now (shared fs table opens) (shared fs table opens) kind
+      (gives_refusal now (shared fs table opens) (shared fs table opens) request kind 9 c.status_of.result
+      (tells_err now fs table opens request kind (attributes_on_tree c.args.asked.now) c.status_of.result
+      (λ state there. subst (λ (why : FsFault). GetsAttributes fs state now c.args.asked.now (Err why)) c.status_of.ensures
+      (subst (λ (bitmap : List ℕ). GetsAttributes fs state now bitmap (Err c.in-Err-attributes.fault)) c.as_slice.ensures.numbers
+      (c.in-Err-attributes.ensures.step state now (is_on fs request _ _ c.requires.run c.in-Ok.ensures.ok.0 c.in-Ok.ensures.ok.1 there))))));
+}

@@ -13,13 +13,16 @@ use Rattle.compound.proofs.Trees.{is_on, is_there, of_request, gets_status, get_
 use Rattle.compound.proofs.running.Running.get_handle.Goals as goal
 
 pub returns-in-Err-clause-gives : goal.returns-in-Err-clause-gives
-returns-in-Err-clause-gives g c = λ now table opens.
-    let fs = fs_of c.args.fs.now in
-    let request = in_progress_of c.args.self.now in
-    let kind = Argument.GetFh in
-    c.refuse.ensures.gives now (shared fs table opens) (shared fs table opens) kind
-    (subst (λ (reason : Status). GivesIn now (shared fs table opens) (shared fs table opens) request request kind (Refused 10 reason)) (sym c.in-Err.ensures.err.0)
-    (gives_refusal now (shared fs table opens) (shared fs table opens) request kind 10 _ (wants now fs table opens request kind refl c.in-Err.ensures.err.1)))
+returns-in-Err-clause-gives g c = record {
+  answered = c.refuse.ensures.answered;
+  gives = λ now table opens.
+      let fs = fs_of c.args.fs.now in
+      let request = in_progress_of c.args.self.now in
+      let kind = Argument.GetFh in
+      c.refuse.ensures.gives now (shared fs table opens) (shared fs table opens) kind
+      (subst (λ (reason : Status). GivesIn now (shared fs table opens) (shared fs table opens) request request kind (Refused 10 reason)) (sym c.in-Err.ensures.err.0)
+      (gives_refusal now (shared fs table opens) (shared fs table opens) request kind 10 _ (wants now fs table opens request kind refl c.in-Err.ensures.err.1)));
+}
 
 pub status_of-requires : goal.status_of-requires
 status_of-requires g c =
@@ -38,21 +41,27 @@ refuse-requires-in-Err-handle g c =
     (c.in-Err-handle.ensures.step request.context.cred state 0 (is_on fs request _ _ c.requires.run c.in-Ok.ensures.ok.0 c.in-Ok.ensures.ok.1 (is_there fs request))))
 
 pub returns-in_ok-values-in-Ok-handle-clause-gives : goal.returns-in_ok-values-in-Ok-handle-clause-gives
-returns-in_ok-values-in-Ok-handle-clause-gives g c = λ now table opens.
-    let fs = fs_of c.args.fs.now in
-    let request = in_progress_of c.args.self.now in
-    c.settle_spelled.ensures.gives now (shared fs table opens) Argument.GetFh (Answer.GetFh c.in-Ok-handle.handle)
-    (record { number_is = refl; values_are = sym c.in_ok-values-in-Ok-handle.ensures.ok }) refl
-    (got_ok now fs table opens request c.in-Ok-handle.handle
-    (λ state there. c.in-Ok-handle.ensures.step request.context.cred state now (is_on fs request _ _ c.requires.run c.in-Ok.ensures.ok.0 c.in-Ok.ensures.ok.1 there)))
+returns-in_ok-values-in-Ok-handle-clause-gives g c = record {
+  answered = c.settle_spelled.ensures.answered;
+  gives = λ now table opens.
+      let fs = fs_of c.args.fs.now in
+      let request = in_progress_of c.args.self.now in
+      c.settle_spelled.ensures.gives now (shared fs table opens) Argument.GetFh (Answer.GetFh c.in-Ok-handle.handle)
+      (record { number_is = refl; values_are = sym c.in_ok-values-in-Ok-handle.ensures.ok }) refl
+      (got_ok now fs table opens request c.in-Ok-handle.handle
+      (λ state there. c.in-Ok-handle.ensures.step request.context.cred state now (is_on fs request _ _ c.requires.run c.in-Ok.ensures.ok.0 c.in-Ok.ensures.ok.1 there)));
+}
 
 pub returns-in-Err-handle-clause-gives : goal.returns-in-Err-handle-clause-gives
-returns-in-Err-handle-clause-gives g c = λ now table opens.
-    let fs = fs_of c.args.fs.now in
-    let request = in_progress_of c.args.self.now in
-    let kind = Argument.GetFh in
-    c.refuse-in-Err-handle.ensures.gives now (shared fs table opens) (shared fs table opens) kind
-    (gives_refusal now (shared fs table opens) (shared fs table opens) request kind 10 c.status_of.result
-    (got_err now fs table opens request c.status_of.result
-    (λ state there. subst (λ (why : FsFault). GetsHandle fs state now (Err why)) c.status_of.ensures
-    (c.in-Err-handle.ensures.step request.context.cred state now (is_on fs request _ _ c.requires.run c.in-Ok.ensures.ok.0 c.in-Ok.ensures.ok.1 there)))))
+returns-in-Err-handle-clause-gives g c = record {
+  answered = c.refuse-in-Err-handle.ensures.answered;
+  gives = λ now table opens.
+      let fs = fs_of c.args.fs.now in
+      let request = in_progress_of c.args.self.now in
+      let kind = Argument.GetFh in
+      c.refuse-in-Err-handle.ensures.gives now (shared fs table opens) (shared fs table opens) kind
+      (gives_refusal now (shared fs table opens) (shared fs table opens) request kind 10 c.status_of.result
+      (got_err now fs table opens request c.status_of.result
+      (λ state there. subst (λ (why : FsFault). GetsHandle fs state now (Err why)) c.status_of.ensures
+      (c.in-Err-handle.ensures.step request.context.cred state now (is_on fs request _ _ c.requires.run c.in-Ok.ensures.ok.0 c.in-Ok.ensures.ok.1 there)))));
+}

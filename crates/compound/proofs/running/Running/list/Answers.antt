@@ -5,7 +5,7 @@ use Rattle.model.specs.Operations.Answer.{Answer, Refused}
 use Rattle.model.specs.Operations.Operation.{Argument, ReadDirArguments}
 use Rattle.model_tree.specs.declared.status.Status.{Status}
 use Rattle.wire.specs.ArgumentViews.{read_dir_view}
-use Rattle.compound.specs.Operates.{GivesIn, IsAnswered, OnlyReads}
+use Rattle.compound.specs.Operates.{GivesIn, HasResult, OnlyReads}
 use Rattle.compound.specs.States.{shared}
 use Rattle.compound.specs.Views.{in_progress_of}
 use Rattle.compound.specs.declared.fault.Fault.{Fault}
@@ -71,7 +71,7 @@ returns-in-Err-list-clause-answered g c =
     let fs = fs_of c.args.fs.now in
     let request = in_progress_of c.args.self.now in
     let state = of_request fs request in
-    subst (λ (r : Result Executed Fault). IfOk r (IsAnswered request)) (sym c.tell_fault.ensures)
+    subst (λ (r : Result Executed Fault). IfOk r (HasResult request)) (sym c.tell_fault.ensures)
     (told_spelled request 26 c.in-Err-list.fault (omega arith)
     (lists_up fs state 0 (read_dir_view c.args.arguments.now) c.in-Err-list.fault c.requires.up
     (subst (λ (asked : ReadDirArguments). Lists fs state 0 asked (Err c.in-Err-list.fault)) c.listing.ensures.arguments

@@ -12,15 +12,18 @@ use Rattle.compound.proofs.Rooms.{gives_refusal}
 use Rattle.compound.proofs.Trees.{is_on, is_there, of_request, parent_status, parent_bad, parent_ok, parent_err, wants}
 use Rattle.compound.proofs.running.Running.look_up_parent.Goals as goal
 
-pub returns-in-Err-clause-gives : goal.returns-in-Err-clause-gives
+pub returns-in-Err : goal.returns-in-Err
 unfolding in_progress_of
-returns-in-Err-clause-gives g c = λ now table opens.
-    let fs = fs_of c.args.fs.now in
-    let request = in_progress_of c.args.self.now in
-    let kind = Argument.LookupParent in
-    c.refuse.ensures.gives now (shared fs table opens) (shared fs table opens) kind
-    (subst (λ (reason : Status). GivesIn now (shared fs table opens) (shared fs table opens) request request kind (Refused 16 reason)) (sym c.in-Err.ensures.err.0)
-    (gives_refusal now (shared fs table opens) (shared fs table opens) request kind 16 _ (wants now fs table opens request kind refl c.in-Err.ensures.err.1)))
+returns-in-Err g c = record {
+  answered = c.refuse.ensures.answered;
+  gives = λ now table opens.
+      let fs = fs_of c.args.fs.now in
+      let request = in_progress_of c.args.self.now in
+      let kind = Argument.LookupParent in
+      c.refuse.ensures.gives now (shared fs table opens) (shared fs table opens) kind
+      (subst (λ (reason : Status). GivesIn now (shared fs table opens) (shared fs table opens) request request kind (Refused 16 reason)) (sym c.in-Err.ensures.err.0)
+      (gives_refusal now (shared fs table opens) (shared fs table opens) request kind 16 _ (wants now fs table opens request kind refl c.in-Err.ensures.err.1)));
+}
 
 pub status_of-requires : goal.status_of-requires
 unfolding in_progress_of
@@ -40,23 +43,29 @@ refuse-requires-in-Err-parent g c =
     (subst (λ (why : FsFault). LooksUpParent fs state 0 (Err why)) c.status_of.ensures
     (c.in-Err-parent.ensures.step state 0 (is_on fs request _ _ c.requires.run c.in-Ok.ensures.ok.0 c.in-Ok.ensures.ok.1 (is_there fs request))))
 
-pub returns-in-Ok-parent-clause-gives : goal.returns-in-Ok-parent-clause-gives
+pub returns-in-Ok-parent : goal.returns-in-Ok-parent
 unfolding in_progress_of
-returns-in-Ok-parent-clause-gives g c = λ now table opens.
-    let fs = fs_of c.args.fs.now in
-    let request = in_progress_of c.args.self.now in
-    c.settle.ensures.gives now (shared fs table opens) Argument.LookupParent refl
-    (parent_ok now fs table opens request c.in-Ok-parent.number
-    (λ state there. c.in-Ok-parent.ensures.step state now (is_on fs request _ _ c.requires.run c.in-Ok.ensures.ok.0 c.in-Ok.ensures.ok.1 there)))
+returns-in-Ok-parent g c = record {
+  answered = c.settle.ensures.answered;
+  gives = λ now table opens.
+      let fs = fs_of c.args.fs.now in
+      let request = in_progress_of c.args.self.now in
+      c.settle.ensures.gives now (shared fs table opens) Argument.LookupParent refl
+      (parent_ok now fs table opens request c.in-Ok-parent.number
+      (λ state there. c.in-Ok-parent.ensures.step state now (is_on fs request _ _ c.requires.run c.in-Ok.ensures.ok.0 c.in-Ok.ensures.ok.1 there)));
+}
 
-pub returns-in-Err-parent-clause-gives : goal.returns-in-Err-parent-clause-gives
+pub returns-in-Err-parent : goal.returns-in-Err-parent
 unfolding in_progress_of
-returns-in-Err-parent-clause-gives g c = λ now table opens.
-    let fs = fs_of c.args.fs.now in
-    let request = in_progress_of c.args.self.now in
-    let kind = Argument.LookupParent in
-    c.refuse-in-Err-parent.ensures.gives now (shared fs table opens) (shared fs table opens) kind
-    (gives_refusal now (shared fs table opens) (shared fs table opens) request kind 16 c.status_of.result
-    (parent_err now fs table opens request c.status_of.result
-    (λ state there. subst (λ (why : FsFault). LooksUpParent fs state now (Err why)) c.status_of.ensures
-    (c.in-Err-parent.ensures.step state now (is_on fs request _ _ c.requires.run c.in-Ok.ensures.ok.0 c.in-Ok.ensures.ok.1 there)))))
+returns-in-Err-parent g c = record {
+  answered = c.refuse-in-Err-parent.ensures.answered;
+  gives = λ now table opens.
+      let fs = fs_of c.args.fs.now in
+      let request = in_progress_of c.args.self.now in
+      let kind = Argument.LookupParent in
+      c.refuse-in-Err-parent.ensures.gives now (shared fs table opens) (shared fs table opens) kind
+      (gives_refusal now (shared fs table opens) (shared fs table opens) request kind 16 c.status_of.result
+      (parent_err now fs table opens request c.status_of.result
+      (λ state there. subst (λ (why : FsFault). LooksUpParent fs state now (Err why)) c.status_of.ensures
+      (c.in-Err-parent.ensures.step state now (is_on fs request _ _ c.requires.run c.in-Ok.ensures.ok.0 c.in-Ok.ensures.ok.1 there)))));
+}

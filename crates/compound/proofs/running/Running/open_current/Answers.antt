@@ -48,9 +48,9 @@ status_of-requires g c =
     let request = in_progress_of c.args.self.now in
     let arguments = open_view c.args.arguments.now in
     let kind = Argument.Open arguments in
-    open_status fs (beside fs request opens) 0 arguments c.in-Err-open_current.fault c.requires.up
-    (c.in-Err-open_current.ensures.step (beside fs request opens) 0 arguments (is_on fs request c.in-Ok.number (beside fs request opens) c.requires.run c.in-Ok.ensures.ok.0 c.in-Ok.ensures.ok.1 (is_beside fs request opens))
-    (is_current 0 fs request arguments opens c.requires.run c.in-Ok.ensures.ok.0 c.in-Ok.number c.limits.result.now.opens c.is_full-is_full.result (open_of c.in_ok-asked.asked)
+    open_status fs (beside fs request opens) 0 arguments c.in-Err-open_current.fault c.requires.ready.up
+    (c.in-Err-open_current.ensures.step (beside fs request opens) 0 arguments (is_on fs request c.in-Ok.number (beside fs request opens) c.requires.ready.run c.in-Ok.ensures.ok.0 c.in-Ok.ensures.ok.1 (is_beside fs request opens))
+    (is_current 0 fs request arguments opens c.requires.ready.run c.in-Ok.ensures.ok.0 c.in-Ok.number c.limits.result.now.opens c.is_full-is_full.result (open_of c.in_ok-asked.asked)
     (ap (λ (limits : Limits). limits.opens) c.limits.ensures) c.in_ok-asked.ensures.ok
     (c.is_full-is_full.ensures ∙ ap (λ (held : Opens). is_table_full c.limits.result.now.opens held (open_of c.in_ok-asked.asked)) c.in_ok-reserve.ensures.same)
     c.share_of.result (open_type_view c.args.how.now) c.creates-create.result c.in-Ok.ensures.ok.1 (sym c.share_of.ensures.access) (sym c.share_of.ensures.deny) c.requires.opening c.creates-create.ensures (beside fs request opens) (is_beside fs request opens) refl))
@@ -65,8 +65,8 @@ refuse-requires-in-Err-open_current g c =
     let kind = Argument.Open arguments in
     open_bad fs.volume.limits (beside fs request opens) 0 arguments c.status_of.result
     (subst (λ (why : FsFault). IsRefused fs (beside fs request opens) 0 kind why) c.status_of.ensures
-    (c.in-Err-open_current.ensures.step (beside fs request opens) 0 arguments (is_on fs request c.in-Ok.number (beside fs request opens) c.requires.run c.in-Ok.ensures.ok.0 c.in-Ok.ensures.ok.1 (is_beside fs request opens))
-    (is_current 0 fs request arguments opens c.requires.run c.in-Ok.ensures.ok.0 c.in-Ok.number c.limits.result.now.opens c.is_full-is_full.result (open_of c.in_ok-asked.asked)
+    (c.in-Err-open_current.ensures.step (beside fs request opens) 0 arguments (is_on fs request c.in-Ok.number (beside fs request opens) c.requires.ready.run c.in-Ok.ensures.ok.0 c.in-Ok.ensures.ok.1 (is_beside fs request opens))
+    (is_current 0 fs request arguments opens c.requires.ready.run c.in-Ok.ensures.ok.0 c.in-Ok.number c.limits.result.now.opens c.is_full-is_full.result (open_of c.in_ok-asked.asked)
     (ap (λ (limits : Limits). limits.opens) c.limits.ensures) c.in_ok-asked.ensures.ok
     (c.is_full-is_full.ensures ∙ ap (λ (held : Opens). is_table_full c.limits.result.now.opens held (open_of c.in_ok-asked.asked)) c.in_ok-reserve.ensures.same)
     c.share_of.result (open_type_view c.args.how.now) c.creates-create.result c.in-Ok.ensures.ok.1 (sym c.share_of.ensures.access) (sym c.share_of.ensures.deny) c.requires.opening c.creates-create.ensures (beside fs request opens) (is_beside fs request opens) refl)))
@@ -84,8 +84,8 @@ returns-in-Err-open_current-clause-gives g c = λ now table.
     (subst (λ (after : Opens). GivesIn now (shared fs table opens) (shared fs table after) request request kind (Refused 18 c.status_of.result)) (sym c.in_ok-reserve.ensures.same)
     (refused_gives now fs request kind (on_tree now request arguments) table opens c.status_of.result
     (λ state there known. subst (λ (why : FsFault). IsRefused fs state now kind why) c.status_of.ensures
-    (c.in-Err-open_current.ensures.step state now arguments (is_on fs request c.in-Ok.number state c.requires.run c.in-Ok.ensures.ok.0 c.in-Ok.ensures.ok.1 there)
-    (is_current now fs request arguments opens c.requires.run c.in-Ok.ensures.ok.0 c.in-Ok.number c.limits.result.now.opens c.is_full-is_full.result (open_of c.in_ok-asked.asked)
+    (c.in-Err-open_current.ensures.step state now arguments (is_on fs request c.in-Ok.number state c.requires.ready.run c.in-Ok.ensures.ok.0 c.in-Ok.ensures.ok.1 there)
+    (is_current now fs request arguments opens c.requires.ready.run c.in-Ok.ensures.ok.0 c.in-Ok.number c.limits.result.now.opens c.is_full-is_full.result (open_of c.in_ok-asked.asked)
     (ap (λ (limits : Limits). limits.opens) c.limits.ensures) c.in_ok-asked.ensures.ok
     (c.is_full-is_full.ensures ∙ ap (λ (held : Opens). is_table_full c.limits.result.now.opens held (open_of c.in_ok-asked.asked)) c.in_ok-reserve.ensures.same)
     c.share_of.result (open_type_view c.args.how.now) c.creates-create.result c.in-Ok.ensures.ok.1 (sym c.share_of.ensures.access) (sym c.share_of.ensures.deny) c.requires.opening c.creates-create.ensures state there known)))))
@@ -110,8 +110,8 @@ returns-then-not-has_opened_room-clause-gives g c = λ now table.
     (opened_answer (opened_stateid request.context.run made) (info_of (current_opened c.in-Ok.number).directory) [])
     (opened_room request request.context.run made.serial made.state.seqid (info_of (current_opened c.in-Ok.number).directory) [] false (c.if-not-has_opened_room.ensures ∙ ap (has_opened_room request) c.new.ensures))
     (opens_to now fs request arguments fs table opens NoCreate c.in-Ok.number (current_opened c.in-Ok.number) refl
-    (λ state there known. (c.in-Ok-open_current.ensures.step state now arguments (is_on fs request c.in-Ok.number state c.requires.run c.in-Ok.ensures.ok.0 c.in-Ok.ensures.ok.1 there)
-    (is_current now fs request arguments opens c.requires.run c.in-Ok.ensures.ok.0 c.in-Ok.number c.limits.result.now.opens c.is_full-is_full.result (open_of c.in_ok-asked.asked)
+    (λ state there known. (c.in-Ok-open_current.ensures.step state now arguments (is_on fs request c.in-Ok.number state c.requires.ready.run c.in-Ok.ensures.ok.0 c.in-Ok.ensures.ok.1 there)
+    (is_current now fs request arguments opens c.requires.ready.run c.in-Ok.ensures.ok.0 c.in-Ok.number c.limits.result.now.opens c.is_full-is_full.result (open_of c.in_ok-asked.asked)
     (ap (λ (limits : Limits). limits.opens) c.limits.ensures) c.in_ok-asked.ensures.ok
     (c.is_full-is_full.ensures ∙ ap (λ (held : Opens). is_table_full c.limits.result.now.opens held (open_of c.in_ok-asked.asked)) c.in_ok-reserve.ensures.same)
     c.share_of.result (open_type_view c.args.how.now) c.creates-create.result c.in-Ok.ensures.ok.1 (sym c.share_of.ensures.access) (sym c.share_of.ensures.deny) c.requires.opening c.creates-create.ensures state there known))))))
@@ -129,8 +129,8 @@ returns-else-not-has_opened_room-clause-gives g c = λ now table.
     let kind = Argument.Open arguments in
     let asked = new_open request.context.client arguments.owner c.in-Ok.number arguments.access in
     let to = opens_to now fs request arguments fs table opens NoCreate c.in-Ok.number (current_opened c.in-Ok.number) refl
-    (λ state there known. (c.in-Ok-open_current.ensures.step state now arguments (is_on fs request c.in-Ok.number state c.requires.run c.in-Ok.ensures.ok.0 c.in-Ok.ensures.ok.1 there)
-    (is_current now fs request arguments opens c.requires.run c.in-Ok.ensures.ok.0 c.in-Ok.number c.limits.result.now.opens c.is_full-is_full.result (open_of c.in_ok-asked.asked)
+    (λ state there known. (c.in-Ok-open_current.ensures.step state now arguments (is_on fs request c.in-Ok.number state c.requires.ready.run c.in-Ok.ensures.ok.0 c.in-Ok.ensures.ok.1 there)
+    (is_current now fs request arguments opens c.requires.ready.run c.in-Ok.ensures.ok.0 c.in-Ok.number c.limits.result.now.opens c.is_full-is_full.result (open_of c.in_ok-asked.asked)
     (ap (λ (limits : Limits). limits.opens) c.limits.ensures) c.in_ok-asked.ensures.ok
     (c.is_full-is_full.ensures ∙ ap (λ (held : Opens). is_table_full c.limits.result.now.opens held (open_of c.in_ok-asked.asked)) c.in_ok-reserve.ensures.same)
     c.share_of.result (open_type_view c.args.how.now) c.creates-create.result c.in-Ok.ensures.ok.1 (sym c.share_of.ensures.access) (sym c.share_of.ensures.deny) c.requires.opening c.creates-create.ensures state there known))) in

@@ -15,7 +15,7 @@ use Rattle.opens.specs.Views.{open_of, opens_of}
 use Rattle.wire.specs.ArgumentViews.{open_type_view, open_view}
 use Rattle.wire.specs.SmallViews.{change_view}
 use Rattle.compound.specs.Beside.{has_opened_room, ComesToOpen}
-use Rattle.compound.specs.Operates.{GivesIn, Operates, ChangesTreeAndOpens, IsAnswered}
+use Rattle.compound.specs.Operates.{GivesIn, Operates, ChangesTreeAndOpens, HasResult}
 use Rattle.compound.specs.States.{shared}
 use Rattle.compound.specs.Volumes.{OperationGives, ending}
 use Rattle.compound.specs.Views.{in_progress_of}
@@ -49,7 +49,7 @@ returns-in-Err-clause-volume g c = λ table.
     let request = in_progress_of c.args.self.now in
     let arguments = open_view c.args.arguments.now in
     let kind = Argument.Open arguments in
-    refusal_changes g.D.Device.keeps_word fs fs table opens (fs_failures c.args.fs.now) (fs_failures c.args.fs.now) request c.args.now kind 18 c.in-Err.status refl refl c.requires.up
+    refusal_changes g.D.Device.keeps_word fs fs table opens (fs_failures c.args.fs.now) (fs_failures c.args.fs.now) request c.args.now kind 18 c.in-Err.status refl refl c.requires.ready.up
     (subst (λ (reason : Status). GivesIn c.args.now (shared fs table opens) (shared fs table opens) request request kind (Refused 18 reason)) (sym c.in-Err.ensures.err.0)
     (gives_refusal c.args.now (shared fs table opens) (shared fs table opens) request kind 18 _ (wants c.args.now fs table opens request kind refl c.in-Err.ensures.err.1)))
 
@@ -79,7 +79,7 @@ returns-in-Ok-open_file-clause-gives g c = λ keeps table.
     let how = open_type_view c.args.how.now in
     let made = c.in-Ok-open_file.made in
     let state = beside fs request opens in
-    let on = is_on fs request c.in-Ok.number state c.requires.run c.in-Ok.ensures.ok.0 c.in-Ok.ensures.ok.1 (is_beside fs request opens) in
+    let on = is_on fs request c.in-Ok.number state c.requires.ready.run c.in-Ok.ensures.ok.0 c.in-Ok.ensures.ok.1 (is_beside fs request opens) in
     let asked = new_open request.context.client arguments.owner c.in-Some.number arguments.access in
     let one = open_of c.in_ok-asked.asked in
     let same = c.in_ok-reserve.ensures.same in
@@ -87,8 +87,8 @@ returns-in-Ok-open_file-clause-gives g c = λ keeps table.
     let to = opens_to c.args.now fs request arguments new table opens how c.in-Some.number made
     (sym (c.in-Some.ensures state request.context.cred on) ∙ c.in-Ok-open_file.ensures.opened.number_is state request.context.cred on)
     (λ state there known. subst (λ (of : OpenType). does_on fs state c.args.now kind ≡ after_open new.volume.tree new.changes state arguments of made) c.how_of.ensures.is
-    (c.in-Ok-open_file.ensures.step state arguments (is_on fs request c.in-Ok.number state c.requires.run c.in-Ok.ensures.ok.0 c.in-Ok.ensures.ok.1 there)
-    ((is_opening c.args.now fs request arguments opens c.requires.run c.in-Ok.ensures.ok.0 c.in-Some.number c.limits.result.now.opens c.is_full-is_full.result (open_of c.in_ok-asked.asked)
+    (c.in-Ok-open_file.ensures.step state arguments (is_on fs request c.in-Ok.number state c.requires.ready.run c.in-Ok.ensures.ok.0 c.in-Ok.ensures.ok.1 there)
+    ((is_opening c.args.now fs request arguments opens c.requires.ready.run c.in-Ok.ensures.ok.0 c.in-Some.number c.limits.result.now.opens c.is_full-is_full.result (open_of c.in_ok-asked.asked)
     (ap (λ (limits : Limits). limits.opens) c.limits.ensures) c.in_ok-asked.ensures.ok
     (c.is_full-is_full.ensures ∙ ap (λ (held : Opens). is_table_full c.limits.result.now.opens held (open_of c.in_ok-asked.asked)) c.in_ok-reserve.ensures.same)
     (record { directory = c.in-Ok.number; name = c.args.name; share = c.share_of.result; how = c.how_of.result }) c.in-Ok.ensures.ok.1 (sym c.share_of.ensures.access) (sym c.share_of.ensures.deny)
@@ -111,8 +111,8 @@ returns-in-Ok-open_file-clause-volume g c = λ table.
     let kind = Argument.Open arguments in
     let how = open_type_view c.args.how.now in
     changes_by g.D.Device.keeps_word _ _
-    (open_makes c.args.now fs request arguments table opens (record { directory = c.in-Ok.number; name = c.args.name; share = c.share_of.result; how = c.how_of.result }) c.is_full-is_full.result c.requires.run c.in-Ok.ensures.ok.0 c.in-Ok.ensures.ok.1
-    (is_opening c.args.now fs request arguments opens c.requires.run c.in-Ok.ensures.ok.0 c.in-Some.number c.limits.result.now.opens c.is_full-is_full.result (open_of c.in_ok-asked.asked)
+    (open_makes c.args.now fs request arguments table opens (record { directory = c.in-Ok.number; name = c.args.name; share = c.share_of.result; how = c.how_of.result }) c.is_full-is_full.result c.requires.ready.run c.in-Ok.ensures.ok.0 c.in-Ok.ensures.ok.1
+    (is_opening c.args.now fs request arguments opens c.requires.ready.run c.in-Ok.ensures.ok.0 c.in-Some.number c.limits.result.now.opens c.is_full-is_full.result (open_of c.in_ok-asked.asked)
     (ap (λ (limits : Limits). limits.opens) c.limits.ensures) c.in_ok-asked.ensures.ok
     (c.is_full-is_full.ensures ∙ ap (λ (held : Opens). is_table_full c.limits.result.now.opens held (open_of c.in_ok-asked.asked)) c.in_ok-reserve.ensures.same)
     (record { directory = c.in-Ok.number; name = c.args.name; share = c.share_of.result; how = c.how_of.result }) c.in-Ok.ensures.ok.1 (sym c.share_of.ensures.access) (sym c.share_of.ensures.deny)
@@ -133,9 +133,9 @@ tell_fault-requires g c =
     let request = in_progress_of c.args.self.now in
     let arguments = open_view c.args.arguments.now in
     let kind = Argument.Open arguments in
-    open_up c.args.now fs request arguments opens c.in-Err-open_file.fault c.requires.up
-    (λ state there known. c.in-Err-open_file.ensures.step state arguments (is_on fs request c.in-Ok.number state c.requires.run c.in-Ok.ensures.ok.0 c.in-Ok.ensures.ok.1 there)
-    ((is_opening c.args.now fs request arguments opens c.requires.run c.in-Ok.ensures.ok.0 c.in-Some.number c.limits.result.now.opens c.is_full-is_full.result (open_of c.in_ok-asked.asked)
+    open_up c.args.now fs request arguments opens c.in-Err-open_file.fault c.requires.ready.up
+    (λ state there known. c.in-Err-open_file.ensures.step state arguments (is_on fs request c.in-Ok.number state c.requires.ready.run c.in-Ok.ensures.ok.0 c.in-Ok.ensures.ok.1 there)
+    ((is_opening c.args.now fs request arguments opens c.requires.ready.run c.in-Ok.ensures.ok.0 c.in-Some.number c.limits.result.now.opens c.is_full-is_full.result (open_of c.in_ok-asked.asked)
     (ap (λ (limits : Limits). limits.opens) c.limits.ensures) c.in_ok-asked.ensures.ok
     (c.is_full-is_full.ensures ∙ ap (λ (held : Opens). is_table_full c.limits.result.now.opens held (open_of c.in_ok-asked.asked)) c.in_ok-reserve.ensures.same)
     (record { directory = c.in-Ok.number; name = c.args.name; share = c.share_of.result; how = c.how_of.result }) c.in-Ok.ensures.ok.1 (sym c.share_of.ensures.access) (sym c.share_of.ensures.deny)
@@ -157,9 +157,9 @@ returns-in-Err-open_file-clause-gives g c = λ keeps.
     (told_gives c.args.now fs request kind (on_tree c.args.now request arguments) _ (sized c.args.now fs request arguments how c.args.name.now c.in-Ok.number c.requires.opening c.in-Ok.ensures.ok.1 (has_open_room fs (record { directory = c.in-Ok.number; name = c.args.name; share = c.share_of.result; how = c.how_of.result }) c.open_room-room.result)
     (c.open_room-room.ensures (open_effect fs.volume.tree c.in-Ok.number c.args.name.now (type_of c.how_of.result))
     ∙ ap (λ (of : OpenType). has_opened_room request (set_by (open_effect fs.volume.tree c.in-Ok.number c.args.name.now of) how)) c.how_of.ensures.is))
-    g.D.Device.keeps_word _ new _ _ c.requires.up _ opens left c.in-Err-open_file.fault c.in_ok-reserve.ensures.same
-    (λ state there known. c.in-Err-open_file.ensures.step state arguments (is_on fs request c.in-Ok.number state c.requires.run c.in-Ok.ensures.ok.0 c.in-Ok.ensures.ok.1 there)
-    ((is_opening c.args.now fs request arguments opens c.requires.run c.in-Ok.ensures.ok.0 c.in-Some.number c.limits.result.now.opens c.is_full-is_full.result (open_of c.in_ok-asked.asked)
+    g.D.Device.keeps_word _ new _ _ c.requires.ready.up _ opens left c.in-Err-open_file.fault c.in_ok-reserve.ensures.same
+    (λ state there known. c.in-Err-open_file.ensures.step state arguments (is_on fs request c.in-Ok.number state c.requires.ready.run c.in-Ok.ensures.ok.0 c.in-Ok.ensures.ok.1 there)
+    ((is_opening c.args.now fs request arguments opens c.requires.ready.run c.in-Ok.ensures.ok.0 c.in-Some.number c.limits.result.now.opens c.is_full-is_full.result (open_of c.in_ok-asked.asked)
     (ap (λ (limits : Limits). limits.opens) c.limits.ensures) c.in_ok-asked.ensures.ok
     (c.is_full-is_full.ensures ∙ ap (λ (held : Opens). is_table_full c.limits.result.now.opens held (open_of c.in_ok-asked.asked)) c.in_ok-reserve.ensures.same)
     (record { directory = c.in-Ok.number; name = c.args.name; share = c.share_of.result; how = c.how_of.result }) c.in-Ok.ensures.ok.1 (sym c.share_of.ensures.access) (sym c.share_of.ensures.deny)
@@ -175,10 +175,10 @@ returns-in-Err-open_file-clause-answered g c =
     let request = in_progress_of c.args.self.now in
     let arguments = open_view c.args.arguments.now in
     let kind = Argument.Open arguments in
-    subst (λ (r : Result Executed Fault). IfOk r (IsAnswered request)) (sym c.tell_fault.ensures)
-    (told_spelled request 18 c.in-Err-open_file.fault (omega arith) (open_up c.args.now fs request arguments opens c.in-Err-open_file.fault c.requires.up
-    (λ state there known. c.in-Err-open_file.ensures.step state arguments (is_on fs request c.in-Ok.number state c.requires.run c.in-Ok.ensures.ok.0 c.in-Ok.ensures.ok.1 there)
-    ((is_opening c.args.now fs request arguments opens c.requires.run c.in-Ok.ensures.ok.0 c.in-Some.number c.limits.result.now.opens c.is_full-is_full.result (open_of c.in_ok-asked.asked)
+    subst (λ (r : Result Executed Fault). IfOk r (HasResult request)) (sym c.tell_fault.ensures)
+    (told_spelled request 18 c.in-Err-open_file.fault (omega arith) (open_up c.args.now fs request arguments opens c.in-Err-open_file.fault c.requires.ready.up
+    (λ state there known. c.in-Err-open_file.ensures.step state arguments (is_on fs request c.in-Ok.number state c.requires.ready.run c.in-Ok.ensures.ok.0 c.in-Ok.ensures.ok.1 there)
+    ((is_opening c.args.now fs request arguments opens c.requires.ready.run c.in-Ok.ensures.ok.0 c.in-Some.number c.limits.result.now.opens c.is_full-is_full.result (open_of c.in_ok-asked.asked)
     (ap (λ (limits : Limits). limits.opens) c.limits.ensures) c.in_ok-asked.ensures.ok
     (c.is_full-is_full.ensures ∙ ap (λ (held : Opens). is_table_full c.limits.result.now.opens held (open_of c.in_ok-asked.asked)) c.in_ok-reserve.ensures.same)
     (record { directory = c.in-Ok.number; name = c.args.name; share = c.share_of.result; how = c.how_of.result }) c.in-Ok.ensures.ok.1 (sym c.share_of.ensures.access) (sym c.share_of.ensures.deny)
@@ -199,25 +199,25 @@ returns-in-Err-open_file-clause-volume g c = λ table.
     (told_changes c.args.now fs request kind (on_tree c.args.now request arguments) _ (sized c.args.now fs request arguments how c.args.name.now c.in-Ok.number c.requires.opening c.in-Ok.ensures.ok.1 (has_open_room fs (record { directory = c.in-Ok.number; name = c.args.name; share = c.share_of.result; how = c.how_of.result }) c.open_room-room.result)
     (c.open_room-room.ensures (open_effect fs.volume.tree c.in-Ok.number c.args.name.now (type_of c.how_of.result))
     ∙ ap (λ (of : OpenType). has_opened_room request (set_by (open_effect fs.volume.tree c.in-Ok.number c.args.name.now of) how)) c.how_of.ensures.is))
-    g.D.Device.keeps_word _ new _ _ c.requires.up _ table opens c.in-Err-open_file.fault
-    (λ state there known. c.in-Err-open_file.ensures.step state arguments (is_on fs request c.in-Ok.number state c.requires.run c.in-Ok.ensures.ok.0 c.in-Ok.ensures.ok.1 there)
-    ((is_opening c.args.now fs request arguments opens c.requires.run c.in-Ok.ensures.ok.0 c.in-Some.number c.limits.result.now.opens c.is_full-is_full.result (open_of c.in_ok-asked.asked)
+    g.D.Device.keeps_word _ new _ _ c.requires.ready.up _ table opens c.in-Err-open_file.fault
+    (λ state there known. c.in-Err-open_file.ensures.step state arguments (is_on fs request c.in-Ok.number state c.requires.ready.run c.in-Ok.ensures.ok.0 c.in-Ok.ensures.ok.1 there)
+    ((is_opening c.args.now fs request arguments opens c.requires.ready.run c.in-Ok.ensures.ok.0 c.in-Some.number c.limits.result.now.opens c.is_full-is_full.result (open_of c.in_ok-asked.asked)
     (ap (λ (limits : Limits). limits.opens) c.limits.ensures) c.in_ok-asked.ensures.ok
     (c.is_full-is_full.ensures ∙ ap (λ (held : Opens). is_table_full c.limits.result.now.opens held (open_of c.in_ok-asked.asked)) c.in_ok-reserve.ensures.same)
     (record { directory = c.in-Ok.number; name = c.args.name; share = c.share_of.result; how = c.how_of.result }) c.in-Ok.ensures.ok.1 (sym c.share_of.ensures.access) (sym c.share_of.ensures.deny)
     (c.requires.opening ∙ ap (λ (of : OpenType). Opens_as of (ByName c.args.name.now)) (sym c.how_of.ensures.is))
     c.in-Some.ensures) state there known))
-    (open_up c.args.now fs request arguments opens c.in-Err-open_file.fault c.requires.up
-    (λ state there known. c.in-Err-open_file.ensures.step state arguments (is_on fs request c.in-Ok.number state c.requires.run c.in-Ok.ensures.ok.0 c.in-Ok.ensures.ok.1 there)
-    ((is_opening c.args.now fs request arguments opens c.requires.run c.in-Ok.ensures.ok.0 c.in-Some.number c.limits.result.now.opens c.is_full-is_full.result (open_of c.in_ok-asked.asked)
+    (open_up c.args.now fs request arguments opens c.in-Err-open_file.fault c.requires.ready.up
+    (λ state there known. c.in-Err-open_file.ensures.step state arguments (is_on fs request c.in-Ok.number state c.requires.ready.run c.in-Ok.ensures.ok.0 c.in-Ok.ensures.ok.1 there)
+    ((is_opening c.args.now fs request arguments opens c.requires.ready.run c.in-Ok.ensures.ok.0 c.in-Some.number c.limits.result.now.opens c.is_full-is_full.result (open_of c.in_ok-asked.asked)
     (ap (λ (limits : Limits). limits.opens) c.limits.ensures) c.in_ok-asked.ensures.ok
     (c.is_full-is_full.ensures ∙ ap (λ (held : Opens). is_table_full c.limits.result.now.opens held (open_of c.in_ok-asked.asked)) c.in_ok-reserve.ensures.same)
     (record { directory = c.in-Ok.number; name = c.args.name; share = c.share_of.result; how = c.how_of.result }) c.in-Ok.ensures.ok.1 (sym c.share_of.ensures.access) (sym c.share_of.ensures.deny)
     (c.requires.opening ∙ ap (λ (of : OpenType). Opens_as of (ByName c.args.name.now)) (sym c.how_of.ensures.is))
     c.in-Some.ensures) state there known)))
     c.in-Err-open_file.ensures.room.refused c.in-Err-open_file.ensures.room.device
-    (open_makes c.args.now fs request arguments table opens (record { directory = c.in-Ok.number; name = c.args.name; share = c.share_of.result; how = c.how_of.result }) c.is_full-is_full.result c.requires.run c.in-Ok.ensures.ok.0 c.in-Ok.ensures.ok.1
-    (is_opening c.args.now fs request arguments opens c.requires.run c.in-Ok.ensures.ok.0 c.in-Some.number c.limits.result.now.opens c.is_full-is_full.result (open_of c.in_ok-asked.asked)
+    (open_makes c.args.now fs request arguments table opens (record { directory = c.in-Ok.number; name = c.args.name; share = c.share_of.result; how = c.how_of.result }) c.is_full-is_full.result c.requires.ready.run c.in-Ok.ensures.ok.0 c.in-Ok.ensures.ok.1
+    (is_opening c.args.now fs request arguments opens c.requires.ready.run c.in-Ok.ensures.ok.0 c.in-Some.number c.limits.result.now.opens c.is_full-is_full.result (open_of c.in_ok-asked.asked)
     (ap (λ (limits : Limits). limits.opens) c.limits.ensures) c.in_ok-asked.ensures.ok
     (c.is_full-is_full.ensures ∙ ap (λ (held : Opens). is_table_full c.limits.result.now.opens held (open_of c.in_ok-asked.asked)) c.in_ok-reserve.ensures.same)
     (record { directory = c.in-Ok.number; name = c.args.name; share = c.share_of.result; how = c.how_of.result }) c.in-Ok.ensures.ok.1 (sym c.share_of.ensures.access) (sym c.share_of.ensures.deny)

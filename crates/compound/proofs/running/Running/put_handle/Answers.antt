@@ -22,18 +22,24 @@ refuse-requires g c =
     put_bad fs.volume.limits state 0 c.args.handle.now c.status_of.result
     (subst (λ (why : FsFault). PutsHandle fs state 0 c.args.handle.now (Err why)) c.status_of.ensures (c.in-Err.ensures.step state 0 refl))
 
-pub returns-in-Ok-clause-gives : goal.returns-in-Ok-clause-gives
-returns-in-Ok-clause-gives g c = λ now table opens.
-    let fs = fs_of c.args.fs.now in
-    c.settle.ensures.gives now (shared fs table opens) (Argument.PutFh c.args.handle.now) refl
-    (put_ok now fs table opens (in_progress_of c.args.self.now) c.args.handle.now c.in-Ok.number (λ state there. c.in-Ok.ensures.step state now there.tree_is))
+pub returns-in-Ok : goal.returns-in-Ok
+returns-in-Ok g c = record {
+  answered = c.settle.ensures.answered;
+  gives = λ now table opens.
+      let fs = fs_of c.args.fs.now in
+      c.settle.ensures.gives now (shared fs table opens) (Argument.PutFh c.args.handle.now) refl
+      (put_ok now fs table opens (in_progress_of c.args.self.now) c.args.handle.now c.in-Ok.number (λ state there. c.in-Ok.ensures.step state now there.tree_is));
+}
 
-pub returns-in-Err-clause-gives : goal.returns-in-Err-clause-gives
-returns-in-Err-clause-gives g c = λ now table opens.
-    let fs = fs_of c.args.fs.now in
-    let request = in_progress_of c.args.self.now in
-    let kind = Argument.PutFh c.args.handle.now in
-    c.refuse.ensures.gives now (shared fs table opens) (shared fs table opens) kind
-    (gives_refusal now (shared fs table opens) (shared fs table opens) request kind 22 c.status_of.result
-    (put_err now fs table opens request c.args.handle.now c.status_of.result
-    (λ state there. subst (λ (why : FsFault). PutsHandle fs state now c.args.handle.now (Err why)) c.status_of.ensures (c.in-Err.ensures.step state now there.tree_is))))
+pub returns-in-Err : goal.returns-in-Err
+returns-in-Err g c = record {
+  answered = c.refuse.ensures.answered;
+  gives = λ now table opens.
+      let fs = fs_of c.args.fs.now in
+      let request = in_progress_of c.args.self.now in
+      let kind = Argument.PutFh c.args.handle.now in
+      c.refuse.ensures.gives now (shared fs table opens) (shared fs table opens) kind
+      (gives_refusal now (shared fs table opens) (shared fs table opens) request kind 22 c.status_of.result
+      (put_err now fs table opens request c.args.handle.now c.status_of.result
+      (λ state there. subst (λ (why : FsFault). PutsHandle fs state now c.args.handle.now (Err why)) c.status_of.ensures (c.in-Err.ensures.step state now there.tree_is))));
+}

@@ -10,7 +10,7 @@ use Rattle.model.specs.Operations.Operation.{Argument}
 use Rattle.model_tree.specs.declared.status.Status.{Status}
 use Rattle.opens.specs.Views.{opens_of}
 use Rattle.wire.specs.ArgumentViews.{read_view}
-use Rattle.compound.specs.Operates.{Operates, GivesIn, ChangesTreeAndOpens, IsAnswered}
+use Rattle.compound.specs.Operates.{Operates, GivesIn, ChangesTreeAndOpens, HasResult}
 use Rattle.compound.specs.States.{shared}
 use Rattle.compound.specs.Views.{in_progress_of}
 use Rattle.compound.specs.Volumes.{OperationGives, ending}
@@ -115,7 +115,7 @@ returns-in-Err-read-clause-answered g c =
     let fs = fs_of c.args.fs.now in
     let request = in_progress_of c.args.self.now in
     let arguments = read_view c.args.arguments.now in
-    subst (λ (r : Result Executed Fault). IfOk r (IsAnswered request)) (sym c.tell_fault.ensures)
+    subst (λ (r : Result Executed Fault). IfOk r (HasResult request)) (sym c.tell_fault.ensures)
     (told_spelled request 25 c.in-Err-read.fault (omega arith)
     (read_up 0 fs (opens_of c.args.opens.now) request arguments c.in-Err-read.fault c.requires.up
     (λ state there known. c.in-Err-read.ensures.step state 0 arguments.state (is_on fs request c.in-Ok.number state c.requires.run c.in-Ok.ensures.ok.0 c.in-Ok.ensures.ok.1 there)

@@ -7,3 +7,6 @@ returns-then-one_fs-clause-gives g c = λ now opens. rw c.if-one_fs.true (c.recl
 
 pub returns-else-one_fs-clause-gives : goal.returns-else-one_fs-clause-gives
 returns-else-one_fs-clause-gives g c = λ now opens. rw c.if-one_fs.false (c.reclaim_all.ensures.gives now (fs_of c.args.fs.now) opens)
+
+pub returns-then-one_fs-clause-answered : goal.returns-then-one_fs-clause-answered
+returns-then-one_fs-clause-answered g c = c.reclaim_one.ensures.answered

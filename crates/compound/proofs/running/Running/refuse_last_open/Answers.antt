@@ -13,7 +13,7 @@ use Rattle.model.specs.Server.World.{InProgress}
 use Rattle.opens.specs.Views.{opens_of}
 use Rattle.wire.specs.ArgumentViews.{open_type_view, open_view}
 use Rattle.compound.specs.Beside.{AsksFor, has_opened_room}
-use Rattle.compound.specs.Operates.{ChangesTreeAndOpens, IsAnswered}
+use Rattle.compound.specs.Operates.{ChangesTreeAndOpens, HasResult}
 use Rattle.compound.specs.States.{shared}
 use Rattle.compound.specs.Trees.{IsHere}
 use Rattle.compound.specs.Volumes.{OperationGives, ending}
@@ -45,7 +45,7 @@ unreachable-requires g c =
     let request = in_progress_of c.args.self.now in
     let opens = opens_of c.args.opens.now in
     let state : State = record { tree = fs.volume.tree; changes = fs.changes; opens = opens; context = request.context } in
-    let on = is_on fs request c.args.opening.directory state c.requires.run c.requires.asked.has c.requires.asked.at (record { tree_is = refl; changes_is = refl; context_is = refl }) in
+    let on = is_on fs request c.args.opening.directory state c.requires.ready.run c.requires.asked.has c.requires.asked.at (record { tree_is = refl; changes_is = refl; context_is = refl }) in
     let same = sym (c.requires.high.2 state request.context.cred on) ∙ c.in-Ok.ensures.opened.number_is state request.context.cred on in
     omega (arith, c.requires.high.1, same, c.tell_64_bits.ensures)
 
@@ -60,9 +60,9 @@ tell_fault-requires g c =
     let arguments = open_view c.args.arguments.now in
     let number = c.requires.high.0 in
     let asked = new_open request.context.client arguments.owner number arguments.access in
-    open_up c.args.now fs request arguments opens c.in-Err.fault c.requires.up
-    (λ state there known. c.in-Err.ensures.step state arguments (is_on fs request c.args.opening.directory state c.requires.run c.requires.asked.has c.requires.asked.at there)
-    (opening_by c.args.now fs request arguments opens (open_type_view c.args.how.now) c.args.opening c.requires.run c.requires.asked number c.limits.result.now.opens c.has_no_room-is_full.result
+    open_up c.args.now fs request arguments opens c.in-Err.fault c.requires.ready.up
+    (λ state there known. c.in-Err.ensures.step state arguments (is_on fs request c.args.opening.directory state c.requires.ready.run c.requires.asked.has c.requires.asked.at there)
+    (opening_by c.args.now fs request arguments opens (open_type_view c.args.how.now) c.args.opening c.requires.ready.run c.requires.asked number c.limits.result.now.opens c.has_no_room-is_full.result
     c.requires.high.2 (ap (λ (limits : Limits). limits.opens) c.limits.ensures) (c.has_no_room-is_full.ensures.high asked c.requires.high.1) state there known))
 
 pub returns-clause-answered : goal.returns-clause-answered
@@ -74,10 +74,10 @@ returns-clause-answered g c =
     let arguments = open_view c.args.arguments.now in
     let number = c.requires.high.0 in
     let asked = new_open request.context.client arguments.owner number arguments.access in
-    subst (λ (r : Result Executed Fault). IfOk r (IsAnswered request)) (sym c.tell_fault.ensures)
-    (told_spelled request 18 c.in-Err.fault (omega arith) (open_up c.args.now fs request arguments opens c.in-Err.fault c.requires.up
-    (λ state there known. c.in-Err.ensures.step state arguments (is_on fs request c.args.opening.directory state c.requires.run c.requires.asked.has c.requires.asked.at there)
-    (opening_by c.args.now fs request arguments opens (open_type_view c.args.how.now) c.args.opening c.requires.run c.requires.asked number c.limits.result.now.opens c.has_no_room-is_full.result
+    subst (λ (r : Result Executed Fault). IfOk r (HasResult request)) (sym c.tell_fault.ensures)
+    (told_spelled request 18 c.in-Err.fault (omega arith) (open_up c.args.now fs request arguments opens c.in-Err.fault c.requires.ready.up
+    (λ state there known. c.in-Err.ensures.step state arguments (is_on fs request c.args.opening.directory state c.requires.ready.run c.requires.asked.has c.requires.asked.at there)
+    (opening_by c.args.now fs request arguments opens (open_type_view c.args.how.now) c.args.opening c.requires.ready.run c.requires.asked number c.limits.result.now.opens c.has_no_room-is_full.result
     c.requires.high.2 (ap (λ (limits : Limits). limits.opens) c.limits.ensures) (c.has_no_room-is_full.ensures.high asked c.requires.high.1) state there known))))
 
 pub returns-clause-gives : goal.returns-clause-gives
@@ -98,9 +98,9 @@ returns-clause-gives g c = λ keeps.
     (sized c.args.now fs request arguments (type_of c.args.opening.how) c.args.opening.name.now c.args.opening.directory c.requires.asked.opening c.requires.asked.at room
     (c.open_room-room.ensures (open_effect fs.volume.tree c.args.opening.directory c.args.opening.name.now (type_of c.args.opening.how))
     ∙ ap (λ (of : OpenType). has_opened_room request (set_by (open_effect fs.volume.tree c.args.opening.directory c.args.opening.name.now (type_of c.args.opening.how)) of)) (sym c.requires.asked.how)))
-    g.D.Device.keeps_word _ new _ _ c.requires.up _ opens opens c.in-Err.fault refl
-    (λ state there known. c.in-Err.ensures.step state arguments (is_on fs request c.args.opening.directory state c.requires.run c.requires.asked.has c.requires.asked.at there)
-    (opening_by c.args.now fs request arguments opens how c.args.opening c.requires.run c.requires.asked number c.limits.result.now.opens c.has_no_room-is_full.result
+    g.D.Device.keeps_word _ new _ _ c.requires.ready.up _ opens opens c.in-Err.fault refl
+    (λ state there known. c.in-Err.ensures.step state arguments (is_on fs request c.args.opening.directory state c.requires.ready.run c.requires.asked.has c.requires.asked.at there)
+    (opening_by c.args.now fs request arguments opens how c.args.opening c.requires.ready.run c.requires.asked number c.limits.result.now.opens c.has_no_room-is_full.result
     c.requires.high.2 (ap (λ (limits : Limits). limits.opens) c.limits.ensures) (c.has_no_room-is_full.ensures.high asked c.requires.high.1) state there known))
     c.in-Err.ensures.room.refused c.in-Err.ensures.volume)
 
@@ -118,16 +118,16 @@ returns-clause-volume g c = λ table.
     let asked = new_open request.context.client arguments.owner number arguments.access in
     let room = has_open_room fs c.args.opening c.open_room-room.result in
     let opening : (state : State) → IsHere fs request state → state.opens ≡ opens → IsOpening fs state c.args.opening c.has_no_room-is_full.result arguments =
-    opening_by c.args.now fs request arguments opens how c.args.opening c.requires.run c.requires.asked number c.limits.result.now.opens c.has_no_room-is_full.result
+    opening_by c.args.now fs request arguments opens how c.args.opening c.requires.ready.run c.requires.asked number c.limits.result.now.opens c.has_no_room-is_full.result
     c.requires.high.2 (ap (λ (limits : Limits). limits.opens) c.limits.ensures) (c.has_no_room-is_full.ensures.high asked c.requires.high.1) in
     let step = λ (state : State) (there : IsHere fs request state) (known : state.opens ≡ opens).
-    c.in-Err.ensures.step state arguments (is_on fs request c.args.opening.directory state c.requires.run c.requires.asked.has c.requires.asked.at there) (opening state there known) in
+    c.in-Err.ensures.step state arguments (is_on fs request c.args.opening.directory state c.requires.ready.run c.requires.asked.has c.requires.asked.at there) (opening state there known) in
     let fits = sized c.args.now fs request arguments (type_of c.args.opening.how) c.args.opening.name.now c.args.opening.directory c.requires.asked.opening c.requires.asked.at room
     (c.open_room-room.ensures (open_effect fs.volume.tree c.args.opening.directory c.args.opening.name.now (type_of c.args.opening.how))
     ∙ ap (λ (of : OpenType). has_opened_room request (set_by (open_effect fs.volume.tree c.args.opening.directory c.args.opening.name.now (type_of c.args.opening.how)) of)) (sym c.requires.asked.how)) in
     subst (λ (r : Result Executed Fault). FsChanges g.D.Device.keeps_word (OperationGives (shared fs table opens) request c.args.now kind) fs new (fs_failures c.args.fs.now) (fs_failures c.open_file.new.self) (ending r)) (sym c.tell_fault.ensures)
     (told_changes c.args.now fs request kind (on_tree c.args.now request arguments) room fits
-    g.D.Device.keeps_word _ new _ _ c.requires.up _ table opens c.in-Err.fault step (open_up c.args.now fs request arguments opens c.in-Err.fault c.requires.up step)
+    g.D.Device.keeps_word _ new _ _ c.requires.ready.up _ table opens c.in-Err.fault step (open_up c.args.now fs request arguments opens c.in-Err.fault c.requires.ready.up step)
     c.in-Err.ensures.room.refused c.in-Err.ensures.room.device
-    (open_makes c.args.now fs request arguments table opens c.args.opening c.has_no_room-is_full.result c.requires.run c.requires.asked.has c.requires.asked.at opening room fits)
+    (open_makes c.args.now fs request arguments table opens c.args.opening c.has_no_room-is_full.result c.requires.ready.run c.requires.asked.has c.requires.asked.at opening room fits)
     c.in-Err.ensures.volume)

@@ -8,14 +8,14 @@ use Rattle.model.specs.Sessions.StateIds.{without_number}
 use Rattle.wire.specs.OutcomeView.{outcome_view}
 use Rattle.model_tree.specs.declared.status.Status.{Status}
 use Rattle.opens.specs.Views.{opens_of}
-use Rattle.compound.specs.Operates.{GivesIn, HasRoom, ChangesTreeAndOpens, IsAnswered, IsReplyKept}
+use Rattle.compound.specs.Operates.{GivesIn, HasRoom, ChangesTreeAndOpens, HasResult}
 use Rattle.compound.specs.States.{shared}
 use Rattle.compound.specs.Volumes.{OperationGives, ending}
 use Rattle.compound.specs.Views.{in_progress_of}
 use Rattle.compound.specs.declared.fault.Fault.{Fault}
 use Rattle.compound.specs.declared.executed.Executed.{Executed}
 use Rattle.fs.specs.Changes.{FsChanges}
-use Rattle.compound.proofs.Changing.{done_runs, told_gives, told_changes, told_spelled, told_kept, is_short}
+use Rattle.compound.proofs.Changing.{done_runs, told_gives, told_changes, told_spelled, is_short}
 use Rattle.compound.proofs.Rooms.{gives_in_room, gives_refusal}
 use Rattle.compound.specs.Trees.{removed_answer}
 use Rattle.compound.proofs.RemoveLaws.{on_tree, sized, does_remove, removed_room, remove_makes, remove_up}
@@ -113,12 +113,8 @@ unfolding in_progress_of
 returns-in-Err-remove-clause-answered g c =
     let fs = fs_of c.args.fs.now in
     let request = in_progress_of c.args.self.now in
-    subst (λ (r : Result Executed Fault). IfOk r (IsAnswered request)) (sym c.tell_fault.ensures)
+    subst (λ (r : Result Executed Fault). IfOk r (HasResult request)) (sym c.tell_fault.ensures)
     (told_spelled request 28 c.in-Err-remove.fault (omega arith) (remove_up c.args.now fs request c.args.name.now _ c.in-Err-remove.fault c.requires.up c.requires.run c.in-Ok.ensures.ok.0 c.in-Ok.ensures.ok.1 c.in-Err-remove.ensures.step))
-
-pub returns-in-Err-remove-clause-kept : goal.returns-in-Err-remove-clause-kept
-returns-in-Err-remove-clause-kept g c = λ table.
-    subst (λ (r : Result Executed Fault). IfOk r (IsReplyKept table)) (sym c.tell_fault.ensures) (told_kept table 28 c.in-Err-remove.fault)
 
 pub returns-in-Err-remove-clause-volume : goal.returns-in-Err-remove-clause-volume
 unfolding in_progress_of

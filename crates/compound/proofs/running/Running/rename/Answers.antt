@@ -4,14 +4,14 @@ use Rattle.fs.proofs.ChangeLaws.{changes_by}
 use Rattle.model.specs.Operations.Answer.{Outcome}
 use Rattle.model.specs.Operations.Operation.{Argument}
 use Rattle.opens.specs.Views.{opens_of}
-use Rattle.compound.specs.Operates.{GivesIn, HasRoom, ChangesTreeAndOpens, IsAnswered, IsReplyKept}
+use Rattle.compound.specs.Operates.{GivesIn, HasRoom, ChangesTreeAndOpens, HasResult}
 use Rattle.compound.specs.States.{shared}
 use Rattle.compound.specs.Volumes.{OperationGives, ending}
 use Rattle.compound.specs.Views.{in_progress_of}
 use Rattle.compound.specs.declared.fault.Fault.{Fault}
 use Rattle.compound.specs.declared.executed.Executed.{Executed}
 use Rattle.fs.specs.Changes.{FsChanges}
-use Rattle.compound.proofs.Changing.{done_runs, told_gives, told_changes, told_spelled, told_kept, is_short, refused_gives}
+use Rattle.compound.proofs.Changing.{done_runs, told_gives, told_changes, told_spelled, is_short, refused_gives}
 use Rattle.compound.proofs.Rooms.{gives_in_room}
 use Rattle.wire.specs.ArgumentViews.{rename_view}
 use Rattle.compound.specs.Trees.{no_change, renamed_answer}
@@ -113,12 +113,8 @@ unfolding in_progress_of
 returns-in-Err-rename-clause-answered g c =
     let fs = fs_of c.args.fs.now in
     let request = in_progress_of c.args.self.now in
-    subst (λ (r : Result Executed Fault). IfOk r (IsAnswered request)) (sym c.tell_fault.ensures)
+    subst (λ (r : Result Executed Fault). IfOk r (HasResult request)) (sym c.tell_fault.ensures)
     (told_spelled request 29 c.in-Err-rename.fault (omega arith) (rename_up c.args.now fs request (rename_view c.args.arguments.now) c.in-Ok.numbers c.in-Err-rename.fault c.requires.up c.requires.run c.in-Ok.ensures.ok c.in-Err-rename.ensures.step))
-
-pub returns-in-Err-rename-clause-kept : goal.returns-in-Err-rename-clause-kept
-returns-in-Err-rename-clause-kept g c = λ table.
-    subst (λ (r : Result Executed Fault). IfOk r (IsReplyKept table)) (sym c.tell_fault.ensures) (told_kept table 29 c.in-Err-rename.fault)
 
 pub returns-in-Err-rename-clause-volume : goal.returns-in-Err-rename-clause-volume
 unfolding in_progress_of

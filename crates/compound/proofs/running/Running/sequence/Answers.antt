@@ -9,6 +9,7 @@ use Rattle.wire.specs.ArgumentViews.{sequence_view}
 use Rattle.compound.specs.Runs.{with_rest}
 use Rattle.compound.specs.States.{shared}
 use Rattle.compound.specs.Views.{in_progress_of}
+use Rattle.compound.proofs.OwnResults.{result_answered}
 use Rattle.compound.proofs.Rooms.{gives_refusal}
 use Rattle.compound.proofs.Sequencing.{ran_sequence, begun_ok, begun_err, taken_on}
 use Rattle.compound.proofs.Tables.{table_runs}
@@ -48,3 +49,9 @@ returns-in-Err-clause-gives c = λ now fs opens.
     (table_runs now fs opens (table_of c.args.table.now) (table_of c.begin.new.self) request request (Argument.Sequence arguments) (Refused 53 c.in-Err.status)
     (λ world rest on. ran_sequence world (with_rest request rest) now arguments _ _ on e.0
     ∙ begun_err world (with_rest request rest) arguments _ _ _ on.table_is e.1)))
+
+pub returns-in-Ok-Runs-clause-answered : goal.returns-in-Ok-Runs-clause-answered
+returns-in-Ok-Runs-clause-answered c = result_answered (in_progress_of c.args.self.now) _ c.answer_first.ensures.answered
+
+pub returns-in-Err-clause-answered : goal.returns-in-Err-clause-answered
+returns-in-Err-clause-answered c = result_answered (in_progress_of c.args.self.now) _ c.refuse.ensures.answered

@@ -10,14 +10,14 @@ use Rattle.model.specs.Operations.Step.{State}
 use Rattle.model_tree.specs.declared.status.Status.{Status}
 use Rattle.opens.specs.Views.{opens_of}
 use Rattle.wire.specs.ArgumentViews.{set_attr_view}
-use Rattle.compound.specs.Operates.{GivesIn, HasRoom, ChangesTreeAndOpens, IsAnswered, IsReplyKept}
+use Rattle.compound.specs.Operates.{GivesIn, HasRoom, ChangesTreeAndOpens, HasResult}
 use Rattle.compound.specs.States.{shared}
 use Rattle.compound.specs.Trees.{IsHere}
 use Rattle.compound.specs.Volumes.{OperationGives, ending}
 use Rattle.compound.specs.Views.{in_progress_of}
 use Rattle.compound.specs.declared.fault.Fault.{Fault}
 use Rattle.compound.specs.declared.executed.Executed.{Executed}
-use Rattle.compound.proofs.Changing.{done_runs, told_gives, told_changes, told_spelled, told_kept, is_short}
+use Rattle.compound.proofs.Changing.{done_runs, told_gives, told_changes, told_spelled, is_short}
 use Rattle.compound.proofs.Rooms.{gives_in_room, gives_refusal}
 use Rattle.compound.proofs.SettingLaws.{on_tree, sized, does_set, set_makes, set_up}
 use Rattle.compound.proofs.Trees.{is_on, wants}
@@ -126,14 +126,10 @@ returns-in-Err-set_attributes-clause-answered g c =
     let fs = fs_of c.args.fs.now in
     let request = in_progress_of c.args.self.now in
     let arguments = set_attr_view c.args.arguments.now in
-    subst (λ (r : Result Executed Fault). IfOk r (IsAnswered request)) (sym c.tell_fault.ensures)
+    subst (λ (r : Result Executed Fault). IfOk r (HasResult request)) (sym c.tell_fault.ensures)
     (told_spelled request 34 c.in-Err-set_attributes.fault (omega arith) (set_up c.args.now fs request arguments opens c.in-Err-set_attributes.fault c.requires.up
     (λ state there known. c.in-Err-set_attributes.ensures.step state arguments (is_on fs request _ state c.requires.run c.in-Ok.ensures.ok.0 c.in-Ok.ensures.ok.1 there)
     (record { verdict_is = c.verdict-verdict.ensures.is state known there.context_is; attributes_are = given_is _ _ (sym c.as_slice.ensures.numbers) }))))
-
-pub returns-in-Err-set_attributes-clause-kept : goal.returns-in-Err-set_attributes-clause-kept
-returns-in-Err-set_attributes-clause-kept g c = λ table.
-    subst (λ (r : Result Executed Fault). IfOk r (IsReplyKept table)) (sym c.tell_fault.ensures) (told_kept table 34 c.in-Err-set_attributes.fault)
 
 pub returns-in-Err-set_attributes-clause-volume : goal.returns-in-Err-set_attributes-clause-volume
 unfolding in_progress_of

@@ -8,6 +8,9 @@ use Rattle.compound.proofs.running.Running.step.Goals as goal
 
 -- The reply
 
+pub store-requires-clause-ready : goal.store-requires-clause-ready
+store-requires-clause-ready g c = record { up = c.requires.up; agrees = c.requires.agrees }
+
 pub store-requires-clause-ended : goal.store-requires-clause-ended
 unfolding in_progress_of
 store-requires-clause-ended g c = c.in-Some.is
@@ -31,9 +34,9 @@ returns-in_err-store-in-Some-clause-volume g c =
 
 -- An operation
 
-pub run-requires-clause-ready : goal.run-requires-clause-ready
+pub run-requires : goal.run-requires
 unfolding in_progress_of
-run-requires-clause-ready g c = record { up = c.requires.up; run = c.requires.run; more = c.in-None.is }
+run-requires g c = record { up = c.requires.up; run = c.requires.run; more = c.in-None.is; agrees = c.requires.agrees }
 
 pub returns-in-None-clause-agrees : goal.returns-in-None-clause-agrees
 returns-in-None-clause-agrees g c = λ keeps.

@@ -10,14 +10,14 @@ use Rattle.model_tree.specs.declared.status.Status.{Status}
 use Rattle.opens.specs.Views.{opens_of}
 use Rattle.wire.specs.ArgumentViews.{write_view}
 use Rattle.compound.specs.Files.{written_answer}
-use Rattle.compound.specs.Operates.{GivesIn, HasRoom, ChangesTreeAndOpens, IsAnswered, IsReplyKept}
+use Rattle.compound.specs.Operates.{GivesIn, HasRoom, ChangesTreeAndOpens, HasResult}
 use Rattle.compound.specs.States.{shared}
 use Rattle.compound.specs.Trees.{IsHere}
 use Rattle.compound.specs.Volumes.{OperationGives, ending}
 use Rattle.compound.specs.Views.{in_progress_of}
 use Rattle.compound.specs.declared.fault.Fault.{Fault}
 use Rattle.compound.specs.declared.executed.Executed.{Executed}
-use Rattle.compound.proofs.Changing.{done_runs, told_gives, told_changes, told_spelled, told_kept, is_short}
+use Rattle.compound.proofs.Changing.{done_runs, told_gives, told_changes, told_spelled, is_short}
 use Rattle.compound.proofs.Rooms.{gives_in_room, gives_refusal}
 use Rattle.compound.proofs.Trees.{is_on}
 use Rattle.compound.proofs.VolumeLaws.{refusal_changes}
@@ -128,14 +128,10 @@ returns-in-Err-write-clause-answered g c =
     let fs = fs_of c.args.fs.now in
     let request = in_progress_of c.args.self.now in
     let arguments = write_view c.args.arguments.now in
-    subst (λ (r : Result Executed Fault). IfOk r (IsAnswered request)) (sym c.tell_fault.ensures)
+    subst (λ (r : Result Executed Fault). IfOk r (HasResult request)) (sym c.tell_fault.ensures)
     (told_spelled request 38 c.in-Err-write.fault (omega arith) (write_up c.args.now fs request arguments opens c.in-Err-write.fault c.requires.up
     (λ state there known. c.in-Err-write.ensures.step state arguments (is_on fs request _ state c.requires.run c.in-Ok.ensures.ok.0 c.in-Ok.ensures.ok.1 there)
     (record { verdict_is = c.verdict-verdict.ensures.is state known there.context_is; offset_is = refl; bytes_are = refl; stable_is = c.is_to_be_stable.ensures }))))
-
-pub returns-in-Err-write-clause-kept : goal.returns-in-Err-write-clause-kept
-returns-in-Err-write-clause-kept g c = λ table.
-    subst (λ (r : Result Executed Fault). IfOk r (IsReplyKept table)) (sym c.tell_fault.ensures) (told_kept table 38 c.in-Err-write.fault)
 
 pub returns-in-Err-write-clause-volume : goal.returns-in-Err-write-clause-volume
 unfolding in_progress_of
