@@ -1,11 +1,13 @@
 -- A turn of a connection, as the turn of its server.
-use Rattle.std.proofs.Common.{◌≡◌, ℕ, List, [], ◌∷◌, subst, false, true≢false, Option, Some, Result, Ok, Err, OnOk, OnErr, refl, sym, ap, ap₂, ◌∙◌, inl, inr, arith}
+use Rattle.std.proofs.Common.{◌≡◌, ℕ, List, [], ◌∷◌, subst, false, true≢false, Option, Some, Result, Ok, Err, IfOk, OnErr, refl, sym, ap, ap₂, ◌∙◌, inl, inr, arith}
 use Rattle.disk.specs.Moments.{History, AddsOnly}
 use Rattle.disk.proofs.MomentLemmas.{AddsOnly-weaken}
 use Rattle.compound.specs.States.{Agrees, SharedState, HasState, with_state}
-use Rattle.compound.specs.Volumes.{TurnGives, ending, kept_of_world, lasts}
+use Rattle.compound.specs.Volumes.{TurnGives, fault_ending, kept_of_world, lasts, undone_step_ending}
 use Rattle.compound.specs.declared.fault.Fault.{Fault}
 use Rattle.compound.specs.declared.fault.Fault.TheVariants as faults
+use Rattle.compound.specs.declared.step.StepError.{StepError}
+use Rattle.compound.specs.declared.step.Stepped.{Stepped}
 use Rattle.fs.specs.Changes.{FsChanges}
 use Rattle.fs.specs.FileSystem.{FileSystem}
 use Rattle.layout.specs.Stands.{Kept}
@@ -117,11 +119,18 @@ turning_moments state old number now recent new is up moments =
       may_hold_from (world_by state old) recent (state.files.volume.seats ∷ []) state.files.volume.is_down (runs.Turns number now) up,
     )
 
--- The table agrees with the volume after a turn too, unless that is down
-pub agrees_after : {T : Type 0} (keeps_word : Type 0) (given : Given) (old new : FileSystem) (before after : ℕ) (was is : Table) (result : Result T Fault)
-    → FsChanges keeps_word given old new before after (ending result) → OnOk result (Agrees new is) → OnErr result (is ≡ was) → Agrees old was → new.volume.is_down ≡ false → Agrees new is
-agrees_after keeps_word given old new before after was is (Ok done) changes agreed same agrees up = agreed
-agrees_after keeps_word given old new before after was is (Err faults.Device) changes agreed same agrees up =
+-- The table agrees with the volume after a step too, unless that is down
+
+not_done : (keeps_word : Type 0) (given : Given) (old new : FileSystem) (before after : ℕ) (was is : Table) (reason : Fault)
+    → FsChanges keeps_word given old new before after (fault_ending reason) → is ≡ was → Agrees old was → new.volume.is_down ≡ false → Agrees new is
+not_done keeps_word given old new before after was is faults.Device changes same agrees up =
     absurd (true≢false (sym changes.volume_changes.ends.down ∙ up))
-agrees_after keeps_word given old new before after was is (Err faults.Memory) changes agreed same agrees up =
+not_done keeps_word given old new before after was is faults.Memory changes same agrees up =
     subst (Agrees new) (sym same) (agrees_on old new was changes.volume_changes.same.run (ap (λ (h : VolumeState). h.seats) changes.volume_changes.ends) agrees)
+
+pub agrees_after : (keeps_word : Type 0) (given : Given) (old new : FileSystem) (before after : ℕ) (was is : Table) (others : Type 0) (result : Result Stepped StepError)
+    → FsChanges keeps_word given old new before after (undone_step_ending result) → IfOk result (λ done. Agrees new is) → OnErr result ((is ≡ was) × others)
+    → Agrees old was → new.volume.is_down ≡ false → Agrees new is
+agrees_after keeps_word given old new before after was is others (Ok done) changes agreed same agrees up = agreed
+agrees_after keeps_word given old new before after was is others (Err undone) changes agreed same agrees up =
+    not_done keeps_word given old new before after was is undone.fault changes same.0 agrees up

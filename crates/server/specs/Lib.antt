@@ -1,4 +1,5 @@
 pub mod Connections
+pub mod Engines
 pub mod Faults
 pub mod Headline
 pub mod LifeLaws
@@ -7,3 +8,4 @@ pub mod RunLaws
 pub mod Seen
 pub mod Stages
 pub mod Views
+pub mod Way

@@ -1,12 +1,10 @@
 //! A COMPOUND that has begun: what is kept of it from turn to turn, beside the record of its call.
 
+use crate::engine::Engine;
 use compound::{Fault, Progress, Running, Stepped};
 use disk::Device;
-use fs::Fs;
 use model_tree::acl::Cred;
-use opens::Opens;
 use rpc::CompoundPlace;
-use session::Table;
 use std::alloc::Global;
 use xdr::Writer;
 
@@ -42,14 +40,11 @@ pub struct Undone {
 }
 
 impl Begun {
-    ghost use Rattle.std.specs.Prelude.{◌≡◌, false, IfOk, IfErr, OnOk, OnErr};
-    ghost use Rattle.fs.specs.Views.{fs_of, AltersFs};
-    ghost use Rattle.opens.specs.Views.{opens_of};
-    ghost use Rattle.session.specs.Views.{table_of};
-    ghost use Rattle.compound.specs.States.{Agrees, shared_of};
+    ghost use Rattle.std.specs.Prelude.{◌≡◌, false, IfOk, IfErr, OnErr};
     ghost use Rattle.compound.specs.Steps.{stepped_on};
     ghost use Rattle.compound.specs.Volumes.{TurnGives};
     ghost use Rattle.server.specs.Connections.{RecordGoesOn, RecordSteps};
+    ghost use Rattle.server.specs.Engines.{AltersFiles, BorrowsSame, KeepsRest, files_in, state_in};
     ghost use Rattle.server.specs.Stages.{CanGoOn, in_progress_at, undone_turn_ending};
 
     /// A turn of the COMPOUND, whose call stands in this record.
@@ -58,37 +53,35 @@ impl Begun {
     /// Those of `Running::step`.
     pub fn step<D: Device>(
         self,
-        alloc: Global,
         request: &[u8],
-        fs: &mut Fs<D>,
-        table: &mut Table,
-        opens: &mut Opens,
-        now: u64,
+        engine: &mut Engine<'_, D>,
         results_buffer: &mut Writer,
     ) -> Result<TurnEnd, Undone>
-        requires goes_on { CanGoOn (fs_of fs.old).volume.run request.now self }
-        requires up { (fs_of fs.old).volume.is_down ≡ false }
-        requires agrees { D.keeps_word → Agrees (fs_of fs.old) (table_of table.old) }
+        requires goes_on { CanGoOn (files_in engine.old).volume.run request.now self }
+        requires up { (files_in engine.old).volume.is_down ≡ false }
         // Done
         ensures step { D.keeps_word
-            → IfOk result (RecordSteps now (shared_of fs.old table.old opens.old)
-            (shared_of fs.new table.new opens.new) request.now self) }
-        ensures agrees { D.keeps_word → OnOk result (Agrees (fs_of fs.new) (table_of table.new)) }
-        ensures goes_on { IfOk result (RecordGoesOn (fs_of fs.old).volume.run request.now self) }
+            → IfOk result (RecordSteps engine.old.moment (state_in engine.old)
+            (state_in engine.new) request.now self) }
+        ensures goes_on { IfOk result
+            (RecordGoesOn (files_in engine.old).volume.run request.now self) }
         // Not done
         ensures back { IfErr result (λ undone. undone.begun ≡ self) }
-        ensures others { OnErr result ((table_of table.new ≡ table_of table.old)
-            × (opens_of opens.new ≡ opens_of opens.old)) }
+        ensures others { OnErr result (KeepsRest engine.old engine.new) }
         // In any case
-        ensures volume { AltersFs fs.old fs.new (TurnGives (shared_of fs.old table.old opens.old)
-            (λ world number. stepped_on world number now (in_progress_at request.now self)))
-            (undone_turn_ending result) }
+        ensures volume { AltersFiles engine.old engine.new (TurnGives (state_in engine.old)
+            (λ world number. stepped_on world number engine.old.moment
+            (in_progress_at request.now self))) (undone_turn_ending result) }
+        ensures same { BorrowsSame engine.old engine.new }
     {
         let Begun { call, progress } = self;
-        match call
-            .resume(alloc, request, progress)
-            .step(fs, table, opens, now, results_buffer)
-        {
+        match call.resume(engine.alloc, request, progress).step(
+            engine.fs,
+            engine.table,
+            engine.opens,
+            engine.moment,
+            results_buffer,
+        ) {
             Ok(done) => Ok(call.left(done)),
             Err(undone) => Err(Undone {
                 fault: undone.fault,

@@ -5,14 +5,12 @@ ghost use Rattle.server.specs.Stages.{is_ready};
 
 use crate::stage::Stage;
 use rpc::Assembler;
-use std::alloc::Global;
 use xdr::Writer;
 
 /// A connection: bytes come in pieces, a whole record waits for its turn, its COMPOUND runs, and
 /// its reply waits to be taken.
 #[derive(Drop)]
 pub struct Connection {
-    pub(crate) alloc: Global,
     /// Has the memory for each record that comes. It holds the record while its request runs, and
     /// nothing while a reply waits.
     pub(crate) assembler: Assembler,

@@ -47,7 +47,6 @@ impl Connection {
     {
         let assembler = Assembler::new(alloc)?;
         Ok(Connection {
-            alloc,
             assembler,
             results_buffer: Writer::new(alloc),
             stage: Stage::Receiving,

@@ -1,27 +1,22 @@
 //! A whole record: its call is answered at once, or its COMPOUND begins.
 
-ghost use Rattle.std.specs.Prelude.{◌≡◌, Some, [], true, false, IfOk, IfErr, OnOk, OnErr};
-ghost use Rattle.fs.specs.Views.{fs_of, AltersFs};
+ghost use Rattle.std.specs.Prelude.{◌≡◌, Some, [], true, false, IfOk, IfErr, OnErr};
 ghost use Rattle.model.specs.Wire.Record.{framed};
 ghost use Rattle.model.specs.Wire.Rpc as rpc;
 ghost use Rattle.model.specs.Wire.Rpc.{is_call_read, reply_text};
 ghost use Rattle.model.specs.Server.World.{called};
 ghost use Rattle.rpc.specs.Views.{reply_view, tail_of};
-ghost use Rattle.opens.specs.Views.{opens_of};
-ghost use Rattle.session.specs.Views.{table_of};
-ghost use Rattle.compound.specs.States.{Agrees, shared_of};
 ghost use Rattle.compound.specs.Volumes.{TurnGives, ending};
 ghost use Rattle.compound.specs.declared.fault.Fault.TheVariants.{Memory};
 ghost use Rattle.server.specs.Connections.{OpensRecord, Leads};
+ghost use Rattle.server.specs.Engines.{AltersFiles, BorrowsSame, KeepsRest, files_in, state_in};
 ghost use Rattle.server.specs.Stages.{IsLeftInRun, turn_of_end, left_by_turn, can_follow};
 
 use crate::begun::{Begun, KeptCall, TurnEnd};
+use crate::engine::Engine;
 use compound::{Fault, Progress};
 use disk::Device;
-use fs::Fs;
-use opens::Opens;
 use rpc::{CallRead, CompoundPlace, Reply, Request, read_call, write_reply};
-use session::Table;
 use std::alloc::Global;
 use xdr::Writer;
 
@@ -40,42 +35,34 @@ pub enum Opened {
 /// The first turn of a whole record: its call is answered at once, or the first operation of its
 /// COMPOUND runs, in the memory that an earlier one left.
 pub fn first_turn<D: Device>(
-    alloc: Global,
     request: &[u8],
-    fs: &mut Fs<D>,
-    table: &mut Table,
-    opens: &mut Opens,
-    now: u64,
+    engine: &mut Engine<'_, D>,
     results_buffer: &mut Writer,
 ) -> Result<TurnEnd, Fault>
-    requires up { (fs_of fs.old).volume.is_down ≡ false }
+    requires up { (files_in engine.old).volume.is_down ≡ false }
     requires call { is_call_read (rpc.read_call request.now) ≡ true }
-    requires agrees { D.keeps_word → Agrees (fs_of fs.old) (table_of table.old) }
     ensures turn { D.keeps_word → IfOk result (λ done. Leads (λ world number.
-        called world number now (rpc.read_call request.now))
-        (shared_of fs.old table.old opens.old) (shared_of fs.new table.new opens.new)
+        called world number engine.old.moment (rpc.read_call request.now))
+        (state_in engine.old) (state_in engine.new)
         (left_by_turn (Some request.now) done) (turn_of_end done)) }
-    ensures stays { IfOk result (IsLeftInRun (fs_of fs.old).volume.run) }
+    ensures stays { IfOk result (IsLeftInRun (files_in engine.old).volume.run) }
     ensures follows { IfOk result (λ done. can_follow (Some request.now) done ≡ true) }
-    ensures agrees { D.keeps_word → OnOk result (Agrees (fs_of fs.new) (table_of table.new)) }
     // Refused
-    ensures back { OnErr result ((table_of table.new ≡ table_of table.old)
-        × (opens_of opens.new ≡ opens_of opens.old)) }
+    ensures back { OnErr result (KeepsRest engine.old engine.new) }
     // In every answer
-    ensures volume { AltersFs fs.old fs.new (TurnGives (shared_of fs.old table.old opens.old)
-        (λ world number. called world number now (rpc.read_call request.now))) (ending result) }
+    ensures volume { AltersFiles engine.old engine.new (TurnGives (state_in engine.old)
+        (λ world number. called world number engine.old.moment (rpc.read_call request.now)))
+        (ending result) }
+    ensures same { BorrowsSame engine.old engine.new }
 {
-    match open(alloc, fs.restart_count(), request, results_buffer)? {
+    match open(
+        engine.alloc,
+        engine.fs.restart_count(),
+        request,
+        results_buffer,
+    )? {
         Opened::Answers(reply) => Ok(TurnEnd::Answered(reply)),
-        Opened::Begins(begun) => match begun.step(
-            alloc,
-            request,
-            fs,
-            table,
-            opens,
-            now,
-            results_buffer,
-        ) {
+        Opened::Begins(begun) => match begun.step(request, engine, results_buffer) {
             Ok(done) => Ok(done),
             Err(undone) => {
                 *results_buffer = undone.begun.progress.into_memory();

@@ -11,6 +11,7 @@ ghost use Rattle.server.specs.Connections.{connections_of, IsOfRun};
 ghost use Rattle.server.specs.declared.server.TheConstants.{MAX_CONNECTIONS};
 
 use crate::connection::Connection;
+use crate::engine::Engine;
 use crate::fault::ServerFault;
 use crate::turn::Turn;
 use disk::Device;
@@ -43,8 +44,9 @@ pub struct Server<D: Device> {
 
 #[tactic(auto, unfolding(crate::specs::Views::world_of, crate::specs::Views::files_of, crate::specs::Views::volume_of, crate::specs::Views::server_failures))]
 impl<D: Device> Server<D> {
-    ghost use Rattle.std.specs.List.{list_any};
-    ghost use Rattle.model.specs.Sessions.Session.{is_session};
+    ghost use Rattle.std.specs.List.{list_any, find};
+    ghost use Rattle.std.specs.Option.{option_map};
+    ghost use Rattle.model.specs.Sessions.Session.{is_client, is_session};
     ghost use Rattle.model_tree.specs.Seats.SeatViews.{seats_view};
     ghost use Rattle.std.specs.Prelude.{◌≢◌, ◌≡◌, ◌≤◌, ◌↔◌, List, true, false, Some, None, length, OnOk, OnErr, IfOk, IfErr, IsErrOf};
     ghost use Rattle.model.specs.Server.Runs as runs;
@@ -75,6 +77,15 @@ impl<D: Device> Server<D> {
         ensures { result ≡ list_any (is_session id.now) (world_of self.now).table.sessions }
     {
         self.table.has_session(id)
+    }
+
+    /// The owner id of the client of this id, with which each id of its sessions begins.
+    pub fn owner(&self, client: u64) -> Option<&[u8]>
+        ensures { option_map (λ owner. owner.now) result
+            ≡ option_map (λ client. client.owner)
+            (find (is_client client) (world_of self.now).table.clients) }
+    {
+        self.table.owner(client)
     }
 
     /// How many connections there are.
@@ -229,7 +240,14 @@ impl<D: Device> Server<D> {
         if connection.is_closed() {
             return Err(ServerFault::Closed);
         }
-        Ok(connection.turn(&mut self.fs, &mut self.table, &mut self.opens, now)?)
+        let mut engine = Engine {
+            alloc: self.alloc,
+            fs: &mut self.fs,
+            table: &mut self.table,
+            opens: &mut self.opens,
+            moment: now,
+        };
+        Ok(connection.turn(&mut engine)?)
     }
 
     /// Drops the connection, and all that it holds. A request that has begun is run to its end

@@ -24,10 +24,11 @@ pub struct Table {
 
 impl Table {
     ghost use Rattle.std.specs.Prelude.{◌≡◌, ◌+◌, ℕ, length};
-    ghost use Rattle.std.specs.List.{list_any};
+    ghost use Rattle.std.specs.List.{list_any, find};
+    ghost use Rattle.std.specs.Option.{option_map};
     ghost use Rattle.model_tree.specs.Seats.Seats.{AreOfRuns};
     ghost use Rattle.model_tree.specs.Seats.SeatViews.{seats_view};
-    ghost use Rattle.model.specs.Sessions.Session.{loaded_table, has_state, is_session};
+    ghost use Rattle.model.specs.Sessions.Session.{loaded_table, has_state, is_client, is_session};
     ghost use Rattle.session.specs.Views.{table_of, settings_of, among};
 
     /// A run begins with the seats that its mount found, and with nothing else. It takes no memory.
@@ -75,6 +76,19 @@ impl Table {
         ensures { result ≡ length (table_of self.now).sessions }
     {
         self.sessions.list.len()
+    }
+
+    /// The owner id of the client of this id.
+    #[tactic(auto, unfolding(crate::specs::Views::table_of))]
+    pub fn owner(&self, number: u64) -> Option<&[u8]>
+        ensures { option_map (λ owner. owner.now) result
+            ≡ option_map (λ client. client.owner)
+            (find (is_client number) (table_of self.now).clients) }
+    {
+        match self.clients.find(number) {
+            Some(client) => Some(client.owner.as_slice()),
+            None => None,
+        }
     }
 
     /// Whether the client has a session, or opens.

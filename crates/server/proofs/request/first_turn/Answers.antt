@@ -28,28 +28,28 @@ step-requires-clause-goes_on g c =
 pub returns-in-Ok-clause-turn : goal.returns-in-Ok-clause-turn
 returns-in-Ok-clause-turn g c = λ keeps.
     let opens = rw c.in-Begins.is at c.in_ok-reply.ensures.ok in
-    leads_as (λ world number. stepped_on world number c.args.now (in_progress_at c.args.request.now c.in-Begins.begun)) (λ world number. called world number c.args.now (read_call c.args.request.now))
-    (shared_of c.args.fs.now c.args.table.now c.args.opens.now) (shared_of c.step.new.fs c.step.new.table c.step.new.opens)
-    (λ world number served. opens.1 world number c.args.now (served.run ∙ sym c.restart_count.ensures))
+    leads_as (λ world number. stepped_on world number c.args.engine.now.moment (in_progress_at c.args.request.now c.in-Begins.begun)) (λ world number. called world number c.args.engine.now.moment (read_call c.args.request.now))
+    (shared_of c.args.engine.now.fs.now c.args.engine.now.table.now c.args.engine.now.opens.now) (shared_of c.step.new.engine.fs.now c.step.new.engine.table.now c.step.new.engine.opens.now)
+    (λ world number served. opens.1 world number c.args.engine.now.moment (served.run ∙ sym c.restart_count.ensures))
     (left_by_turn (Some c.args.request.now) c.in-Ok.done) (left_by_turn (Some c.args.request.now) c.in-Ok.done) (turn_of_end c.in-Ok.done) (turn_of_end c.in-Ok.done) refl refl (c.in-Ok.ensures.step keeps)
 
 pub returns-in-Answers-clause-volume : goal.returns-in-Answers-clause-volume
 returns-in-Answers-clause-volume g c =
     let opens = rw c.in-Answers.is at c.in_ok-reply.ensures.ok in
-    idle_changes g.D.Device.keeps_word (shared_of c.args.fs.now c.args.table.now c.args.opens.now) (fs_failures c.args.fs.now) (λ world number. called world number c.args.now (read_call c.args.request.now)) c.requires.up c.requires.agrees
-    (λ world number served. ap (λ (t : Turned). t.executed) (opens world number c.args.now))
-    (λ world number served. ap (λ (t : Turned). t.world.table) (opens world number c.args.now))
+    idle_changes g.D.Device.keeps_word (shared_of c.args.engine.now.fs.now c.args.engine.now.table.now c.args.engine.now.opens.now) (fs_failures c.args.engine.now.fs.now) (λ world number. called world number c.args.engine.now.moment (read_call c.args.request.now)) c.requires.up (λ keeps. c.args.engine.now.agrees keeps c.requires.up)
+    (λ world number served. ap (λ (t : Turned). t.executed) (opens world number c.args.engine.now.moment))
+    (λ world number served. ap (λ (t : Turned). t.world.table) (opens world number c.args.engine.now.moment))
 
 pub returns-in-Ok-clause-volume : goal.returns-in-Ok-clause-volume
 returns-in-Ok-clause-volume g c =
     let opens = rw c.in-Begins.is at c.in_ok-reply.ensures.ok in
-    same_changes g.D.Device.keeps_word (shared_of c.args.fs.now c.args.table.now c.args.opens.now) (fs_of c.args.fs.now) (fs_of c.step.new.fs) _ _
-    (λ world number. stepped_on world number c.args.now (in_progress_at c.args.request.now c.in-Begins.begun)) (λ world number. called world number c.args.now (read_call c.args.request.now))
-    (λ world number served. opens.1 world number c.args.now (served.run ∙ sym c.restart_count.ensures)) Done c.in-Ok.ensures.volume
+    same_changes g.D.Device.keeps_word (shared_of c.args.engine.now.fs.now c.args.engine.now.table.now c.args.engine.now.opens.now) (fs_of c.args.engine.now.fs.now) (fs_of c.step.new.engine.fs.now) _ _
+    (λ world number. stepped_on world number c.args.engine.now.moment (in_progress_at c.args.request.now c.in-Begins.begun)) (λ world number. called world number c.args.engine.now.moment (read_call c.args.request.now))
+    (λ world number served. opens.1 world number c.args.engine.now.moment (served.run ∙ sym c.restart_count.ensures)) Done c.in-Ok.ensures.volume
 
 pub returns-in-Err-clause-volume : goal.returns-in-Err-clause-volume
 returns-in-Err-clause-volume g c =
     let opens = rw c.in-Begins.is at c.in_ok-reply.ensures.ok in
-    same_changes g.D.Device.keeps_word (shared_of c.args.fs.now c.args.table.now c.args.opens.now) (fs_of c.args.fs.now) (fs_of c.step.new.fs) _ _
-    (λ world number. stepped_on world number c.args.now (in_progress_at c.args.request.now c.in-Begins.begun)) (λ world number. called world number c.args.now (read_call c.args.request.now))
-    (λ world number served. opens.1 world number c.args.now (served.run ∙ sym c.restart_count.ensures)) (fault_ending c.in-Err.undone.fault) c.in-Err.ensures.volume
+    same_changes g.D.Device.keeps_word (shared_of c.args.engine.now.fs.now c.args.engine.now.table.now c.args.engine.now.opens.now) (fs_of c.args.engine.now.fs.now) (fs_of c.step.new.engine.fs.now) _ _
+    (λ world number. stepped_on world number c.args.engine.now.moment (in_progress_at c.args.request.now c.in-Begins.begun)) (λ world number. called world number c.args.engine.now.moment (read_call c.args.request.now))
+    (λ world number served. opens.1 world number c.args.engine.now.moment (served.run ∙ sym c.restart_count.ensures)) (fault_ending c.in-Err.undone.fault) c.in-Err.ensures.volume

@@ -14,15 +14,15 @@ use Rattle.server.proofs.connection.Connection.next_turn.Goals as goal
 
 pub step-requires-clause-goes_on : goal.step-requires-clause-goes_on
 step-requires-clause-goes_on g c =
-    goes_on_as (fs_of c.args.fs.now).volume.run c.args.self.now.assembler c.requires.goes_on.0 c.in-Some.record.now c.args.begun c.requires.goes_on.1 c.in-Some.ensures.waits c.requires.goes_on.2
+    goes_on_as (fs_of c.args.engine.now.fs.now).volume.run c.args.self.now.assembler c.requires.goes_on.0 c.in-Some.record.now c.args.begun c.requires.goes_on.1 c.in-Some.ensures.waits c.requires.goes_on.2
 
 pub returns-in-Ok-clause-turn : goal.returns-in-Ok-clause-turn
 returns-in-Ok-clause-turn g c = λ keeps.
     let assembly = c.args.self.now.assembler in
     let request = c.in-Some.record.now in
-    leads_as (λ world number. stepped_on world number c.args.now (in_progress_at request c.args.begun)) (λ world number. turned world number c.args.now (Some (busy_with (held_record assembly) c.args.begun)))
-    (shared_of c.args.fs.now c.args.table.now c.args.opens.now) (shared_of c.step.new.fs c.step.new.table c.step.new.opens)
-    (λ world number served. held_comes c.args.now assembly request c.args.begun c.in-Some.ensures.waits world number)
+    leads_as (λ world number. stepped_on world number c.args.engine.now.moment (in_progress_at request c.args.begun)) (λ world number. turned world number c.args.engine.now.moment (Some (busy_with (held_record assembly) c.args.begun)))
+    (shared_of c.args.engine.now.fs.now c.args.engine.now.table.now c.args.engine.now.opens.now) (shared_of c.step.new.engine.fs.now c.step.new.engine.table.now c.step.new.engine.opens.now)
+    (λ world number served. held_comes c.args.engine.now.moment assembly request c.args.begun c.in-Some.ensures.waits world number)
     (connection_view c.settle.new.self) (left_by_turn (Some request) c.in-Ok.done) (turn_view c.settle.result) (turn_of_end c.in-Ok.done)
     (c.settle.ensures.state ∙ ap (λ (a : Assembly). left_by_turn (held_record a) c.in-Ok.done) c.in-Some.ensures.waits) c.settle.ensures.turn (c.in-Ok.ensures.step keeps)
 
@@ -30,19 +30,19 @@ pub returns-in-Ok-clause-volume : goal.returns-in-Ok-clause-volume
 returns-in-Ok-clause-volume g c =
     let assembly = c.args.self.now.assembler in
     let request = c.in-Some.record.now in
-    same_changes g.D.Device.keeps_word (shared_of c.args.fs.now c.args.table.now c.args.opens.now) (fs_of c.args.fs.now) (fs_of c.step.new.fs) _ _
-    (λ world number. stepped_on world number c.args.now (in_progress_at request c.args.begun))
-    (λ world number. turned world number c.args.now (Some (busy_with (held_record assembly) c.args.begun)))
-    (λ world number served. held_comes c.args.now assembly request c.args.begun c.in-Some.ensures.waits world number) Done c.in-Ok.ensures.volume
+    same_changes g.D.Device.keeps_word (shared_of c.args.engine.now.fs.now c.args.engine.now.table.now c.args.engine.now.opens.now) (fs_of c.args.engine.now.fs.now) (fs_of c.step.new.engine.fs.now) _ _
+    (λ world number. stepped_on world number c.args.engine.now.moment (in_progress_at request c.args.begun))
+    (λ world number. turned world number c.args.engine.now.moment (Some (busy_with (held_record assembly) c.args.begun)))
+    (λ world number served. held_comes c.args.engine.now.moment assembly request c.args.begun c.in-Some.ensures.waits world number) Done c.in-Ok.ensures.volume
 
 pub returns-in-Err-clause-volume : goal.returns-in-Err-clause-volume
 returns-in-Err-clause-volume g c =
     let assembly = c.args.self.now.assembler in
     let request = c.in-Some.record.now in
-    same_changes g.D.Device.keeps_word (shared_of c.args.fs.now c.args.table.now c.args.opens.now) (fs_of c.args.fs.now) (fs_of c.step.new.fs) _ _
-    (λ world number. stepped_on world number c.args.now (in_progress_at request c.args.begun))
-    (λ world number. turned world number c.args.now (Some (busy_with (held_record assembly) c.args.begun)))
-    (λ world number served. held_comes c.args.now assembly request c.args.begun c.in-Some.ensures.waits world number) (fault_ending c.in-Err.undone.fault) c.in-Err.ensures.volume
+    same_changes g.D.Device.keeps_word (shared_of c.args.engine.now.fs.now c.args.engine.now.table.now c.args.engine.now.opens.now) (fs_of c.args.engine.now.fs.now) (fs_of c.step.new.engine.fs.now) _ _
+    (λ world number. stepped_on world number c.args.engine.now.moment (in_progress_at request c.args.begun))
+    (λ world number. turned world number c.args.engine.now.moment (Some (busy_with (held_record assembly) c.args.begun)))
+    (λ world number served. held_comes c.args.engine.now.moment assembly request c.args.begun c.in-Some.ensures.waits world number) (fault_ending c.in-Err.undone.fault) c.in-Err.ensures.volume
 
 pub returns-in-Ok-clause-further : goal.returns-in-Ok-clause-further
 returns-in-Ok-clause-further g c =

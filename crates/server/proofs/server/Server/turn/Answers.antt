@@ -1,4 +1,4 @@
-use Rattle.std.proofs.Common.{◌≡◌, ℕ, Some, Result, Ok, Err, OnErr, true, inl, inr, refl, sym, ap, ap₂, ◌∙◌, subst, arith}
+use Rattle.std.proofs.Common.{◌≡◌, ℕ, Some, true, inl, inr, refl, sym, ap, ap₂, ◌∙◌, subst, arith}
 use Rattle.compound.specs.declared.fault.Fault.TheVariants as turns
 use Rattle.slab.specs.Slab.{with_value}
 use Rattle.compound.specs.States.{shared, shared_of}
@@ -19,7 +19,7 @@ use Rattle.model_tree.specs.Trees.Keyed.{at}
 use Rattle.server.proofs.Moves.{broken_leaves, leaves_now}
 use Rattle.server.proofs.Refusals.{told_by, device_told, turn_refused}
 use Rattle.server.proofs.SlabLaws.{stands, stands_none, wrote, wrote_count, rewrote, numbers_rise}
-use Rattle.server.proofs.ServedTurns.{agrees_after, turned, turn_of, undone, broken, gone_on_at, gives_one, turning_moments}
+use Rattle.server.proofs.ServedTurns.{turned, turn_of, undone, broken, gone_on_at, gives_one, turning_moments}
 use Rattle.server.proofs.Worlds.{AllOfRun, all_of_run_with, happened_leaving, failed_from}
 use Rattle.server.proofs.server.Server.turn.Goals as goal
 
@@ -68,23 +68,15 @@ turn-requires-clause-run g c =
     let before = c.in-Some.connection.now in
     s.of_run c.args.conn (connection_view before) (stands s.connections c.args.conn before c.in-Some.ensures.value)
 
-tables_stay : {T E : Type 0} (A B C : Type 0) (result : Result T E) → OnErr result (A × B × C) → OnErr result B
-tables_stay A B C (Ok done) back = tt
-tables_stay A B C (Err fault) back = back.1
-
-pub turn-requires-clause-agrees : goal.turn-requires-clause-agrees
-turn-requires-clause-agrees g c = λ keeps. c.args.self.now.agrees keeps (sym c.if-is_down.ensures)
-
 pub invariant_of-self-2 : goal.invariant_of-self-2
 invariant_of-self-2 g c =
     let s = c.args.self.now in
     let before = c.in-Some.connection.now in
     let after = c.turn.new.self in
     let run = (fs_of s.fs).volume.run in
-    let same_run : (fs_of c.turn.new.fs).volume.run ≡ run = c.turn.ensures.volume.volume_changes.same.run in
+    let same_run : (fs_of c.turn.new.engine.fs.now).volume.run ≡ run = c.turn.ensures.volume.volume_changes.same.run in
     record {
-      agrees = λ keeps up. agrees_after g.D.Device.keeps_word _ (fs_of s.fs) (fs_of c.turn.new.fs) _ _ (table_of s.table) (table_of c.turn.new.table) c.turn.result c.turn.ensures.volume
-          (c.turn.ensures.agrees keeps) (tables_stay _ _ _ c.turn.result c.turn.ensures.back) (s.agrees keeps (sym c.if-is_down.ensures)) up;
+      agrees = c.turn.new.engine.agrees;
       few = omega (arith, wrote_count s.connections c.args.conn before after c.in-Some.ensures.value, s.few);
       of_run = subst (λ (r : ℕ). AllOfRun r (connections_of (with_value s.connections c.args.conn after))) (sym same_run)
           (subst (AllOfRun run) (sym (wrote s.connections c.args.conn before after c.in-Some.ensures.value))
@@ -112,11 +104,11 @@ returns-in_err-turn-clause-fails g c =
       _,
       record {
         fails = failed_from _ _ recent _ _ _ (runs.Turns c.args.conn c.args.now) ready.newest up failed.volume_changes.ends.down
-            (broken (shared_of s.fs s.table s.opens) (shared_of c.turn.new.fs c.turn.new.table c.turn.new.opens) (connections_of s.connections) _ volume.same (failed.no_count broken≢done)
-            (ap₂ (shared (fs_of c.turn.new.fs)) back.1 back.2) (rewrote s.connections c.args.conn before after c.in-Some.ensures.value back.0) (fs_of s.fs).volume.tree);
+            (broken (shared_of s.fs s.table s.opens) (shared_of c.turn.new.engine.fs.now c.turn.new.engine.table.now c.turn.new.engine.opens.now) (connections_of s.connections) _ volume.same (failed.no_count broken≢done)
+            (ap₂ (shared (fs_of c.turn.new.engine.fs.now)) back.1.0 back.1.1) (rewrote s.connections c.args.conn before after c.in-Some.ensures.value back.0) (fs_of s.fs).volume.tree);
         moves = record {
           moments = turning_moments (shared_of s.fs s.table s.opens) (connections_of s.connections) c.args.conn c.args.now recent _ ready up adds;
-          leaves = broken_leaves (fs_of s.fs).volume (fs_of c.turn.new.fs).volume left recent ready adds volume.same;
+          leaves = broken_leaves (fs_of s.fs).volume (fs_of c.turn.new.engine.fs.now).volume left recent ready adds volume.same;
           same = volume.same;
         };
       },
@@ -147,16 +139,16 @@ returns-in_err-turn-clause-refused g c =
     let told = told_by c.from_residual.result (turn_fault refusal) c.from_residual.ensures.1 in
     let back = rw c.in_err-turn.was at c.turn.ensures.back in
     let here = rewrote s.connections c.args.conn before after c.in-Some.ensures.value back.0 in
-    let stays = ap₂ (shared (fs_of c.turn.new.fs)) back.1 back.2 in
+    let stays = ap₂ (shared (fs_of c.turn.new.engine.fs.now)) back.1.0 back.1.1 in
     rw told (turn_refused _ _ c.args.conn refusal
     (λ memory.
     let nothing = rw (c.in_err-turn.was, memory) at c.turn.ensures.volume in
     let files = left_all _ _ _ _ _ _ nothing in
-    (undone (shared_of s.fs s.table s.opens) (shared_of c.turn.new.fs c.turn.new.table c.turn.new.opens) (connections_of s.connections) _ files stays here, ap (λ (f : FileSystem). f.volume) files, nothing.volume_changes.none (λ broken. cc)))
+    (undone (shared_of s.fs s.table s.opens) (shared_of c.turn.new.engine.fs.now c.turn.new.engine.table.now c.turn.new.engine.opens.now) (connections_of s.connections) _ files stays here, ap (λ (f : FileSystem). f.volume) files, nothing.volume_changes.none (λ broken. cc)))
     (λ device.
     let failed = rw (c.in_err-turn.was, device) at c.turn.ensures.volume in (
-      broken (shared_of s.fs s.table s.opens) (shared_of c.turn.new.fs c.turn.new.table c.turn.new.opens) (connections_of s.connections) _ failed.volume_changes.same (failed.no_count broken≢done)
-          stays here (fs_of c.turn.new.fs).volume.tree,
+      broken (shared_of s.fs s.table s.opens) (shared_of c.turn.new.engine.fs.now c.turn.new.engine.table.now c.turn.new.engine.opens.now) (connections_of s.connections) _ failed.volume_changes.same (failed.no_count broken≢done)
+          stays here (fs_of c.turn.new.engine.fs.now).volume.tree,
       inr failed.volume_changes.ends.cause,
       failed.volume_changes.ends.down,
     )))
@@ -172,19 +164,19 @@ returns-clause-ok g c =
     let gives = gives_one (shared_of s.fs s.table s.opens) (connections_of s.connections) c.args.conn c.args.now (connection_view before) there in
     let up = sym c.if-is_down.ensures in
     λ keeps recent ready.
-    let made = turned (shared_of s.fs s.table s.opens) (shared_of c.turn.new.fs c.turn.new.table c.turn.new.opens) (connections_of s.connections) _ c.args.conn c.args.now
+    let made = turned (shared_of s.fs s.table s.opens) (shared_of c.turn.new.engine.fs.now c.turn.new.engine.table.now c.turn.new.engine.opens.now) (connections_of s.connections) _ c.args.conn c.args.now
     (connection_view before) (connection_view after) (wrote s.connections c.args.conn before after c.in-Some.ensures.value) c.in_ok-turn.field-0
     ((rw c.in_ok-turn.was at c.turn.ensures.turn) keeps) (numbers_rise s.connections) there volume.same in
-    let agreed = (rw c.in_ok-turn.was at c.turn.ensures.agrees) keeps in
+    let agreed = c.turn.new.engine.agrees keeps volume.ends.still_up in
     let left = volume.ends.leaves keeps _ _ gives recent ready in (
       left.0,
       record {
-        happens = happened_leaving (fs_of c.turn.new.fs).volume _ _ _ recent left.0 _ _ _ (runs.Turns c.args.conn c.args.now) ready.newest up volume.ends.still_up made.1
+        happens = happened_leaving (fs_of c.turn.new.engine.fs.now).volume _ _ _ recent left.0 _ _ _ (runs.Turns c.args.conn c.args.now) ready.newest up volume.ends.still_up made.1
             agreed.seats refl left.1;
         says = ap Turned made.0;
         moves = record {
           moments = turning_moments (shared_of s.fs s.table s.opens) (connections_of s.connections) c.args.conn c.args.now recent _ ready up (volume.moments keeps _ _ gives);
-          leaves = leaves_now (fs_of c.turn.new.fs).volume left.0 left.1.ready.leaves;
+          leaves = leaves_now (fs_of c.turn.new.engine.fs.now).volume left.0 left.1.ready.leaves;
           same = volume.same;
         };
         ready = left.1.ready;
@@ -223,7 +215,7 @@ returns-clause-turned g c =
       others = λ other apart. ap (at other) written ∙ at-with_other (connections_of s.connections) c.args.conn other (connection_view after) apart;
       further = gone_on_at (connections_of s.connections) _ c.args.conn (connection_view before) (connection_view after) there written
           (rw c.in_ok-turn.was at c.turn.ensures.further);
-      world = λ keeps. (turned (shared_of s.fs s.table s.opens) (shared_of c.turn.new.fs c.turn.new.table c.turn.new.opens) (connections_of s.connections) _ c.args.conn c.args.now
+      world = λ keeps. (turned (shared_of s.fs s.table s.opens) (shared_of c.turn.new.engine.fs.now c.turn.new.engine.table.now c.turn.new.engine.opens.now) (connections_of s.connections) _ c.args.conn c.args.now
           (connection_view before) (connection_view after) written c.in_ok-turn.field-0
           ((rw c.in_ok-turn.was at c.turn.ensures.turn) keeps) (numbers_rise s.connections) there volume.same).1;
     }
