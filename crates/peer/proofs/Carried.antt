@@ -25,14 +25,14 @@ use Rattle.peer.specs.declared.peer.Peer.{Peer}
 use Rattle.peer.specs.declared.peer.Stage.TheVariants as stages
 use Rattle.peer.specs.declared.stream.Stream as stream
 use Rattle.peer.proofs.Made.{failed_call, not_called, untouched}
-use Rattle.peer.proofs.Tallies.{appends_kept, appends_none, appends_then, consumes_none, consumes_then, in_order, joined, nothing, tallies_then, tally_closes, tally_given, tally_none, tally_taken, tally_turn}
+use Rattle.peer.proofs.Tallies.{appends_kept, appends_none, appends_then, consumes_none, consumes_then, in_order, joined, nothing, tallies_any, tallies_then, tally_closes, tally_given, tally_none, tally_taken, tally_turn}
 
 -- Part after part
 
-pub carries_then : {D S : Type 0} {g : Ghosts D} {h : stream.Ghosts S} {keeps : Type 0} {old between new : Server D g} (before mid after : Peer S h) (a b : Tally)
-    → Carries keeps old between before mid a → Carries keeps between new mid after b → Carries keeps old new before after (joined a b)
-carries_then {h = h} {keeps = keeps} {between = between} {new = new} before mid after a b one two = record {
-  calls = tallies_then before.conn a b one.calls (subst (λ (conn : ℕ). Goes keeps between new (IsTallied conn b)) one.conn two.calls);
+pub carries_then : {D S : Type 0} {g : Ghosts D} {h : stream.Ghosts S} {keeps : Type 0} {moments : ℕ → Type 0} {old between new : Server D g} (before mid after : Peer S h) (a b : Tally)
+    → Carries keeps moments old between before mid a → Carries keeps moments between new mid after b → Carries keeps moments old new before after (joined a b)
+carries_then {h = h} {keeps = keeps} {moments = moments} {between = between} {new = new} before mid after a b one two = record {
+  calls = tallies_then moments before.conn a b one.calls (subst (λ (conn : ℕ). Goes keeps between new (IsTallied moments conn b)) one.conn two.calls);
   consumed = consumes_then (h.coming before.stream) (h.coming mid.stream) (h.coming after.stream) a.came b.came one.consumed two.consumed;
   fed = in_order a.taken b.taken before.inbox mid.inbox after.inbox a.came b.came one.fed two.fed;
   appended = appends_then (h.gone before.stream) (h.gone mid.stream) (h.gone after.stream) a.written b.written one.appended two.appended;
@@ -41,11 +41,24 @@ carries_then {h = h} {keeps = keeps} {between = between} {new = new} before mid 
   ends = λ is. one.ends (two.ends is);
 }
 
+-- at moments of which all are of these
+carries_any : {D S : Type 0} {g : Ghosts D} {h : stream.Ghosts S} {keeps : Type 0} {old new : Server D g} (few many : ℕ → Type 0) (before after : Peer S h) (tally : Tally)
+    → ((now : ℕ) → few now → many now) → Carries keeps few old new before after tally → Carries keeps many old new before after tally
+carries_any few many before after tally shows carries = record {
+  calls = tallies_any few many before.conn tally shows carries.calls;
+  consumed = carries.consumed;
+  fed = carries.fed;
+  appended = carries.appended;
+  sent = carries.sent;
+  conn = carries.conn;
+  ends = carries.ends;
+}
+
 -- no call is made: bytes may have come, which wait
-pub carries_none : {D S : Type 0} {g : Ghosts D} {h : stream.Ghosts S} {keeps : Type 0} {old new : Server D g} (before after : Peer S h) (came : List ℕ)
+pub carries_none : {D S : Type 0} {g : Ghosts D} {h : stream.Ghosts S} {keeps : Type 0} {moments : ℕ → Type 0} {old new : Server D g} (before after : Peer S h) (came : List ℕ)
     → Goes keeps old new IsNone → Consumes (h.coming before.stream) (h.coming after.stream) came → after.inbox ≡ before.inbox ++ came
     → h.gone after.stream ≡ h.gone before.stream → unsent after.stage ≡ unsent before.stage → after.conn ≡ before.conn
-    → (after.stage ≡ stages.Ends → before.stage ≡ stages.Ends) → Carries keeps old new before after (record nothing { came = came })
+    → (after.stage ≡ stages.Ends → before.stage ≡ stages.Ends) → Carries keeps moments old new before after (record nothing { came = came })
 carries_none {h = h} before after came none consumed waits gone left conn ends = record {
   calls = tally_none before.conn came [] none;
   consumed = consumed;
@@ -57,8 +70,8 @@ carries_none {h = h} before after came none consumed waits gone left conn ends =
 }
 
 -- nothing at all is done
-pub carries_same : {D S : Type 0} {g : Ghosts D} {h : stream.Ghosts S} {keeps : Type 0} {old new : Server D g} (before : Peer S h)
-    → Goes keeps old new IsNone → Carries keeps old new before before nothing
+pub carries_same : {D S : Type 0} {g : Ghosts D} {h : stream.Ghosts S} {keeps : Type 0} {moments : ℕ → Type 0} {old new : Server D g} (before : Peer S h)
+    → Goes keeps old new IsNone → Carries keeps moments old new before before nothing
 carries_same {h = h} before none =
     carries_none before before [] none (consumes_none (h.coming before.stream)) (sym (append-nil before.inbox)) refl refl refl (λ is. is)
 
@@ -105,8 +118,8 @@ output_parts old new peer tally fault refuses =
 -- Steps
 
 -- bytes that are refused
-pub refused_bytes : {D S : Type 0} {g : Ghosts D} {h : stream.Ghosts S} {keeps : Type 0} {old new : Server D g} (peer : Peer S h) (fault : ServerFault)
-    → RefusesBytes keeps old new peer.conn peer.inbox fault → Advances keeps old new peer peer (Err (parting_of fault))
+pub refused_bytes : {D S : Type 0} {g : Ghosts D} {h : stream.Ghosts S} {keeps : Type 0} {moments : ℕ → Type 0} {old new : Server D g} (peer : Peer S h) (fault : ServerFault)
+    → RefusesBytes keeps old new peer.conn peer.inbox fault → Advances keeps moments old new peer peer (Err (parting_of fault))
 refused_bytes {h = h} peer faults.Closed refuses =
     let tally : Tally = record nothing { shown = peer.inbox ∷ []; closings = 1 } in
     record {
@@ -153,10 +166,10 @@ works_after a b peer (Read_broken is) = Read_broken is
 works_after a b peer (Write_broken is) = Write_broken is
 
 -- calls alone are made: no byte comes, and none is written
-carries_calls : {D S : Type 0} {g : Ghosts D} {h : stream.Ghosts S} {keeps : Type 0} {old new : Server D g} (before after : Peer S h)
-    (shown : List (List ℕ)) (taken : List ℕ) (turns : ℕ) → Goes keeps old new (IsTallied before.conn (record nothing { shown = shown; taken = taken; turns = turns }))
+carries_calls : {D S : Type 0} {g : Ghosts D} {h : stream.Ghosts S} {keeps : Type 0} {moments : ℕ → Type 0} {old new : Server D g} (before after : Peer S h)
+    (shown : List (List ℕ)) (taken : List ℕ) (turns : ℕ) → Goes keeps old new (IsTallied moments before.conn (record nothing { shown = shown; taken = taken; turns = turns }))
     → taken ++ after.inbox ≡ before.inbox → after.stream ≡ before.stream → after.conn ≡ before.conn → unsent after.stage ≡ unsent before.stage
-    → (after.stage ≡ stages.Ends → ⊥) → Carries keeps old new before after (record nothing { shown = shown; taken = taken; turns = turns })
+    → (after.stage ≡ stages.Ends → ⊥) → Carries keeps moments old new before after (record nothing { shown = shown; taken = taken; turns = turns })
 carries_calls {h = h} before after shown taken turns calls fed same conn left stays = record {
   calls = calls;
   consumed = rw same (consumes_none (h.coming before.stream));
@@ -168,15 +181,15 @@ carries_calls {h = h} before after shown taken turns calls fed same conn left st
 }
 
 -- bytes that are taken, and what follows
-pub bytes_then : {D S : Type 0} {g : Ghosts D} {h : stream.Ghosts S} {keeps : Type 0} {old between new : Server D g} (before mid after : Peer S h) (count : ℕ)
+pub bytes_then : {D S : Type 0} {g : Ghosts D} {h : stream.Ghosts S} {keeps : Type 0} {moments : ℕ → Type 0} {old between new : Server D g} (before mid after : Peer S h) (count : ℕ)
     (result : Result Pace Parting) → Goes keeps old between (IsOne (Did (Arrives before.conn before.inbox) (Took (Some count))))
     → mid.inbox ≡ drop count before.inbox → mid.stream ≡ before.stream → mid.conn ≡ before.conn
     → unsent mid.stage ≡ unsent before.stage → (mid.stage ≡ stages.Ends → ⊥)
-    → Runs keeps between new mid after result → Advances keeps old new before after result
-bytes_then {keeps = keeps} {old = old} {between = between} {new = new} before mid after count result one inbox same conn left stays runs =
+    → Runs keeps moments between new mid after result → Advances keeps moments old new before after result
+bytes_then {keeps = keeps} {moments = moments} {old = old} {between = between} {new = new} before mid after count result one inbox same conn left stays runs =
     let first : Tally = record nothing { shown = before.inbox ∷ []; taken = take count before.inbox } in
     let rest : Tally = runs.advances.tally in
-    let took : Carries keeps old between before mid first =
+    let took : Carries keeps moments old between before mid first =
     carries_calls before mid (before.inbox ∷ []) (take count before.inbox) 0 (tally_taken before.conn before.inbox count one)
     (rw inbox (take-append-drop count before.inbox)) same conn left stays in
     let all : before.inbox ≡ before.inbox ++ rest.came = sym (append-nil before.inbox) ∙ ap (λ came. before.inbox ++ came) (sym runs.unread) in
@@ -189,25 +202,26 @@ bytes_then {keeps = keeps} {old = old} {between = between} {new = new} before mi
       parts = parted_after first rest new after result runs.advances.parts;
     }
 
-turn_carries : {D S : Type 0} {g : Ghosts D} {h : stream.Ghosts S} {keeps : Type 0} {old new : Server D g} (before after : Peer S h) (now : ℕ) (said : Said)
-    → Goes keeps old new (IsOne (Did (Turns before.conn now) said))
+turn_carries : {D S : Type 0} {g : Ghosts D} {h : stream.Ghosts S} {keeps : Type 0} {moments : ℕ → Type 0} {old new : Server D g} (before after : Peer S h) (now : ℕ) (said : Said)
+    → moments now → Goes keeps old new (IsOne (Did (Turns before.conn now) said))
     → after.stream ≡ before.stream → after.inbox ≡ before.inbox → after.conn ≡ before.conn → unsent after.stage ≡ unsent before.stage
-    → (after.stage ≡ stages.Ends → ⊥) → Carries keeps old new before after (record nothing { turns = 1 })
-turn_carries before after now said one same inbox conn left stays =
-    carries_calls before after [] [] 1 (tally_turn before.conn now said one) inbox same conn left stays
+    → (after.stage ≡ stages.Ends → ⊥) → Carries keeps moments old new before after (record nothing { turns = 1 })
+turn_carries before after now said shows one same inbox conn left stays =
+    carries_calls before after [] [] 1 (tally_turn before.conn now said shows one) inbox same conn left stays
 
 -- a turn, and the reply that it made
-pub reply_then : {D S : Type 0} {g : Ghosts D} {h : stream.Ghosts S} {keeps : Type 0} {old between new : Server D g} (before mid after : Peer S h) (now : ℕ) (said : Said)
-    (result : Result Pace Parting) → Goes keeps old between (IsOne (Did (Turns before.conn now) said))
+pub reply_then : {D S : Type 0} {g : Ghosts D} {h : stream.Ghosts S} {keeps : Type 0} {moments : ℕ → Type 0} {old between new : Server D g} (before mid after : Peer S h) (now : ℕ) (said : Said)
+    (result : Result Pace Parting) → moments now → Goes keeps old between (IsOne (Did (Turns before.conn now) said))
     → mid.stream ≡ before.stream → mid.inbox ≡ before.inbox → mid.conn ≡ before.conn → unsent mid.stage ≡ unsent before.stage
     → (mid.stage ≡ stages.Ends → ⊥)
-    → GivesNoTurn keeps between new mid after result → Runs keeps old new before after result
-reply_then {h = h} {keeps = keeps} {old = old} {between = between} {new = new} before mid after now said result one same inbox conn left stays gives =
+    → GivesNoTurn keeps between new mid after result → Runs keeps moments old new before after result
+reply_then {h = h} {keeps = keeps} {moments = moments} {old = old} {between = between} {new = new} before mid after now said result shows one same inbox conn left stays gives =
     let first : Tally = record nothing { turns = 1 } in
     let rest : Tally = gives.tally in
-    let advances : Advances keeps old new before after result = record {
+    let advances : Advances keeps moments old new before after result = record {
       tally = joined first rest;
-      carries = carries_then before mid after first rest (turn_carries before mid now said one same inbox conn left stays) gives.carries;
+      carries = carries_then before mid after first rest (turn_carries before mid now said shows one same inbox conn left stays)
+          (carries_any (λ (now : ℕ). ⊥) moments mid after rest (λ now never. absurd never) gives.carries);
       shown = subst (λ (shown : List (List ℕ)). AreAll (before.inbox ++ rest.came) shown) (sym gives.unshown) tt;
       few = omega (arith, gives.unturned);
       works = λ is. Turned (omega arith);
@@ -216,15 +230,15 @@ reply_then {h = h} {keeps = keeps} {old = old} {between = between} {new = new} b
     record { advances = advances; unread = gives.unread; unshown = gives.unshown }
 
 -- a turn, and nothing else
-pub turn_alone : {D S : Type 0} {g : Ghosts D} {h : stream.Ghosts S} {keeps : Type 0} {old new : Server D g} (before after : Peer S h) (now : ℕ) (said : Said)
-    → Goes keeps old new (IsOne (Did (Turns before.conn now) said))
+pub turn_alone : {D S : Type 0} {g : Ghosts D} {h : stream.Ghosts S} {keeps : Type 0} {moments : ℕ → Type 0} {old new : Server D g} (before after : Peer S h) (now : ℕ) (said : Said)
+    → moments now → Goes keeps old new (IsOne (Did (Turns before.conn now) said))
     → after.stream ≡ before.stream → after.inbox ≡ before.inbox → after.conn ≡ before.conn → unsent after.stage ≡ unsent before.stage
-    → (after.stage ≡ stages.Ends → ⊥) → Runs keeps old new before after (Ok paces.Goes)
-turn_alone {keeps = keeps} {old = old} {new = new} before after now said one same inbox conn left stays =
+    → (after.stage ≡ stages.Ends → ⊥) → Runs keeps moments old new before after (Ok paces.Goes)
+turn_alone {keeps = keeps} {moments = moments} {old = old} {new = new} before after now said shows one same inbox conn left stays =
     let tally : Tally = record nothing { turns = 1 } in
-    let advances : Advances keeps old new before after (Ok paces.Goes) = record {
+    let advances : Advances keeps moments old new before after (Ok paces.Goes) = record {
       tally = tally;
-      carries = turn_carries before after now said one same inbox conn left stays;
+      carries = turn_carries before after now said shows one same inbox conn left stays;
       shown = tt;
       few = omega arith;
       works = λ is. Turned (omega arith);
@@ -233,10 +247,10 @@ turn_alone {keeps = keeps} {old = old} {new = new} before after now said one sam
     record { advances = advances; unread = refl; unshown = refl }
 
 -- no turn, as it is refused or the clock fails
-pub no_turn : {D S : Type 0} {g : Ghosts D} {h : stream.Ghosts S} {keeps : Type 0} {old new : Server D g} (before : Peer S h) (parting : Parting)
-    → Goes keeps old new IsNone → Parts nothing new before parting → Runs keeps old new before before (Err parting)
-no_turn {keeps = keeps} {old = old} {new = new} before parting none parts =
-    let advances : Advances keeps old new before before (Err parting) = record {
+pub no_turn : {D S : Type 0} {g : Ghosts D} {h : stream.Ghosts S} {keeps : Type 0} {moments : ℕ → Type 0} {old new : Server D g} (before : Peer S h) (parting : Parting)
+    → Goes keeps old new IsNone → Parts nothing new before parting → Runs keeps moments old new before before (Err parting)
+no_turn {keeps = keeps} {moments = moments} {old = old} {new = new} before parting none parts =
+    let advances : Advances keeps moments old new before before (Err parting) = record {
       tally = nothing;
       carries = carries_same before none;
       shown = tt;
@@ -275,8 +289,8 @@ sends_none {h = h} before after result kept left broken over same stays = record
 }
 
 -- a reply of which the front goes out
-pub sends_on : {D S : Type 0} {g : Ghosts D} {h : stream.Ghosts S} {keeps : Type 0} (server : Server D g) (before after : Peer S h)
-    (result : Result Pace Parting) → Sends before after result → Advances keeps server server before after result
+pub sends_on : {D S : Type 0} {g : Ghosts D} {h : stream.Ghosts S} {keeps : Type 0} {moments : ℕ → Type 0} (server : Server D g) (before after : Peer S h)
+    (result : Result Pace Parting) → Sends before after result → Advances keeps moments server server before after result
 sends_on {h = h} server before after result sends =
     let tally : Tally = record nothing { written = sends.written } in
     record {
@@ -353,14 +367,14 @@ refuses_reply {h = h} {old = old} {new = new} before after fault refuses same in
 -- Reads
 
 -- what came is handed over
-pub reads_then : {D S : Type 0} {g : Ghosts D} {h : stream.Ghosts S} {keeps : Type 0} {old new : Server D g} (before mid after : Peer S h)
+pub reads_then : {D S : Type 0} {g : Ghosts D} {h : stream.Ghosts S} {keeps : Type 0} {moments : ℕ → Type 0} {old new : Server D g} (before mid after : Peer S h)
     (result : Result Pace Parting) → Consumes (h.coming before.stream) (h.coming mid.stream) mid.inbox → before.inbox ≡ []
     → h.gone mid.stream ≡ h.gone before.stream → mid.stage ≡ before.stage → mid.conn ≡ before.conn
-    → Advances keeps old new mid after result → Advances keeps old new before after result
-reads_then {keeps = keeps} {old = old} {new = new} before mid after result consumed empty gone stage conn advances =
+    → Advances keeps moments old new mid after result → Advances keeps moments old new before after result
+reads_then {keeps = keeps} {moments = moments} {old = old} {new = new} before mid after result consumed empty gone stage conn advances =
     let first : Tally = record nothing { came = mid.inbox } in
     let rest : Tally = advances.tally in
-    let read : Carries keeps old old before mid first =
+    let read : Carries keeps moments old old before mid first =
     carries_none before mid mid.inbox (not_called old) consumed (rw empty refl) gone (ap unsent stage) conn (λ is. sym stage ∙ is) in
     record {
       tally = joined first rest;
@@ -372,11 +386,11 @@ reads_then {keeps = keeps} {old = old} {new = new} before mid after result consu
     }
 
 -- a step that makes no call
-pub quiet : {D S : Type 0} {g : Ghosts D} {h : stream.Ghosts S} {keeps : Type 0} (server : Server D g) (before after : Peer S h) (came : List ℕ)
+pub quiet : {D S : Type 0} {g : Ghosts D} {h : stream.Ghosts S} {keeps : Type 0} {moments : ℕ → Type 0} (server : Server D g) (before after : Peer S h) (came : List ℕ)
     (result : Result Pace Parting) → Consumes (h.coming before.stream) (h.coming after.stream) came → after.inbox ≡ before.inbox ++ came
     → h.gone after.stream ≡ h.gone before.stream → after.stage ≡ before.stage → after.conn ≡ before.conn
     → (result ≡ Ok paces.Goes → HasWorked after (record nothing { came = came }))
-    → IfErr result (Parts (record nothing { came = came }) server after) → Advances keeps server server before after result
+    → IfErr result (Parts (record nothing { came = came }) server after) → Advances keeps moments server server before after result
 quiet server before after came result consumed waits gone stage conn works parts = record {
   tally = record nothing { came = came };
   carries = carries_none before after came (not_called server) consumed waits gone (ap unsent stage) conn (λ is. sym stage ∙ is);
@@ -388,10 +402,10 @@ quiet server before after came result consumed waits gone stage conn works parts
 
 -- The whole step
 
-pub ends_peer : {D S : Type 0} {g : Ghosts D} {h : stream.Ghosts S} {keeps : Type 0} {old between new : Server D g} (before left after : Peer S h)
-    → Advances keeps old between before left (Err partings.Peer) → Goes keeps between new (IsEnd left.conn)
+pub ends_peer : {D S : Type 0} {g : Ghosts D} {h : stream.Ghosts S} {keeps : Type 0} {moments : ℕ → Type 0} {old between new : Server D g} (before left after : Peer S h)
+    → Advances keeps moments old between before left (Err partings.Peer) → Goes keeps between new (IsEnd moments left.conn)
     → (after.stream ≡ left.stream) × (after.inbox ≡ left.inbox) × (after.conn ≡ left.conn)
-    → EndsPeer keeps old new before after
+    → EndsPeer keeps moments old new before after
 ends_peer {between = between} before left after advances hung same = record {
   between = between;
   left = left;

@@ -14,7 +14,7 @@ use Rattle.server.specs.declared.fault.ServerFault.TheVariants as faults
 use Rattle.server.specs.declared.server.Server.{Server}
 use Rattle.server.specs.declared.turn.Turn.{Turn}
 use Rattle.volume.specs.VolumeState.{IsRecent}
-use Rattle.peer.specs.Calls.{MakesCalls, Goes, IsNone, IsOne, AreTurns, IsHangUp, IsEnd, HasGone, RefusesBytes, RefusesOutput}
+use Rattle.peer.specs.Calls.{MakesCalls, Goes, IsNone, IsOne, AreTurns, IsHangUp, IsEndAt, IsEnd, HasGone, RefusesBytes, RefusesOutput}
 
 -- Calls after calls
 
@@ -246,30 +246,38 @@ hangs_up old new connection now (Ok done) down turning =
     hung_up {old = old} {new = new} connection now (up_by _ (λ is. let told = (down is).0 in let never : ⊥ = cc in never)) turning
 hangs_up old new connection now (Err fault) down turning = tt
 
-pub hangs_nothing : {D : Type 0} {g : Ghosts D} {keeps : Type 0} {old new : Server D g} (connection : ℕ)
-    → Goes keeps old new IsNone → Goes keeps old new (IsEnd connection)
-hangs_nothing connection none =
-    goes_as {first = IsNone} {kind = IsEnd connection}
-    (λ (calls : List ServerCall) (is : calls ≡ []). (0, inr (subst (AreTurns connection 0) (sym is) tt))) none
-
 -- and in any case
 pub hangs_by : {D : Type 0} {g : Ghosts D} {keeps : Type 0} (old new : Server D g) (connection now : ℕ) (result : Result Unit ServerFault)
     → ((volume_of old).is_down ≡ true → IsErrOf result faults.Device × IsUntouched (view old) (view new))
     → (keeps → OnOk result (Turning old connection now (λ between. (after : List Tree) × Does between (HangsUp connection) Done (seen_with new after))))
     → (keeps → IsErrOf result faults.Memory → Turning old connection now (λ between. (after : List Tree) × (between ≡ seen_with new after)))
-    → IfErr result (RefusesHangUp (view old) (view new) connection) → Goes keeps old new (IsEnd connection)
+    → IfErr result (RefusesHangUp (view old) (view new) connection) → Goes keeps old new (IsEndAt connection now)
 hangs_by old new connection now (Ok done) down turning stops refused =
-    goes_as {first = IsHangUp connection now} {kind = IsEnd connection}
-    (λ (calls : List ServerCall) (is : IsHangUp connection now calls). (now, inl is)) (hangs_up old new connection now (Ok done) down turning)
+    goes_as {first = IsHangUp connection now} {kind = IsEndAt connection now}
+    (λ (calls : List ServerCall) (is : IsHangUp connection now calls). inl is) (hangs_up old new connection now (Ok done) down turning)
 hangs_by old new connection now (Err faults.Memory) down turning stops refused =
-    goes_as {first = AreTurns connection now} {kind = IsEnd connection}
-    (λ (calls : List ServerCall) (are : AreTurns connection now calls). (now, inr are))
+    goes_as {first = AreTurns connection now} {kind = IsEndAt connection now}
+    (λ (calls : List ServerCall) (are : AreTurns connection now calls). inr are)
     (turned_only {old = old} {new = new} connection now (up_by _ (λ was. let told = (down was).0 in let never : ⊥ = cc in never))
     (λ keeps. stops keeps refl))
-hangs_by old new connection now (Err faults.NoConnection) down turning stops refused = hangs_nothing connection (untouched refused.1)
+hangs_by old new connection now (Err faults.NoConnection) down turning stops refused =
+    goes_as {first = IsNone} {kind = IsEndAt connection now}
+    (λ (calls : List ServerCall) (is : calls ≡ []). inr (subst (AreTurns connection now) (sym is) tt)) (untouched refused.1)
 hangs_by old new connection now (Err faults.Device) down turning stops refused = failed_call refused.1
 hangs_by old new connection now (Err faults.Closed) down turning stops refused = absurd refused
 hangs_by old new connection now (Err faults.Full) down turning stops refused = absurd refused
+
+-- at one of these moments, or at none
+pub ends_at : {D : Type 0} {g : Ghosts D} {keeps : Type 0} {old new : Server D g} {moments : ℕ → Type 0} (connection now : ℕ)
+    → moments now → Goes keeps old new (IsEndAt connection now) → Goes keeps old new (IsEnd moments connection)
+ends_at {moments = moments} connection now shows goes =
+    goes_as {first = IsEndAt connection now} {kind = IsEnd moments connection}
+    (λ (calls : List ServerCall) (is : IsEndAt connection now calls). inr (now, shows, is)) goes
+
+pub ends_by_none : {D : Type 0} {g : Ghosts D} {keeps : Type 0} {old new : Server D g} {moments : ℕ → Type 0} (connection : ℕ)
+    → Goes keeps old new IsNone → Goes keeps old new (IsEnd moments connection)
+ends_by_none {moments = moments} connection none =
+    goes_as {first = IsNone} {kind = IsEnd moments connection} (λ (calls : List ServerCall) (is : IsNone calls). inl is) none
 
 pub gone_by : {D : Type 0} {g : Ghosts D} (old new : Server D g) (connection : ℕ) (result : Result Unit ServerFault)
     → OnOk result (connection_at (view new) connection ≡ None)

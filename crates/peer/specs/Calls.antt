@@ -54,10 +54,14 @@ IsHangUp connection now [] = ⊥
 IsHangUp connection now (call ∷ calls) =
     (call ≡ Did (HangsUp connection) Done) × AreTurns connection now calls
 
--- The end of a connection: a hang-up, or for want of memory turns alone, or nothing
-abbrev pub IsEnd : (connection : ℕ) → List ServerCall → Type 0
-IsEnd connection calls =
-    (now : ℕ) × (IsHangUp connection now calls ⊎ AreTurns connection now calls)
+-- The end of a connection at this moment: a hang-up, or for want of memory turns alone, or nothing
+abbrev pub IsEndAt : (connection now : ℕ) → List ServerCall → Type 0
+IsEndAt connection now calls = IsHangUp connection now calls ⊎ AreTurns connection now calls
+
+-- at one of these moments, or no call at all
+abbrev pub IsEnd : (moments : ℕ → Type 0) → (connection : ℕ) → List ServerCall → Type 0
+IsEnd moments connection calls =
+    IsNone calls ⊎ ((now : ℕ) × moments now × IsEndAt connection now calls)
 
 -- it is there no longer, unless there was no memory or the device failed
 abbrev pub HasGone : Result Unit ServerFault → Option Connection → Type 0

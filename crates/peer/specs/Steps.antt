@@ -27,17 +27,18 @@ use Rattle.peer.specs.declared.stream.Stream as stream
 
 -- The calls of a step
 
--- each is of this connection, and no hang-up
-abbrev pub IsOn : (connection : ℕ) → ServerCall → Type 0
-IsOn connection (Did (Arrives number piece) said) = number ≡ connection
-IsOn connection (Did (Turns number now) said) = number ≡ connection
-IsOn connection (Did (Takes number) said) = number ≡ connection
-IsOn connection (Did event said) = ⊥
-IsOn connection (Failed event) = ⊥
+-- each is of this connection, a turn at one of these moments, and none is a hang-up
+abbrev pub IsOn : (moments : ℕ → Type 0) → (connection : ℕ) → ServerCall → Type 0
+IsOn moments connection (Did (Arrives number piece) said) = number ≡ connection
+IsOn moments connection (Did (Turns number now) said) = (number ≡ connection) × moments now
+IsOn moments connection (Did (Takes number) said) = number ≡ connection
+IsOn moments connection (Did event said) = ⊥
+IsOn moments connection (Failed event) = ⊥
 
-abbrev pub AreOn : (connection : ℕ) → List ServerCall → Type 0
-AreOn connection [] = Unit {0}
-AreOn connection (call ∷ calls) = IsOn connection call × AreOn connection calls
+abbrev pub AreOn : (moments : ℕ → Type 0) → (connection : ℕ) → List ServerCall → Type 0
+AreOn moments connection [] = Unit {0}
+AreOn moments connection (call ∷ calls) =
+    IsOn moments connection call × AreOn moments connection calls
 
 -- the pieces that the server was shown
 abbrev pub shown_by : ServerCall → List (List ℕ)
@@ -83,8 +84,9 @@ pub record Tally : Type 0 where
   pub written : List ℕ
 
 -- the calls are those that it counts
-pub record IsTallied (connection : ℕ) (tally : Tally) (calls : List ServerCall) : Type 0 where
-  pub on : AreOn connection calls
+pub record IsTallied (moments : ℕ → Type 0) (connection : ℕ) (tally : Tally)
+    (calls : List ServerCall) : Type 0 where
+  pub on : AreOn moments connection calls
   pub shown : all_by shown_by calls ≡ tally.shown
   pub taken : all_by taken_by calls ≡ tally.taken
   pub closings : count_by closings_by calls ≡ tally.closings
@@ -105,11 +107,13 @@ unsent stages.Ends = []
 
 -- Bytes
 
--- What had waited and what came is what the server took and what waits now; what was left of a reply
--- and what it gave is what was written and what is left now. All in order, by the server's calls.
+-- What had waited and what came is what the server took and what waits now; what was left of a
+-- reply and what it gave is what was written and what is left now. All in order, by the server's
+-- calls.
 pub record Carries {D S : Type 0} {g : Ghosts D} {h : stream.Ghosts S} (keeps : Type 0)
-    (old new : Server D g) (before after : Peer S h) (tally : Tally) : Type 0 where
-  pub calls : Goes keeps old new (IsTallied before.conn tally)
+    (moments : ℕ → Type 0) (old new : Server D g) (before after : Peer S h) (tally : Tally)
+    : Type 0 where
+  pub calls : Goes keeps old new (IsTallied moments before.conn tally)
   pub consumed : Consumes (h.coming before.stream) (h.coming after.stream) tally.came
   pub fed : tally.taken ++ after.inbox ≡ before.inbox ++ tally.came
   pub appended : Appends (h.gone before.stream) (h.gone after.stream) tally.written
@@ -174,11 +178,12 @@ Parts tally server peer partings.Memory = Unit {0}
 Parts tally server peer partings.Clock = Unit {0}
 
 -- What a step does until it ends the peer: it shows the server each byte once, and gives at most
--- one turn.
+-- one turn, at one of these moments.
 pub record Advances {D S : Type 0} {g : Ghosts D} {h : stream.Ghosts S} (keeps : Type 0)
-    (old new : Server D g) (before after : Peer S h) (result : Result Pace Parting) : Type 0 where
+    (moments : ℕ → Type 0) (old new : Server D g) (before after : Peer S h)
+    (result : Result Pace Parting) : Type 0 where
   pub tally : Tally
-  pub carries : Carries keeps old new before after tally
+  pub carries : Carries keeps moments old new before after tally
   pub shown : AreAll (before.inbox ++ tally.came) tally.shown
   pub few : tally.turns ≤ 1
   pub works : result ≡ Ok paces.Goes → HasWorked after tally
@@ -186,16 +191,17 @@ pub record Advances {D S : Type 0} {g : Ghosts D} {h : stream.Ghosts S} (keeps :
 
 -- the same of what reads nothing, and shows the server nothing
 pub record Runs {D S : Type 0} {g : Ghosts D} {h : stream.Ghosts S} (keeps : Type 0)
-    (old new : Server D g) (before after : Peer S h) (result : Result Pace Parting) : Type 0 where
-  pub advances : Advances keeps old new before after result
+    (moments : ℕ → Type 0) (old new : Server D g) (before after : Peer S h)
+    (result : Result Pace Parting) : Type 0 where
+  pub advances : Advances keeps moments old new before after result
   pub unread : advances.tally.came ≡ []
   pub unshown : advances.tally.shown ≡ []
 
--- and of what gives no turn
+-- and of what gives no turn, at any moment
 pub record GivesNoTurn {D S : Type 0} {g : Ghosts D} {h : stream.Ghosts S} (keeps : Type 0)
     (old new : Server D g) (before after : Peer S h) (result : Result Pace Parting) : Type 0 where
   pub tally : Tally
-  pub carries : Carries keeps old new before after tally
+  pub carries : Carries keeps (λ moment. ⊥) old new before after tally
   pub unread : tally.came ≡ []
   pub unshown : tally.shown ≡ []
   pub unturned : tally.turns ≡ 0
@@ -218,24 +224,26 @@ pub record Sends {S : Type 0} {h : stream.Ghosts S} (before after : Peer S h)
 abbrev pub IsReplying : Stage → Type 0
 IsReplying stage = (reply : List ℕ) × (stage ≡ stages.Replies reply)
 
--- A peer ends: as far as it came, for this reason, and its connection is hung up then.
+-- A peer ends: as far as it came, for this reason, and its connection is hung up then, at one of
+-- these moments.
 pub record EndsPeer {D S : Type 0} {g : Ghosts D} {h : stream.Ghosts S} (keeps : Type 0)
-    (old new : Server D g) (before after : Peer S h) : Type 0 where
+    (moments : ℕ → Type 0) (old new : Server D g) (before after : Peer S h) : Type 0 where
   pub between : Server D g
   pub left : Peer S h
   pub tally : Tally
-  pub carries : Carries keeps old between before left tally
+  pub carries : Carries keeps moments old between before left tally
   pub shown : AreAll (before.inbox ++ tally.came) tally.shown
   pub few : tally.turns ≤ 1
   pub reason : Reason tally between left
-  pub hung : Goes keeps between new (IsEnd left.conn)
+  pub hung : Goes keeps between new (IsEnd moments left.conn)
   pub same : (after.stream ≡ left.stream) × (after.inbox ≡ left.inbox) × (after.conn ≡ left.conn)
 
 -- a step that leaves a peer to be served on
 pub record ServesOn {D S : Type 0} {g : Ghosts D} {h : stream.Ghosts S} (keeps : Type 0)
-    (old new : Server D g) (before after : Peer S h) (goes : Type 0) : Type 0 where
+    (moments : ℕ → Type 0) (old new : Server D g) (before after : Peer S h) (goes : Type 0)
+    : Type 0 where
   pub tally : Tally
-  pub carries : Carries keeps old new before after tally
+  pub carries : Carries keeps moments old new before after tally
   pub shown : AreAll (before.inbox ++ tally.came) tally.shown
   pub few : tally.turns ≤ 1
   pub works : goes → HasWorked after tally

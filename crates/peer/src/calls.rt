@@ -7,7 +7,7 @@ ghost use Rattle.server.specs.Connections.{turn_view};
 ghost use Rattle.server.specs.Refused.{RefusesTurn, RefusesHangUp, connection_at, view};
 ghost use Rattle.server.specs.Seen.{Did, Took, Turned};
 ghost use Rattle.server.specs.Views.{gave};
-ghost use Rattle.peer.specs.Calls.{Goes, IsOne, IsHangUp, IsEnd, HasGone, RefusesBytes, RefusesOutput};
+ghost use Rattle.peer.specs.Calls.{Goes, IsOne, IsHangUp, IsEndAt, HasGone, RefusesBytes, RefusesOutput};
 
 use disk::Device;
 use server::{Server, ServerFault, Turn};
@@ -50,7 +50,7 @@ pub fn take_output<D: Device>(
 /// Ends the connection at this moment, in nanoseconds since 1970. For want of memory it stays.
 pub fn hangup<D: Device>(server: &mut Server<D>, conn: usize, now: u64) -> Result<(), ServerFault>
     ensures ok { OnOk result (Goes D.keeps_word server.old server.new (IsHangUp conn now)) }
-    ensures hung { Goes D.keeps_word server.old server.new (IsEnd conn) }
+    ensures hung { Goes D.keeps_word server.old server.new (IsEndAt conn now) }
     ensures gone { HasGone result (connection_at (view server.new) conn) }
     ensures refused { IfErr result (RefusesHangUp (view server.old) (view server.new) conn) }
 {

@@ -1,7 +1,9 @@
 //! The operations that are told to come again for want of room in a table of the server.
 
+use crate::ran::Ran;
+use crate::session_news::{SessionNews, read_news};
 use model_tree::status::Status;
-use rpc::{MAX_AUTH_BYTES, REPLY};
+use rpc::{MAX_AUTH_BYTES, MAX_TAG_BYTES, REPLY};
 use std::fmt;
 use std::fmt::{Display, Formatter, Write};
 use wire::Operation;
@@ -24,17 +26,28 @@ pub enum Delayed {
 }
 
 /// What there is to know of a reply.
-#[derive(Clone, Copy, PartialEq, Eq)]
+#[derive(Clone, Copy)]
 pub struct Answered {
     /// The operation that it tells to come again.
     pub delayed: Option<Delayed>,
+    /// The status of the COMPOUND, if it answers one: that of the last result.
+    pub status: Option<u32>,
+    /// The first result, if there is one.
+    pub first: Option<Ran>,
+    /// What that says of a session.
+    pub news: Option<SessionNews>,
 }
 
 impl Answered {
     /// What there is to know of the reply of this record.
     pub fn in_record(record: &[u8]) -> Answered {
+        let mut reply = Reader::new(record);
+        let first = read_first(&mut reply).ok();
         Answered {
             delayed: Delayed::in_record(record),
+            status: compound_status(record),
+            first,
+            news: news_in(first, &mut reply),
         }
     }
 }
@@ -80,4 +93,20 @@ fn read_status(reply: &mut Reader<'_>) -> Result<u32, Refusal> {
     let _verifier = reply.read_opaque(MAX_AUTH_BYTES)?;
     reply.read_always(SUCCESS)?;
     reply.read_u32()
+}
+
+/// What the first result says of a session, whose bytes after its status are these.
+fn news_in(first: Option<Ran>, body: &mut Reader<'_>) -> Option<SessionNews> {
+    let first = first?;
+    read_news(first.number, first.status, body).ok()?
+}
+
+/// The first result of a COMPOUND (RFC 8881, section 16.2.1).
+fn read_first(reply: &mut Reader<'_>) -> Result<Ran, Refusal> {
+    let _status = read_status(reply)?;
+    let _tag = reply.read_opaque(MAX_TAG_BYTES)?;
+    let _count = reply.read_u32()?;
+    let number = reply.read_u32()?;
+    let status = reply.read_u32()?;
+    Ok(Ran { number, status })
 }

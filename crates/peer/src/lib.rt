@@ -6,11 +6,15 @@ mod delayed;
 mod inbox;
 mod pace;
 mod peer;
+mod ran;
 mod reply;
+mod session_news;
 mod stream;
 
 pub use delayed::{Answered, Delayed, compound_status};
 pub use inbox::Inbox;
 pub use pace::Pace;
 pub use peer::{Peer, Step};
+pub use ran::Ran;
+pub use session_news::SessionNews;
 pub use stream::Stream;

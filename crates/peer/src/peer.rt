@@ -98,6 +98,7 @@ impl<S: Stream + Drop> Peer<S> {
     ghost use Rattle.std.specs.Prelude.{◌≢◌, ◌≡◌, ◌||◌, ◌↔◌, [], Ok, None, IfOk, IfErr, IsErrOf, IsTrue, MatchOption};
     ghost use Rattle.std.specs.Duration.{as_nanos};
     ghost use Rattle.server.specs.Refused.{connection_at, view};
+    ghost use Rattle.system.specs.Moments.{IsMoment};
     ghost use Rattle.peer.specs.Calls.{Goes, IsEnd};
     ghost use Rattle.peer.specs.Peers.{PeerBegins, IsSame, IsSpare, WaitsFor, quiet_nanos};
     ghost use Rattle.peer.specs.Steps.{Advances, Runs, GivesNoTurn, Sends, IsReplying, IsStuck, ServesOn, EndsPeer, FailsBy};
@@ -119,6 +120,13 @@ impl<S: Stream + Drop> Peer<S> {
             heard: now,
             answered: None,
         }
+    }
+
+    /// The number of its connection.
+    pub fn connection(&self) -> usize
+        ensures { result ≡ self.now.conn }
+    {
+        self.conn
     }
 
     /// What its bytes come and go over.
@@ -214,10 +222,11 @@ impl<S: Stream + Drop> Peer<S> {
         ensures asleep { IfOk result (λ step. step ≡ Step.Stays Pace.Sleeps → IsStuck self.new) }
         // It stays, or ends
         ensures stays { (self.new.stage ≢ Stage.Ends)
-            → ServesOn D.keeps_word server.old server.new self.old self.new
-            (result ≡ Ok (Step.Stays Pace.Goes)) }
+            → ServesOn D.keeps_word (IsMoment (C.shows clock.now)) server.old server.new
+            self.old self.new (result ≡ Ok (Step.Stays Pace.Goes)) }
         ensures ends { self.new.stage ≡ Stage.Ends
-            → EndsPeer D.keeps_word server.old server.new self.old self.new }
+            → EndsPeer D.keeps_word (IsMoment (C.shows clock.now)) server.old server.new
+            self.old self.new }
         ensures ended { IfOk result (λ step. step ≡ Step.Ended
             → (self.new.stage ≡ Stage.Ends)
             × (connection_at (view server.new) self.new.conn ≡ None)) }
@@ -242,7 +251,8 @@ impl<S: Stream + Drop> Peer<S> {
         D: Device,
         C: WallClock,
         ensures asleep { IfOk result (λ pace. pace ≡ Pace.Sleeps → IsStuck self.new) }
-        ensures does { Advances D.keeps_word server.old server.new self.old self.new result }
+        ensures does { Advances D.keeps_word (IsMoment (C.shows clock.now)) server.old server.new
+            self.old self.new result }
         ensures ends { self.new.stage ≡ Stage.Ends → IsErrOf result Parting.Peer }
     {
         match self.stage {
@@ -265,7 +275,8 @@ impl<S: Stream + Drop> Peer<S> {
         C: WallClock,
         requires { self.old.stage ≡ Stage.Gathers }
         ensures asleep { IfOk result (λ pace. pace ≡ Pace.Sleeps → IsStuck self.new) }
-        ensures does { Advances D.keeps_word server.old server.new self.old self.new result }
+        ensures does { Advances D.keeps_word (IsMoment (C.shows clock.now)) server.old server.new
+            self.old self.new result }
     {
         if self.inbox.is_empty() {
             return self.receive(server, clock, now);
@@ -286,7 +297,8 @@ impl<S: Stream + Drop> Peer<S> {
         requires empty { self.old.inbox ≡ [] }
         requires gathers { self.old.stage ≡ Stage.Gathers }
         ensures asleep { IfOk result (λ pace. pace ≡ Pace.Sleeps → IsStuck self.new) }
-        ensures does { Advances D.keeps_word server.old server.new self.old self.new result }
+        ensures does { Advances D.keeps_word (IsMoment (C.shows clock.now)) server.old server.new
+            self.old self.new result }
     {
         if !self.can_read {
             return Ok(Pace::Sleeps);
@@ -316,7 +328,8 @@ impl<S: Stream + Drop> Peer<S> {
         C: WallClock,
         requires { self.old.stage ≡ Stage.Gathers }
         ensures asleep { IfOk result (λ pace. pace ≡ Pace.Sleeps → IsStuck self.new) }
-        ensures does { Advances D.keeps_word server.old server.new self.old self.new result }
+        ensures does { Advances D.keeps_word (IsMoment (C.shows clock.now)) server.old server.new
+            self.old self.new result }
     {
         let taken = calls::feed(server, self.conn, self.inbox.bytes())?;
         self.inbox.consume(taken);
@@ -337,7 +350,8 @@ impl<S: Stream + Drop> Peer<S> {
         C: WallClock,
         requires { self.old.stage ≡ Stage.Runs }
         ensures asleep { IfOk result (λ pace. pace ≡ Pace.Sleeps → IsStuck self.new) }
-        ensures does { Runs D.keeps_word server.old server.new self.old self.new result }
+        ensures does { Runs D.keeps_word (IsMoment (C.shows clock.now)) server.old server.new
+            self.old self.new result }
     {
         let Ok(at) = moment(clock) else {
             return Err(Parting::Clock);
@@ -413,7 +427,8 @@ impl<S: Stream + Drop> Peer<S> {
         ensures stage { self.new.stage ≡ Stage.Ends }
         ensures same { (self.new.stream ≡ self.old.stream) × (self.new.inbox ≡ self.old.inbox)
             × (self.new.conn ≡ self.old.conn) }
-        ensures hung { Goes D.keeps_word server.old server.new (IsEnd self.old.conn) }
+        ensures hung { Goes D.keeps_word server.old server.new
+            (IsEnd (IsMoment (C.shows clock.now)) self.old.conn) }
         ensures ended { IfOk result (λ step. step ≡ Step.Ended
             → connection_at (view server.new) self.old.conn ≡ None) }
         ensures failed { IfErr result (FailsBy server.new) }

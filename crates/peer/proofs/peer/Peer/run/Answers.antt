@@ -20,13 +20,13 @@ returns-in_err-turn-clause-does g c =
 
 pub returns-in-Idle-clause-does : goal.returns-in-Idle-clause-does
 returns-in-Idle-clause-does g c =
-    turn_alone c.args.self.now _ _ _ c.in_ok-turn.ensures.ok refl refl refl (rw c.requires refl) (λ is. let never : ⊥ = cc in never)
+    turn_alone c.args.self.now _ _ _ c.in-Ok.ensures c.in_ok-turn.ensures.ok refl refl refl (rw c.requires refl) (λ is. let never : ⊥ = cc in never)
 
 pub returns-in-Ran-clause-does : goal.returns-in-Ran-clause-does
 returns-in-Ran-clause-does g c =
-    turn_alone c.args.self.now _ _ _ c.in_ok-turn.ensures.ok refl refl refl refl (λ is. let was = c.requires in let never : ⊥ = cc in never)
+    turn_alone c.args.self.now _ _ _ c.in-Ok.ensures c.in_ok-turn.ensures.ok refl refl refl refl (λ is. let was = c.requires in let never : ⊥ = cc in never)
 
 pub returns-in-Answered-clause-does : goal.returns-in-Answered-clause-does
 returns-in-Answered-clause-does g c =
-    reply_then c.args.self.now c.args.self.now c.take_reply.new.self _ _ c.take_reply.result c.in_ok-turn.ensures.ok refl refl refl refl
+    reply_then c.args.self.now c.args.self.now c.take_reply.new.self _ _ c.take_reply.result c.in-Ok.ensures c.in_ok-turn.ensures.ok refl refl refl refl
     (λ is. let was = c.requires in let never : ⊥ = cc in never) c.take_reply.ensures.does
