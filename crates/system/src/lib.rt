@@ -20,5 +20,5 @@ pub use settings::standard_settings;
 pub use size::VolumeSize;
 pub use time::{WallClock, moment};
 pub use volume_file::{
-    check_file, check_volume, format_file, open_refusal, open_volume, open_volume_to_read,
+    begins_as_volume, check_file, format_file, open_refusal, open_volume, open_volume_to_read,
 };

@@ -7,7 +7,9 @@ use fs::{Checked, Fs};
 use server::{Server, is_volume_size};
 use std::fs::{File, metadata};
 use std::io::{ErrorKind, Write};
+use std::os::unix::fs::FileExt;
 use std::rt::Files;
+use volume::superblock::MAGIC;
 
 /// Makes a file a new volume, and prints that it has.
 ///
@@ -55,12 +57,36 @@ where
 ///
 /// # Errors
 /// Those of [`open_volume_to_read`], and those of the mount.
-pub fn check_volume<R>(rt: &R, file: &str) -> Result<Checked, Refused>
+fn check_volume<R>(rt: &R, file: &str) -> Result<Checked, Refused>
 where
     R: Files<File = File> + AllocGlobal,
 {
     let mut device = open_volume_to_read(rt, file)?;
     Ok(Fs::check(rt.alloc(), &mut device)?)
+}
+
+/// Whether a file begins as a volume does, of whatever version and size, sound or damaged.
+///
+/// # Errors
+/// Open if the file cannot be opened to be read; Io.
+pub fn begins_as_volume<R>(rt: &R, file: &str) -> Result<bool, Refused>
+where
+    R: Files<File = File>,
+{
+    // To open a pipe for reading waits for its writer.
+    if !is_file(rt, file)? {
+        return Ok(false);
+    }
+    let opened = match File::open(rt, file) {
+        Ok(opened) => opened,
+        Err(error) => return Err(open_refusal(error.kind())),
+    };
+    let mut front = [0; MAGIC.len()];
+    match opened.read_exact_at(&mut front, 0) {
+        Ok(()) => Ok(front == MAGIC),
+        Err(error) if error.kind() == ErrorKind::UnexpectedEof => Ok(false),
+        Err(error) => Err(error.into()),
+    }
 }
 
 /// The volume in a file, which nobody else has meanwhile.
