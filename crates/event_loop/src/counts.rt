@@ -1,7 +1,8 @@
 //! What is counted while a volume is served.
 
 use crate::counted::Bytes;
-use peer::{Answered, Delayed};
+use crate::operations::Operations;
+use peer::{Answered, Delayed, Ran};
 use std::time::Instant;
 
 /// What was counted since the start.
@@ -16,6 +17,12 @@ pub struct Counts {
     pub exchange_ids_delayed: u64,
     pub create_sessions_delayed: u64,
     pub opens_delayed: u64,
+    /// Operations that ran.
+    pub operations: Operations,
+    /// Changes of the tree.
+    pub changes: u64,
+    /// Steps of peers and checkpoints in which the device was synced.
+    pub flushes: u64,
     /// When a request was answered last.
     pub last_answer: Option<Instant>,
     /// Bytes that came and went.
@@ -32,6 +39,9 @@ impl Counts {
             exchange_ids_delayed: 0,
             create_sessions_delayed: 0,
             opens_delayed: 0,
+            operations: Operations::NONE,
+            changes: 0,
+            flushes: 0,
             last_answer: None,
             bytes: Bytes::NONE,
         }
@@ -49,6 +59,22 @@ impl Counts {
         raise(&mut self.closed);
     }
 
+    /// Counts a flush, if the device's syncs have become more.
+    pub fn sync(&mut self, before: u64, after: u64) {
+        if before < after {
+            raise(&mut self.flushes);
+        }
+    }
+
+    /// Adds `count` changes.
+    pub fn change(&mut self, count: u32) {
+        self.changes = self.changes.saturating_add(u64::from(count));
+    }
+
+    pub fn run(&mut self, ran: Ran) {
+        self.operations.count(ran);
+    }
+
     pub fn answer(&mut self, answered: Answered, now: Instant) {
         raise(&mut self.answered);
         self.last_answer = Some(now);
@@ -61,6 +87,7 @@ impl Counts {
     }
 }
 
-fn raise(count: &mut u64) {
+/// Counts one more.
+pub fn raise(count: &mut u64) {
     *count = count.saturating_add(1);
 }

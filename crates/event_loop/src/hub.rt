@@ -2,7 +2,8 @@
 
 use crate::counts::Counts;
 use crate::door::{Arrival, Door};
-use crate::line::Line;
+use crate::glance::{Glance, has_replayed, syncs_of};
+use crate::line::{Line, Session, Start};
 use crate::lines::Lines;
 use crate::page::{State, page_of};
 use crate::readiness::tell_ready;
@@ -11,7 +12,8 @@ use crate::sockets::Sockets;
 use crate::told::Told;
 use crate::watched::Watched;
 use crate::{calls, seating};
-use peer::{Answered, Pace, Step};
+use model_tree::status::Status;
+use peer::{Answered, Pace, SessionNews, Step};
 use server::{MAX_CONNECTIONS, Server};
 use std::alloc::Global;
 use std::env::Env;
@@ -78,10 +80,21 @@ where
 {
     let mut hub = hub;
     for _ in 0..u64::MAX {
-        hub.run(rt, lines)?;
-        hub = hub.begin_anew(rt, lines)?;
+        match hub.run(rt, lines)? {
+            End::Alone => hub = hub.begin_anew(rt, lines)?,
+            End::Served => break,
+        }
     }
     Ok(())
+}
+
+/// Why a run of the loop ends.
+#[derive(Clone, Copy, PartialEq, Eq)]
+pub enum End {
+    /// No peer has been there for as long as the settings say.
+    Alone,
+    /// All connections that were to be served have been.
+    Served,
 }
 
 /// A mounted volume, and the peers that it is served to.
@@ -111,8 +124,25 @@ impl<D: Watched> Hub<D> {
     where
         R: Net + AllocGlobal,
     {
-        let sockets = Sockets::new(rt, door, settings.metrics)?;
+        let sockets = Sockets::new(rt, door, &settings)?;
         Hub::over(rt.alloc(), device, sockets, settings)
+    }
+
+    /// A loop over a server that is [mounted](calls::mounted) already.
+    ///
+    /// # Errors
+    /// Io where the system tells of no changes; Memory.
+    pub fn of<R>(
+        rt: &R,
+        server: Server<D>,
+        door: Door,
+        settings: Settings,
+    ) -> Result<Hub<D>, Refused>
+    where
+        R: Net + AllocGlobal,
+    {
+        let sockets = Sockets::new(rt, door, &settings)?;
+        Ok(Hub::with(server, sockets, settings))
     }
 
     fn over(
@@ -122,7 +152,11 @@ impl<D: Watched> Hub<D> {
         settings: Settings,
     ) -> Result<Hub<D>, Refused> {
         let server = calls::mounted(alloc, device, settings.of_server(alloc)?)?;
-        Ok(Hub {
+        Ok(Hub::with(server, sockets, settings))
+    }
+
+    fn with(server: Server<D>, sockets: Sockets, settings: Settings) -> Hub<D> {
+        Hub {
             server,
             sockets,
             told: Told::new(),
@@ -132,7 +166,7 @@ impl<D: Watched> Hub<D> {
             has_seat: true,
             alone_since: None,
             settings,
-        })
+        }
     }
 
     /// How often the volume was mounted.
@@ -149,6 +183,7 @@ impl<D: Watched> Hub<D> {
     pub fn counts(&self) -> Counts {
         let mut counts = self.counts;
         counts.bytes = self.sockets.bytes();
+        counts.change(self.server.change_count());
         counts
     }
 
@@ -161,6 +196,7 @@ impl<D: Watched> Hub<D> {
             sessions: self.server.session_count(),
             opens: self.server.open_count(),
             seats: seating::count(&self.server),
+            room: self.server.room(),
             calls: self.server.device().calls(),
         }
     }
@@ -182,7 +218,13 @@ impl<D: Watched> Hub<D> {
     {
         let now = Instant::now(rt)?;
         let run = self.restart_count();
-        lines.tell(&Line::Begins { title, run }, now);
+        let replayed = has_replayed(&self.server);
+        let start = Start {
+            title,
+            run,
+            replayed,
+        };
+        lines.tell(&Line::Begins(start), now);
         if self.settings.free_seats {
             self.free_seats(rt, lines)?;
         }
@@ -208,6 +250,8 @@ impl<D: Watched> Hub<D> {
             settings,
             ..
         } = self;
+        let mut counts = counts;
+        counts.change(server.change_count());
         let mut hub = Hub::over(rt.alloc(), server.into_device(), sockets, settings)?;
         hub.told = told;
         hub.counts = counts;
@@ -229,30 +273,34 @@ impl<D: Watched> Hub<D> {
         seating::free_dead_seats(rt.alloc(), &mut self.server, at, lines, now)
     }
 
-    /// Serves until no peer has been there for as long as was given.
+    /// Serves until no peer has been there for as long as was given, or all have been served.
     ///
     /// # Errors
     /// Those of `go_on`.
-    pub fn run<R, E>(&mut self, rt: &R, lines: &mut Lines<E>) -> Result<(), Refused>
+    pub fn run<R, E>(&mut self, rt: &R, lines: &mut Lines<E>) -> Result<End, Refused>
     where
         R: Clock + AllocGlobal,
         E: Write + Drop,
     {
         for _ in 0..u64::MAX {
+            if self.sockets.are_done() {
+                return Ok(End::Served);
+            }
             let timeout = self.timeout(Instant::now(rt)?);
             if timeout == Some(Duration::ZERO) && self.pace != Pace::Goes {
                 break;
             }
             self.go_on(rt, timeout, lines)?;
         }
-        Ok(())
+        Ok(End::Alone)
     }
 
     /// Waits for the system for so long at most; then connections that wait are given places, and
     /// each peer has one step, with one operation of a request at most. Answers how soon to go on.
     ///
     /// # Errors
-    /// Device where the device fails; Io where the clock does, or the system's telling of changes.
+    /// Device where the device fails; Io where the clock does, or the system's telling of changes;
+    /// Io and Memory where the listening socket does, if connections are served in turn.
     pub fn go_on<R, E>(
         &mut self,
         rt: &R,
@@ -291,7 +339,9 @@ impl<D: Watched> Hub<D> {
     /// Makes a checkpoint, if something has changed since the last one.
     fn rest(&mut self) -> Result<(), Refused> {
         if !self.is_rested {
+            let syncs = syncs_of(&self.server);
             calls::checkpoint(&mut self.server)?;
+            self.counts.sync(syncs, syncs_of(&self.server));
             self.is_rested = true;
         }
         Ok(())
@@ -304,7 +354,7 @@ impl<D: Watched> Hub<D> {
         E: Write + Drop,
     {
         let mut pace = self.show_counts(rt.alloc(), now);
-        pace = pace.or(self.receive(now, lines));
+        pace = pace.or(self.receive(now, lines)?);
         pace = pace.or(self.welcome(rt, now, lines)?);
         for key in 0..MAX_CONNECTIONS {
             pace = pace.or(self.step(key, rt, now, lines)?);
@@ -336,18 +386,19 @@ impl<D: Watched> Hub<D> {
     }
 
     /// Accepts the connections that the system has. Those that are served wait for a place.
-    fn receive<E>(&mut self, now: Instant, lines: &mut Lines<E>) -> Pace
+    fn receive<E>(&mut self, now: Instant, lines: &mut Lines<E>) -> Result<Pace, Refused>
     where
         E: Write + Drop,
     {
         for _ in 0..MAX_ARRIVALS {
             match self.sockets.accept() {
                 Ok(Some(arrival)) => self.meet(arrival, now, lines),
-                Ok(None) => return Pace::Sleeps,
-                Err(_) => return Pace::Pauses,
+                Ok(None) => return Ok(Pace::Sleeps),
+                Err(error) if self.sockets.end_by(&error) => return Err(error.into()),
+                Err(_) => return Ok(Pace::Pauses),
             }
         }
-        Pace::Goes
+        Ok(Pace::Goes)
     }
 
     /// Has a connection wait for a place, if it is served.
@@ -439,9 +490,15 @@ impl<D: Watched> Hub<D> {
             return Ok(Pace::Sleeps);
         };
         let from = place.from;
+        let before = Glance::of(&self.server, place.peer.connection());
         let step = place.peer.step(&mut self.server, clock, now)?;
-        if let Some(answered) = place.peer.take_answered() {
+        let answered = place.peer.take_answered();
+        before.count(&self.server, answered, &mut self.counts);
+        if let Some(answered) = answered {
             self.note(answered, from, now, lines);
+            if let Some(news) = answered.news {
+                self.note_session(key, news, now, lines);
+            }
         }
         match step {
             Step::Stays(pace) => Ok(pace),
@@ -463,7 +520,38 @@ impl<D: Watched> Hub<D> {
         {
             lines.tell(&Line::ComesAgain { operation, from }, now);
         }
+        if answered.status == Some(Status::NoSpc.code()) && self.told.no_space.is_due(now) {
+            lines.tell(&Line::NoSpace(self.server.room()), now);
+        }
         self.note_seats(now, lines);
+    }
+
+    /// Tells the operator of a session that began or ended, and remembers whose the connection is.
+    fn note_session<E>(&mut self, key: usize, news: SessionNews, now: Instant, lines: &mut Lines<E>)
+    where
+        E: Write + Drop,
+    {
+        let Some(place) = self.sockets.place(key) else {
+            return;
+        };
+        let from = place.from;
+        match news {
+            SessionNews::Used { client } => place.client = Some(client),
+            SessionNews::Created { client, persistent } => {
+                place.client = Some(client);
+                let owner = owner_of(&self.server, Some(client));
+                let session = Session {
+                    owner,
+                    from,
+                    persistent,
+                };
+                lines.tell(&Line::SessionBegins(session), now);
+            }
+            SessionNews::Ended => {
+                let owner = owner_of(&self.server, place.client);
+                lines.tell(&Line::SessionEnds { owner, from }, now);
+            }
+        }
     }
 
     /// Tells the operator when the last seat was taken.
@@ -492,5 +580,13 @@ impl<D: Watched> Hub<D> {
                 self.alone_since = Some(now);
             }
         }
+    }
+}
+
+/// The owner id of this client; none if it has no record.
+fn owner_of<D: Watched>(server: &Server<D>, client: Option<u64>) -> &[u8] {
+    match client {
+        Some(client) => server.owner(client).unwrap_or(&[]),
+        None => &[],
     }
 }

@@ -1,7 +1,7 @@
 //! What an operator is told, a line an event.
 
 use peer::Delayed;
-use server::MAX_CONNECTIONS;
+use server::{MAX_CONNECTIONS, Room};
 use std::fmt;
 use std::fmt::{Display, Formatter, Write};
 use std::net::SocketAddr;
@@ -23,11 +23,8 @@ pub enum Gravity {
 /// A line.
 #[derive(Clone, Copy)]
 pub enum Line<'a> {
-    /// What is served, in which run.
-    Begins {
-        title: &'a str,
-        run: u32,
-    },
+    /// Serving begins.
+    Begins(Start<'a>),
     /// Where connections are accepted.
     Listens(SocketAddr),
     /// A new run has begun.
@@ -56,6 +53,15 @@ pub enum Line<'a> {
         operation: Delayed,
         from: SocketAddr,
     },
+    /// A client has a session.
+    SessionBegins(Session<'a>),
+    /// A client has ended its session.
+    SessionEnds {
+        owner: &'a [u8],
+        from: SocketAddr,
+    },
+    /// A change was refused, as the volume has no room for it.
+    NoSpace(Room),
     /// A seat is taken.
     Seat {
         number: usize,
@@ -73,6 +79,24 @@ pub enum Line<'a> {
     Fails(Refused),
 }
 
+/// What is served, in which run.
+#[derive(Clone, Copy)]
+pub struct Start<'a> {
+    pub title: &'a str,
+    pub run: u32,
+    /// Whether the mount replayed the log.
+    pub replayed: bool,
+}
+
+/// A client's session.
+#[derive(Clone, Copy)]
+pub struct Session<'a> {
+    /// The client's owner id.
+    pub owner: &'a [u8],
+    pub from: SocketAddr,
+    pub persistent: bool,
+}
+
 impl Line<'_> {
     pub fn gravity(&self) -> Gravity {
         match self {
@@ -82,12 +106,15 @@ impl Line<'_> {
             | Line::NotAllowed(_)
             | Line::ComesAgain { .. }
             | Line::SeatStays { .. }
+            | Line::NoSpace(_)
             | Line::NoSeat => Gravity::Warning,
-            Line::Begins { .. }
+            Line::Begins(_)
             | Line::Listens(_)
             | Line::Run(_)
             | Line::Comes { .. }
             | Line::Goes { .. }
+            | Line::SessionBegins(_)
+            | Line::SessionEnds { .. }
             | Line::Seat { .. } => Gravity::Note,
         }
     }
@@ -107,7 +134,7 @@ impl Gravity {
 impl Display for Line<'_> {
     fn fmt<W: Write>(&self, f: &mut Formatter<W>) -> fmt::Result {
         match *self {
-            Line::Begins { title, run } => write!(f, "{title}, run {run}"),
+            Line::Begins(start) => start.fmt(f),
             Line::Listens(address) => write!(f, "listening on {address}"),
             Line::Run(run) => write!(f, "run {run}"),
             Line::Comes { from, taken } => {
@@ -124,6 +151,14 @@ impl Display for Line<'_> {
             Line::ComesAgain { operation, from } => {
                 write!(f, "told to come again: {operation}, {from}")
             }
+            Line::SessionBegins(session) => session.fmt(f),
+            Line::SessionEnds { owner, from } => {
+                write!(f, "session of {}, {from}, ended", Escaped(owner))
+            }
+            Line::NoSpace(Room { sectors, nodes }) => write!(
+                f,
+                "no space for a change: {sectors} sectors, {nodes} nodes left"
+            ),
             Line::Seat { number, owner, run } => {
                 write!(f, "seat {number}: {}, session of run {run}", Escaped(owner))
             }
@@ -133,6 +168,22 @@ impl Display for Line<'_> {
             Line::NoSeat => f.write_str("no seat is free: new clients get no persistent session"),
             Line::Fails(refused) => write!(f, "serving ended: {refused}"),
         }
+    }
+}
+
+impl Display for Start<'_> {
+    fn fmt<W: Write>(&self, f: &mut Formatter<W>) -> fmt::Result {
+        let Start { title, run, .. } = *self;
+        let replayed = if self.replayed { ", log replayed" } else { "" };
+        write!(f, "{title}, run {run}{replayed}")
+    }
+}
+
+impl Display for Session<'_> {
+    fn fmt<W: Write>(&self, f: &mut Formatter<W>) -> fmt::Result {
+        let from = self.from;
+        let persistent = if self.persistent { ", persistent" } else { "" };
+        write!(f, "session of {}, {from}{persistent}", Escaped(self.owner))
     }
 }
 

@@ -3,6 +3,7 @@
 use crate::counts::Counts;
 use disk::Counts as Calls;
 use metrics::{Kind, Page};
+use server::Room;
 use std::alloc::{AllocError, Global};
 use std::time::Instant;
 
@@ -15,6 +16,7 @@ pub struct State {
     pub sessions: usize,
     pub opens: usize,
     pub seats: usize,
+    pub room: Room,
     /// How often the device was called, if it counts.
     pub calls: Option<Calls>,
 }
@@ -30,14 +32,15 @@ pub fn page_of(
     show_state(&mut page, state)?;
     show_connections(&mut page, counts)?;
     show_requests(&mut page, counts, now)?;
+    counts.operations.show(&mut page)?;
     if let Some(calls) = &state.calls {
-        show_calls(&mut page, calls)?;
+        show_calls(&mut page, calls, counts.flushes)?;
     }
     Ok(page)
 }
 
 fn show_state(page: &mut Page, state: &State) -> Result<(), AllocError> {
-    let gauges: [(&str, &str, u64); 6] = [
+    let gauges: [(&str, &str, u64); 8] = [
         (
             "nfs41_run",
             "Restart count of the volume.",
@@ -55,6 +58,16 @@ fn show_state(page: &mut Page, state: &State) -> Result<(), AllocError> {
             "nfs41_seats",
             "Seats of persistent sessions that are taken.",
             state.seats as u64,
+        ),
+        (
+            "nfs41_free_sectors",
+            "Sectors of 4,096 bytes that are left for files and directories.",
+            state.room.sectors,
+        ),
+        (
+            "nfs41_free_nodes",
+            "Files and directories that can still be made.",
+            state.room.nodes,
         ),
     ];
     for (name, help, value) in gauges {
@@ -104,6 +117,12 @@ fn show_requests(page: &mut Page, counts: &Counts, now: Instant) -> Result<(), A
         "Requests that were answered.",
         counts.answered,
     )?;
+    page.metric(
+        Kind::Counter,
+        "nfs41_changes_total",
+        "Changes of files and directories.",
+        counts.changes,
+    )?;
     let name = "nfs41_delayed_total";
     page.begin(
         Kind::Counter,
@@ -134,7 +153,13 @@ fn show_requests(page: &mut Page, counts: &Counts, now: Instant) -> Result<(), A
     Ok(())
 }
 
-fn show_calls(page: &mut Page, calls: &Calls) -> Result<(), AllocError> {
+fn show_calls(page: &mut Page, calls: &Calls, flushes: u64) -> Result<(), AllocError> {
+    page.metric(
+        Kind::Counter,
+        "nfs41_flushes_total",
+        "Steps of connections and checkpoints in which the volume's file was synced.",
+        flushes,
+    )?;
     let name = "nfs41_device_calls_total";
     page.begin(
         Kind::Counter,

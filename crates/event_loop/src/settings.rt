@@ -1,5 +1,6 @@
 //! How a volume is served.
 
+use crate::admission::Admission;
 use crate::guests::Guests;
 use server::{NameFault, ServerName};
 use std::alloc::Global;
@@ -22,6 +23,8 @@ pub struct Settings {
     pub free_seats: bool,
     /// Whether full tables give up unconfirmed records and dead seats for who asks.
     pub yields_when_full: bool,
+    /// Which connections are accepted, and when.
+    pub admission: Admission,
     /// Whose connections are served.
     pub guests: Guests,
     /// Whether the operator is told of failures only.
@@ -31,6 +34,22 @@ pub struct Settings {
 }
 
 impl Settings {
+    /// Those of a server of the standard name that serves anybody and is told nothing: sessions may
+    /// be persistent, and full tables give up nothing.
+    pub fn standard(alloc: Global) -> Settings {
+        Settings {
+            forget_after: None,
+            name: Vec::new(alloc),
+            persistent: true,
+            free_seats: false,
+            yields_when_full: false,
+            admission: Admission::Together,
+            guests: Guests::anybody(alloc),
+            quiet: true,
+            metrics: None,
+        }
+    }
+
     /// Those of the server.
     pub fn of_server(&self, alloc: Global) -> Result<server::Settings, Refused> {
         Ok(server::Settings {

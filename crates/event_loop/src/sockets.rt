@@ -1,9 +1,11 @@
 //! The sockets of a server: the door, its peers, and what the system tells of them.
 
+use crate::admission::Admission;
 use crate::counted::{Bytes, Counted};
 use crate::door::{Arrival, Door};
 use crate::monitor::{MONITOR, Monitor, VISITOR};
 use crate::origin::Origin;
+use crate::settings::Settings;
 use mio::event::Event;
 use mio::net::TcpStream;
 use mio::{Events, Interest, Poll, Token};
@@ -30,6 +32,8 @@ pub struct Sockets {
     poll: Poll,
     events: Events,
     door: Door,
+    /// Which connections are still accepted.
+    admission: Admission,
     /// Where counts are asked for.
     monitor: Option<Monitor>,
     places: Slab<Place>,
@@ -42,6 +46,8 @@ pub struct Sockets {
 pub struct Place {
     pub peer: Peer<Counted>,
     pub from: SocketAddr,
+    /// The client whose session it used last.
+    pub client: Option<u64>,
 }
 
 impl Place {
@@ -59,14 +65,14 @@ struct Rank {
 }
 
 impl Sockets {
-    /// A door, an address at which counts are served, if there is one, and no peer yet.
+    /// A door, the address at which the settings have counts served, and no peer yet.
     pub fn new<R: Net + AllocGlobal>(
         rt: &R,
         door: Door,
-        metrics: Option<SocketAddr>,
+        settings: &Settings,
     ) -> Result<Sockets, Refused> {
         let poll = Poll::new(rt)?;
-        let monitor = match metrics {
+        let monitor = match settings.metrics {
             Some(address) => Some(Monitor::listen(rt, address, &poll)?),
             None => None,
         };
@@ -75,6 +81,7 @@ impl Sockets {
             monitor,
             events: Events::with_capacity(rt.alloc(), MAX_EVENTS)?,
             door,
+            admission: settings.admission,
             places: Slab::with_capacity(rt.alloc(), MAX_CONNECTIONS)?,
             bytes: Bytes::NONE,
         };
@@ -123,12 +130,34 @@ impl Sockets {
         !self.door.waiting().is_empty()
     }
 
-    /// The next connection that the system has, if there is one.
+    /// The next connection that the system has, if there is one and it is to be accepted now.
     ///
     /// # Errors
     /// The system may give one later.
     pub fn accept(&mut self) -> io::Result<Option<Arrival>> {
-        self.door.accept()
+        if !self.admission.admits(self.count()) {
+            return Ok(None);
+        }
+        let arrival = self.door.accept()?;
+        if arrival.is_some() {
+            self.admission = self.admission.after_one();
+        }
+        Ok(arrival)
+    }
+
+    /// How many connections are served or wait for a place.
+    fn count(&self) -> usize {
+        self.places.len().saturating_add(self.door.waiting().len())
+    }
+
+    /// Whether all connections that were to be served have been.
+    pub fn are_done(&self) -> bool {
+        self.admission.is_over() && self.count() == 0
+    }
+
+    /// Whether serving ends by this failure of the listening socket.
+    pub fn end_by(&self, error: &io::Error) -> bool {
+        self.admission.ends_by(error)
     }
 
     /// Has a connection wait for a place. If too many do, one is handed out.
@@ -225,7 +254,11 @@ impl Sockets {
         let stream = registered(&self.poll, stream, token)?;
         let peer = Peer::new(conn, Counted::new(stream), inbox, now);
         // There is room, so this takes no memory.
-        match self.places.insert(Place { peer, from }) {
+        match self.places.insert(Place {
+            peer,
+            from,
+            client: None,
+        }) {
             Ok(_) => Some(from),
             Err(_) => None,
         }

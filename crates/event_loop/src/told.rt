@@ -41,6 +41,7 @@ pub struct Told {
     pub not_allowed: Reminder,
     pub turned_away: Reminder,
     pub no_seat: Reminder,
+    pub no_space: Reminder,
 }
 
 impl Told {
@@ -53,6 +54,7 @@ impl Told {
             not_allowed: Reminder::new(),
             turned_away: Reminder::new(),
             no_seat: Reminder::new(),
+            no_space: Reminder::new(),
         }
     }
 

@@ -2,7 +2,6 @@
 //! and runs scripts of clients against a server.
 #![tactic(auto)]
 
-mod host;
 mod process;
 mod run;
 mod serve;
