@@ -10,7 +10,19 @@ pub const FORMAT: &str = "format";
 
 pub const CHECK: &str = "check";
 
+pub const LS: &str = "ls";
+
+pub const GET: &str = "get";
+
+pub const TAR: &str = "tar";
+
+pub const PUT: &str = "put";
+
 pub const FILE: &str = "FILE";
+
+pub const PATH: &str = "PATH";
+
+pub const ARCHIVE: &str = "TAR";
 
 pub const ADDRESS: &str = "ADDRESS:PORT";
 
@@ -42,14 +54,21 @@ pub fn command<'a>(alloc: Global) -> Result<Command<'a>, AllocError> {
         .bin_name("nfs41d")?
         .no_binary_name(true)
         .version(VERSION)
-        .about("Serves the volume in a file by NFS 4.1, formats volumes and checks them.")
+        .about(
+            "Serves the volume in a file by NFS 4.1; formats volumes and checks them; gets files \
+             out of a volume that is not served, and into an empty one.",
+        )
         .args_conflicts_with_subcommands(true)
         .subcommand_negates_reqs(true)
         .disable_help_subcommand(true);
     with_serving(alloc, command)?
         .subcommand(serve(alloc)?)?
         .subcommand(format(alloc)?)?
-        .subcommand(check(alloc)?)
+        .subcommand(check(alloc)?)?
+        .subcommand(ls(alloc)?)?
+        .subcommand(get(alloc)?)?
+        .subcommand(tar(alloc)?)?
+        .subcommand(put(alloc)?)
 }
 
 fn serve<'a>(alloc: Global) -> Result<Command<'a>, AllocError> {
@@ -72,6 +91,33 @@ fn check<'a>(alloc: Global) -> Result<Command<'a>, AllocError> {
     Command::new(alloc, CHECK)
         .about("Print what a mount would find, and write nothing")
         .arg(word(alloc, FILE, "The volume"))
+}
+
+fn ls<'a>(alloc: Global) -> Result<Command<'a>, AllocError> {
+    Command::new(alloc, LS)
+        .about("List a directory of a volume, or a file, as ls -l does")
+        .arg(word(alloc, FILE, "The volume, which is not written"))?
+        .arg(word(alloc, PATH, "The path within the volume, as / or /home/a"))
+}
+
+fn get<'a>(alloc: Global) -> Result<Command<'a>, AllocError> {
+    Command::new(alloc, GET)
+        .about("Write the bytes of a file of a volume to the standard output")
+        .arg(word(alloc, FILE, "The volume, which is not written"))?
+        .arg(word(alloc, PATH, "The path of the file within the volume"))
+}
+
+fn tar<'a>(alloc: Global) -> Result<Command<'a>, AllocError> {
+    Command::new(alloc, TAR)
+        .about("Write all of a volume to the standard output, as a tar archive")
+        .arg(word(alloc, FILE, "The volume, which is not written"))
+}
+
+fn put<'a>(alloc: Global) -> Result<Command<'a>, AllocError> {
+    Command::new(alloc, PUT)
+        .about("Put all that a tar archive has into an empty volume")
+        .arg(word(alloc, FILE, "The volume, as it was formatted"))?
+        .arg(word(alloc, ARCHIVE, "The archive; - is the standard input"))
 }
 
 /// The command with all that `serve` takes.

@@ -1,5 +1,6 @@
 //! Why the program fails.
 
+use archive::ArchiveFault;
 use disk::{CallKind, Failure};
 use std::alloc::{AllocError, AllocFailed};
 use std::fmt::{Display, Formatter, Write};
@@ -9,7 +10,7 @@ use system::{Refused, Unbegun};
 use thiserror::Error;
 
 /// Why the program fails. It prints the name.
-#[derive(Clone, Copy, Debug, Error)]
+#[derive(Debug, Drop, Error)]
 pub enum Fault {
     /// The words are no request.
     #[error("Usage")]
@@ -20,6 +21,9 @@ pub enum Fault {
     /// The volume's file failed, in this way.
     #[error("Device ({0})")]
     Device(DeviceFailure),
+    /// Nothing was listed, read or put.
+    #[error("{0}")]
+    Archive(#[from] ArchiveFault),
     /// What any program can fail by.
     #[error("{0}")]
     Refused(#[from] Refused),
@@ -61,7 +65,8 @@ impl Usage {
         match self {
             Usage::Form => {
                 "nfs41d [[serve] [OPTIONS] FILE [ADDRESS:PORT] | \
-                 format [--force] FILE SECTORS NODES | check FILE | --help | --version]"
+                 format [--force] FILE SECTORS NODES | check FILE | ls FILE PATH | \
+                 get FILE PATH | tar FILE | put FILE TAR | --help | --version]"
             }
             Usage::Nameless => {
                 "nfs41d --name NAME FILE [ADDRESS:PORT], \

@@ -4,7 +4,7 @@ use crate::fault::Fault;
 use std::fs::File;
 use std::io::Write;
 use std::rt::Files;
-use system::{Refused, VolumeSize, check_volume, format_file};
+use system::{Refused, VolumeSize, begins_as_volume, format_file};
 
 /// Makes a file a new volume; one that is a volume already only by force.
 ///
@@ -27,15 +27,14 @@ where
     Ok(format_file(rt, file, size, out)?)
 }
 
-/// Whether a file is a volume, be it sound or not.
+/// Whether a file is a volume, be it damaged or of a later version.
 fn is_volume<R>(rt: &R, file: &str) -> Result<bool, Refused>
 where
-    R: Files<File = File> + AllocGlobal,
+    R: Files<File = File>,
 {
-    match check_volume(rt, file) {
-        Ok(_) | Err(Refused::Damaged | Refused::Worn) => Ok(true),
+    match begins_as_volume(rt, file) {
         // What cannot be opened to be read is absent, or cannot be opened to be formatted either.
-        Err(Refused::NotVolume | Refused::Open) => Ok(false),
-        Err(refused) => Err(refused),
+        Err(Refused::Open) => Ok(false),
+        found => found,
     }
 }

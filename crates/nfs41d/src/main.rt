@@ -1,7 +1,9 @@
 //! The program `nfs41d`: it serves the volume in a file over TCP, to up to 16 connections at a
-//! time, until it is ended; and it formats and checks volumes.
+//! time, until it is ended; it formats and checks volumes; and it gets files out of a volume that
+//! is not served, and into an empty one.
 #![tactic(auto)]
 
+mod archives;
 mod arguments;
 mod fault;
 mod format;
@@ -10,6 +12,7 @@ mod request;
 mod serve;
 mod version;
 
+use archives::{get_file, list_path, put_archive, write_archive};
 use fault::Fault;
 use format::format_volume;
 use request::{Request, read_request};
@@ -39,5 +42,9 @@ fn obey(rt: &HostRuntime) -> Result<(), Fault> {
         Request::Serve(serving) => serve_volume(rt, serving),
         Request::Format { file, size, force } => format_volume(rt, file, size, force, &mut out),
         Request::Check { file } => Ok(check_file(rt, file, &mut out)?),
+        Request::List { file, path } => list_path(rt, file, path, out),
+        Request::Get { file, path } => get_file(rt, file, path, &mut out),
+        Request::Tar { file } => write_archive(rt, file, &mut out),
+        Request::Put { file, archive } => put_archive(rt, file, archive),
     }
 }

@@ -1,8 +1,9 @@
 //! What the words of the command line ask for.
 
 use crate::arguments::{
-    ADDRESS, ALLOW, CHECK, FILE, FORCE, FORGET_AFTER, FORMAT, FREE_SEATS, METRICS, NAME,
-    NO_PERSISTENT_SESSIONS, NODES, PRIVILEGED_PORTS, QUIET, SECTORS, SERVE, command,
+    ADDRESS, ALLOW, ARCHIVE, CHECK, FILE, FORCE, FORGET_AFTER, FORMAT, FREE_SEATS, GET, LS,
+    METRICS, NAME, NO_PERSISTENT_SESSIONS, NODES, PATH, PRIVILEGED_PORTS, PUT, QUIET, SECTORS,
+    SERVE, TAR, command,
 };
 use crate::fault::{Fault, Usage};
 use crate::name::is_name;
@@ -30,6 +31,25 @@ pub enum Request<'a> {
     /// Print what a mount would find in a file.
     Check {
         file: &'a str,
+    },
+    /// List a path of a volume.
+    List {
+        file: &'a str,
+        path: &'a str,
+    },
+    /// Write the bytes of a file of a volume.
+    Get {
+        file: &'a str,
+        path: &'a str,
+    },
+    /// Write all of a volume as an archive.
+    Tar {
+        file: &'a str,
+    },
+    /// Put what an archive has into an empty volume.
+    Put {
+        file: &'a str,
+        archive: &'a str,
     },
 }
 
@@ -73,8 +93,32 @@ fn request_in<'a>(alloc: Global, matches: &ArgMatches<'a>) -> Result<Request<'a>
         let file = word_in(words, FILE)?;
         return Ok(Request::Check { file });
     }
+    if let Some(request) = archive_request_in(matches)? {
+        return Ok(request);
+    }
     let words = matches.subcommand_matches(SERVE).unwrap_or(matches);
     Ok(Request::Serve(serving_in(alloc, words)?))
+}
+
+/// What is asked of a volume that is not served.
+fn archive_request_in<'a>(matches: &ArgMatches<'a>) -> Result<Option<Request<'a>>, Fault> {
+    if let Some(words) = matches.subcommand_matches(LS) {
+        let (file, path) = (word_in(words, FILE)?, word_in(words, PATH)?);
+        return Ok(Some(Request::List { file, path }));
+    }
+    if let Some(words) = matches.subcommand_matches(GET) {
+        let (file, path) = (word_in(words, FILE)?, word_in(words, PATH)?);
+        return Ok(Some(Request::Get { file, path }));
+    }
+    if let Some(words) = matches.subcommand_matches(TAR) {
+        let file = word_in(words, FILE)?;
+        return Ok(Some(Request::Tar { file }));
+    }
+    if let Some(words) = matches.subcommand_matches(PUT) {
+        let (file, archive) = (word_in(words, FILE)?, word_in(words, ARCHIVE)?);
+        return Ok(Some(Request::Put { file, archive }));
+    }
+    Ok(None)
 }
 
 fn format_in<'a>(words: &ArgMatches<'a>) -> Result<Request<'a>, Fault> {

@@ -5,7 +5,8 @@ use crate::name::default_name;
 use crate::request::Serving;
 use crate::version::RELEASE;
 use disk::{Device, FileDevice};
-use event_loop::{Door, Settings, serve};
+use event_loop::{Admission, Door, Settings, serve};
+use layout::versions::VersionNumber;
 use std::net::SocketAddr;
 use system::{Refused, open_volume};
 
@@ -56,7 +57,9 @@ fn door_of(rt: &HostRuntime, address: Option<SocketAddr>) -> Result<Door, Refuse
 
 /// What is served by which release.
 fn title_of(rt: &HostRuntime, file: &str, sectors: u32) -> Result<String, Refused> {
-    Ok(format!(in rt.alloc(); "nfs41d {RELEASE}, {file}, {sectors} sectors")?)
+    // A mount brings a volume of an older layout to this one.
+    let layout = VersionNumber::CURRENT.number();
+    Ok(format!(in rt.alloc(); "nfs41d {RELEASE}, {file}, layout {layout}, {sectors} sectors")?)
 }
 
 fn settings_of(serving: Serving<'_>, name: Vec<u8>) -> Settings {
@@ -66,6 +69,7 @@ fn settings_of(serving: Serving<'_>, name: Vec<u8>) -> Settings {
         persistent: serving.persistent,
         free_seats: serving.free_seats,
         yields_when_full: true,
+        admission: Admission::Together,
         guests: serving.guests,
         quiet: serving.quiet,
         metrics: serving.metrics,

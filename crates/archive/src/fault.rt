@@ -1,0 +1,187 @@
+//! Why nothing is listed, read or put.
+
+use fs::FsFault;
+use model_tree::status::Status;
+use std::alloc::{AllocError, AllocFailed};
+use std::io;
+use std::io::ErrorKind;
+use tar::{Kind, TarFault};
+use thiserror::Error;
+use volume::{MountFault, VolumeFault};
+use xdr::Refusal;
+
+/// Why nothing is listed, read or put. It prints the name.
+#[derive(Debug, Drop, Error)]
+pub enum ArchiveFault {
+    /// The volume cannot be mounted.
+    #[error("{0}")]
+    Mount(#[from] MountFault),
+    /// The archive cannot be read.
+    #[error("{0}")]
+    Tar(#[from] TarFault),
+    /// The volume that is to be filled has a name already.
+    #[error("NotEmpty")]
+    NotEmpty,
+    /// Something about this path.
+    #[error("{reason} ({path})")]
+    Path { reason: Reason, path: String },
+    /// The volume's file failed.
+    #[error("Device")]
+    Device,
+    /// What is written to failed.
+    #[error("Io")]
+    Io,
+    #[error("Memory")]
+    Memory,
+}
+
+/// What is wrong with a path, or with what an archive has under it.
+#[derive(Clone, Copy, Debug, PartialEq, Eq, Error)]
+pub enum Reason {
+    /// It leads nowhere.
+    #[error("NoEntry")]
+    NoEntry,
+    /// A name within it is a file's.
+    #[error("NotDirectory")]
+    NotDirectory,
+    /// It leads to a directory.
+    #[error("IsDirectory")]
+    IsDirectory,
+    /// No name of a volume: empty, `..`, longer than 255 bytes or not UTF-8.
+    #[error("Name")]
+    Name,
+    /// It is there already.
+    #[error("Exists")]
+    Exists,
+    /// A link, which a volume does not have.
+    #[error("Link")]
+    Link,
+    /// A device or a pipe, which a volume does not have.
+    #[error("Special")]
+    Special,
+    /// A file whose holes are left out in the archive.
+    #[error("Sparse")]
+    Sparse,
+    /// A kind of entry that is not known.
+    #[error("Kind")]
+    Kind,
+    /// An access control list that no node may have.
+    #[error("Acl")]
+    Acl,
+    /// A file of more than 16 MiB.
+    #[error("TooLarge")]
+    TooLarge,
+    /// The volume has no room.
+    #[error("NoSpace")]
+    NoSpace,
+    /// The volume's access control lists deny it.
+    #[error("Access")]
+    Access,
+    /// Anything else.
+    #[error("Refused")]
+    Refused,
+}
+
+impl Reason {
+    /// Why an entry of this kind is not put.
+    pub(crate) fn of_kind(kind: Kind) -> Reason {
+        match kind {
+            Kind::Link => Reason::Link,
+            Kind::Device => Reason::Special,
+            Kind::Sparse => Reason::Sparse,
+            Kind::File | Kind::Directory | Kind::Unknown => Reason::Kind,
+        }
+    }
+}
+
+impl From<Status> for Reason {
+    fn from(status: Status) -> Reason {
+        match status {
+            Status::Inval | Status::BadChar | Status::BadName | Status::NameTooLong => Reason::Name,
+            Status::Exist => Reason::Exists,
+            Status::NotDir => Reason::NotDirectory,
+            Status::AttrNotSupp => Reason::Acl,
+            Status::FBig => Reason::TooLarge,
+            Status::NoSpc => Reason::NoSpace,
+            Status::Access => Reason::Access,
+            _ => Reason::Refused,
+        }
+    }
+}
+
+/// Why a file system or a writer did not do a step.
+#[derive(Clone, Copy, Debug, PartialEq, Eq)]
+pub(crate) enum StepFault {
+    Reason(Reason),
+    Tar(TarFault),
+    Device,
+    Memory,
+}
+
+impl From<FsFault> for StepFault {
+    fn from(fault: FsFault) -> StepFault {
+        match fault {
+            FsFault::Status(status) => StepFault::Reason(status.into()),
+            FsFault::NoRoom => StepFault::Reason(Reason::Refused),
+            FsFault::Memory => StepFault::Memory,
+            FsFault::Device | FsFault::Down => StepFault::Device,
+        }
+    }
+}
+
+impl From<Refusal> for StepFault {
+    fn from(refusal: Refusal) -> StepFault {
+        match refusal {
+            Refusal::Memory => StepFault::Memory,
+            _ => StepFault::Reason(Reason::Acl),
+        }
+    }
+}
+
+impl From<TarFault> for StepFault {
+    fn from(fault: TarFault) -> StepFault {
+        StepFault::Tar(fault)
+    }
+}
+
+impl From<AllocError> for StepFault {
+    fn from(_: AllocError) -> StepFault {
+        StepFault::Memory
+    }
+}
+
+impl<T: Drop> From<AllocFailed<T>> for StepFault {
+    fn from(_: AllocFailed<T>) -> StepFault {
+        StepFault::Memory
+    }
+}
+
+impl From<VolumeFault> for ArchiveFault {
+    fn from(fault: VolumeFault) -> ArchiveFault {
+        match fault {
+            VolumeFault::Memory => ArchiveFault::Memory,
+            VolumeFault::Device | VolumeFault::Down | VolumeFault::NoSpace => ArchiveFault::Device,
+        }
+    }
+}
+
+impl From<AllocError> for ArchiveFault {
+    fn from(_: AllocError) -> ArchiveFault {
+        ArchiveFault::Memory
+    }
+}
+
+impl<T: Drop> From<AllocFailed<T>> for ArchiveFault {
+    fn from(_: AllocFailed<T>) -> ArchiveFault {
+        ArchiveFault::Memory
+    }
+}
+
+impl From<io::Error> for ArchiveFault {
+    fn from(error: io::Error) -> ArchiveFault {
+        match error.kind() {
+            ErrorKind::OutOfMemory => ArchiveFault::Memory,
+            _ => ArchiveFault::Io,
+        }
+    }
+}
