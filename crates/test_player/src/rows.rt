@@ -2,6 +2,7 @@
 
 mod aftermath;
 mod call;
+mod choices;
 mod crashes;
 mod cuts;
 mod direct;

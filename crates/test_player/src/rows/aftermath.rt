@@ -216,20 +216,9 @@ impl fmt::Display for Tally {
             ..
         } = self;
         let states = self.states();
-        // How many calls a mount makes is no matter of a row.
-        let failures = if *failures > 0 {
-            "failures"
-        } else {
-            "no failures"
-        };
-        let mounts = if *mounts > 0 {
-            "crashes of mounts"
-        } else {
-            "no crashes of mounts"
-        };
         write!(
             f,
-            "{crashes} crashes, {failures}, {mounts}, states {states}"
+            "{crashes} crashes, {failures} failures, {mounts} crashes of mounts, states {states}"
         )
     }
 }

@@ -32,7 +32,7 @@ pub fn crash(alloc: Global, row: &Row<'_>) -> Result<Tally, Differs> {
 /// A life has one mount, and no sockets over which a record waits.
 fn expect_one_mount(row: &Row<'_>) -> Result<(), Differs> {
     for Placed { line, step } in row.steps.iter() {
-        if matches!(step, Step::Restarts { .. } | Step::Waits { .. }) {
+        if matches!(step, Step::Restarts(_) | Step::Waits { .. }) {
             return Err(Differs {
                 line: *line,
                 difference: Difference::Record(Fault::Step),

@@ -1,6 +1,7 @@
 //! Rows on the server itself, which is given each turn.
 
 use super::call::{Call, in_order};
+use super::choices::Choices;
 use super::player::{Arrival, CONNECTIONS, Stage, new_volume};
 use super::served::Served;
 use super::step::Step;
@@ -23,7 +24,7 @@ impl Stage for Direct {
     fn begin(rt: &HostRuntime, arrival: Arrival) -> Result<Direct, Difference> {
         let alloc = rt.alloc();
         let device = new_volume(alloc, arrival.patience)?;
-        let served = connect(Served::mount(alloc, device, true, arrival.patience)?)?;
+        let served = connect(Served::mount(alloc, device, Choices::FIRST, arrival.patience)?)?;
         Ok(Direct { served, arrival })
     }
 
@@ -34,8 +35,8 @@ impl Stage for Direct {
             arrival,
         } = self;
         match step {
-            Step::Restarts { persistent } => {
-                served = connect(served.mount_anew(alloc, *persistent)?)?;
+            Step::Restarts(choices) => {
+                served = connect(served.mount_anew(alloc, *choices)?)?;
             }
             Step::Meets(calls) => {
                 meet(alloc, &mut served, &in_order(alloc, calls, arrival.order)?)?;
@@ -83,7 +84,7 @@ pub fn act(alloc: Global, served: &mut Served, step: &Step) -> Result<(), Differ
         Step::HangsUp { connection } => expect(Answer::HungUp, served.hung_up(*connection)),
         Step::Lacks { connection } => lack(served, *connection),
         // These are taken above, or are no steps of the server itself.
-        Step::Meets(_) | Step::Restarts { .. } | Step::Waits { .. } | Step::Marks(_) => Ok(()),
+        Step::Meets(_) | Step::Restarts(_) | Step::Waits { .. } | Step::Marks(_) => Ok(()),
     }
 }
 

@@ -2,6 +2,7 @@
 
 use super::aftermath::Left;
 use super::call::{Call, in_order};
+use super::choices::Choices;
 use super::direct::{act, connect, feed, meet, run_all};
 use super::player::Patience;
 use super::row::Placed;
@@ -30,7 +31,7 @@ pub fn live(
     left: Left,
     device: TrialDevice,
 ) -> Result<Life, Differs> {
-    match Served::mount(alloc, device, true, Patience::None) {
+    match Served::mount(alloc, device, Choices::FIRST, Patience::None) {
         Ok(served) => live_on(alloc, steps, left, placed(0, connect(served))?),
         Err(
             Unmounted {

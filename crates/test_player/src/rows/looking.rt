@@ -1,6 +1,7 @@
 //! What a mount finds on what a crash left.
 
 use super::aftermath::{Aftermath, Left, Look};
+use super::choices::Choices;
 use super::direct::{connect, feed, run_to_reply};
 use super::player::Patience;
 use super::served::Served;
@@ -16,7 +17,12 @@ pub fn find(
     left: Left,
     device: MemDevice,
 ) -> Result<usize, Difference> {
-    let mut served = connect(Served::mount(alloc, lasting(device), true, Patience::None)?)?;
+    let mut served = connect(Served::mount(
+        alloc,
+        lasting(device),
+        Choices::FIRST,
+        Patience::None,
+    )?)?;
     let run = served.run();
     let answers = look(alloc, &aftermath.looks, &mut served, run)?;
     match number_of(alloc, aftermath, left, &answers, run)? {

@@ -1,6 +1,7 @@
 //! Mounts of what a crash or a failure left, each of which crashes before and within its steps.
 
 use super::aftermath::{Aftermath, Left, Tally};
+use super::choices::Choices;
 use super::landings::{Tried, count_syncs};
 use super::looking::find;
 use super::player::Patience;
@@ -79,13 +80,13 @@ impl Remount<'_> {
 
 /// Begins a run on a device, and ends it.
 fn mount(alloc: Global, device: TrialDevice) -> Result<CrashDevice, Difference> {
-    let served = Served::mount(alloc, device, true, Patience::None)?;
+    let served = Served::mount(alloc, device, Choices::FIRST, Patience::None)?;
     Ok(served.into_device().into_inner())
 }
 
 /// The same of a device that crashes meanwhile.
 fn crash(alloc: Global, device: TrialDevice) -> Result<CrashDevice, Difference> {
-    match Served::mount(alloc, device, true, Patience::None) {
+    match Served::mount(alloc, device, Choices::FIRST, Patience::None) {
         Err(
             Unmounted {
                 device,

@@ -1,5 +1,6 @@
 //! A server as a row is played on it, and the calls that come again for want of memory.
 
+use super::choices::Choices;
 use super::player::Patience;
 use crate::device::TrialDevice;
 use crate::difference::{Answer, Difference};
@@ -12,10 +13,13 @@ use system::standard_settings;
 fn mounted(
     alloc: Global,
     device: TrialDevice,
-    persistent: bool,
+    choices: Choices,
 ) -> Result<Server<TrialDevice>, Unmounted<TrialDevice>> {
-    match standard_settings(alloc, persistent) {
-        Ok(settings) => Server::mount(alloc, device, settings),
+    match standard_settings(alloc, choices.persistent) {
+        Ok(mut settings) => {
+            settings.yields_when_full = choices.yields;
+            Server::mount(alloc, device, settings)
+        }
         Err(_) => Err(Unmounted {
             fault: MountFault::Memory,
             device,
@@ -33,20 +37,20 @@ pub struct Served {
 }
 
 impl Served {
-    /// Mounts a device, with persistent sessions or without. It comes back where that is refused.
+    /// Mounts a device. It comes back where that is refused.
     pub fn mount(
         alloc: Global,
         device: TrialDevice,
-        persistent: bool,
+        choices: Choices,
         patience: Patience,
     ) -> Result<Served, Unmounted<TrialDevice>> {
-        let (told, again) = match mounted(alloc, device, persistent) {
+        let (told, again) = match mounted(alloc, device, choices) {
             Err(
                 Unmounted {
                     device,
                     fault: MountFault::Memory,
                 },
-            ) if patience == Patience::Once => (mounted(alloc, device, persistent), 1),
+            ) if patience == Patience::Once => (mounted(alloc, device, choices), 1),
             told => (told, 0),
         };
         Ok(Served {
@@ -56,15 +60,15 @@ impl Served {
         })
     }
 
-    /// Mounts its device anew, with persistent sessions or without.
-    pub fn mount_anew(self, alloc: Global, persistent: bool) -> Result<Served, Difference> {
+    /// Mounts its device anew.
+    pub fn mount_anew(self, alloc: Global, choices: Choices) -> Result<Served, Difference> {
         let Served {
             server,
             patience,
             again,
         } = self;
         let device = drivers::into_device(server);
-        let mut served = Served::mount(alloc, device, persistent, patience)?;
+        let mut served = Served::mount(alloc, device, choices, patience)?;
         served.again = served.again.saturating_add(again);
         Ok(served)
     }

@@ -1,11 +1,12 @@
 //! Rows over real sockets: the loop over a server's peers, and the peers, in one thread.
 
 use super::call::{Call, in_order};
+use super::choices::Choices;
 use super::player::{Arrival, CONNECTIONS, Stage, new_volume};
 use super::step::Step;
 use crate::device::TrialDevice;
 use crate::difference::{Answer, Difference, expect, expect_reply};
-use event_loop::{Door, Guests, Hub, Lines, Pace, Settings};
+use event_loop::{Door, Hub, Lines, Pace, Settings};
 use server::ServerFault;
 use slab::Slab;
 use std::alloc::Global;
@@ -55,14 +56,19 @@ pub struct Sockets {
 
 impl Stage for Sockets {
     fn begin(rt: &HostRuntime, arrival: Arrival) -> Result<Sockets, Difference> {
-        Sockets::over(rt, new_volume(rt.alloc(), arrival.patience)?, true, arrival)
+        Sockets::over(
+            rt,
+            new_volume(rt.alloc(), arrival.patience)?,
+            Choices::FIRST,
+            arrival,
+        )
     }
 
     fn take(mut self, rt: &HostRuntime, step: &Step) -> Result<Sockets, Difference> {
         match step {
-            Step::Restarts { persistent } => {
+            Step::Restarts(choices) => {
                 let Sockets { hub, arrival, .. } = self;
-                return Sockets::over(rt, hub.into_device(), *persistent, arrival);
+                return Sockets::over(rt, hub.into_device(), *choices, arrival);
             }
             Step::Connects { connection } => self.connect(rt, *connection)?,
             _ => self.act(step)?,
@@ -87,22 +93,12 @@ impl Sockets {
     fn over(
         rt: &HostRuntime,
         device: TrialDevice,
-        persistent: bool,
+        choices: Choices,
         arrival: Arrival,
     ) -> Result<Sockets, Difference> {
-        let settings = Settings {
-            forget_after: None,
-            name: Vec::new(rt.alloc()),
-            persistent,
-            free_seats: false,
-            yields_when_full: false,
-            guests: Guests {
-                networks: Vec::new(rt.alloc()),
-                privileged_ports: false,
-            },
-            quiet: true,
-            metrics: None,
-        };
+        let mut settings = Settings::standard(rt.alloc());
+        settings.persistent = choices.persistent;
+        settings.yields_when_full = choices.yields;
         let door = Door::listen(rt, SocketAddr::from((Ipv4Addr::LOCALHOST, 0)))?;
         let address = door.address()?;
         let mut sockets = Sockets {
@@ -140,7 +136,7 @@ impl Sockets {
             Step::Meets(calls) => self.meet(calls),
             // These are taken above, or the server itself is asked for them.
             Step::Connects { .. }
-            | Step::Restarts { .. }
+            | Step::Restarts(_)
             | Step::Runs { .. }
             | Step::IsFull
             | Step::Lacks { .. }

@@ -2,6 +2,7 @@
 
 use super::aftermath::{Mark, add_look, add_state};
 use super::call::Call;
+use super::choices::Choices;
 use super::cuts::add_cuts;
 use super::player::Place;
 use super::records::{Filling, Records, read_words};
@@ -68,10 +69,8 @@ pub enum Step {
     Lacks {
         connection: usize,
     },
-    /// Mounts the volume again, with persistent sessions or without, and connects again.
-    Restarts {
-        persistent: bool,
-    },
+    /// Mounts the volume again, and connects again.
+    Restarts(Choices),
     /// As `Asks`; where the device crashes or fails, the reply is taken only then.
     Leaves(Call),
     /// Says what a crash may leave from here on.
@@ -154,12 +153,11 @@ fn read_plain(verb: &str, words: &[&str]) -> Result<Step, Fault> {
         ("hangs", [up, word]) if *up == "up" => Ok(Step::HangsUp {
             connection: connection_of(*word)?,
         }),
-        ("restarts", []) => Ok(Step::Restarts { persistent: true }),
+        ("restarts", words) => Ok(Step::Restarts(Choices::read(words)?)),
         ("lasts", []) => Ok(Step::Marks(Mark::Lasts { but: 0 })),
         ("lasts", [but, word]) if *but == "but" => Ok(Step::Marks(Mark::Lasts {
             but: connection_of(*word)?,
         })),
-        ("restarts", [word]) if *word == "plain" => Ok(Step::Restarts { persistent: false }),
         _ => Err(Fault::Step),
     }
 }

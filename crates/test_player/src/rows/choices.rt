@@ -1,0 +1,36 @@
+//! What a row chooses of a run.
+
+use crate::fault::Fault;
+
+/// The choices of a run.
+#[derive(Clone, Copy)]
+pub struct Choices {
+    /// New sessions may be persistent.
+    pub persistent: bool,
+    /// Full tables give up what no client holds.
+    pub yields: bool,
+}
+
+impl Choices {
+    /// Those of the run with which a row begins.
+    pub const FIRST: Choices = Choices {
+        persistent: true,
+        yields: false,
+    };
+
+    /// Reads `plain`, `yielding` or nothing.
+    pub fn read(words: &[&str]) -> Result<Choices, Fault> {
+        match words {
+            [] => Ok(Choices::FIRST),
+            [word] if *word == "plain" => Ok(Choices {
+                persistent: false,
+                ..Choices::FIRST
+            }),
+            [word] if *word == "yielding" => Ok(Choices {
+                yields: true,
+                ..Choices::FIRST
+            }),
+            _ => Err(Fault::Step),
+        }
+    }
+}
