@@ -103,12 +103,13 @@ build() {
     daemon=$folder/nfs41d
 }
 
-# Starts the server at a port that the system picks, with what counts before the C library.
+# Starts the server at a port that the system picks, with what counts before the C library. It
+# prints no line for a connection, which would take memory too.
 serve() {
     local library=${1:-}
     truncate -s 24 taken
     TAKEN=$folder/taken LD_PRELOAD=$library \
-        "$daemon" volume.img 127.0.0.1:0 < /dev/null > served.txt &
+        "$daemon" --quiet volume.img 127.0.0.1:0 < /dev/null > served.txt &
     server=$!
     for _ in $(seq 100); do
         address=$(sed -n 's/^serving //p' served.txt)

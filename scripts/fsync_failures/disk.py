@@ -83,10 +83,13 @@ class Mounted:
         system = ctypes.CDLL(None, use_errno=True)
         if system.mount(b"disk", path.encode(), b"fuse", 0, words):
             raise OSError(ctypes.get_errno(), "mount")
-        threading.Thread(target=self.serve, daemon=True).start()
+        self.thread = threading.Thread(target=self.serve, daemon=True)
+        self.thread.start()
 
     def unmount(self):
         ctypes.CDLL(None).umount2(self.path.encode(), 2)
+        # its number is another file's as soon as it is closed, and the thread would read that
+        self.thread.join()
         os.close(self.device)
 
     def serve(self):

@@ -6,6 +6,7 @@
 import fcntl
 import os
 import pathlib
+import re
 import signal
 import subprocess
 import sys
@@ -146,13 +147,23 @@ def places(daemon, volume):
             stream.close()
 
 
+def refusals(error):
+    """What the server printed of connections that it refused, without their ports."""
+    lines = pathlib.Path(error.name).read_text().splitlines()
+    return [re.sub(r":\d+:", ":PORT:", line) for line in lines if line.startswith("refused ")]
+
+
 def guests(daemon, volume):
     """Options choose who is served."""
-    elsewhere, here = ["--allow", "192.0.2.0/28"], ["--allow", "127.0.0.0/8"]
-    for options in (elsewhere, elsewhere + here):
-        with Server(daemon, volume, options) as server:
-            tell(*options)
-            tell("  a connection of 127.0.0.1:", server.serves())
+    elsewhere, other = ["--allow", "192.0.2.0/28"], ["--allow", f"{OTHER[0]}/32"]
+    here = ["--allow", "127.0.0.0/8"]
+    for options in (elsewhere, other, elsewhere + here):
+        with open(volume.with_suffix(".txt"), "w+") as error:
+            with Server(daemon, volume, options, error) as server:
+                tell(*options)
+                tell("  a connection of 127.0.0.1:", server.serves())
+                tell(f"  a connection of {OTHER[0]}:", server.serves(OTHER))
+                tell("  it prints:", *refusals(error) or ["nothing of that"])
     with Server(daemon, volume, ["--privileged-ports"]) as server:
         tell("--privileged-ports")
         tell("  a connection from another port:", server.serves())
