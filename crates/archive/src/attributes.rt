@@ -4,9 +4,8 @@ ghost use Rattle.std.specs.Prelude.{◌≤◌, length};
 
 use bitflags::Flags;
 use model_tree::acl::{Ace, AceFlags, AceKind, Acl, Mask, Who};
-use set_attributes::{ACL, MODE, OWNER, OWNER_GROUP, SIZE};
 use std::alloc::Global;
-use wire_attributes::text_of;
+use wire_attributes::{Attribute, text_of};
 use xdr::{Refusal, Writer};
 
 /// What a node is to have.
@@ -29,8 +28,8 @@ pub(crate) struct Spelled {
 }
 
 /// The bit of an attribute in its word of a bitmap.
-fn bit(attribute: u32) -> u32 {
-    1 << (attribute % 32)
+fn bit(attribute: Attribute) -> u32 {
+    1 << (attribute.number() % 32)
 }
 
 impl Spelled {
@@ -55,7 +54,7 @@ impl Spelled {
         let mut w = Writer::new(alloc);
         write_list(alloc, &mut w, &[all])?;
         Ok(Spelled {
-            bitmap: [bit(ACL), 0],
+            bitmap: [bit(Attribute::Acl), 0],
             values: w.into_vec(),
         })
     }
@@ -67,18 +66,18 @@ impl Spelled {
         wanted: &Wanted,
     ) -> Result<Spelled, Refusal> {
         let mut w = Writer::new(alloc);
-        let mut bitmap = [0, bit(OWNER) | bit(OWNER_GROUP)];
+        let mut bitmap = [0, bit(Attribute::Owner) | bit(Attribute::OwnerGroup)];
         if let Some(size) = size {
-            bitmap[0] |= bit(SIZE);
+            bitmap[0] |= bit(Attribute::Size);
             w.write_u64(size)?;
         }
         match &wanted.acl {
             Some(acl) => {
-                bitmap[0] |= bit(ACL);
+                bitmap[0] |= bit(Attribute::Acl);
                 write_list(alloc, &mut w, acl.as_slice())?;
             }
             None => {
-                bitmap[1] |= bit(MODE);
+                bitmap[1] |= bit(Attribute::Mode);
                 w.write_u32(wanted.mode)?;
             }
         }

@@ -17,11 +17,11 @@ use acl_eval::{Cred, Gids};
 use disk::FileDevice;
 use fs::{Fs, How, Listing, NewDirectory, OpenRoom, Opening, Setting, Share, Unmounted, Writing};
 use model_tree::node::ROOT;
-use set_attributes::GivenAttributes;
 use std::alloc::Global;
 use std::collections::BTreeMap;
 use std::io::Read;
 use tar::Stream;
+use wire_attributes::GivenAttributes;
 
 /// The most bytes of one write.
 const TRANSFER: usize = 8_192;

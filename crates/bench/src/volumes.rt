@@ -5,8 +5,8 @@ ghost use Rattle.std.specs.Prelude.{◌≤◌, length};
 use crate::rows::Rows;
 use acl_eval::{Cred, Gids};
 use fs::{Fs, FsFault, How, NewDirectory, OpenRoom, Opening, Share, Writing};
-use set_attributes::GivenAttributes;
 use std::alloc::Global;
+use wire_attributes::GivenAttributes;
 
 /// The bytes of a WRITE and of a READ.
 pub const TRANSFER_BYTES: usize = 8_192;

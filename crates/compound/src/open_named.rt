@@ -3,7 +3,7 @@
 ghost use Rattle.std.specs.Prelude.{◌≡◌, ◌≤◌, ◌<◌, ◌^◌, IsTrue, length};
 ghost use Rattle.fs.specs.Opening.{set_by, type_of};
 ghost use Rattle.model.specs.Operations.Open.{given_by, size_alone};
-ghost use Rattle.set_attributes.specs.Given.{given_of};
+ghost use Rattle.wire_attributes.specs.Given.{given_of};
 ghost use Rattle.wire.specs.ArgumentViews.{open_type_view};
 ghost use Rattle.wire.specs.SmallViews.{attributes_view};
 ghost use Rattle.xdr.specs.Forms.{is_trimmed};
@@ -17,8 +17,8 @@ use crate::setting::was_set;
 use disk::Device;
 use fs::{Fs, How, OpenEffect, OpenRoom, Opening};
 use opens::Opens;
-use set_attributes::GivenAttributes;
 use wire::{Attributes, Bitmap, OpenArguments, OpenType, Operation};
+use wire_attributes::GivenAttributes;
 
 /// The attribute size, as a bitmap: all that a cut sets.
 const SIZE: u32 = 0x10;

@@ -14,8 +14,8 @@ use crate::running::Running;
 use disk::Device;
 use fs::{Fs, Setting};
 use opens::{Access, Opens};
-use set_attributes::GivenAttributes;
 use wire::{Answer, Bitmap, CreateAnswer, Operation, Outcome, SetAttrArguments};
+use wire_attributes::GivenAttributes;
 
 impl Running<'_> {
     ghost use Rattle.std.specs.Prelude.{◌≡◌, nat_le, length, IfOk};

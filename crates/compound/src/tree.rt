@@ -9,10 +9,10 @@ use crate::running::Running;
 use disk::Device;
 use fs::{Fs, FsFault, NewDirectory};
 use model_tree::status::Status;
-use set_attributes::GivenAttributes;
 use wire::{
     Answer, Attributes, Bitmap, ChangeInfo, CreateAnswer, CreateArguments, Operation, Outcome,
 };
+use wire_attributes::GivenAttributes;
 
 impl Running<'_> {
     ghost use Rattle.std.specs.Prelude.{◌≡◌, nat_le, length, IfOk, IfErr};

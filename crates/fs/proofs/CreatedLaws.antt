@@ -32,8 +32,8 @@ use Rattle.model_tree.specs.Trees.Tree.{Tree, Node, kind_of, names_at, entry_of}
 use Rattle.model_tree.specs.Trees.WellFormed.{IsNode}
 use Rattle.model.proofs.Operations.RefusalLaws.{none_in_front, none_in_both}
 use Rattle.model_tree.proofs.Facts.OptionLaws.{none_by_test}
-use Rattle.set_attributes.specs.declared.said.Settings.{Settings}
-use Rattle.set_attributes.specs.Given.{AreSettings, WithinLimits}
+use Rattle.wire_attributes.specs.declared.settings.Settings.{Settings}
+use Rattle.wire_attributes.specs.Given.{AreSettings, WithinLimits}
 use Rattle.fs.specs.OnTree.{new_directory_refusals}
 use Rattle.fs.proofs.Creating as creating
 use Rattle.fs.specs.FileSystem.{FileSystem}

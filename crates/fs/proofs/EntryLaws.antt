@@ -21,8 +21,8 @@ use Rattle.model_tree.specs.Trees.Limits.{limits_of}
 use Rattle.model.specs.Operations.SetAttr.{list_set}
 use Rattle.model.proofs.Operations.FileStepLaws.{list_given, list_is_set}
 use Rattle.model_tree.proofs.Rights.LimitLaws.{modes_keep_limits, inheritance_keeps_limits}
-use Rattle.set_attributes.specs.declared.said.Settings.{Settings}
-use Rattle.set_attributes.specs.Given.{WithinLimits}
+use Rattle.wire_attributes.specs.declared.settings.Settings.{Settings}
+use Rattle.wire_attributes.specs.Given.{WithinLimits}
 use Rattle.fs.specs.FileSystem.{FileSystem}
 use Rattle.fs.specs.Planned.{IsList}
 use Rattle.fs.specs.Ready.{MayStand}

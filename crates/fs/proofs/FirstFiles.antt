@@ -23,8 +23,8 @@ use Rattle.model_tree.specs.Refusals.Refusal.{first_refusal}
 use Rattle.model_tree.specs.Trees.Stamp.{next_stamp}
 use Rattle.model_tree.specs.Trees.WellFormed.{IsNode}
 use Rattle.model_tree.proofs.Facts.OptionLaws.{none_by_test}
-use Rattle.set_attributes.specs.declared.said.Settings.{Settings}
-use Rattle.set_attributes.specs.Given.{AreSettings, WithinLimits}
+use Rattle.wire_attributes.specs.declared.settings.Settings.{Settings}
+use Rattle.wire_attributes.specs.Given.{AreSettings, WithinLimits}
 use Rattle.fs.specs.FileSystem.{FileSystem}
 use Rattle.fs.specs.Making.{first_node, IsDirectoryOf, IsSizeOf, MayBeMade}
 use Rattle.fs.specs.Planned.{IsList, child_shown, list_by}

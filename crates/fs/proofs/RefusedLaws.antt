@@ -4,7 +4,7 @@ use Rattle.model_tree.specs.declared.status.Status.{Status}
 use Rattle.model_tree.specs.Refusals.Refusal.{Refusals, first_refusal}
 use Rattle.model.specs.declared.not_done.NotDone.{NotDone}
 use Rattle.model.specs.declared.not_done.NotDone.TheVariants as refusal
-use Rattle.set_attributes.specs.Given.{IsRefusedBy}
+use Rattle.wire_attributes.specs.Given.{IsRefusedBy}
 
 -- what refuses by some tests refuses by others
 pub carried : (some others : Refusals) → ((reason : Status) → first_refusal some ≡ Some reason → first_refusal others ≡ Some reason)

@@ -18,7 +18,7 @@ use Rattle.model.specs.Operations.Step.{State, Stepped, current, refused}
 use Rattle.model_tree.specs.Trees.Tree.{Tree, Node}
 use Rattle.model.specs.declared.not_done.NotDone.{NotDone}
 use Rattle.model.specs.declared.not_done.NotDone.TheVariants as refusal
-use Rattle.set_attributes.specs.Given.{IsRefusedBy, given_of}
+use Rattle.wire_attributes.specs.Given.{IsRefusedBy, given_of}
 use Rattle.fs.specs.declared.setting.Setting.{Setting}
 use Rattle.fs.specs.FileSystem.{FileSystem}
 use Rattle.fs.specs.Making.{room_tests}

@@ -38,8 +38,8 @@ use Rattle.model_tree.specs.Trees.WellFormed.{IsContent}
 use Rattle.model_tree.proofs.Trees.KeyedLaws.{at-with_same}
 use Rattle.model_tree.proofs.Trees.NodeChangeLaws.{altered-once}
 use Rattle.model.proofs.Operations.RefusalLaws.{none_in_front, none_in_both}
-use Rattle.set_attributes.specs.declared.said.Settings.{Settings}
-use Rattle.set_attributes.specs.Given.{AreSettings, WithinLimits, given_of}
+use Rattle.wire_attributes.specs.declared.settings.Settings.{Settings}
+use Rattle.wire_attributes.specs.Given.{AreSettings, WithinLimits, given_of}
 use Rattle.fs.specs.declared.setting.Setting.{Setting}
 use Rattle.fs.specs.FileSystem.{FileSystem}
 use Rattle.fs.specs.Files.{verdict_refusals}

@@ -17,7 +17,7 @@ use Rattle.model.specs.Sessions.StateIdLaws.{IsOwn, OpenStands}
 use Rattle.model.specs.Sessions.StateIds.{Found, Anonymous, Refused, Names, access_refusals, by_meaning, by_open, by_seqid, found, is_anonymous, meant, open_named, open_stateid, write_access, zeros}
 use Rattle.model_tree.proofs.Trees.KeyedLaws.{at-first, at-rest, some≢none}
 use Rattle.model.proofs.Sessions.StateIdLaws.{lower, newest}
-use Rattle.set_attributes.specs.Given.{given_of}
+use Rattle.wire_attributes.specs.Given.{given_of}
 use Rattle.fs.specs.FileSystem.{FileSystem}
 use Rattle.fs.specs.Operations.{IsOn}
 use Rattle.fs.specs.Verdicts.{EachIsGot, EachSettingIsMeant, EachWriteIsMeant, Gets, IsFileAt, IsPossible, IsUsed, OnlyPossible}

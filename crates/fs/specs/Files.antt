@@ -10,7 +10,7 @@ use Rattle.model_tree.specs.Refusals.Refusal.{Refusals}
 use Rattle.model.specs.Operations.State.{State}
 use Rattle.model.specs.Sessions.StateIds.{state_refusals}
 use Rattle.model_tree.specs.Trees.Tree.{Tree, is_directory_at}
-use Rattle.set_attributes.specs.Given.{IsChecked}
+use Rattle.wire_attributes.specs.Given.{IsChecked}
 
 -- The verdict on a stateid
 

@@ -22,7 +22,7 @@ use Rattle.model_tree.specs.Trees.Stamp.{next_stamp}
 use Rattle.model.specs.Operations.State.{State, Stepped, current, named_refusals, answered}
 use Rattle.model.specs.Sessions.StateIds.{is_table_full, new_open, opened, read_access, write_access}
 use Rattle.model.specs.Operations.Step.{alters, without_rights}
-use Rattle.set_attributes.specs.Given.{given_of}
+use Rattle.wire_attributes.specs.Given.{given_of}
 use Rattle.fs.specs.declared.fault.FsFault.{FsFault}
 use Rattle.fs.specs.declared.opening.How.{How}
 use Rattle.fs.specs.declared.opening.How.TheVariants as how

@@ -11,7 +11,7 @@ use Rattle.model_tree.specs.Trees.Charge.{fits}
 use Rattle.model_tree.specs.Trees.Edit.{Shown}
 use Rattle.model_tree.specs.Rights.Inherit.{created_list}
 use Rattle.model_tree.specs.Trees.Stamp.{next_stamp}
-use Rattle.set_attributes.specs.declared.said.Settings.{Settings}
+use Rattle.wire_attributes.specs.declared.settings.Settings.{Settings}
 use Rattle.fs.specs.FileSystem.{FileSystem}
 use Rattle.volume.specs.Edits.{IsChange, edited_by}
 use Rattle.volume.specs.Formed.{IsFormed}

@@ -20,8 +20,8 @@ use Rattle.model.specs.Operations.SetAttr.{kind_at, list_set, sets_size, was_set
 use Rattle.model.specs.Sessions.StateIds.{write_access}
 use Rattle.model.specs.Operations.Step.{State, Stepped, alters, answered}
 use Rattle.model_tree.specs.Trees.Tree.{Tree, is_directory_at}
-use Rattle.set_attributes.specs.declared.said.Settings.{Settings}
-use Rattle.set_attributes.specs.Given.{given_of}
+use Rattle.wire_attributes.specs.declared.settings.Settings.{Settings}
+use Rattle.wire_attributes.specs.Given.{given_of}
 use Rattle.fs.specs.declared.fault.FsFault.{FsFault}
 use Rattle.fs.specs.declared.setting.Setting.{Setting}
 use Rattle.fs.specs.FileSystem.{FileSystem}

@@ -153,7 +153,7 @@ impl<D: Device> Fs<D> {
     ghost use Rattle.fs.specs.Planned.{IsPlanned};
     ghost use Rattle.model_tree.specs.Trees.Stamp.{next_stamp, is_stamp_left};
     ghost use Rattle.model_tree.specs.Trees.Tree.{Tree};
-    ghost use Rattle.set_attributes.specs.Given.{IsChecked};
+    ghost use Rattle.wire_attributes.specs.Given.{IsChecked};
     ghost use Rattle.volume.specs.Changes.{IsTree};
     ghost use Rattle.volume.specs.Edits.{IsEdited, edited_by};
     ghost use Rattle.volume.specs.Formed.{ShowsTree};

@@ -13,7 +13,7 @@ impl<D: Device> Fs<D> {
     ghost use Rattle.std.specs.Prelude.{◌≡◌, IfOk};
     ghost use Rattle.layout.specs.Known.{IsCard};
     ghost use Rattle.model_tree.specs.declared.node.NodeKind.TheVariants as kind;
-    ghost use Rattle.set_attributes.specs.Given.{IsChecked};
+    ghost use Rattle.wire_attributes.specs.Given.{IsChecked};
     ghost use Rattle.fs.specs.Files.{file_refusals, permit_refusals};
     ghost use Rattle.fs.specs.Views.{fs_of};
     ghost use Rattle.volume.specs.Nodes.{IsNodeOf};

@@ -90,7 +90,7 @@ impl<D: Device> Fs<D> {
     ghost use Rattle.model.specs.Operations.ReadDir.{may_read_list};
     ghost use Rattle.model.specs.Operations.Step.{State};
     ghost use Rattle.model_tree.specs.Trees.Tree.{names_at};
-    ghost use Rattle.set_attributes.specs.Given.{IsChecked};
+    ghost use Rattle.wire_attributes.specs.Given.{IsChecked};
     ghost use Rattle.wire_attributes.specs.Listed.{EntryFits, ListedFits, entry_view, listed_view};
 
     /// READDIR (RFC 8881, section 18.23): a page of a directory, as many entries after the cookie

@@ -7,8 +7,8 @@ ghost use Rattle.model.specs.Operations.SetAttr.{list_set};
 
 use acl_eval::{Ace, Acl, NodeKind};
 use acl_set::{Given, MAX_MODE, at_creation, with_mode};
-use set_attributes::Settings;
 use std::alloc::{AllocError, Global};
+use wire_attributes::Settings;
 
 /// The list of a new node below a directory of this list (RFC 8881, section 6.4.3): the one that is
 /// given, which passed its tests, else that of the mode.

@@ -14,10 +14,10 @@ use model::not_done::NotDone;
 use model_tree::acl::Acl;
 use model_tree::status::Status;
 use node_table::CachedNode;
-use set_attributes::{GivenAttributes, SETTABLE_AT_CREATION, Settings, check_attributes};
 use std::alloc::{AllocError, Global};
 use tree_edits::Edit;
 use tree_transaction::Shown;
+use wire_attributes::{GivenAttributes, SETTABLE_AT_CREATION, Settings, check_attributes};
 
 /// The directory that a caller asks for.
 #[derive(Clone, Copy)]
@@ -58,7 +58,7 @@ impl<D: Device> Fs<D> {
     ghost use Rattle.model_tree.specs.Trees.Stamp.{next_stamp};
     ghost use Rattle.model.specs.Operations.Step.{State};
     ghost use Rattle.model_tree.specs.Trees.Tree.{Node};
-    ghost use Rattle.set_attributes.specs.Given.{given_of, AreSettings, WithinLimits, IsChecked, IsCheckedInMemory};
+    ghost use Rattle.wire_attributes.specs.Given.{given_of, AreSettings, WithinLimits, IsChecked, IsCheckedInMemory};
     ghost use Rattle.fs.specs.OnTree.{new_directory_refusals};
     ghost use Rattle.fs.specs.Changes.{fs_ending};
     ghost use Rattle.fs.specs.Views.{fs_of, AltersFs};

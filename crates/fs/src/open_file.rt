@@ -13,8 +13,8 @@ use disk::Device;
 use model::not_done::NotDone;
 use model_tree::status::Status;
 use node_table::CachedNode;
-use set_attributes::{GivenAttributes, SETTABLE_AT_OPEN, Settings, check_attributes};
 use tree_edits::Edit;
+use wire_attributes::{GivenAttributes, SETTABLE_AT_OPEN, Settings, check_attributes};
 
 /// An open that passed its tests.
 #[derive(Drop)]
@@ -38,7 +38,7 @@ impl<D: Device> Fs<D> {
     ghost use Rattle.model_tree.specs.Refusals.Refusal.{first_refusal};
     ghost use Rattle.model_tree.specs.Trees.Stamp.{is_stamp_left};
     ghost use Rattle.model.specs.Operations.Step.{State};
-    ghost use Rattle.set_attributes.specs.Given.{given_of, AreSettings, WithinLimits, IsChecked, IsCheckedInMemory};
+    ghost use Rattle.wire_attributes.specs.Given.{given_of, AreSettings, WithinLimits, IsChecked, IsCheckedInMemory};
     ghost use Rattle.fs.specs.Changes.{fs_ending};
     ghost use Rattle.fs.specs.Views.{fs_of, AltersFs};
     ghost use Rattle.fs.specs.Making.{IsDirectoryOf, room_tests};

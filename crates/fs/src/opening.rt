@@ -4,7 +4,7 @@ ghost use Rattle.std.specs.Prelude.{◌≡◌};
 ghost use Rattle.fs.specs.Opening.{has_room_for, may_use};
 ghost use Rattle.model.specs.Operations.Open.{share_refusals};
 ghost use Rattle.model.specs.Operations.Operation.{OpenArguments};
-ghost use Rattle.set_attributes.specs.Given.{IsChecked};
+ghost use Rattle.wire_attributes.specs.Given.{IsChecked};
 
 use crate::fault::FsFault;
 use crate::fs::Fs;
@@ -15,7 +15,7 @@ use acl_eval::{Cred, Mask};
 use disk::Device;
 use model_tree::status::Status;
 use node_table::CachedNode;
-use set_attributes::GivenAttributes;
+use wire_attributes::GivenAttributes;
 
 /// `OPEN4_SHARE_ACCESS_READ` and `OPEN4_SHARE_ACCESS_WRITE`.
 const READ: u32 = 1;

@@ -23,7 +23,7 @@ impl<D: Device> Fs<D> {
     ghost use Rattle.model.specs.Operations.Operation.{StateId};
     ghost use Rattle.model.specs.Sessions.StateIds.{read_access};
     ghost use Rattle.model.specs.Operations.Step.{State};
-    ghost use Rattle.set_attributes.specs.Given.{IsChecked};
+    ghost use Rattle.wire_attributes.specs.Given.{IsChecked};
     ghost use Rattle.fs.specs.Files.{IsVerdict, permit_refusals};
     ghost use Rattle.fs.specs.Views.{fs_of, AltersFs};
     ghost use Rattle.fs.specs.Operations.{IsOn};

@@ -139,7 +139,7 @@ impl<D: Device> Fs<D> {
     ghost use Rattle.model_tree.specs.Refusals.Refusal.{first_refusal};
     ghost use Rattle.model.specs.Operations.Step.{State};
     ghost use Rattle.model_tree.specs.Trees.Tree.{is_directory_at};
-    ghost use Rattle.set_attributes.specs.Given.{IsChecked};
+    ghost use Rattle.wire_attributes.specs.Given.{IsChecked};
     ghost use Rattle.fs.specs.Changes.{fs_ending};
     ghost use Rattle.fs.specs.Views.{fs_of, AltersFs};
     ghost use Rattle.fs.specs.Making.{IsDirectoryOf};

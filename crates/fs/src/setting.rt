@@ -2,7 +2,7 @@
 
 ghost use Rattle.std.specs.Prelude.{◌≡◌};
 ghost use Rattle.model_tree.specs.Rights.Acl.{granted};
-ghost use Rattle.set_attributes.specs.Given.{IsChecked};
+ghost use Rattle.wire_attributes.specs.Given.{IsChecked};
 ghost use Rattle.fs.specs.Setting.{may_set, sized_refusals};
 
 use crate::changing::set_edits;
@@ -16,14 +16,13 @@ use disk::Device;
 use model::not_done::NotDone;
 use model_tree::status::Status;
 use node_table::CachedNode;
-use set_attributes::{
-    ACL, GivenAttributes, MODE, OWNER, OWNER_GROUP, SETTABLE_AT_SETATTR, SIZE, Settings,
-    check_attributes, is_among,
-};
 use std::alloc::AllocError;
 use tree_edits::Edit;
 use tree_transaction::Shown;
-use wire_attributes::numbers_of;
+use wire_attributes::{
+    Attribute, GivenAttributes, SETTABLE_AT_SETATTR, Settings, check_attributes, is_among,
+    numbers_of,
+};
 
 /// What a caller sets of a node.
 #[derive(Clone, Copy)]
@@ -40,9 +39,10 @@ fn may_set(cached: &CachedNode, cred: &Cred, attributes: &[u32]) -> bool
     ensures { result ≡ may_set (granted cached.now.fields.acl cached.now.fields.owner
         cached.now.fields.group cred.now) attributes.now }
 {
-    let sizes = is_among(attributes, SIZE);
-    let lists = is_among(attributes, MODE) || is_among(attributes, ACL);
-    let owners = is_among(attributes, OWNER) || is_among(attributes, OWNER_GROUP);
+    let sizes = is_among(attributes, Attribute::Size);
+    let lists = is_among(attributes, Attribute::Mode) || is_among(attributes, Attribute::Acl);
+    let owners = is_among(attributes, Attribute::Owner)
+        || is_among(attributes, Attribute::OwnerGroup);
     (!sizes || grants(cached, cred, Mask::WRITE_DATA))
         && (!lists || grants(cached, cred, Mask::WRITE_ACL))
         && (!owners || grants(cached, cred, Mask::WRITE_OWNER))
@@ -75,8 +75,8 @@ impl<D: Device> Fs<D> {
     ghost use Rattle.model.specs.Attributes.Attribute.{is_empty};
     ghost use Rattle.model.specs.Operations.Operation.{Argument, SetAttrArguments};
     ghost use Rattle.model.specs.Operations.Step.{State};
-    ghost use Rattle.set_attributes.specs.Given.{given_of, AreSettings, WithinLimits};
-    ghost use Rattle.set_attributes.specs.Given.{IsCheckedInMemory};
+    ghost use Rattle.wire_attributes.specs.Given.{given_of, AreSettings, WithinLimits};
+    ghost use Rattle.wire_attributes.specs.Given.{IsCheckedInMemory};
     ghost use Rattle.fs.specs.Changes.{fs_ending};
     ghost use Rattle.fs.specs.Views.{fs_of, AltersFs};
     ghost use Rattle.fs.specs.Operations.{IsOn, IsNotDone};

@@ -1,6 +1,7 @@
-//! The attributes that this server has.
+//! The attributes that this server has: their numbers, and which operation may set which.
 
-ghost use Rattle.std.specs.Prelude.{◌≡◌};
+ghost use Rattle.std.specs.Prelude.{◌≡◌, map};
+ghost use Rattle.model.specs.Attributes.Attribute.{has_one_outside, is_among};
 ghost use Rattle.wire_attributes.specs.NodeValues.{attribute_number};
 
 /// An attribute (RFC 8881, sections 5.6 to 5.8, and 6), with its number.
@@ -71,4 +72,46 @@ impl Attribute {
     {
         self as u32
     }
+}
+
+/// Those that SETATTR may set.
+pub const SETTABLE_AT_SETATTR: [Attribute; 5] = [
+    Attribute::Size,
+    Attribute::Acl,
+    Attribute::Mode,
+    Attribute::Owner,
+    Attribute::OwnerGroup,
+];
+
+/// Those that OPEN may set on a file that it makes.
+pub const SETTABLE_AT_OPEN: [Attribute; 3] = [Attribute::Size, Attribute::Acl, Attribute::Mode];
+
+/// Those that CREATE may set.
+pub const SETTABLE_AT_CREATION: [Attribute; 2] = [Attribute::Acl, Attribute::Mode];
+
+/// Whether one of these attributes has this number.
+fn have_number(attributes: &[Attribute], number: u32) -> bool
+    ensures { result ≡ is_among (map attribute_number attributes.now) number }
+{
+    match attributes.split_first() {
+        Some((first, rest)) => number == first.number() || have_number(rest, number),
+        None => false,
+    }
+}
+
+/// Whether one of the numbers is that of none of these attributes.
+pub(crate) fn has_one_outside(attributes: &[Attribute], numbers: &[u32]) -> bool
+    ensures { result ≡ has_one_outside (map attribute_number attributes.now) numbers.now }
+{
+    numbers
+        .iter()
+        .any(|&number| !have_number(attributes, number))
+}
+
+/// Whether the attribute's number is among these.
+pub fn is_among(numbers: &[u32], attribute: Attribute) -> bool
+    ensures { result ≡ is_among numbers.now (attribute_number attribute) }
+{
+    let asked = attribute.number();
+    numbers.iter().any(|&number| asked == number)
 }

@@ -9,10 +9,10 @@ use super::drivers::{Disk, formatted, image_of};
 use super::sectors::Image;
 use acl_eval::{Cred, Gids};
 use fs::{Fs, FsFault, How, OpenRoom, Opening, Share, Writing};
-use set_attributes::GivenAttributes;
 use std::alloc::Global;
 use std::num::NonZeroUsize;
 use std::test::Fail;
+use wire_attributes::GivenAttributes;
 
 const FILES: u32 = 200;
 

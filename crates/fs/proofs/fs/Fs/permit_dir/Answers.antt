@@ -10,7 +10,7 @@ use Rattle.model.specs.Attributes.Attribute.{attribute_refusals, settable_at_cre
 use Rattle.model_tree.specs.Refusals.Name.{name_refusals}
 use Rattle.model_tree.specs.Refusals.Refusal.{first_refusal}
 use Rattle.model_tree.specs.Trees.Tree.{is_directory, names_of, entry_of}
-use Rattle.set_attributes.specs.Given.{given_of}
+use Rattle.wire_attributes.specs.Given.{given_of}
 use Rattle.fs.specs.OnTree.{new_directory_refusals}
 use Rattle.fs.proofs.Creating as creating
 use Rattle.fs.specs.Views.{fs_of}

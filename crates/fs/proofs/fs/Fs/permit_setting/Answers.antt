@@ -11,7 +11,7 @@ use Rattle.model.specs.Operations.Need.{granted_on}
 use Rattle.model_tree.specs.Refusals.Refusal.{first_refusal}
 use Rattle.model.specs.Operations.SetAttr.{kind_at, sets_size}
 use Rattle.model_tree.specs.Trees.Tree.{Node, is_directory_at}
-use Rattle.set_attributes.specs.Given.{given_of}
+use Rattle.wire_attributes.specs.Given.{given_of}
 use Rattle.fs.specs.Views.{fs_of}
 use Rattle.fs.specs.Setting.{may_set, setting_tests, sized_refusals}
 use Rattle.fs.proofs.CachedNodeViews.{is_directory_told}

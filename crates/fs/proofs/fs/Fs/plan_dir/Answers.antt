@@ -3,7 +3,7 @@ use Rattle.std.proofs.lemmas.Result.{err_from_is_err_and}
 use Rattle.layout.specs.CachedNodes.{CachedNode}
 use Rattle.model.specs.declared.not_done.NotDone.{NotDone}
 use Rattle.model.specs.declared.not_done.NotDone.TheVariants as refusal
-use Rattle.set_attributes.specs.Given.{given_of, IsRefusedBy}
+use Rattle.wire_attributes.specs.Given.{given_of, IsRefusedBy}
 use Rattle.fs.specs.OnTree.{new_directory_refusals}
 use Rattle.fs.proofs.Creating.{early_refusal}
 use Rattle.fs.specs.Views.{fs_of}

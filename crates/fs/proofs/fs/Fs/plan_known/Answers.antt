@@ -5,7 +5,7 @@ use Rattle.model.specs.Operations.Operation.{Argument}
 use Rattle.model_tree.specs.Trees.Tree.{Tree}
 use Rattle.model.specs.declared.not_done.NotDone.{NotDone}
 use Rattle.model.specs.declared.not_done.NotDone.TheVariants as refusal
-use Rattle.set_attributes.specs.Given.{IsRefusedBy}
+use Rattle.wire_attributes.specs.Given.{IsRefusedBy}
 use Rattle.fs.specs.declared.opening.OpenEffect.TheVariants as effect
 use Rattle.fs.specs.Views.{fs_of}
 use Rattle.fs.specs.Making.{room_tests}

@@ -1,2 +1,0 @@
-mod EachTest
-mod Values

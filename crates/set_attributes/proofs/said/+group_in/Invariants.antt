@@ -1,5 +1,0 @@
-use Rattle.std.proofs.Common.{length}
-use Rattle.set_attributes.proofs.said.+group_in.Given as goal
-
-abbrev pub decreases-group_in : goal.decreases-group_in
-decreases-group_in l = length l.values.now

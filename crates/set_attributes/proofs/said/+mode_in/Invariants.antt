@@ -1,5 +1,0 @@
-use Rattle.std.proofs.Common.{length}
-use Rattle.set_attributes.proofs.said.+mode_in.Given as goal
-
-abbrev pub decreases-mode_in : goal.decreases-mode_in
-decreases-mode_in l = length l.values.now
