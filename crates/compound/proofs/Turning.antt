@@ -18,7 +18,7 @@ use Rattle.compound.specs.Turns.{TurnsExecuted, TurnsTo}
 use Rattle.compound.specs.Volumes.{kept_of_world}
 use Rattle.compound.specs.declared.executed.Executed.{Executed}
 use Rattle.compound.specs.declared.executed.Executed.TheVariants as execution
-use Rattle.model.proofs.Sessions.SeatTables.{same_seats}
+use Rattle.model.proofs.Sessions.StoringTurns.{same_seats}
 use Rattle.model.proofs.Sessions.TableCalls.{either}
 use Rattle.compound.proofs.Rooms.{state_same}
 

@@ -9,6 +9,7 @@ pub mod SlotRuns
 pub mod SlotsHeld
 pub mod KeptLaws
 pub mod SeatLaws
+pub mod StoringTurns
 pub mod SeatTables
 pub mod SeatsFreed
 pub mod SeatsGo

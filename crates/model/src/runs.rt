@@ -1,7 +1,7 @@
 //! The headline: what users of the server can rely on when it crashes.
 
-ghost use Rattle.model.specs.Server.RuledOut.{NoSkip, NoEarlyReply, NoTakingBack, NoSecondRun, NoForgetting, NoGap, OneATurn, EndsByHolding, HangsUpLast, HangUpIsEvents, EachEventHappens};
-ghost use Rattle.model.specs.Server.Runs.{EveryRun, EveryStamp};
+ghost use Rattle.model.specs.Server.RuledOut.{NoSkip, NoEarlyReply, NoTakingBack, NoReplyAlone, NoSecondRun, NoForgetting, NoGap, OneATurn, EndsByHolding, HangsUpLast, HangUpIsEvents, EachEventHappens};
+ghost use Rattle.model.specs.Server.Runs.{EveryRun, EveryHeldIsKept, EveryStamp};
 ghost use Rattle.model.specs.Sessions.SeatRuns.{EveryReplyIsHeld, EverySeatStays, EveryRunCanFollow, EveryDeadSession, EveryNumberOnce, EveryReplyStaysHeld, EveryReplyIsStored, EverySessionSits, EveryFreeingIsAsked};
 ghost use Rattle.model.specs.Server.ServedOnce.{EveryServedSlot};
 ghost use Rattle.model.specs.Sessions.StateIdRuns.{EveryOtherRunRefuses, EveryStateIdGoesOn, JoinsAreCounted};
@@ -15,13 +15,14 @@ pub fn every_run()
 {}
 
 /// What the definitions rule out: a prefix that skips an unstable write, a reply before its change
-/// is kept, a change that is taken away and put back, a retry that runs again, a reply that is
-/// forgotten, a slot that takes another number than the next, a turn that runs more than one
-/// operation, and a hang-up that drops the rest of a request.
+/// is kept, a change that is taken away and put back, a held reply without its change, a retry that
+/// runs again, a reply that is forgotten, a slot that takes another number than the next, a turn
+/// that runs more than one operation, and a hang-up that drops the rest of a request.
 pub fn ruled_out()
     ensures skip { NoSkip }
     ensures early { NoEarlyReply }
     ensures back { NoTakingBack }
+    ensures alone { NoReplyAlone }
     ensures twice { NoSecondRun }
     ensures kept { NoForgetting }
     ensures gap { NoGap }
@@ -62,9 +63,9 @@ pub fn every_stateid_goes_on()
 {}
 
 /// Exactly once over restarts, on sessions that have a seat, over any list of runs and crashes: a
-/// reply that was stored is held until the next of its slot is or its seat is freed; a session of
-/// an earlier run is answered by what its seat holds, and runs nothing; so a slot runs a number
-/// again only after the 2^32 - 1 others.
+/// reply that was stored is held until the next of its slot is or its seat is freed, beside a tree
+/// that has what it names; a session of an earlier run is answered by what its seat holds, and runs
+/// nothing; so a slot runs a number again only after the 2^32 - 1 others.
 pub fn every_life()
     ensures held { EveryReplyIsHeld }
     ensures stays { EverySeatStays }
@@ -75,4 +76,5 @@ pub fn every_life()
     ensures sits { EverySessionSits }
     ensures stored { EveryReplyIsStored }
     ensures asked { EveryFreeingIsAsked }
+    ensures kept { EveryHeldIsKept }
 {}

@@ -7,8 +7,9 @@ use Rattle.model_tree.specs.Seats.Seats.{Seats}
 use Rattle.model_tree.specs.Trees.Keyed.{at}
 use Rattle.model_tree.specs.Trees.Tree.{Tree}
 use Rattle.model.specs.Server.World.{World, ServerLimits, Entry, Turned, Turn, Idle, Ran, Answered, one, is_busy, reply_at}
-use Rattle.model.specs.Server.Runs.{Event, Arrives, Turns, HangsUp, Connects, Takes, executed_of, before, IsDurable, is_durable, RunHistory, no_history, is_slot, keeping, numbers_of, named_so_far, names_by, naming_by, turned_by, taken_by, history_after, Serving, mounted, executed, executed_by, IsAfter, MayLeave, Happens, DeviceFails, StaysDown, history_failing, IsRun, Begins, Goes_on, Fails_at, Stays_down, tree_after, IsChain, HasAllDurable, ArePermitted, IsGoodPrefix, EveryRun}
+use Rattle.model.specs.Server.Runs.{Event, Arrives, Turns, HangsUp, Connects, Takes, executed_of, before, IsDurable, is_durable, RunHistory, no_history, is_slot, keeping, numbers_of, named_so_far, names_by, names_after, naming_by, Stored, stored_by, naming_stored, replies_by, replies_of, replies_with, turned_by, taken_by, history_after, Serving, Left, mounted, executed, executed_by, IsAfterEvent, MayBeLeft, Happens, DeviceFails, StaysDown, history_failing, IsRun, Begins, Goes_on, Fails_at, Stays_down, tree_after, IsChain, HasAllDurable, ArePermitted, KeepsHeld, EveryRun, EveryHeldIsKept, effect_of}
 use Rattle.model.proofs.Server.RunLaws.{LawfulEntry, EntryFits, event_fits}
+use Rattle.model.proofs.Sessions.StoringTurns.{one_alone}
 
 -- Lists of executed operations
 
@@ -69,11 +70,16 @@ record StandsFor (start : Tree) (done : List Entry) (settled : ℕ) (tree : Tree
 AreBelow : ℕ → List ℕ → Type 0
 AreBelow bound names = AllByRecursion (λ i. i < bound) names
 
+-- and what each reply names that a seat held
+AreReplied : ℕ → List (Stored × List ℕ) → Type 0
+AreReplied bound replies = AllByRecursion (λ (reply : Stored × List ℕ). AreBelow bound reply.1) replies
+
 -- what replies name is settled
 record AreNamed (settled : ℕ) (history : RunHistory) : Type 0 where
   named : (connection : ℕ) → AreBelow settled (history.named connection)
   kept : (session : List ℕ) (slot : ℕ) → AreBelow settled (history.kept session slot)
   handed_out : AreBelow settled history.handed_out
+  replies : AreReplied settled history.replies
 
 -- of the trees, and of what is known of `done`
 record Core (start : Tree) (serving : Serving) (done : List Entry) (settled : ℕ) : Type 0 where
@@ -82,7 +88,7 @@ record Core (start : Tree) (serving : Serving) (done : List Entry) (settled : �
   tree : serving.is_down ≡ false → serving.world.tree ≡ tree_after start done
   chain : IsChain start done
   lawful : AllLawful done
-  recent : (tree : Tree) → IsAmong serving.recent tree → StandsFor start done settled tree
+  left : (left : Left) → IsAmong serving.left left → StandsFor start done settled left.tree
 
 record Holds (start : Tree) (serving : Serving) (history : RunHistory) : Type 0 where
   settled : ℕ
@@ -98,6 +104,15 @@ StandsFor-append start done settled tree more within stands = record {
   within = let inside = stands.within in omega (arith, length-append done more);
   holds = stands.holds ∙ ap (tree_after start) (sym (take-append-le stands.k done more stands.within));
   beyond = λ i entry less e durable. stands.beyond i entry less (sym (slice_get-append done more i (omega arith)) ∙ e) durable;
+}
+
+-- the tree of all of them
+of_all : (start : Tree) (done : List Entry) (settled : ℕ) (tree : Tree) → settled ≤ length done → tree ≡ tree_after start done → StandsFor start done settled tree
+of_all start done settled tree within same = record {
+  k = length done;
+  within = omega arith;
+  holds = same ∙ ap (tree_after start) (sym (take_all (length done) done (omega arith)));
+  beyond = λ i other less e durable. omega arith;
 }
 
 -- the tree after the last one is that of all of them
@@ -143,6 +158,11 @@ lawful_behind : (old new : Tree) (done : List Entry) (executed : Option Entry) �
 lawful_behind old new done None fits lawful = subst AllLawful (sym (append-nil done)) lawful
 lawful_behind old new done (Some entry) fits lawful = AllLawful-append done entry lawful fits.2
 
+-- the tree is the one after it
+abbrev IsAfter : Option Entry → Tree → Type 0
+IsAfter None tree = ⊥
+IsAfter (Some entry) tree = tree ≡ entry.after
+
 stands_behind : (start : Tree) (done : List Entry) (executed : Option Entry) (tree : Tree) (may : (IsAfter executed tree) ⊎ (StandsFor start done (length done) tree))
     → ((entry : Entry) → executed ≡ Some entry → is_durable entry ≡ true → tree ≡ entry.after)
     → StandsFor start (Joined done executed) (length (Joined done executed)) tree
@@ -162,10 +182,23 @@ stands_failing start done settled (Some entry) tree within (inl after) =
 stands_failing start done settled (Some entry) tree within (inr stands) = StandsFor-append start done settled tree (entry ∷ []) within stands
 
 -- what an event may leave, by what stood before it
-left_by : (start : Tree) (serving : Serving) (event : Event) (done : List Entry) (settled : ℕ) (tree : Tree) → Core start serving done settled
-    → MayLeave serving event tree → (IsAfter (executed serving event) tree) ⊎ (StandsFor start done settled tree)
-left_by start serving event done settled tree core (inl among) = inr (core.recent tree among)
-left_by start serving event done settled tree core (inr after) = inl after
+after_by : (start old new : Tree) (done : List Entry) (settled : ℕ) (tree : Tree) (made : Option Entry) → settled ≤ length done → old ≡ tree_after start done
+    → EntryFits old new made → tree ≡ new → (IsAfter made tree) ⊎ (StandsFor start done settled tree)
+after_by start old new done settled tree None within at fits same = inr (of_all start done settled tree within (same ∙ fits ∙ at))
+after_by start old new done settled tree (Some entry) within at fits same = inl (same ∙ fits.1)
+
+left_by : (start : Tree) (serving : Serving) (event : Event) (done : List Entry) (settled : ℕ) (left : Left) → Core start serving done settled
+    → MayBeLeft serving event left → (IsAfter (executed serving event) left.tree) ⊎ (StandsFor start done settled left.tree)
+left_by start serving event done settled left core (inl among) = inr (core.left left among)
+left_by start serving event done settled left core (inr after) = by_down serving.is_down refl after
+  where
+    by_down : (down : Bool) → serving.is_down ≡ down → IsAfterEvent serving.world event down left
+        → (IsAfter (executed_by serving.world event serving.is_down) left.tree) ⊎ (StandsFor start done settled left.tree)
+    by_down true is after = absurd after
+    by_down false up after =
+        subst (λ (b : Bool). (IsAfter (executed_by serving.world event b) left.tree) ⊎ (StandsFor start done settled left.tree)) (sym up)
+        (after_by start serving.world.tree (effect_of serving.world event).tree done settled left.tree (executed_of serving.world event)
+        core.within (core.tree up) (event_fits serving.world event) (ap (λ (l : Left). l.tree) after))
 
 executed_up : (serving : Serving) (event : Event) → serving.is_down ≡ false → executed serving event ≡ executed_of serving.world event
 executed_up serving event up = ap (executed_by serving.world event) up
@@ -184,11 +217,11 @@ core_goes start old new event done settled core happens =
       tree = λ up. ap (λ (world : World). world.tree) happens.world ∙ tree_behind start old.world.tree _ done _ fits at;
       chain = chain_behind start old.world.tree _ done _ fits at core.chain;
       lawful = lawful_behind old.world.tree _ done _ fits core.lawful;
-      recent = λ tree among.
-          subst (λ (executed : Option Entry). StandsFor start (Joined done executed) (length (Joined done executed)) tree) is
-          (stands_behind start done (executed old event) tree
-          (settled_whole tree (core.whole happens.up) (left_by start old event done settled tree core (happens.no_others tree among)))
-          (λ entry e lasts. happens.durable entry e lasts tree among));
+      left = λ left among.
+          subst (λ (executed : Option Entry). StandsFor start (Joined done executed) (length (Joined done executed)) left.tree) is
+          (stands_behind start done (executed old event) left.tree
+          (settled_whole left.tree (core.whole happens.up) (left_by start old event done settled left core (happens.no_others left among)))
+          (λ entry e lasts. happens.durable entry e lasts left among));
     }
   where
     settled_whole : (tree : Tree) → settled ≡ length done → (IsAfter (executed old event) tree) ⊎ (StandsFor start done settled tree)
@@ -208,9 +241,9 @@ core_fails start old new event done settled core fails =
       tree = λ up. absurd (false≢true (sym up ∙ fails.down));
       chain = chain_behind start old.world.tree _ done _ fits at core.chain;
       lawful = lawful_behind old.world.tree _ done _ fits core.lawful;
-      recent = λ tree among.
-          subst (λ (executed : Option Entry). StandsFor start (Joined done executed) settled tree) is
-          (stands_failing start done settled (executed old event) tree core.within (left_by start old event done settled tree core (fails.no_others tree among)));
+      left = λ left among.
+          subst (λ (executed : Option Entry). StandsFor start (Joined done executed) settled left.tree) is
+          (stands_failing start done settled (executed old event) left.tree core.within (left_by start old event done settled left core (fails.no_others left among)));
     }
 
 core_stays : (start : Tree) (old new : Serving) (connection : ℕ) (done : List Entry) (settled : ℕ) → Core start old done settled → StaysDown old connection new
@@ -221,7 +254,7 @@ core_stays start old new connection done settled core stays = record {
   tree = λ up. absurd (false≢true (sym up ∙ stays.still_down));
   chain = core.chain;
   lawful = core.lawful;
-  recent = λ tree among. core.recent tree (stays.no_others tree among);
+  left = λ left among. core.left left (stays.no_others left among);
 }
 
 -- What replies name
@@ -257,6 +290,32 @@ AreBelow-one : (bound i : ℕ) → i < bound → AreBelow bound (i ∷ [])
 unfolding AreBelow
 AreBelow-one bound i less = (less, tt)
 
+AreReplied-more : (less most : ℕ) (replies : List (Stored × List ℕ)) → less ≤ most → AreReplied less replies → AreReplied most replies
+unfolding AreReplied
+AreReplied-more less most [] h all = tt
+AreReplied-more less most (reply ∷ replies) h all = (AreBelow-more less most reply.1 h all.0, AreReplied-more less most replies h all.1)
+
+AreReplied-append : (bound : ℕ) (xs ys : List (Stored × List ℕ)) → AreReplied bound xs → AreReplied bound ys → AreReplied bound (xs ++ ys)
+unfolding AreReplied
+AreReplied-append bound [] ys first second = second
+AreReplied-append bound (reply ∷ xs) ys first second = (first.0, AreReplied-append bound xs ys first.1 second)
+
+AreReplied-place : (bound : ℕ) (replies : List (Stored × List ℕ)) (place : ℕ) (reply : Stored × List ℕ) → AreReplied bound replies → place < length replies
+    → reply ≡ get_or replies place reply → AreBelow bound reply.1
+unfolding AreReplied
+AreReplied-place bound [] place reply all less e = absurd (omega arith)
+AreReplied-place bound (first ∷ replies) zero reply all less e = subst (λ (r : Stored × List ℕ). AreBelow bound r.1) (sym e) all.0
+AreReplied-place bound (first ∷ replies) (suc place) reply all less e = AreReplied-place bound replies place reply all.1 (omega arith) e
+
+AreReplied-none : (bound : ℕ) → AreReplied bound []
+unfolding AreReplied
+AreReplied-none bound = tt
+
+AreReplied-named : (bound : ℕ) (stored : Option Stored) (names : List ℕ) → AreBelow bound names → AreReplied bound (naming_stored stored names)
+unfolding AreReplied
+AreReplied-named bound None names below = tt
+AreReplied-named bound (Some stored) names below = (below, tt)
+
 more_done : (done : List Entry) (executed : Option Entry) → length done ≤ length (Joined done executed)
 more_done done executed = omega (arith, length-append done (option_to_list executed))
 
@@ -269,6 +328,7 @@ AreNamed-more less most history h names = record {
   named = λ connection. AreBelow-more less most (history.named connection) h (names.named connection);
   kept = λ session slot. AreBelow-more less most (history.kept session slot) h (names.kept session slot);
   handed_out = AreBelow-more less most history.handed_out h names.handed_out;
+  replies = AreReplied-more less most history.replies h names.replies;
 }
 
 names_below : (history : RunHistory) (world : World) (connection : ℕ) (turned : Turned) (replays : Option (List ℕ × ℕ)) (bound : ℕ)
@@ -300,7 +360,31 @@ turned_names history world connection turned names =
       named = naming_below bound turned.turn history.named connection _ all.named these;
       kept = keeping_below bound history.kept turned.keeps _ all.kept these;
       handed_out = all.handed_out;
+      replies = AreReplied-append bound history.replies (replies_by history world connection turned) all.replies
+          (AreReplied-named bound (stored_by turned.world.table turned.keeps) _ these);
     }
+
+-- the reply that a turn lets a seat hold names nothing that the turn executes
+storing_below : (history : RunHistory) (world : World) (connection now : ℕ) (bound : ℕ) → AreNamed bound history
+    → AreReplied bound (replies_by history world connection (one world connection now))
+storing_below history world connection now bound names = elim (one_alone world connection now) [
+  | inl none ↦
+      AreReplied-named bound (stored_by turned.world.table turned.keeps) (names_after history world connection turned)
+      (names_below history world connection turned turned.replays bound names
+      (subst (λ (executed : Option Entry). AreBelow bound (numbers_of history executed)) (sym none) (AreBelow-none bound)))
+  | inr none ↦
+      subst (λ (stored : Option Stored). AreReplied bound (naming_stored stored (names_after history world connection turned))) (sym none) (AreReplied-none bound)
+]
+  where
+    turned : Turned
+    turned = one world connection now
+
+replied_below : (history : RunHistory) (world : World) (event : Event) (bound : ℕ) → AreNamed bound history → AreReplied bound (replies_of history world event)
+replied_below history world (Arrives connection piece) bound names = AreReplied-none bound
+replied_below history world (Turns connection now) bound names = storing_below history world connection now bound names
+replied_below history world (HangsUp connection) bound names = AreReplied-none bound
+replied_below history world (Connects connection) bound names = AreReplied-none bound
+replied_below history world (Takes connection) bound names = AreReplied-none bound
 
 taken_names : (history : RunHistory) (connection : ℕ) (reply : Option (List ℕ)) (bound : ℕ) → AreNamed bound history → AreNamed bound (taken_by history connection reply)
 taken_names history connection None bound names = names
@@ -308,6 +392,7 @@ taken_names history connection (Some reply) bound names = record {
   named = names.named;
   kept = names.kept;
   handed_out = AreBelow-append bound history.handed_out (history.named connection) names.handed_out (names.named connection);
+  replies = names.replies;
 }
 
 pub taken_done : (history : RunHistory) (connection : ℕ) (reply : Option (List ℕ)) → (taken_by history connection reply).done ≡ history.done
@@ -335,10 +420,10 @@ names_behind history world (Takes connection) names =
 
 -- The induction
 
-pub only_start : (start tree : Tree) → IsAmong (start ∷ []) tree → tree ≡ start
-only_start start tree among = by_place among.0 among.1.0 among.1.1
+pub only_one : {A : Type 0} (one x : A) → IsAmong (one ∷ []) x → x ≡ one
+only_one {A} one x among = by_place among.0 among.1.0 among.1.1
   where
-    by_place : (place : ℕ) → place < length (start ∷ []) → tree ≡ get_or (start ∷ []) place tree → tree ≡ start
+    by_place : (place : ℕ) → place < length (one ∷ []) → x ≡ get_or (one ∷ []) place x → x ≡ one
     by_place zero less e = e
     by_place (suc place) less e = absurd (omega arith)
 
@@ -355,9 +440,14 @@ holds_at_start limits run start seats = record {
     tree = λ up. refl;
     chain = tt;
     lawful = AllLawful-none;
-    recent = λ tree among. record { k = 0; within = omega arith; holds = only_start start tree among; beyond = λ i entry less e durable. absurd (omega arith) };
+    left = λ left among. record {
+      k = 0;
+      within = omega arith;
+      holds = ap (λ (l : Left). l.tree) (only_one (record { tree = start; seats = seats }) left among);
+      beyond = λ i entry less e durable. absurd (omega arith);
+    };
   };
-  names = record { named = λ connection. AreBelow-none 0; kept = λ session slot. AreBelow-none 0; handed_out = AreBelow-none 0 };
+  names = record { named = λ connection. AreBelow-none 0; kept = λ session slot. AreBelow-none 0; handed_out = AreBelow-none 0; replies = AreReplied-none 0 };
 }
 
 goes : (start : Tree) (old new : Serving) (event : Event) (history : RunHistory) → Holds start old history → Happens old event new
@@ -377,7 +467,13 @@ fails_at : (start : Tree) (old new : Serving) (event : Event) (history : RunHist
 fails_at start old new event history held fails = record {
   settled = held.settled;
   core = core_fails start old new event history.done held.settled held.core fails;
-  names = record { named = held.names.named; kept = held.names.kept; handed_out = held.names.handed_out };
+  names = record {
+    named = held.names.named;
+    kept = held.names.kept;
+    handed_out = held.names.handed_out;
+    replies = AreReplied-append held.settled history.replies (replies_of history old.world event) held.names.replies
+        (replied_below history old.world event held.settled held.names);
+  };
 }
 
 stays_down : (start : Tree) (old new : Serving) (connection : ℕ) (history : RunHistory) → Holds start old history → StaysDown old connection new
@@ -411,44 +507,56 @@ all_permitted : (done : List Entry) (k : ℕ) → AllLawful done → ArePermitte
 unfolding AllLawful
 all_permitted done k lawful i entry less e differs = (lawful i entry e differs).0
 
-prefix_of : (start : Tree) (done : List Entry) (handed_out : List ℕ) (settled : ℕ) (tree : Tree) → IsChain start done → AllLawful done → AreBelow settled handed_out
-    → StandsFor start done settled tree → IsGoodPrefix start done handed_out tree
-prefix_of start done handed_out settled tree chain lawful below stands = record {
-  k = stands.k;
-  within = stands.within;
-  holds = stands.holds;
-  good = still_good start done handed_out settled tree lawful below stands;
-  permitted = all_permitted done stands.k lawful;
-  chain = chain;
+prefix_of : (start : Tree) (done : List Entry) (handed_out : List ℕ) (replies : List (Stored × List ℕ)) (settled : ℕ) (left : Left) → IsChain start done → AllLawful done
+    → AreBelow settled handed_out → AreReplied settled replies → StandsFor start done settled left.tree → KeepsHeld start done handed_out replies left
+prefix_of start done handed_out replies settled left chain lawful below replied stands = record {
+  prefix = record {
+    k = stands.k;
+    within = stands.within;
+    holds = stands.holds;
+    good = still_good start done handed_out settled left.tree lawful below stands;
+    permitted = all_permitted done stands.k lawful;
+    chain = chain;
+  };
+  held = λ stored names among held.
+      still_good start done names settled left.tree lawful (AreReplied-place settled replies among.0 (stored, names) replied among.1.0 among.1.1) stands;
 }
 
-stopped_by : (start : Tree) (serving : Serving) (history : RunHistory) (event : Event) (tree : Tree) → Holds start serving history → (down : Bool) → serving.is_down ≡ down
-    → MayLeave serving event tree → IsGoodPrefix start (Joined history.done (executed_by serving.world event down)) history.handed_out tree
-stopped_by start serving history event tree held true e may =
+stopped_by : (start : Tree) (serving : Serving) (history : RunHistory) (event : Event) (left : Left) → Holds start serving history → (down : Bool) → serving.is_down ≡ down
+    → MayBeLeft serving event left
+    → KeepsHeld start (Joined history.done (executed_by serving.world event down)) history.handed_out (replies_with history serving.world event down) left
+stopped_by start serving history event left held true e may =
     let is : executed serving event ≡ None = ap (executed_by serving.world event) e in
     let core = held.core in
-    prefix_of start (Joined history.done None) history.handed_out held.settled tree
+    prefix_of start (Joined history.done None) history.handed_out history.replies held.settled left
     (subst (IsChain start) (sym (append-nil history.done)) core.chain)
     (subst AllLawful (sym (append-nil history.done)) core.lawful)
     held.names.handed_out
-    (stands_failing start history.done held.settled None tree core.within
-    (subst (λ (executed : Option Entry). (IsAfter executed tree) ⊎ (StandsFor start history.done held.settled tree)) is
-    (left_by start serving event history.done held.settled tree core may)))
-stopped_by start serving history event tree held false e may =
+    held.names.replies
+    (stands_failing start history.done held.settled None left.tree core.within
+    (subst (λ (executed : Option Entry). (IsAfter executed left.tree) ⊎ (StandsFor start history.done held.settled left.tree)) is
+    (left_by start serving event history.done held.settled left core may)))
+stopped_by start serving history event left held false e may =
     let is = executed_up serving event e in
     let core = held.core in
     let fits = event_fits serving.world event in
     let at = core.tree e in
-    prefix_of start (Joined history.done (executed_of serving.world event)) history.handed_out held.settled tree
+    prefix_of start (Joined history.done (executed_of serving.world event)) history.handed_out (history.replies ++ replies_of history serving.world event) held.settled left
     (chain_behind start serving.world.tree _ history.done _ fits at core.chain)
     (lawful_behind serving.world.tree _ history.done _ fits core.lawful)
     held.names.handed_out
-    (stands_failing start history.done held.settled (executed_of serving.world event) tree core.within
-    (subst (λ (executed : Option Entry). (IsAfter executed tree) ⊎ (StandsFor start history.done held.settled tree)) is
-    (left_by start serving event history.done held.settled tree core may)))
+    (AreReplied-append held.settled history.replies (replies_of history serving.world event) held.names.replies
+    (replied_below history serving.world event held.settled held.names))
+    (stands_failing start history.done held.settled (executed_of serving.world event) left.tree core.within
+    (subst (λ (executed : Option Entry). (IsAfter executed left.tree) ⊎ (StandsFor start history.done held.settled left.tree)) is
+    (left_by start serving event history.done held.settled left core may)))
+
+pub every_held_is_kept : EveryHeldIsKept
+every_held_is_kept limits run start seats serving history is_run event left may =
+    stopped_by start serving history event left
+    (holds start (mounted limits run start seats) serving history (holds_at_start limits run start seats) is_run)
+    serving.is_down refl may
 
 pub every_run : EveryRun
 every_run limits run start seats serving history is_run event tree may =
-    stopped_by start serving history event tree
-    (holds start (mounted limits run start seats) serving history (holds_at_start limits run start seats) is_run)
-    serving.is_down refl may
+    (every_held_is_kept limits run start seats serving history is_run event (record { tree = tree; seats = may.0 }) may.1).prefix

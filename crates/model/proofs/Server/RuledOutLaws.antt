@@ -1,5 +1,5 @@
 -- The laws of what the definitions rule out.
-use Rattle.std.proofs.Common.{inr, ◌⊎◌, ◌≡◌, ◌≢◌, ℕ, zero, suc, ◌+◌, ◌-◌, ◌<◌, ◌≤◌, inl, Bool, true, false, cond, ◌==◌, nat_lt, List, [], ◌∷◌, ◌++◌, length, take, slice_get, find, Option, None, Some, Result, Ok, Err, refl, sym, ap, ◌∙◌, subst, arith, eq-eqb, get_or}
+use Rattle.std.proofs.Common.{inr, ◌⊎◌, ◌≡◌, ◌≢◌, ℕ, zero, suc, ◌+◌, ◌-◌, ◌<◌, ◌≤◌, inl, Bool, true, false, cond, ◌==◌, nat_lt, List, [], ◌∷◌, ◌++◌, length, take, slice_get, find, Option, None, Some, Result, Ok, Err, refl, sym, ap, ◌∙◌, subst, arith, eq-eqb}
 use borrow.Author.Tests.{eqb-false}
 use Rattle.std.proofs.lemmas.Bool.{eqb-true, false≢true, cond-true}
 use Rattle.model_tree.specs.Seats.Seats.{Seats}
@@ -14,12 +14,12 @@ use Rattle.model.specs.Wire.Rpc.{CallRead, NoCall, OtherVersion, Calls, Request,
 use Rattle.model.specs.Sessions.Session as sessions
 use Rattle.model.specs.Sessions.Session.{Table, Session, Slot, Kept, Begun, Runs, begin, begin_by, begin_slot, begin_new, finish, finished_slot, changed_where, is_session, slot_at, next_number}
 use Rattle.model_tree.specs.Trees.Tree.{Tree}
-use Rattle.model.specs.Server.World.{World, InProgress, Connection, Quiet, Waiting, Busy, Replied, Closed, HasRun, Gives, Replays, outcome_text, exchanged, created_by, session_created, tabled, started_in, begun, reclaimed, refuses, in_room, has_room, run, Turned, Entry, executed_entry, behind, ends, goes_on, reply_with, status_of, requested, in_progress, called, with_result, is_last, has_run, operates, Next, Refuses, Reads, next_operation, turned, one, without_connection, hangs_up, hung_up, turns, operations_left, is_busy, further, closes, is_to_hold}
-use Rattle.model.specs.Server.Runs.{tree_after, executed, executed_by, executed_of, effect_of, Event, Serving, IsAfter, is_done}
-use Rattle.model.specs.Server.RuledOut.{NoSkip, NoEarlyReply, NoTakingBack, NoSecondRun, NoForgetting, NoGap, IsOutcome, IsBehind, IsOneFurther, OneATurn, HangsUpLast, request_by, request_in, request_at, after_turns, HangUpIsEvents, EachEventHappens, with_operations, EndsByHolding}
+use Rattle.model.specs.Server.World.{ServerLimits, World, InProgress, Connection, Quiet, Waiting, Busy, Replied, Closed, HasRun, Gives, Replays, outcome_text, exchanged, created_by, session_created, tabled, started_in, begun, reclaimed, refuses, in_room, has_room, run, Turned, Entry, executed_entry, behind, ends, goes_on, reply_with, status_of, requested, in_progress, called, with_result, is_last, has_run, operates, Next, Refuses, Reads, next_operation, turned, one, without_connection, hangs_up, hung_up, turns, operations_left, is_busy, further, closes, is_to_hold}
+use Rattle.model.specs.Server.Runs.{tree_after, executed, executed_by, executed_of, effect_of, Event, Serving, RunHistory, IsRun, Begins, Goes_on, Fails_at, Stays_down, mounted, left_after, Left, IsAfterEvent, is_done}
+use Rattle.model.specs.Server.RuledOut.{NoSkip, NoEarlyReply, NoTakingBack, NoReplyAlone, NoSecondRun, NoForgetting, NoGap, IsOutcome, IsBehind, IsOneFurther, OneATurn, HangsUpLast, request_by, request_in, request_at, after_turns, HangUpIsEvents, EachEventHappens, with_operations, EndsByHolding}
 use Rattle.std.proofs.Common.{get_or-set_same, length-set, lt-ltb}
 use Rattle.std.specs.List.{IsAmong}
-use Rattle.model.proofs.Server.Headline.{every_run, only_start}
+use Rattle.model.proofs.Server.Headline.{every_run, only_one}
 use Rattle.model.proofs.Server.RunLaws.{EntryFits, event_fits}
 use Rattle.model_tree.proofs.Trees.KeyedLaws.{at-with_same, at-without_same}
 use Rattle.model.proofs.Sessions.SlotLaw.{cond_runs, cond_never, refuses_not, replays_not, begin_runs}
@@ -32,10 +32,7 @@ no_skip start write change tree durable prefix =
     prefix.holds ∙ ap (λ (n : ℕ). tree_after start (take n (write ∷ change ∷ []))) two
 
 pub no_early_reply : NoEarlyReply
-no_early_reply old new event entry happens e lasts changes among = changes (happens.durable entry e lasts (before_of entry) among)
-  where
-    before_of : Entry → Tree
-    before_of entry = entry.state.tree
+no_early_reply old new event entry happens e lasts changes left among same = changes (sym same ∙ happens.durable entry e lasts left among)
 
 -- what stands at a place stands there with more after it
 still_there : (done more : List Entry) (i : ℕ) (entry : Entry) → slice_get done i ≡ Some entry → slice_get (done ++ more) i ≡ Some entry
@@ -47,6 +44,22 @@ pub no_taking_back : NoTakingBack
 no_taking_back limits run start seats serving history i change is_run handed_out there durable event tree may =
     let prefix = every_run limits run start seats serving history is_run event tree may in
     (prefix.k, prefix.good i change handed_out (still_there history.done _ i change there) durable, prefix.holds)
+
+-- the seats that a crash leaves of a server that is up are those of its table
+seats_same : (limits : ServerLimits) (run : ℕ) (start : Tree) (seats : Seats) (serving : Serving) (history : RunHistory) → IsRun (mounted limits run start seats) serving history
+    → serving.is_down ≡ false → (left : Left) → IsAmong serving.left left → left.seats ≡ serving.world.table.seats
+seats_same limits run start seats serving history Begins up left among = ap (λ (l : Left). l.seats) (only_one (record { tree = start; seats = seats }) left among)
+seats_same limits run start seats serving history (Goes_on event is_run happens) up left among = happens.seats left among
+seats_same limits run start seats serving history (Fails_at event is_run fails) up left among = absurd (false≢true (sym up ∙ fails.down))
+seats_same limits run start seats serving history (Stays_down connection is_run stays) up left among = absurd (false≢true (sym up ∙ stays.still_down))
+
+pub no_reply_alone : NoReplyAlone
+no_reply_alone limits run start seats old new history event is_run happens changed left among = elim (happens.no_others left among) [
+  | inl before ↦ absurd (changed (sym (happens.seats left among) ∙ seats_same limits run start seats old history is_run happens.up left before))
+  | inr after ↦
+      let is : left ≡ left_after (effect_of old.world event) = subst (λ (b : Bool). IsAfterEvent old.world event b left) happens.up after in
+      is ∙ ap left_after (sym happens.world)
+]
 
 -- SEQUENCE
 
@@ -450,25 +463,12 @@ hang_up_is_events world number now =
 
 -- A server that flushes each change at once
 
-only_seats : (one seats : Seats) → IsAmong (one ∷ []) seats → seats ≡ one
-only_seats one seats among = by_place among.0 among.1.0 among.1.1
-  where
-    by_place : (place : ℕ) → place < length (one ∷ []) → seats ≡ get_or (one ∷ []) place seats → seats ≡ one
-    by_place zero less e = e
-    by_place (suc place) less e = absurd (omega arith)
-
 flushed : Serving → Event → Serving
 flushed old event = record {
   world = effect_of old.world event;
-  recent = (effect_of old.world event).tree ∷ [];
-  held = (effect_of old.world event).table.seats ∷ [];
+  left = left_after (effect_of old.world event) ∷ [];
   is_down = false;
 }
-
-left_flushed : (old : Serving) (new tree : Tree) (made : Option Entry) → EntryFits old.world.tree new made → IsAmong old.recent old.world.tree → tree ≡ new
-    → (IsAmong old.recent tree) ⊎ (IsAfter made tree)
-left_flushed old new tree None fits among same = inl (subst (IsAmong old.recent) (sym (same ∙ fits)) among)
-left_flushed old new tree (Some entry) fits among same = inr (same ∙ fits.1)
 
 lasts_flushed : (old new tree : Tree) (made : Option Entry) (entry : Entry) → EntryFits old new made → made ≡ Some entry → tree ≡ new → tree ≡ entry.after
 lasts_flushed old new tree made entry fits is same =
@@ -477,19 +477,21 @@ lasts_flushed old new tree made entry fits is same =
 
 pub each_event_happens : EachEventHappens
 unfolding flushed
-each_event_happens old event up among =
+each_event_happens old event up =
     let fits = event_fits old.world event in
+    let after = left_after (effect_of old.world event) in
     let is : executed old event ≡ executed_of old.world event = ap (executed_by old.world event) up in (
       flushed old event,
       record {
         up = up;
         world = refl;
         still_up = refl;
-        no_others = λ tree left. subst (λ (made : Option Entry). (IsAmong old.recent tree) ⊎ (IsAfter made tree)) (sym is)
-            (left_flushed old (effect_of old.world event).tree tree (executed_of old.world event) fits among (only_start _ tree left));
-        durable = λ entry e lasts tree left.
-            lasts_flushed old.world.tree (effect_of old.world event).tree tree (executed_of old.world event) entry fits (sym is ∙ e) (only_start _ tree left);
-        seats = λ seats left. only_seats _ seats left;
+        no_others = λ left among.
+            inr (subst (λ (b : Bool). IsAfterEvent old.world event b left) (sym up) (only_one after left among));
+        durable = λ entry e lasts left among.
+            lasts_flushed old.world.tree (effect_of old.world event).tree left.tree (executed_of old.world event) entry fits (sym is ∙ e)
+            (ap (λ (l : Left). l.tree) (only_one after left among));
+        seats = λ left among. ap (λ (l : Left). l.seats) (only_one after left among);
       },
       (0, (omega arith, refl)),
     )

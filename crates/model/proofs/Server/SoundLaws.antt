@@ -23,13 +23,12 @@ use Rattle.model.specs.Operations.StepLaws.{IsSound}
 use Rattle.model_tree.specs.Trees.Tree.{Tree}
 use Rattle.model_tree.specs.Trees.WellFormed.{IsWellFormed, IsBefore}
 use Rattle.model.specs.Server.World.{in_room, refuses, has_room, World, ServerLimits, InProgress, Connection, Quiet, Waiting, Busy, Replied, Closed, HasRun, Gives, Replays, with_connection, with_table, exchanged, created_by, tabled, started_in, begun, reclaimed, stepped, state_of, run as runs_operation, Turned, Entry, executed_entry, replies, behind, ends, goes_on, with_result, is_last, has_run, operates, Next, Refuses, Reads, next_operation, requested, in_progress, called, turned, one, connection_changed, arrived, arrives, arrives_at, takes, without_reply, connects, can_connect, hangs_up, is_busy, without_connection, mounted_world, closes, is_to_hold, further}
-use Rattle.model.specs.Server.Runs.{Event, Arrives, Turns, HangsUp, Connects, Takes, effect_of, executed_of, executed_by, executed, Serving, RunHistory, IsRun, Begins, Goes_on, Fails_at, Stays_down, IsAfter, MayLeave, mounted}
+use Rattle.model.specs.Server.Runs.{Event, Arrives, Turns, HangsUp, Connects, Takes, effect_of, executed, Serving, RunHistory, IsRun, Begins, Goes_on, Fails_at, Stays_down, Left, IsAfterEvent, MayBeLeft, mounted}
 use Rattle.model_tree.proofs.Trees.FreshTree.{fresh_well_formed, fresh_before}
 use Rattle.model_tree.proofs.Trees.KeyedLaws.{at-with_same, at-with_other, at-without_same, at-without_other, some≢none}
 use Rattle.model_tree.proofs.Rights.LimitLaws.{modes_keep_limits, inheritance_keeps_limits}
-use Rattle.model.proofs.Server.RunLaws.{EntryFits, event_fits}
 use Rattle.model.proofs.Operations.StepProofs.{every_step, before_later}
-use Rattle.model.proofs.Server.Headline.{only_start}
+use Rattle.model.proofs.Server.Headline.{only_one}
 
 -- A world whose tree is sound, and whose requests all are of its run
 
@@ -366,24 +365,19 @@ module _ (limits : ServerLimits) (run : ℕ) (room : limits.volume.aces_set + 5 
       let counted : world.changes < 2 ^ 32 = sound.counted in
       (sound.well_formed, before_later (next_stamp run world.changes) (next_stamp (run + 1) 0) world.tree sound.before (omega arith))
 
-  left_behind : (world : World) (event : Event) (tree : Tree) → IsSoundWorld limits run world → (executed : Option Entry)
-      → EntryFits world.tree (effect_of world event).tree executed → IsAfter executed tree → IsLeft tree
-  left_behind world event tree sound None fits after = absurd after
-  left_behind world event tree sound (Some entry) fits after =
-      subst IsLeft (fits.1 ∙ sym after) (left_of (effect_of world event) (event_sound world event sound))
-
-  left_by_event : (world : World) (event : Event) (is_down : Bool) (tree : Tree) → IsSoundWorld limits run world
-      → IsAfter (executed_by world event is_down) tree → IsLeft tree
-  left_by_event world event true tree sound after = absurd after
-  left_by_event world event false tree sound after = left_behind world event tree sound (executed_of world event) (event_fits world event) after
+  left_by_event : (world : World) (event : Event) (is_down : Bool) (left : Left) → IsSoundWorld limits run world
+      → IsAfterEvent world event is_down left → IsLeft left.tree
+  left_by_event world event true left sound after = absurd after
+  left_by_event world event false left sound after =
+      subst IsLeft (sym (ap (λ (l : Left). l.tree) after)) (left_of (effect_of world event) (event_sound world event sound))
 
   pub record IsSoundServing (serving : Serving) : Type 0 where
     pub world : IsSoundWorld limits run serving.world
-    recent : (tree : Tree) → IsAmong serving.recent tree → IsLeft tree
+    left : (left : Left) → IsAmong serving.left left → IsLeft left.tree
 
-  may_leave : (serving : Serving) (event : Event) (tree : Tree) → IsSoundServing serving → MayLeave serving event tree → IsLeft tree
-  may_leave serving event tree sound (inl among) = sound.recent tree among
-  may_leave serving event tree sound (inr after) = left_by_event serving.world event serving.is_down tree sound.world after
+  may_leave : (serving : Serving) (event : Event) (left : Left) → IsSoundServing serving → MayBeLeft serving event left → IsLeft left.tree
+  may_leave serving event left sound (inl among) = sound.left left among
+  may_leave serving event left sound (inr after) = left_by_event serving.world event serving.is_down left sound.world after
 
   module _ (start : Tree) (seats : Seats) (begins : IsStart limits.volume run start) where
     mounted_sound : IsSoundWorld limits run (mounted_world limits run start seats)
@@ -400,25 +394,27 @@ module _ (limits : ServerLimits) (run : ℕ) (room : limits.volume.aces_set + 5 
     pub serving_sound : (serving : Serving) (history : RunHistory) → IsRun (mounted limits run start seats) serving history → IsSoundServing serving
     serving_sound _ _ Begins = record {
       world = mounted_sound;
-      recent = λ tree among. subst IsLeft (sym (only_start start tree among)) (left_of (mounted_world limits run start seats) mounted_sound);
+      left = λ left among.
+          subst IsLeft (sym (ap (λ (l : Left). l.tree) (only_one (record { tree = start; seats = seats }) left among)))
+          (left_of (mounted_world limits run start seats) mounted_sound);
     }
     serving_sound _ _ (Goes_on {old} {new} {history} event runs happens) =
         let before = serving_sound old history runs in
         record {
           world = subst (IsSoundWorld limits run) (sym happens.world) (event_sound old.world event before.world);
-          recent = λ tree among. may_leave old event tree before (happens.no_others tree among);
+          left = λ left among. may_leave old event left before (happens.no_others left among);
         }
     serving_sound _ _ (Fails_at {old} {new} {history} event runs fails) =
         let before = serving_sound old history runs in
         record {
           world = subst (IsSoundWorld limits run) (sym fails.world) before.world;
-          recent = λ tree among. may_leave old event tree before (fails.no_others tree among);
+          left = λ left among. may_leave old event left before (fails.no_others left among);
         }
     serving_sound _ _ (Stays_down {old} {new} {history} connection runs stays) =
         let before = serving_sound old history runs in
         record {
           world = subst (IsSoundWorld limits run) (sym stays.world) (takes_sound old.world connection before.world);
-          recent = λ tree among. before.recent tree (stays.no_others tree among);
+          left = λ left among. before.left left (stays.no_others left among);
         }
 
   later_start : (tree : Tree) → IsLeft tree → (next : ℕ) → run < next → IsStart limits.volume next tree
@@ -436,7 +432,7 @@ every_tree limits = record {
       record { well_formed = fresh_well_formed limits.volume nodes aces; before = fresh_before (next_stamp run 0) stamp_above };
   later = λ run start seats serving history room begins runs event tree leaves next after.
       later_start limits run room tree
-      (may_leave limits run room serving event tree (serving_sound limits run room start seats begins serving history runs) leaves) next after;
+      (may_leave limits run room serving event (record { tree = tree; seats = leaves.0 }) (serving_sound limits run room start seats begins serving history runs) leaves.1) next after;
 }
 
 -- the opens are so at each moment

@@ -6,7 +6,7 @@ use Rattle.std.proofs.lemmas.Slice.Eq.{bytes_eq-Decides}
 use Rattle.model_tree.specs.declared.status.Status.TheVariants as status
 use Rattle.model.specs.Operations.Answer.{Answer, Outcome, Done, Refused}
 use Rattle.model.specs.Operations.Operation.{Argument, SequenceArguments, operation_of}
-use Rattle.model.specs.Server.Runs.{Event, Arrives, Turns, HangsUp, Connects, Takes, effect_of, executed_of, executed_by, executed, done_with, Stored, freed_between, freed_of, RunHistory, history_after, history_failing, taken_by, Serving, mounted, IsSeatedAfter, MayHoldSeats, DeviceFails, IsRun, Begins, Goes_on, Fails_at, Stays_down}
+use Rattle.model.specs.Server.Runs.{Event, Arrives, Turns, HangsUp, Connects, Takes, effect_of, executed_of, executed_by, executed, done_with, Stored, freed_between, freed_of, RunHistory, history_after, history_failing, taken_by, Serving, Left, mounted, IsAfterEvent, MayBeLeft, DeviceFails, IsRun, Begins, Goes_on, Fails_at, Stays_down}
 use Rattle.model.specs.Sessions.SeatRuns.{AreSeats, Stop, freeing, stored_in, freed_in, executed_in, HoldsFrom, IsFreed, EverySeatStays, EveryRunCanFollow, AreLives, numbers_over, EveryNumberOnce, last_of, WasFreed, EveryReplyStaysHeld}
 use Rattle.model_tree.specs.Seats.Seats.{Seat, Seats, seat_of, has_seat, held_in, run_of, SeatsApart}
 use Rattle.model.specs.Server.ServedOnce.{number_by, numbers_in}
@@ -15,10 +15,10 @@ use Rattle.model.specs.Sessions.Session.{Table, Session, is_session}
 use Rattle.model.specs.Sessions.SessionRuns.{CountsFrom}
 use Rattle.model_tree.specs.Trees.Tree.{Tree}
 use Rattle.model.specs.Server.World.{ServerLimits, World, InProgress, Gives, Replays, Entry, Turned, begun, started_in, refuses, run, is_to_hold, closes, behind, is_last, with_result, one, reply_at, arrives, takes, connects, hangs_up}
-use Rattle.model.proofs.Server.Headline.{done_behind, taken_done}
+use Rattle.model.proofs.Server.Headline.{only_one, done_behind, taken_done}
 use Rattle.model.proofs.Sessions.SeatLaws.{among_left, among_right, freed_listed, seat_holds, holds_there}
 use Rattle.model.proofs.Sessions.SeatTables.{id_in, in_run, id_of_run, all-found}
-use Rattle.model.proofs.Sessions.SeatRunLaws.{event_seated, RunSeated, run_seated, only_one, every_reply_is_held}
+use Rattle.model.proofs.Sessions.SeatRunLaws.{event_seated, RunSeated, run_seated, every_reply_is_held}
 use Rattle.model.proofs.Sessions.SeatsGo.{SeatsGo, event_go}
 use Rattle.model.proofs.Server.ServedOnceLaws.{arrives_table, takes_table, connects_table, hangs_up_table, numbers_in-append, every_served_slot}
 use Rattle.model.proofs.Sessions.SlotLaw.{id_of, others_between}
@@ -67,7 +67,7 @@ so_goes run first gone old new earlier so go apart = record {
 
 record RunSo (run : ℕ) (first : Seats) (serving : Serving) (history : RunHistory) : Type 0 where
   up : serving.is_down ≡ false → SeatsSo run first history.freed serving.world.table.seats
-  held : (seats : Seats) → IsAmong serving.held seats → SeatsSo run first history.freed seats
+  held : (left : Left) → IsAmong serving.left left → SeatsSo run first history.freed left.seats
 
 differ : (b : Bool) → b ≡ true → b ≡ false → ⊥
 differ b one other = true≢false (sym one ∙ other)
@@ -90,13 +90,13 @@ module _ (limits : ServerLimits) (run : ℕ) (start : Tree) (first : Seats) (sma
     after_so : SeatsSo run first (history.freed ++ freed_of serving.world event) (effect_of serving.world event).table.seats
     after_so = so_goes run first history.freed serving.world.table.seats (effect_of serving.world event).table.seats are.earlier (so.up up) goes apart_after
 
-    may_so : (seats : Seats) → MayHoldSeats serving event seats → SeatsSo run first (history.freed ++ freed_of serving.world event) seats
-    may_so seats (inl among) = so_more run first history.freed (freed_of serving.world event) seats (so.held seats among)
-    may_so seats (inr after) = by_down serving.is_down up after
+    may_so : (left : Left) → MayBeLeft serving event left → SeatsSo run first (history.freed ++ freed_of serving.world event) left.seats
+    may_so left (inl among) = so_more run first history.freed (freed_of serving.world event) left.seats (so.held left among)
+    may_so left (inr after) = by_down serving.is_down up after
       where
-        by_down : (down : Bool) → down ≡ false → IsSeatedAfter serving.world event down seats → SeatsSo run first (history.freed ++ freed_of serving.world event) seats
+        by_down : (down : Bool) → down ≡ false → IsAfterEvent serving.world event down left → SeatsSo run first (history.freed ++ freed_of serving.world event) left.seats
         by_down true wrong after = absurd after
-        by_down false right after = subst (SeatsSo run first (history.freed ++ freed_of serving.world event)) (sym after) after_so
+        by_down false right after = subst (SeatsSo run first (history.freed ++ freed_of serving.world event)) (sym (ap (λ (l : Left). l.seats) after)) after_so
 
   module _ (history : RunHistory) (world : World) where
     still : (after : World) → after.table ≡ world.table → SeatsSo run first history.freed world.table.seats → SeatsSo run first history.freed after.table.seats
@@ -115,7 +115,7 @@ module _ (limits : ServerLimits) (run : ℕ) (start : Tree) (first : Seats) (sma
         by_reply (Some reply) = still (takes world connection) (takes_table world connection) so
 
   run_so : (serving : Serving) (history : RunHistory) → IsRun (mounted limits run start first) serving history → RunSo run first serving history
-  run_so serving history Begins = record { up = λ up. begins; held = λ seats among. subst (SeatsSo run first []) (sym (only_one first seats among)) begins }
+  run_so serving history Begins = record { up = λ up. begins; held = λ left among. subst (SeatsSo run first []) (sym (ap (λ (l : Left). l.seats) (only_one (record { tree = start; seats = first }) left among))) begins }
     where
       begins : SeatsSo run first [] first
       begins = record { apart = are.apart; runs = λ id has. let less = are.earlier id has in omega (arith, less); stays = λ id seat there. inl there }
@@ -125,35 +125,38 @@ module _ (limits : ServerLimits) (run : ℕ) (start : Tree) (first : Seats) (sma
       let table : new.world.table ≡ (effect_of old.world event).table = ap (λ (w : World). w.table) happens.world in
       let so : SeatsSo run first (history_after earlier old.world event).freed new.world.table.seats =
       subst (λ (t : Table). SeatsSo run first (history_after earlier old.world event).freed t.seats) (sym table) (behind_so earlier old.world event (was.up happens.up) now) in
-      record { up = λ up. so; held = λ seats among. subst (SeatsSo run first (history_after earlier old.world event).freed) (sym (happens.seats seats among)) so }
+      record { up = λ up. so; held = λ left among. subst (SeatsSo run first (history_after earlier old.world event).freed) (sym (happens.seats left among)) so }
   run_so serving history (Fails_at {old = old} {new = new} {history = earlier} event is_run fails) =
       let was = run_so old earlier is_run in
       record {
         up = λ up. absurd (differ new.is_down fails.down up);
-        held = λ seats among. may_so old earlier is_run was fails.up event seats (fails.seats seats among);
+        held = λ left among. may_so old earlier is_run was fails.up event left (fails.no_others left among);
       }
   run_so serving history (Stays_down {old = old} {new = new} {history = earlier} connection is_run stays) =
       let was = run_so old earlier is_run in
       record { up = λ up. absurd (differ new.is_down stays.still_down up); held = by_reply was.held (reply_at old.world connection) }
     where
-      by_reply : ((seats : Seats) → IsAmong old.held seats → SeatsSo run first earlier.freed seats) → (reply : Option (List ℕ)) → (seats : Seats) → IsAmong new.held seats
-          → SeatsSo run first (taken_by earlier connection reply).freed seats
-      by_reply held None seats among = held seats (stays.seats seats among)
-      by_reply held (Some reply) seats among = held seats (stays.seats seats among)
+      by_reply : ((left : Left) → IsAmong old.left left → SeatsSo run first earlier.freed left.seats) → (reply : Option (List ℕ)) → (left : Left) → IsAmong new.left left
+          → SeatsSo run first (taken_by earlier connection reply).freed left.seats
+      by_reply held None left among = held left (stays.no_others left among)
+      by_reply held (Some reply) left among = held left (stays.no_others left among)
 
 left_so : (limits : ServerLimits) (stop : Stop limits) → SeatsSo stop.run stop.seats (freed_in stop) stop.left
-left_so limits stop = by_down stop.serving.is_down refl stop.leaves
+left_so limits stop = by_down stop.serving.is_down refl stop.leaves.1
   where
+    its : Left
+    its = record { tree = stop.leaves.0; seats = stop.left }
+
     so : RunSo stop.run stop.seats stop.serving stop.history
     so = run_so limits stop.run stop.start stop.seats stop.counted stop.begins stop.serving stop.history stop.is_run
 
-    by_down : (down : Bool) → stop.serving.is_down ≡ down → MayHoldSeats stop.serving stop.event stop.left
+    by_down : (down : Bool) → stop.serving.is_down ≡ down → MayBeLeft stop.serving stop.event its
         → SeatsSo stop.run stop.seats (stop.history.freed ++ freeing stop.serving stop.event down) stop.left
-    by_down false up may = may_so limits stop.run stop.start stop.seats stop.counted stop.begins stop.serving stop.history stop.is_run so up stop.event stop.left may
-    by_down true down (inl among) = so_more stop.run stop.seats stop.history.freed [] stop.left (so.held stop.left among)
+    by_down false up may = may_so limits stop.run stop.start stop.seats stop.counted stop.begins stop.serving stop.history stop.is_run so up stop.event its may
+    by_down true down (inl among) = so_more stop.run stop.seats stop.history.freed [] stop.left (so.held its among)
     by_down true down (inr after) = absurd (never stop.serving.is_down down after)
       where
-        never : (b : Bool) → b ≡ true → IsSeatedAfter stop.serving.world stop.event b stop.left → ⊥
+        never : (b : Bool) → b ≡ true → IsAfterEvent stop.serving.world stop.event b its → ⊥
         never true same after = after
         never false same after = true≢false (sym same)
 
@@ -326,7 +329,7 @@ module _ (limits : ServerLimits) (stop : Stop limits) (id : List ℕ) (slot : �
   none_among x among = let less = among.1.0 in omega (arith, less)
 
   failed : Serving
-  failed = record { world = stop.serving.world; recent = []; held = []; is_down = true }
+  failed = record { world = stop.serving.world; left = []; is_down = true }
 
   fails : stop.serving.is_down ≡ false → DeviceFails stop.serving stop.event failed
   unfolding failed
@@ -334,8 +337,7 @@ module _ (limits : ServerLimits) (stop : Stop limits) (id : List ℕ) (slot : �
     up = up;
     world = refl;
     down = refl;
-    no_others = λ tree among. absurd (none_among tree among);
-    seats = λ seats among. absurd (none_among seats among);
+    no_others = λ left among. absurd (none_among left among);
   }
 
   in_order : (down : Bool) → stop.serving.is_down ≡ down → CountsFrom 0 (numbers_in id slot (done_with stop.history (executed_by stop.serving.world stop.event down)))

@@ -18,7 +18,8 @@ use Rattle.model.specs.Server.World.{ServerLimits, World, InProgress, Connection
 use Rattle.model_tree.proofs.Trees.KeyedLaws.{at-with_same}
 use Rattle.model.proofs.Operations.ReadOperations.{is_first, first_read}
 use Rattle.model.proofs.Sessions.SeatRunLaws.{stop_seated}
-use Rattle.model.proofs.Sessions.SeatTables.{Seated, its_held, seats_are, stored_is, held_now, same_seats}
+use Rattle.model.proofs.Sessions.SeatTables.{Seated, its_held, seats_are, stored_is, held_now}
+use Rattle.model.proofs.Sessions.StoringTurns.{same_seats}
 use Rattle.model.proofs.Sessions.SeatWorlds.{runs_there, on_itself}
 use Rattle.model.proofs.Sessions.SlotsHeld.{Held, run_held}
 use Rattle.model.proofs.Sessions.TableCalls.{either}

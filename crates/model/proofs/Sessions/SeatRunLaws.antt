@@ -1,17 +1,17 @@
 -- Exactly once over restarts, by induction over a run and over runs.
-use Rattle.std.proofs.Common.{◌≡◌, ℕ, ◌&&◌, ◌==◌, zero, suc, ◌^◌, ◌<◌, inl, inr, Bool, true, false, cond, List, [], ◌∷◌, ◌++◌, length, get_or, option_to_list, slice_get, find, Option, None, Some, is_some, eq-eqb, eqb-true, refl, sym, ap, ◌∙◌, subst, arith, append-nil}
+use Rattle.std.proofs.Common.{◌≡◌, ℕ, ◌&&◌, ◌==◌, ◌^◌, ◌<◌, inl, inr, Bool, true, false, cond, List, [], ◌∷◌, ◌++◌, get_or, option_to_list, slice_get, find, Option, None, Some, is_some, eq-eqb, eqb-true, refl, sym, ap, ◌∙◌, subst, arith, append-nil}
 use Rattle.std.specs.List.{IsAmong}
 use Rattle.std.proofs.lemmas.Bool.{true≢false, and_from}
 use Rattle.model_tree.specs.declared.status.Status.TheVariants as status
 use Rattle.model_tree.specs.Trees.Keyed.{at}
 use Rattle.model.specs.Operations.Operation.{SequenceArguments}
-use Rattle.model.specs.Server.Runs.{Event, Arrives, Turns, HangsUp, Connects, Takes, effect_of, Stored, stored_of, freed_between, freed_of, RunHistory, history_after, Serving, mounted, IsSeatedAfter, MayHoldSeats, taken_by, IsRun, Begins, Goes_on, Fails_at, Stays_down}
+use Rattle.model.specs.Server.Runs.{Event, Arrives, Turns, HangsUp, Connects, Takes, effect_of, Stored, stored_of, freed_between, freed_of, RunHistory, history_after, Serving, Left, mounted, IsAfterEvent, MayBeLeft, taken_by, IsRun, Begins, Goes_on, Fails_at, Stays_down}
 use Rattle.model.specs.Sessions.SeatRuns.{AreSeats, IsRetryOf, Stop, storing, freeing, EveryReplyIsHeld, EveryDeadSession}
 use Rattle.model_tree.specs.Seats.Seats.{HeldReply, Seat, Seats, seat_of, held_in, run_of}
 use Rattle.model.specs.Sessions.Session.{Table, Session, Refuses, Replays, is_session, begin, begin_held, begin_dead, begin_by, loaded_table, Settings}
 use Rattle.model_tree.specs.Trees.Tree.{Tree}
 use Rattle.model.specs.Server.World.{ServerLimits, World, one, arrives, takes, connects, hangs_up, reply_at}
-use Rattle.model.proofs.Server.Headline.{slice_get-append, slice_get-within}
+use Rattle.model.proofs.Server.Headline.{only_one, slice_get-append, slice_get-within}
 use Rattle.model.proofs.Sessions.SeatLaws.{among_left}
 use Rattle.model.proofs.Sessions.SeatTables.{Seated, IsKept, past_earlier, id_of_run, id_in, in_run, seated_more, all-found}
 use Rattle.model.proofs.Sessions.SeatWorlds.{one_seated}
@@ -64,8 +64,8 @@ AllKept seats stored all gone = (i : ℕ) (one : Stored) → slice_get stored i 
 
 pub record RunSeated (run : ℕ) (serving : Serving) (history : RunHistory) : Type 0 where
   pub up : serving.is_down ≡ false → Seated run serving.world.table history.stored history.freed × (serving.world.table.run ≡ run)
-  pub same : serving.is_down ≡ false → (seats : Seats) → IsAmong serving.held seats → seats ≡ serving.world.table.seats
-  pub kept : (seats : Seats) → IsAmong serving.held seats → AllKept seats history.stored (history.stored ++ option_to_list history.torn) history.freed
+  pub same : serving.is_down ≡ false → (left : Left) → IsAmong serving.left left → left.seats ≡ serving.world.table.seats
+  pub kept : (left : Left) → IsAmong serving.left left → AllKept left.seats history.stored (history.stored ++ option_to_list history.torn) history.freed
 
 -- what an event may leave, of a server that is up
 module _ (limits : ServerLimits) (run : ℕ) (serving : Serving) (history : RunHistory) (held : Held limits serving.world) (is : RunSeated run serving history)
@@ -85,15 +85,15 @@ module _ (limits : ServerLimits) (run : ℕ) (serving : Serving) (history : RunH
       subst (λ (s : Seats). IsKept s (history.stored ++ option_to_list (stored_of serving.world event)) (history.freed ++ freed_of serving.world event) i one) (sym same)
       (its.0.kept i one (slice_get-append history.stored (option_to_list (stored_of serving.world event)) i (slice_get-within history.stored i one at) ∙ at))
 
-  pub may_kept : (seats : Seats) → MayHoldSeats serving event seats
-      → AllKept seats history.stored (history.stored ++ option_to_list (stored_of serving.world event)) (history.freed ++ freed_of serving.world event)
-  may_kept seats (inl among) = old_kept seats (is.same up seats among)
-  may_kept seats (inr after) = by_down serving.is_down up after
+  pub may_kept : (left : Left) → MayBeLeft serving event left
+      → AllKept left.seats history.stored (history.stored ++ option_to_list (stored_of serving.world event)) (history.freed ++ freed_of serving.world event)
+  may_kept left (inl among) = old_kept left.seats (is.same up left among)
+  may_kept left (inr after) = by_down serving.is_down up after
     where
-      by_down : (down : Bool) → down ≡ false → IsSeatedAfter serving.world event down seats
-          → AllKept seats history.stored (history.stored ++ option_to_list (stored_of serving.world event)) (history.freed ++ freed_of serving.world event)
+      by_down : (down : Bool) → down ≡ false → IsAfterEvent serving.world event down left
+          → AllKept left.seats history.stored (history.stored ++ option_to_list (stored_of serving.world event)) (history.freed ++ freed_of serving.world event)
       by_down true wrong after = absurd after
-      by_down false right after = new_kept seats after
+      by_down false right after = new_kept left.seats (ap (λ (l : Left). l.seats) after)
 
 -- the history after an event
 module _ (run : ℕ) (history : RunHistory) (world : World) where
@@ -129,19 +129,12 @@ table_seated run settings seats small are = record {
   kept = λ i one at. absurd (cc);
 }
 
-pub only_one : {A : Type 0} (one x : A) → IsAmong (one ∷ []) x → x ≡ one
-only_one {A} one x among = by_place among.0 among.1.0 among.1.1
-  where
-    by_place : (place : ℕ) → place < length (one ∷ []) → x ≡ get_or (one ∷ []) place x → x ≡ one
-    by_place zero less e = e
-    by_place (suc place) less e = absurd (omega arith)
-
 module _ (limits : ServerLimits) (run : ℕ) (start : Tree) (first : Seats) (small : run < 2 ^ 32) (are : AreSeats run first) where
   pub run_seated : (serving : Serving) (history : RunHistory) → IsRun (mounted limits run start first) serving history → RunSeated run serving history
   run_seated serving history Begins = record {
     up = λ up. (table_seated run limits.settings first small are, refl);
-    same = λ up seats among. only_one first seats among;
-    kept = λ seats among i one at. absurd (cc);
+    same = λ up left among. ap (λ (l : Left). l.seats) (only_one (record { tree = start; seats = first }) left among);
+    kept = λ left among i one at. absurd (cc);
   }
   run_seated serving history (Goes_on {old = old} {new = new} {history = earlier} event is_run happens) =
       let was = run_seated old earlier is_run in
@@ -153,9 +146,9 @@ module _ (limits : ServerLimits) (run : ℕ) (start : Tree) (first : Seats) (sma
       (behind run earlier old.world event (was.up happens.up).0 now) in
       record {
         up = λ up. (seated, ap (λ (t : Table). t.run) table ∙ now.1);
-        same = λ up seats among. happens.seats seats among;
-        kept = λ seats among i one at.
-            kept_torn new.world.table.seats seats (history_after earlier old.world event) (happens.seats seats among) i one (seated.kept i one at);
+        same = λ up left among. happens.seats left among;
+        kept = λ left among i one at.
+            kept_torn new.world.table.seats left.seats (history_after earlier old.world event) (happens.seats left among) i one (seated.kept i one at);
       }
     where
       kept_torn : (there seats : Seats) (history : RunHistory) → seats ≡ there → (i : ℕ) (one : Stored) → IsKept there history.stored history.freed i one
@@ -169,24 +162,24 @@ module _ (limits : ServerLimits) (run : ℕ) (start : Tree) (first : Seats) (sma
       let held = run_held limits run start first old earlier is_run in
       record {
         up = λ up. absurd (differ new.is_down fails.down up);
-        same = λ up seats among. absurd (differ new.is_down fails.down up);
-        kept = λ seats among. may_kept limits run old earlier held was fails.up event seats (fails.seats seats among);
+        same = λ up left among. absurd (differ new.is_down fails.down up);
+        kept = λ left among. may_kept limits run old earlier held was fails.up event left (fails.no_others left among);
       }
   run_seated serving history (Stays_down {old = old} {new = new} {history = earlier} connection is_run stays) =
       let was = run_seated old earlier is_run in
       record {
         up = λ up. absurd (differ new.is_down stays.still_down up);
-        same = λ up seats among. absurd (differ new.is_down stays.still_down up);
+        same = λ up left among. absurd (differ new.is_down stays.still_down up);
         kept = by_reply was.kept (reply_at old.world connection);
       }
     where
-      by_reply : ((seats : Seats) → IsAmong old.held seats → AllKept seats earlier.stored (earlier.stored ++ option_to_list earlier.torn) earlier.freed) → (reply : Option (List ℕ))
-          → (seats : Seats) → IsAmong new.held seats
-          → AllKept seats (taken_by earlier connection reply).stored
+      by_reply : ((left : Left) → IsAmong old.left left → AllKept left.seats earlier.stored (earlier.stored ++ option_to_list earlier.torn) earlier.freed) → (reply : Option (List ℕ))
+          → (left : Left) → IsAmong new.left left
+          → AllKept left.seats (taken_by earlier connection reply).stored
           ((taken_by earlier connection reply).stored ++ option_to_list (taken_by earlier connection reply).torn)
           (taken_by earlier connection reply).freed
-      by_reply kept None seats among = kept seats (stays.seats seats among)
-      by_reply kept (Some reply) seats among = kept seats (stays.seats seats among)
+      by_reply kept None left among = kept left (stays.no_others left among)
+      by_reply kept (Some reply) left among = kept left (stays.no_others left among)
 
 -- The laws
 
@@ -194,23 +187,26 @@ pub stop_seated : {limits : ServerLimits} (stop : Stop limits) → RunSeated sto
 stop_seated {limits} stop = run_seated limits stop.run stop.start stop.seats stop.counted stop.begins stop.serving stop.history stop.is_run
 
 pub every_reply_is_held : EveryReplyIsHeld
-every_reply_is_held limits stop i one at = by_down stop.serving.is_down refl stop.leaves
+every_reply_is_held limits stop i one at = by_down stop.serving.is_down refl stop.leaves.1
   where
+    its : Left
+    its = record { tree = stop.leaves.0; seats = stop.left }
+
     is : RunSeated stop.run stop.serving stop.history
     is = stop_seated stop
 
-    by_down : (down : Bool) → stop.serving.is_down ≡ down → MayHoldSeats stop.serving stop.event stop.left
+    by_down : (down : Bool) → stop.serving.is_down ≡ down → MayBeLeft stop.serving stop.event its
         → IsKept stop.left (stop.history.stored ++ option_to_list (storing stop.serving stop.history stop.event down))
         (stop.history.freed ++ freeing stop.serving stop.event down) i one
     by_down false up may =
         may_kept limits stop.run stop.serving stop.history
-        (run_held limits stop.run stop.start stop.seats stop.serving stop.history stop.is_run) is up stop.event stop.left may i one at
+        (run_held limits stop.run stop.start stop.seats stop.serving stop.history stop.is_run) is up stop.event its may i one at
     by_down true down (inl among) =
         subst (λ (l : List (List ℕ)). IsKept stop.left (stop.history.stored ++ option_to_list stop.history.torn) l i one) (sym (append-nil stop.history.freed))
-        (is.kept stop.left among i one at)
+        (is.kept its among i one at)
     by_down true down (inr after) = absurd (never stop.serving.is_down down after)
       where
-        never : (b : Bool) → b ≡ true → IsSeatedAfter stop.serving.world stop.event b stop.left → ⊥
+        never : (b : Bool) → b ≡ true → IsAfterEvent stop.serving.world stop.event b its → ⊥
         never true same after = after
         never false same after = true≢false (sym same)
 

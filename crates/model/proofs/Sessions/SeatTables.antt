@@ -15,9 +15,10 @@ use Rattle.model.specs.Sessions.SeatRuns.{HoldsFrom, IsFreed}
 use Rattle.model_tree.specs.Seats.Seats.{HeldReply, Seat, Seats, is_seat_of, seat_of, has_seat, held_in, held_at, freed, seated, holding, run_of, SeatsApart}
 use Rattle.model.specs.Sessions.Session.{SessionLimits, Client, Slot, Running, Kept, Session, Table, session_id, is_session, slot_at, no_slot, with_slot, is_client, client_number, is_of_clients, replaced_by, staying, gives_way, seats_staying, persists, limits_for, fore_channel, new_session, new_seat, create_refusals, create_unless, create_again, create_by, create_session, CreateSessionOutcome, next_number, destroy_by, is_running, started, finished_slot, held_reply, held_by, finish}
 use Rattle.model.proofs.Server.Headline.{slice_get-append, slice_get-within}
-use Rattle.model.proofs.Sessions.SeatLaws.{has_freed, apart_freed, was_there, had_seat, stays_or_goes, seated_other, seated_new, apart_seated, has_holding, apart_holding, holding_none, held_here, held_other, holding_was, seat_holds, holds_there, among_left, among_right, freed_listed}
+use Rattle.model.proofs.Sessions.SeatLaws.{has_freed, apart_freed, was_there, had_seat, stays_or_goes, seated_other, seated_new, apart_seated, has_holding, apart_holding, held_here, held_other, holding_was, seat_holds, holds_there, among_left, among_right, freed_listed}
 use Rattle.model_tree.proofs.Facts.BytesLaws.{bytes_apart, bytes_differ}
 use Rattle.model.proofs.Sessions.SlotLaw.{SameSessions, session_id-serial, id_of, serial_left}
+use Rattle.model.proofs.Sessions.StoringTurns.{same_seats, nothing_stored}
 use Rattle.model.proofs.Sessions.TableCalls.{Holds, either, found_passes, found_given}
 use Rattle.model.proofs.Sessions.TableLaws.{Clients, Sessions, given_by, given_serial}
 
@@ -467,29 +468,15 @@ module _ (id : List ℕ) (place : ℕ) (reply : List ℕ) where
   finishing_still : (session : Session) → is_session id (finishing session) ≡ is_session id session
   finishing_still session = by_name (is_session id) (λ s. refl) session
 
-  -- no seat has changed where the session has none
-  held_none : (seats : Seats) (known : Option Session) → has_seat id seats ≡ false → held_by id place reply seats known ≡ seats
-  held_none seats None _ = refl
-  held_none seats (Some session) none = holding_none id place (held_reply reply (slot_at session place)) seats none
-
-  pub same_seats : (table : Table) → has_seat id table.seats ≡ false → (finish id place reply table).seats ≡ table.seats
-  unfolding finish
-  same_seats table none = held_none table.seats (find (is_session id) table.sessions) none
-
-  nothing_stored : (table : Table) → has_seat id table.seats ≡ false → stored_by (finish id place reply table) (Some (id, place)) ≡ None
-  nothing_stored table none =
-      ap (λ (b : Bool). cond b (stored_as id place (kept_at id place (finish id place reply table))) None)
-      (ap (has_seat id) (same_seats table none) ∙ none)
-
   pub finished_unseated : (run : ℕ) (table : Table) (stored : List Stored) (gone : List (List ℕ)) → has_seat id table.seats ≡ false → Seated run table stored gone
       → Seated run (finish id place reply table) (stored ++ option_to_list (stored_by (finish id place reply table) (Some (id, place)))) gone
   unfolding finish
   finished_unseated run table stored gone none is =
       let mapped = finishing_mapped run table stored gone is in
       let new = finish id place reply table in
-      let seats = sym (same_seats table none) in
+      let seats = sym (same_seats id place reply table none) in
       let all : stored ≡ stored ++ option_to_list (stored_by new (Some (id, place)))
-      = sym (append-nil stored) ∙ ap (λ (o : Option Stored). stored ++ option_to_list o) (sym (nothing_stored table none)) in
+      = sym (append-nil stored) ∙ ap (λ (o : Option Stored). stored ++ option_to_list o) (sym (nothing_stored id place reply table none)) in
       subst (λ (l : List Stored). Seated run new l gone) all (record {
         of_run = mapped.of_run;
         apart = subst SeatsApart seats mapped.apart;

@@ -22,7 +22,8 @@ use Rattle.model.proofs.Sessions.TableCalls.{Holds, either, ids_differ}
 use Rattle.model.proofs.Sessions.TableIds.{every_call_gives_new}
 use Rattle.model.proofs.Server.TurnCases.{IsTurn, Idles, Says, Closes, Unread, TooBig, Gave, Repeats, turn_is, read_of}
 use Rattle.model_tree.proofs.Facts.BytesLaws.{bytes_same}
-use Rattle.model.proofs.Sessions.SeatTables.{Seated, seated_more, seated_same, seated_destroyed, seated_create, seated_started, finished_unseated, finished_seated, same_seats}
+use Rattle.model.proofs.Sessions.SeatTables.{Seated, seated_more, seated_same, seated_destroyed, seated_create, seated_started, finished_unseated, finished_seated}
+use Rattle.model.proofs.Sessions.StoringTurns.{same_seats}
 
 pub on_itself : (id : List ℕ) (place : ℕ) → is_on (Some (id, place)) id place ≡ true
 on_itself id place = and_from (bytes_eq id id) (place == place) (bytes_same id id refl) (eq-eqb place place refl)

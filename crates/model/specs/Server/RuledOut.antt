@@ -12,7 +12,7 @@ use Rattle.model.specs.Sessions.Session.{Table, Session, Kept, Runs, Replays, be
 use Rattle.model_tree.specs.Trees.Tree.{Tree}
 use Rattle.model_tree.specs.declared.status.Status.{Status}
 use Rattle.model.specs.Server.World.{World, ServerLimits, Entry, InProgress, in_progress, Connection, Waiting, Busy, Replied, Next, Refuses, Reads, next_operation, state_of, outcome_text, status_of, Turned, one, ends, reply_with, hangs_up, hung_up, is_busy}
-use Rattle.model.specs.Server.Runs.{Event, Turns, HangsUp, effect_of, before, IsDurable, is_durable, is_done, RunHistory, Serving, mounted, executed, MayLeave, Happens, IsRun, IsGoodPrefix, done_with, tree_after}
+use Rattle.model.specs.Server.Runs.{Event, Turns, HangsUp, effect_of, before, IsDurable, is_durable, is_done, RunHistory, Serving, Left, left_after, mounted, executed, MayLeave, Happens, IsRun, IsGoodPrefix, done_with, tree_after}
 
 -- One that keeps a later change and skips an unstable write before it: the tree left is the one
 -- after both.
@@ -26,7 +26,8 @@ abbrev pub NoEarlyReply : Type 0
 NoEarlyReply =
     (old new : Serving) (event : Event) (entry : Entry) → Happens old event new
     → executed old event ≡ Some entry
-    → is_durable entry ≡ true → before entry ≢ entry.after → IsAmong new.recent (before entry) → ⊥
+    → is_durable entry ≡ true → before entry ≢ entry.after
+    → (left : Left) → IsAmong new.left left → left.tree ≢ before entry
 
 -- One that takes an answered change away, and may put it back within a later call: whatever was
 -- handed out as the i-th operation is in each tree that may be left at any later moment.
@@ -40,6 +41,16 @@ NoTakingBack =
     → (event : Event) (tree : Tree) → MayLeave serving event tree
     → (k : ℕ) × (i < k)
     × (tree ≡ tree_after start (take k (done_with history (executed serving event))))
+
+-- One that keeps a reply and loses its change: where an event changes the seats, a crash after it
+-- leaves nothing from before it.
+abbrev pub NoReplyAlone : Type 0
+NoReplyAlone =
+    (limits : ServerLimits) (run : ℕ) (start : Tree) (seats : Seats) (old new : Serving)
+    (history : RunHistory) (event : Event)
+    → IsRun (mounted limits run start seats) old history → Happens old event new
+    → new.world.table.seats ≢ old.world.table.seats
+    → (left : Left) → IsAmong new.left left → left ≡ left_after new.world
 
 -- One that runs a retry again: where the slot keeps the reply to this number, nothing runs.
 abbrev pub NoSecondRun : Type 0
@@ -208,5 +219,5 @@ HangUpIsEvents = (world : World) (number now : ℕ)
 -- one of a run.
 abbrev pub EachEventHappens : Type 0
 EachEventHappens =
-    (old : Serving) (event : Event) → old.is_down ≡ false → IsAmong old.recent old.world.tree
-    → (new : Serving) × Happens old event new × IsAmong new.recent new.world.tree
+    (old : Serving) (event : Event) → old.is_down ≡ false
+    → (new : Serving) × Happens old event new × IsAmong new.left (left_after new.world)

@@ -7,7 +7,7 @@ use Rattle.std.specs.List.{IsAmong}
 use Rattle.model.specs.Operations.Answer.{Outcome}
 use Rattle.model_tree.specs.Trees.Keyed.{at}
 use Rattle.model.specs.Operations.Operation.{Argument}
-use Rattle.model_tree.specs.Seats.Seats.{HeldReply, Seats, has_seat}
+use Rattle.model_tree.specs.Seats.Seats.{HeldReply, Seats, has_seat, held_at}
 use Rattle.model.specs.Sessions.Session.{Slot, SlotState, Free, Running, Kept, Session, Table, is_session, slot_at, held_reply}
 use Rattle.model_tree.specs.Trees.Stamp.{stamp, next_stamp}
 use Rattle.model.specs.Operations.Step.{alters, permitted}
@@ -137,6 +137,8 @@ pub record RunHistory : Type 0 where
   pub stored : List Stored
   pub torn : Option Stored
   pub freed : List (List ℕ)
+  -- those replies, the last one too, each with what it names
+  pub replies : List (Stored × List ℕ)
 
 abbrev pub no_history : RunHistory
 no_history = record {
@@ -147,6 +149,7 @@ no_history = record {
   stored = [];
   torn = None;
   freed = [];
+  replies = [];
 }
 
 abbrev pub naming : (ℕ → List ℕ) → ℕ → List ℕ → ℕ → List ℕ
@@ -180,6 +183,16 @@ abbrev pub names_after : RunHistory → World → (connection : ℕ) → Turned 
 names_after history world connection turned =
     names_by history world connection turned turned.replays
 
+abbrev pub naming_stored : Option Stored → List ℕ → List (Stored × List ℕ)
+naming_stored None names = []
+naming_stored (Some stored) names = (stored, names) ∷ []
+
+-- the reply that a seat is to hold from a turn on, with what it names
+abbrev pub replies_by : RunHistory → World → (connection : ℕ) → Turned → List (Stored × List ℕ)
+replies_by history world connection turned =
+    naming_stored (stored_by turned.world.table turned.keeps)
+    (names_after history world connection turned)
+
 -- a turn that does nothing changes no names
 abbrev pub naming_by : Turn → (ℕ → List ℕ) → (connection : ℕ) → List ℕ → ℕ → List ℕ
 naming_by Idle named connection names = named
@@ -196,6 +209,7 @@ turned_by history world connection turned = record {
   stored = history.stored ++ option_to_list (stored_by turned.world.table turned.keeps);
   torn = history.torn;
   freed = history.freed ++ freed_between world.table.seats turned.world.table.seats;
+  replies = history.replies ++ replies_by history world connection turned;
 }
 
 abbrev pub taken_by : RunHistory → (connection : ℕ) → Option (List ℕ) → RunHistory
@@ -216,22 +230,37 @@ history_after history world (Takes connection) =
 abbrev pub done_with : RunHistory → Option Entry → List Entry
 done_with history executed = history.done ++ option_to_list executed
 
+-- and the replies that seats held or were to hold, with one more that is under way
+abbrev pub replies_of : RunHistory → World → Event → List (Stored × List ℕ)
+replies_of history world (Arrives connection piece) = []
+replies_of history world (Turns connection now) =
+    replies_by history world connection (one world connection now)
+replies_of history world (HangsUp connection) = []
+replies_of history world (Connects connection) = []
+replies_of history world (Takes connection) = []
+
+abbrev pub replies_with : RunHistory → World → Event → (is_down : Bool) → List (Stored × List ℕ)
+replies_with history world event true = history.replies
+replies_with history world event false = history.replies ++ replies_of history world event
+
 -- The machine
 
--- `recent` are the trees that a crash may leave now, as the volume keeps them: the one flushed
--- last, and the one after each later change
--- `held` are the seats that it may leave, each beside each of these trees
+-- a tree, and the seats beside it
+pub record Left : Type 0 where
+  pub tree : Tree
+  pub seats : Seats
+
+-- `left` is what a crash may leave now, as the volume keeps it: what was flushed last, and what
+-- there was after each later change
 pub record Serving : Type 0 where
   pub world : World
-  pub recent : List Tree
-  pub held : List Seats
+  pub left : List Left
   pub is_down : Bool
 
 abbrev pub mounted : ServerLimits → (run : ℕ) → Tree → Seats → Serving
 mounted limits run start seats = record {
   world = mounted_world limits run start seats;
-  recent = start ∷ [];
-  held = seats ∷ [];
+  left = record { tree = start; seats = seats } ∷ [];
   is_down = false;
 }
 
@@ -243,33 +272,40 @@ executed_by world event false = executed_of world event
 abbrev pub executed : Serving → Event → Option Entry
 executed serving event = executed_by serving.world event serving.is_down
 
-abbrev pub IsAfter : Option Entry → Tree → Type 0
-IsAfter None tree = ⊥
-IsAfter (Some entry) tree = tree ≡ entry.after
+-- What a crash may leave while an event happens: what it might have left before, or what there is
+-- after it. So a tree from before has no seats from after the event beside it.
 
--- what a crash may leave while an event happens
+abbrev pub left_after : World → Left
+left_after world = record { tree = world.tree; seats = world.table.seats }
+
+abbrev pub IsAfterEvent : World → Event → (is_down : Bool) → Left → Type 0
+IsAfterEvent world event true left = ⊥
+IsAfterEvent world event false left = left ≡ left_after (effect_of world event)
+
+abbrev pub MayBeLeft : Serving → Event → Left → Type 0
+MayBeLeft serving event left =
+    IsAmong serving.left left ⊎ IsAfterEvent serving.world event serving.is_down left
+
+-- the trees of these, and the seats
+
 abbrev pub MayLeave : Serving → Event → Tree → Type 0
-MayLeave serving event tree = IsAmong serving.recent tree ⊎ IsAfter (executed serving event) tree
-
--- and of the seats: those from before, or those after it
-abbrev pub IsSeatedAfter : World → Event → (is_down : Bool) → Seats → Type 0
-IsSeatedAfter world event true seats = ⊥
-IsSeatedAfter world event false seats = seats ≡ (effect_of world event).table.seats
+MayLeave serving event tree =
+    (seats : Seats) × MayBeLeft serving event (record { tree = tree; seats = seats })
 
 abbrev pub MayHoldSeats : Serving → Event → Seats → Type 0
 MayHoldSeats serving event seats =
-    IsAmong serving.held seats ⊎ IsSeatedAfter serving.world event serving.is_down seats
+    (tree : Tree) × MayBeLeft serving event (record { tree = tree; seats = seats })
 
--- an event happens; then, of a durable operation only the tree after it may be left, and the seats
--- after it
+-- an event happens; then, of a durable operation only the tree after it may be left, and only the
+-- seats after it: where these change, nothing from before
 pub record Happens (old : Serving) (event : Event) (new : Serving) : Type 0 where
   pub up : old.is_down ≡ false
   pub world : new.world ≡ effect_of old.world event
   pub still_up : new.is_down ≡ false
-  pub no_others : (tree : Tree) → IsAmong new.recent tree → MayLeave old event tree
+  pub no_others : (left : Left) → IsAmong new.left left → MayBeLeft old event left
   pub durable : (entry : Entry) → executed old event ≡ Some entry → is_durable entry ≡ true
-      → (tree : Tree) → IsAmong new.recent tree → tree ≡ entry.after
-  pub seats : (seats : Seats) → IsAmong new.held seats → seats ≡ new.world.table.seats
+      → (left : Left) → IsAmong new.left left → left.tree ≡ entry.after
+  pub seats : (left : Left) → IsAmong new.left left → left.seats ≡ new.world.table.seats
 
 -- the device fails in it: the server is down from now on, and no reply tells of the operation under
 -- way
@@ -277,16 +313,14 @@ pub record DeviceFails (old : Serving) (event : Event) (new : Serving) : Type 0 
   pub up : old.is_down ≡ false
   pub world : new.world ≡ old.world
   pub down : new.is_down ≡ true
-  pub no_others : (tree : Tree) → IsAmong new.recent tree → MayLeave old event tree
-  pub seats : (seats : Seats) → IsAmong new.held seats → MayHoldSeats old event seats
+  pub no_others : (left : Left) → IsAmong new.left left → MayBeLeft old event left
 
 -- a server that is down gives the replies that it has, and does nothing else
 pub record StaysDown (old : Serving) (connection : ℕ) (new : Serving) : Type 0 where
   pub down : old.is_down ≡ true
   pub world : new.world ≡ takes old.world connection
   pub still_down : new.is_down ≡ true
-  pub no_others : (tree : Tree) → IsAmong new.recent tree → IsAmong old.recent tree
-  pub seats : (seats : Seats) → IsAmong new.held seats → IsAmong old.held seats
+  pub no_others : (left : Left) → IsAmong new.left left → IsAmong old.left left
 
 -- of an operation under way at a failure it isn't known whether it was done: it is the last of
 -- `done`, and no reply names it
@@ -295,6 +329,7 @@ history_failing history world event = record history {
   done = done_with history (executed_of world event);
   torn = stored_of world event;
   freed = history.freed ++ freed_of world event;
+  replies = history.replies ++ replies_of history world event;
 }
 
 pub data IsRun (start : Serving) : Serving → RunHistory → Type 0 where
@@ -350,6 +385,31 @@ EveryRun = (limits : ServerLimits) (run : ℕ) (start : Tree) (seats : Seats) (s
     → IsRun (mounted limits run start seats) serving history → (event : Event) (tree : Tree)
     → MayLeave serving event tree
     → IsGoodPrefix start (done_with history (executed serving event)) history.handed_out tree
+
+-- What a held reply names is kept
+
+-- each operation that a reply in these seats names and that has to last is among the first k
+abbrev pub HasAllHeld : List Entry → (replies : List (Stored × List ℕ)) → Seats → ℕ → Type 0
+HasAllHeld done replies seats k =
+    (stored : Stored) (names : List ℕ) → IsAmong replies (stored, names)
+    → held_at stored.session stored.slot seats ≡ Some stored.held → HasAllDurable done names k
+
+pub record KeepsHeld (start : Tree) (done : List Entry) (handed_out : List ℕ)
+    (replies : List (Stored × List ℕ)) (left : Left) : Type 0 where
+  pub prefix : IsGoodPrefix start done handed_out left.tree
+  pub held : HasAllHeld done replies left.seats prefix.k
+
+-- Of a tree and seats that a crash leaves the tree is that of a good prefix which has what the
+-- replies in the seats name: a client that gets such a reply again after a restart is told of
+-- nothing that is lost.
+abbrev pub EveryHeldIsKept : Type 0
+EveryHeldIsKept =
+    (limits : ServerLimits) (run : ℕ) (start : Tree) (seats : Seats) (serving : Serving)
+    (history : RunHistory)
+    → IsRun (mounted limits run start seats) serving history → (event : Event) (left : Left)
+    → MayBeLeft serving event left
+    → KeepsHeld start (done_with history (executed serving event)) history.handed_out
+    (replies_with history serving.world event serving.is_down) left
 
 -- Stamps: a change takes the next one of its run, whether a crash takes it away or not
 

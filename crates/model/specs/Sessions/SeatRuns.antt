@@ -9,7 +9,7 @@ use Rattle.model_tree.specs.Trees.Keyed.{at}
 use Rattle.model.specs.Operations.Operation.{Argument, CreateSessionArguments, SequenceArguments}
 use Rattle.model.specs.Wire.Record.{framed}
 use Rattle.model.specs.Wire.Rpc.{Success, reply_text}
-use Rattle.model.specs.Server.Runs.{Event, effect_of, executed_of, is_done, Stored, RunHistory, Serving, mounted, executed, done_with, stored_by, stored_of, freed_of, MayHoldSeats, IsRun}
+use Rattle.model.specs.Server.Runs.{Event, effect_of, executed_of, is_done, Stored, RunHistory, Serving, Left, mounted, executed, done_with, stored_by, stored_of, freed_of, MayHoldSeats, IsRun}
 use Rattle.model_tree.specs.Seats.Seats.{HeldReply, Seat, Seats, SeatsApart, run_of, seat_of, has_seat, held_at}
 use Rattle.model.specs.Server.ServedOnce.{numbers_in}
 use Rattle.model.specs.Sessions.Session.{Client, Table, is_client, gives_way, begin, Refuses, Replays, Runs}
@@ -117,7 +117,7 @@ pub record AnswersDead (table : Table) (id : List ℕ) (uid count : ℕ)
 pub record AnswersBySeats (serving : Serving) (run : ℕ) : Type 0 where
   pub dead : (id : List ℕ) → run_of id < run → (uid count : ℕ) (arguments : SequenceArguments)
       → arguments.session ≡ id → AnswersDead serving.world.table id uid count arguments
-  pub seats : (seats : Seats) → IsAmong serving.held seats → seats ≡ serving.world.table.seats
+  pub seats : (left : Left) → IsAmong serving.left left → left.seats ≡ serving.world.table.seats
 
 abbrev pub EveryDeadSession : Type 0
 EveryDeadSession =

@@ -1,3 +1,4 @@
+use Rattle.model.proofs.Server.Headline.{every_held_is_kept}
 use Rattle.model.proofs.Sessions.SeatLives.{every_seat_stays, every_run_can_follow, every_number_once, every_reply_stays_held}
 use Rattle.model.proofs.Sessions.SeatRunLaws.{every_reply_is_held, every_dead_session}
 use Rattle.model.proofs.Sessions.SeatReplies.{every_reply_is_stored}
@@ -31,3 +32,6 @@ returns-clause-asked c = every_freeing_is_asked
 
 pub returns-clause-sits : goal.returns-clause-sits
 returns-clause-sits c = every_session_sits
+
+pub returns-clause-kept : goal.returns-clause-kept
+returns-clause-kept c = every_held_is_kept

@@ -1,4 +1,4 @@
-use Rattle.model.proofs.Server.RuledOutLaws.{no_skip, no_early_reply, no_taking_back, no_second_run, no_forgetting, no_gap, one_a_turn, ends_by_holding, hangs_up_last, hang_up_is_events}
+use Rattle.model.proofs.Server.RuledOutLaws.{no_skip, no_early_reply, no_taking_back, no_reply_alone, no_second_run, no_forgetting, no_gap, one_a_turn, ends_by_holding, hangs_up_last, hang_up_is_events}
 use Rattle.model.proofs.runs.ruled_out.Goals as goal
 
 pub returns-clause-skip : goal.returns-clause-skip
@@ -30,3 +30,6 @@ returns-clause-kept c = no_forgetting
 
 pub returns-clause-holding : goal.returns-clause-holding
 returns-clause-holding c = ends_by_holding
+
+pub returns-clause-alone : goal.returns-clause-alone
+returns-clause-alone c = no_reply_alone
