@@ -1,12 +1,10 @@
 //! The tests around an operation, in their order (RFC 8881, section 16.2.3).
 
-ghost use Rattle.std.specs.Prelude.{◌≡◌, ◌==◌};
-ghost use Rattle.std.specs.List.{list_any};
+ghost use Rattle.std.specs.Prelude.{◌≡◌};
 ghost use Rattle.model.specs.Server.Served.{is_served, looks_no_further, opens_no_further};
 ghost use Rattle.model.specs.Server.World as world;
 ghost use Rattle.model.specs.Server.World.{first_or, first_tests, later_tests};
 ghost use Rattle.wire.specs.ArgumentView.{argument_view};
-ghost use Rattle.wire.specs.Numbers.{number_of};
 ghost use Rattle.wire.specs.ArgumentViews.{opening_view};
 ghost use Rattle.compound.specs.Views.{refused_or};
 ghost use Rattle.compound.specs.declared.next.Next.TheVariants as nexts;
@@ -204,13 +202,7 @@ fn stands_alone(number: u32) -> bool
 fn is_served(number: u32) -> bool
     ensures { result ≡ is_served number }
 {
-    is_one_of(&Operation::ALL, number)
-}
-
-fn is_one_of(operations: &[Operation], number: u32) -> bool
-    ensures { result ≡ list_any (λ known. number_of known == number) operations.now }
-{
-    operations.iter().any(|known| known.number() == number)
+    Operation::from_number(number).is_some()
 }
 
 /// Whether what follows the arguments is not looked at.

@@ -1,10 +1,11 @@
 //! The operations by their numbers (RFC 8881, section 18).
 
-ghost use Rattle.std.specs.Prelude.{◌≡◌, ◌≢◌, ◌==◌, ℕ, List, Err, IfSome, IfNone, find};
+ghost use Rattle.std.specs.Prelude.{◌≡◌, ◌≢◌, ℕ, List, Err, IfSome, IfNone, is_some};
 ghost use Rattle.xdr.specs.Clauses.{Accepts, ReadsBy};
 ghost use Rattle.xdr.specs.Laws.{IsBytes};
 ghost use Rattle.xdr.specs.declared.refusal.Refusal.TheVariants.{Value};
 ghost use Rattle.model.specs.Operations.Operation.{operation_of};
+ghost use Rattle.model.specs.Server.Served.{is_served};
 ghost use Rattle.model.specs.Wire.WireArguments.{argument, argument_told, arguments_at};
 ghost use Rattle.wire.specs.Numbers.{number_of};
 ghost use Rattle.wire.specs.ArgumentView.{argument_view};
@@ -96,19 +97,37 @@ impl Operation {
         ensures some { IfSome result (λ operation. number_of operation ≡ number) }
         ensures none { IfNone result ((bytes : List ℕ) → arguments_at number bytes ≡ Err Value) }
         ensures other { IfNone result ((operation : Operation) → number_of operation ≢ number) }
+        ensures served { is_some result ≡ is_served number }
     {
-        numbered_so(&Operation::ALL, number)
+        Some(match number {
+            3 => Operation::Access,
+            4 => Operation::Close,
+            5 => Operation::Commit,
+            6 => Operation::Create,
+            9 => Operation::GetAttr,
+            10 => Operation::GetFh,
+            15 => Operation::Lookup,
+            16 => Operation::LookupParent,
+            18 => Operation::Open,
+            22 => Operation::PutFh,
+            24 => Operation::PutRootFh,
+            25 => Operation::Read,
+            26 => Operation::ReadDir,
+            28 => Operation::Remove,
+            29 => Operation::Rename,
+            31 => Operation::RestoreFh,
+            32 => Operation::SaveFh,
+            34 => Operation::SetAttr,
+            38 => Operation::Write,
+            42 => Operation::ExchangeId,
+            43 => Operation::CreateSession,
+            44 => Operation::DestroySession,
+            53 => Operation::Sequence,
+            57 => Operation::DestroyClientId,
+            58 => Operation::ReclaimComplete,
+            _ => return None,
+        })
     }
-}
-
-// The first of these that has this number.
-fn numbered_so(operations: &[Operation], number: u32) -> Option<Operation>
-    ensures { result ≡ find (λ operation. number == number_of operation) operations.now }
-{
-    operations
-        .iter()
-        .copied()
-        .find(|operation| number == operation.number())
 }
 
 /// An operation with its arguments (`nfs_argop4`).
