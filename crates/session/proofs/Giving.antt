@@ -43,15 +43,6 @@ given_runs run serial seats given = record {
   made = λ id has. let was = given.made id has in (was.first, was.last);
 }
 
--- what a mount finds
-pub given_found : (count run : ℕ) (seats : Seats) → run ≡ count + 1 → AreOfRuns count seats → AreGiven run 0 seats
-given_found count run seats next found = record {
-  apart = found.apart;
-  made = λ id has.
-      let is = found.made id has in
-      record { first = is.0; last = let last = is.1 in omega (arith, last, next); given = λ here. let last = is.1 in absurd (omega (arith, last, next, here)) };
-}
-
 -- A new seat
 
 module _ (run serial : ℕ) (new : Seat) (counted : 1 ≤ run) (of_run : run_of new.session ≡ run) (next : serial_in new.session ≡ serial + 1) where

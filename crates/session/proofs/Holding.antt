@@ -69,20 +69,3 @@ module _ (id : List ℕ) (table : Table) where
   pub destroyed : (destroy_session id table).0 ≡ None → (destroy_session id table).1 ≡ ended
   unfolding destroy_session
   destroyed done = destroyed_by (find (is_session id) table.sessions) refl done
-
-  refused_by : (reason : Status) (known : Option Session) → (destroy_by id table known).0 ≡ Some reason → destroy_by id table known ≡ (Some reason, table)
-  refused_by reason None is = by_test (has_seat id table.seats) is
-    where
-      by_test : (b : Bool) → (cond {A = Option Status × Table} b (None, without_seat id table) (Some status.BadSession, table)).0 ≡ Some reason
-          → ◌≡◌ {A = Option Status × Table} (cond b (None, without_seat id table) (Some status.BadSession, table)) (Some reason, table)
-      by_test true is = absurd (cc)
-      by_test false is = ap (λ (r : Option Status). (r, table)) is
-  refused_by reason (Some session) is = by_test (is_running session) is
-    where
-      by_test : (b : Bool) → (cond {A = Option Status × Table} b (Some status.Delay, table) (None, ended)).0 ≡ Some reason → ◌≡◌ {A = Option Status × Table} (cond b (Some status.Delay, table) (None, ended)) (Some reason, table)
-      by_test true is = ap (λ (r : Option Status). (r, table)) is
-      by_test false is = absurd (cc)
-
-  pub not_destroyed : (reason : Status) → (destroy_session id table).0 ≡ Some reason → destroy_session id table ≡ (Some reason, table)
-  unfolding destroy_session
-  not_destroyed reason is = refused_by reason (find (is_session id) table.sessions) is
