@@ -1,5 +1,5 @@
 -- What every change asks of its edits, said once for all operations: the tree after it may stand, and so it may be kept.
-use Rattle.std.proofs.Common.{◌≡◌, ◌≤◌, ◌<◌, ◌+◌, ◌^◌, ℕ, refl, sym, ap, ap₂, ◌∙◌, arith, subst}
+use Rattle.std.proofs.Common.{◌≡◌, ◌≤◌, ◌<◌, ◌+◌, ◌^◌, ℕ, sym, ap, ap₂, ◌∙◌, arith, subst}
 use Rattle.std.proofs.Math.Logic.{∥∥₁_map, ∥∥₁_elim}
 use Rattle.std.proofs.Props.{props}
 use Rattle.std.specs.Prelude.{IsTrue}
@@ -20,9 +20,10 @@ use Rattle.model.proofs.Operations.StepProofs.{every_step, before_later}
 use Rattle.fs.specs.FileSystem.{FileSystem}
 use Rattle.fs.specs.Planned.{IsPlanned}
 use Rattle.fs.specs.Ready.{MayStand}
-use Rattle.volume.specs.Edits.{IsAllowed, edited_by}
+use Rattle.volume.specs.Edits.{edited_by}
 use Rattle.volume.specs.Formed.{IsFormed}
-use Rattle.volume.specs.Forms.{Change, edits_by}
+use Rattle.fs.specs.Forms.{Change, IsAllowed, edits_by}
+use Rattle.fs.proofs.FormLaws.{form_is_change}
 
 module _ (fs : FileSystem) (formed : MayStand fs.volume fs.changes) (counted : fs.changes < 2 ^ 32) (limited : fs.volume.limits ≡ limits_of fs.volume.sectors fs.volume.limits.nodes) where
   abbrev limits : Limits
@@ -64,16 +65,10 @@ module _ (fs : FileSystem) (formed : MayStand fs.volume fs.changes) (counted : f
   planned_by change allowed doable fit left stands =
       let after = edited_by fs.volume (edits_by change) in
       record {
-        change = record {
-          change = change;
-          is = refl;
-          allowed = allowed;
-          doable = doable;
-          formed = λ all. record {
-            well_formed = stands.well_formed;
-            before = before_later (next_stamp fs.volume.run (fs.changes + 1)) (stamp (fs.volume.run + 1) 0) (without_data after) stands.before (omega (arith, left));
-          };
-        };
+        change = form_is_change fs.volume (next_stamp fs.volume.run fs.changes) formed change allowed doable (λ all. record {
+          well_formed = stands.well_formed;
+          before = before_later (next_stamp fs.volume.run (fs.changes + 1)) (stamp (fs.volume.run + 1) 0) (without_data after) stands.before (omega (arith, left));
+        });
         fitting = fit;
         left = left;
         formed = stands;

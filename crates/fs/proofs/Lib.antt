@@ -13,6 +13,7 @@ pub mod FirstFiles
 pub mod FlatLaws
 pub mod FlatSizes
 pub mod FlatWrites
+pub mod FormLaws
 pub mod HandleLaws
 pub mod KeptLaws
 pub mod ListLaws
@@ -35,6 +36,7 @@ pub mod RenameDoable
 pub mod RenameFlat
 pub mod RenamePlans
 pub mod RenameSteps
+pub mod RoomLaws
 pub mod RoomTests
 pub mod SettingFlat
 pub mod SettingLaws

@@ -34,8 +34,8 @@ use Rattle.fs.proofs.MakingLaws.{parent_there, named_there, second_is}
 use Rattle.fs.proofs.MakingLaws as laws
 use Rattle.volume.specs.Edits.{edited_by}
 use Rattle.volume.specs.Formed.{IsFormed}
-use Rattle.volume.specs.Forms.{sizing}
-use Rattle.volume.specs.Forms as form
+use Rattle.fs.specs.Forms.{sizing}
+use Rattle.fs.specs.Forms as form
 
 -- a name that passes its tests has 1 to 255 bytes
 pub name_some : (limits : Limits) (name : List ℕ) → first_refusal (name_refusals limits name) ≡ None → 0 < length name

@@ -40,8 +40,8 @@ use Rattle.fs.proofs.MakingPlans as plans
 use Rattle.fs.proofs.RemovalPlans.{shown_touched, entries_shown}
 use Rattle.fs.proofs.RoomTests.{above_all, names_above, passed_room, rising_by}
 use Rattle.volume.specs.Edits.{edited_by}
-use Rattle.volume.specs.Forms.{sizing}
-use Rattle.volume.proofs.RoomLaws.{above_altered, show_room}
+use Rattle.fs.specs.Forms.{sizing}
+use Rattle.fs.proofs.RoomLaws.{above_altered, show_room}
 
 -- The room of a node that is made does not depend on its number: it is asked for the number 0
 

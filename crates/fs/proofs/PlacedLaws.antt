@@ -19,7 +19,7 @@ use Rattle.model_tree.proofs.Facts.OptionLaws.{none_unless, some≢none}
 use Rattle.fs.specs.declared.renaming.Renaming.{Renaming}
 use Rattle.fs.specs.RenameTests.{new_place, old_place}
 use Rattle.fs.proofs.FlatLaws.{key-altered}
-use Rattle.volume.specs.Forms.{moving}
+use Rattle.fs.specs.Forms.{moving}
 
 -- Names of a directory
 

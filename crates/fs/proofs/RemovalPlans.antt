@@ -34,7 +34,7 @@ use Rattle.fs.proofs.KeptLaws.{planned_by}
 use Rattle.fs.proofs.RemovedLaws as laws
 use Rattle.volume.specs.Edits.{edited_by}
 use Rattle.volume.specs.Formed.{IsFormed}
-use Rattle.volume.specs.Forms as form
+use Rattle.fs.specs.Forms as form
 use Rattle.volume.specs.Nodes.{IsNodeOf}
 use Rattle.fs.proofs.EntryLaws.{few_listed}
 

@@ -33,7 +33,7 @@ use Rattle.model.proofs.Operations.RefusalLaws.{none_in_front, none_in_both}
 use Rattle.model_tree.proofs.Facts.OptionLaws.{some≢none}
 use Rattle.volume.specs.Formed.{IsFormed}
 use Rattle.volume.proofs.EditLaws.{fits_alike}
-use Rattle.volume.proofs.RoomLaws.{above_name_dropped, drop_name_room, above_node_dropped, drop_node_room, show_room}
+use Rattle.fs.proofs.RoomLaws.{above_name_dropped, drop_name_room, above_node_dropped, drop_node_room, show_room}
 use Rattle.fs.specs.FileSystem.{FileSystem}
 use Rattle.fs.specs.Operations.{IsOn}
 use Rattle.fs.specs.Ready.{MayStand}

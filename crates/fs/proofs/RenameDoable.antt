@@ -38,8 +38,8 @@ use Rattle.fs.proofs.FlatLaws.{key-altered}
 use Rattle.fs.proofs.PlacedLaws.{CanMove, can_move, moved_doable, moving_edits, target_there, zero_open}
 use Rattle.fs.proofs.MakingPlans.{name_some, name_short}
 use Rattle.fs.proofs.RenamedLaws as laws
-use Rattle.volume.specs.Forms.{replacing}
-use Rattle.volume.proofs.RoomLaws.{above_altered, show_room}
+use Rattle.fs.specs.Forms.{replacing}
+use Rattle.fs.proofs.RoomLaws.{above_altered, show_room}
 
 module _ (fs : FileSystem) (formed : MayStand fs.volume fs.changes) (counted : fs.changes < 2 ^ 32) (limited : fs.volume.limits ≡ limits_of fs.volume.sectors fs.volume.limits.nodes)
     (cred : Cred) (now : ℕ) (asked : Renaming) (old_stamp number : ℕ) (target : Option (ℕ × ℕ))

@@ -44,8 +44,8 @@ use Rattle.fs.proofs.RenamedLaws as laws
 use Rattle.fs.proofs.RoomTests.{HasRoom, above_all, rising_by, told_by}
 use Rattle.volume.specs.Edits.{edited_by}
 use Rattle.volume.specs.Formed.{IsFormed}
-use Rattle.volume.specs.Forms.{replacing}
-use Rattle.volume.specs.Forms as form
+use Rattle.fs.specs.Forms.{replacing}
+use Rattle.fs.specs.Forms as form
 use Rattle.volume.specs.Nodes.{IsNodeOf}
 
 edits_are_of : (to : ℕ) (name : Bor (List ℕ)) (target : Option (ℕ × ℕ)) (rest : List Edit) → edits_of (replacing to name target ++ rest) ≡ laws.dropping to target ++ edits_of rest

@@ -28,9 +28,9 @@ use Rattle.fs.specs.FileSystem.{FileSystem}
 use Rattle.fs.specs.Making.{AsRoomy, room_tests}
 use Rattle.fs.specs.Ready.{MayStand}
 use Rattle.volume.specs.Edits.{edited_by}
-use Rattle.volume.specs.Forms.{resizing}
+use Rattle.fs.specs.Forms.{resizing}
 use Rattle.volume.specs.Nodes.{IsNodeOf, IsFile, ShowsContent}
-use Rattle.volume.proofs.RoomLaws.{above_altered, above_flat, show_room}
+use Rattle.fs.proofs.RoomLaws.{above_altered, above_flat, show_room}
 
 -- What the tests of room and stamps come to
 

@@ -54,8 +54,8 @@ use Rattle.fs.proofs.SettingFlat as flat
 use Rattle.fs.proofs.SettingLaws as laws
 use Rattle.volume.specs.Edits.{edited_by}
 use Rattle.volume.specs.Formed.{IsFormed}
-use Rattle.volume.specs.Forms.{resizing}
-use Rattle.volume.specs.Forms as form
+use Rattle.fs.specs.Forms.{resizing}
+use Rattle.fs.specs.Forms as form
 use Rattle.volume.specs.Nodes.{IsNodeOf, ShowsContent}
 use Rattle.volume.proofs.SoundLaws.{kind_blank}
 

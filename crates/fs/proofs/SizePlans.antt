@@ -33,7 +33,7 @@ use Rattle.fs.proofs.FlatSizes as flat
 use Rattle.fs.proofs.KeptLaws.{planned_by}
 use Rattle.fs.proofs.RemovalPlans.{shown_touched, entries_shown}
 use Rattle.volume.specs.Edits.{edited_by}
-use Rattle.volume.specs.Forms as form
+use Rattle.fs.specs.Forms as form
 use Rattle.volume.specs.Nodes.{IsNodeOf, IsFile, ShowsContent}
 
 module _ (fs : FileSystem) (formed : MayStand fs.volume fs.changes) (counted : fs.changes < 2 ^ 32) (limited : fs.volume.limits ≡ limits_of fs.volume.sectors fs.volume.limits.nodes)

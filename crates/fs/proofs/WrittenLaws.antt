@@ -49,7 +49,7 @@ use Rattle.fs.proofs.KeptLaws.{planned_by}
 use Rattle.fs.proofs.RoomTests.{HasRoom, put_room, told_by}
 use Rattle.volume.specs.Edits.{edited_by}
 use Rattle.volume.specs.Formed.{IsFormed}
-use Rattle.volume.specs.Forms as form
+use Rattle.fs.specs.Forms as form
 use Rattle.volume.specs.Nodes.{IsNodeOf, IsFile, ShowsContent}
 use Rattle.volume.specs.VolumeState.{with_tree}
 use Rattle.fs.proofs.EntryLaws.{few_listed}

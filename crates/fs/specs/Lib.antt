@@ -4,6 +4,7 @@ pub mod Changes
 pub mod FileSystem
 pub mod Files
 pub mod Formatting
+pub mod Forms
 pub mod Listing
 pub mod Making
 pub mod OnTree

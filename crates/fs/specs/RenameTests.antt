@@ -17,7 +17,7 @@ use Rattle.model.specs.Operations.Need.{is_granted, granted_on}
 use Rattle.model.specs.Operations.Operation.{RenameArguments}
 use Rattle.model_tree.specs.Refusals.Refusal.{Refusals}
 use Rattle.model.specs.Operations.Rename.{is_other, has_names, rename_rights}
-use Rattle.volume.specs.Forms.{Place}
+use Rattle.fs.specs.Forms.{Place}
 use Rattle.volume.specs.Nodes.{IsNodeOf}
 use Rattle.fs.specs.declared.renaming.Moving.{Moving}
 use Rattle.fs.specs.declared.renaming.Renaming.{Renaming}

@@ -3,8 +3,8 @@
 ghost use Rattle.std.specs.Prelude.{◌≡◌, ◌⊎◌, ◌+◌, ◌<◌, false, IfOk, IfErr, OnOk, MatchOption, ◌≤◌, ◌^◌};
 ghost use Rattle.tree_transaction.specs.Nodes.{shown_of};
 ghost use Rattle.fs.specs.Planned.{shown_by};
-ghost use Rattle.volume.specs.Forms.{edits_by, resizing};
-ghost use Rattle.volume.specs.Forms as form;
+ghost use Rattle.fs.specs.Forms.{edits_by, resizing};
+ghost use Rattle.fs.specs.Forms as form;
 
 use crate::fault::FsFault;
 use crate::fs::Fs;

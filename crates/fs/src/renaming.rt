@@ -3,8 +3,8 @@
 ghost use Rattle.std.specs.Prelude.{◌≡◌, IfOk, option_map};
 ghost use Rattle.fs.specs.Renaming.{arguments_of, is_itself};
 ghost use Rattle.fs.specs.RenameTests.{old_place, new_place};
-ghost use Rattle.volume.specs.Forms.{edits_by};
-ghost use Rattle.volume.specs.Forms as form;
+ghost use Rattle.fs.specs.Forms.{edits_by};
+ghost use Rattle.fs.specs.Forms as form;
 
 use crate::changing::metadata_with_change;
 use crate::fault::FsFault;

@@ -1,7 +1,8 @@
 -- What a change's edits make of a volume's cached nodes: they can be done there, there is room for each, and the table may become what they leave.
-use Rattle.std.proofs.Common.{◌≡◌, ◌+◌, ◌≤◌, ◌<◌, ℕ, suc, List, [], ◌∷◌, Option, Some, length, take, sym, ap, ◌∙◌, arith, ⊎_elim, subst}
-use Rattle.std.specs.Prelude.{is_some, IsTrue}
+use Rattle.std.proofs.Common.{◌≡◌, ◌+◌, ◌≤◌, ◌<◌, ◌&&◌, ℕ, zero, suc, List, [], ◌∷◌, Option, Some, length, take, get_or, sym, ap, ◌∙◌, arith, ⊎_elim, subst}
+use Rattle.std.specs.Prelude.{is_some, nat_le, IsTrue}
 use Rattle.std.specs.List.{IsAmong}
+use Rattle.std.proofs.lemmas.Bool.{and_parts, leb-true}
 use Rattle.node_table.specs.Overlays.{IsMade, CanBecome}
 use Rattle.node_table.specs.Tables.{node_number_at, HaveOwnPlaces}
 use Rattle.disk.specs.Moments.{Image}
@@ -27,11 +28,8 @@ use Rattle.model_tree.specs.Trees.Keyed.{at, total}
 use Rattle.model_tree.specs.Trees.Limits.{limits_of}
 use Rattle.model_tree.specs.Trees.Tree.{Tree}
 use Rattle.directory.specs.declared.names.TheConstants.Names.{MAX_NAMES}
-use Rattle.volume.specs.Edits.{edited_by, IsChange}
-use Rattle.volume.specs.Formed.{IsFormed}
+use Rattle.volume.specs.Edits.{edited_by, front_of, named_by, IsChange}
 use Rattle.volume.specs.VolumeState.{VolumeState}
-use Rattle.volume.proofs.FormLaws.{fresh, front_of, fronts, made, named, named_by, one_number}
-use Rattle.volume.proofs.RoomLaws.{DoesFit, fit_parts}
 
 -- Trees that are blanked alike are edited alike and fit alike
 
@@ -50,6 +48,24 @@ pub fits_outline : (limits : Limits) (edits : List model.Edit) (image : Image) (
     → fits limits (edited edits (tree_without_data cards)) ≡ fits limits (edited edits (tree_of image cards))
 fits_outline limits edits image cards = fits_alike limits (edited edits (tree_of image cards)) (edited edits (tree_without_data cards))
     (edited_alike edits (tree_of image cards) (tree_without_data cards) (outline_alike image cards))
+
+-- What a tree that fits has
+
+pub record DoesFit (limits : Limits) (tree : Tree) : Type 0 where
+  pub charge : total charge tree ≤ limits.data_sectors
+  pub nodes : length tree ≤ limits.nodes
+  pub few : IsTrue (few_names limits.names tree)
+
+pub fit_parts : (limits : Limits) (tree : Tree) → IsTrue (fits limits tree) → DoesFit limits tree
+unfolding fits
+fit_parts limits tree fit =
+    let all = and_parts (nat_le (total charge tree) limits.data_sectors) (nat_le (length tree) limits.nodes && few_names limits.names tree) fit in
+    let both = and_parts (nat_le (length tree) limits.nodes) (few_names limits.names tree) all.1 in
+    record {
+      charge = leb-true (total charge tree) limits.data_sectors all.0;
+      nodes = leb-true (length tree) limits.nodes both.0;
+      few = both.1;
+    }
 
 few_fronts : (limits : Limits) → limits.names ≡ MAX_NAMES → (edits : List Edit) (tree : Tree)
     → ((count : ℕ) → IsTrue (fits limits (edited (take count (edits_of edits)) tree))) → StayFew tree edits
@@ -73,18 +89,18 @@ module _ (held : VolumeState) (edits : List Edit) (change : IsChange held edits)
   outline_doable = doable_alike held.tree (tree_without_data cards) edits outline_held change.doable
 
   module _ (sectors nodes places : ℕ) (limits_are : held.limits ≡ limits_of sectors nodes) (whole : sectors ≡ 148 + nodes + places)
-      (before : ℕ) (formed : IsFormed held.limits before held.tree) (fit : IsTrue (fits held.limits (edited_by held edits))) where
+      (fit : IsTrue (fits held.limits (edited_by held edits))) where
     -- with few names
     pub outline_few : StayFew (tree_without_data cards) edits
     outline_few = few_alike held.tree (tree_without_data cards) edits outline_held
-        (few_fronts held.limits (ap (λ (limits : Limits). limits.names) limits_are) edits held.tree (fronts held edits change before formed fit))
+        (few_fronts held.limits (ap (λ (limits : Limits). limits.names) limits_are) edits held.tree (λ count. change.fronts count fit))
 
     -- and there is room after each of them
     front_fits : (count : ℕ) → DoesFit (limits_of sectors nodes) (edited (take count (edits_of edits)) (tree_without_data cards))
     front_fits count = fit_parts (limits_of sectors nodes) (edited (take count (edits_of edits)) (tree_without_data cards))
         (subst (λ (limits : Limits). IsTrue (fits limits (edited (take count (edits_of edits)) (tree_without_data cards)))) limits_are
         (fits_alike held.limits (front_of held edits count) (edited (take count (edits_of edits)) (tree_without_data cards))
-        (edited_alike (take count (edits_of edits)) held.tree (tree_without_data cards) outline_held) ∙ fronts held edits change before formed fit count))
+        (edited_alike (take count (edits_of edits)) held.tree (tree_without_data cards) outline_held) ∙ change.fronts count fit))
 
     pub front_room : (count : ℕ) → (total charge (edited (take count (edits_of edits)) (tree_without_data cards)) ≤ places)
         × (length (edited (take count (edits_of edits)) (tree_without_data cards)) ≤ nodes)
@@ -95,13 +111,22 @@ module _ (held : VolumeState) (edits : List Edit) (change : IsChange held edits)
 
 -- What the table may become
 
+only_one : (first : ℕ) (rest : List ℕ) → length (first ∷ rest) ≤ 1 → (number i : ℕ) → i < length (first ∷ rest) → number ≡ get_or (first ∷ rest) i number → number ≡ first
+only_one first rest one number zero less is = is
+only_one first rest one number (suc i) less is = absurd (omega (arith, one, less))
+
+pub one_number : (numbers : List ℕ) → length numbers ≤ 1 → (number other : ℕ) → IsAmong numbers number → IsAmong numbers other → number ≡ other
+one_number [] one number other among too = absurd (omega (arith, among.1.0))
+one_number (first ∷ rest) one number other among too =
+    only_one first rest one number among.0 among.1.0 among.1.1 ∙ sym (only_one first rest one other too.0 too.1.0 too.1.1)
+
 module _ (held : VolumeState) (edits : List Edit) (change : IsChange held edits) (image : Image) (old new : List (Option CachedNode)) (tree_is : held.tree ≡ tree_of image old)
     (are_made : AreMade old new (made_by edits)) where
   -- one node is made at most
   few_made : length (made_by edits) ≤ 1
   few_made = ⊎_elim (λ (none : made_by edits ≡ []). (let count : length (made_by edits) ≡ 0 = ap (λ (numbers : List ℕ). length numbers) none in omega (arith, count)))
-      (λ (is : made_by edits ≡ named_by edits). (let count : length (made_by edits) ≡ length (named_by edits) = ap (λ (numbers : List ℕ). length numbers) is in omega (arith, count, named held edits change)))
-      (made held edits change)
+      (λ (is : made_by edits ≡ named_by edits). (let count : length (made_by edits) ≡ length (named_by edits) = ap (λ (numbers : List ℕ). length numbers) is in omega (arith, count, change.named)))
+      change.made
 
   made_among : (place number : ℕ) → IsMade old new place number → IsAmong (made_by edits) number
   made_among place number is = ⊎_elim (λ (stood : node_number_at old place ≡ Some number). absurd (is.before stood)) (λ (among : IsAmong (made_by edits) number). among)
@@ -111,7 +136,7 @@ module _ (held : VolumeState) (edits : List Edit) (change : IsChange held edits)
   made_above : AreNumbered old → (number : ℕ) → IsAmong (made_by edits) number → (place other : ℕ) → node_number_at old place ≡ Some other → other < number
   made_above apart number among place other stands =
       let it = there_at old place other stands in
-      fresh held edits change number among other (ap is_some (ap (at other) tree_is ∙ ap (λ (n : ℕ). at n (tree_of image old)) (sym it.number_is) ∙ tree-has image old place it.cached apart it.there))
+      change.fresh number among other (ap is_some (ap (at other) tree_is ∙ ap (λ (n : ℕ). at n (tree_of image old)) (sym it.number_is) ∙ tree-has image old place it.cached apart it.there))
 
   pub can_settle : (nodes : ℕ) (mark marked : ℕ → ℕ) → AreCards nodes mark old → AreCards nodes marked new → HaveOwnPlaces new → CanBecome old new
   can_settle nodes mark marked known new_known own = record {

@@ -14,7 +14,7 @@ use Rattle.tree_edits.specs.Outlines.{tree_without_data, without_data}
 use Rattle.tree_edits.proofs.BlankLaws.{charge-without_data, each_outline, length-without_data}
 use Rattle.tree_edits.proofs.RoomLaws.{charge_all, count_all}
 use Rattle.volume.specs.Formed.{IsFormed}
-use Rattle.volume.proofs.RoomLaws.{fit_parts}
+use Rattle.volume.proofs.EditLaws.{fit_parts}
 
 module _ (nodes : ℕ) (mark : ℕ → ℕ) (cards : List (Option CachedNode)) (known : AreCards nodes mark cards) where
   pub charge_seen : (image : Image) → total charge (tree_of image cards) ≡ charge_of_all cards

@@ -7,7 +7,6 @@ pub mod CheckpointLaws
 pub mod EditLaws
 pub mod FirstLaws
 pub mod FormatLaws
-pub mod FormLaws
 pub mod FormedLaws
 pub mod FoundLaws
 pub mod FrontLaws
@@ -26,7 +25,6 @@ pub mod ParentTrees
 pub mod PartLaws
 pub mod ReadLaws
 pub mod RemountLaws
-pub mod RoomLaws
 pub mod SeatEdits
 pub mod SeatPlaces
 pub mod SeatRows

@@ -32,13 +32,12 @@ use Rattle.volume.proofs.ParentLinks.{own-places, no_other}
 use Rattle.volume.proofs.ParentTrees.{name_of_card, card_of_name}
 use Rattle.tree_check.specs.Trees.{IsOneTree}
 use Rattle.tree_check.proofs.TreeLaws.{find, Finds, There, Nowhere, numbered}
-use Rattle.volume.specs.Edits.{edited_by, put_by, IsChange}
+use Rattle.volume.specs.Edits.{edited_by, named_by, put_by, HasPut, IsChange}
 use Rattle.volume.specs.Parents.{PutsParent}
 use Rattle.volume.specs.Formed.{IsFormed}
 use Rattle.volume.specs.VolumeState.{VolumeState}
 use Rattle.volume.proofs.FormedLaws.{formed_tree}
-use Rattle.volume.proofs.EditLaws.{edited_alike, outline_alike}
-use Rattle.volume.proofs.FormLaws.{HasPut, made, named, named_by, one_number, put}
+use Rattle.volume.proofs.EditLaws.{one_number, edited_alike, outline_alike}
 
 -- How much names come to, with one more and with one less
 
@@ -236,7 +235,7 @@ module _ (held : VolumeState) (edits : List Edit) (change : IsChange held edits)
       (λ (among : IsAmong (made_by edits) number). absurd (⊎_elim
       (λ (none : made_by edits ≡ []). (let count : length (made_by edits) ≡ 0 = ap (λ (numbers : List ℕ). length numbers) none in (let ⊥_is : ⊥ = absurd (omega (arith, count, among.1.0)) in ⊥_is)))
       (λ (is : made_by edits ≡ named_by edits). off (subst (λ (numbers : List ℕ). IsAmong numbers number) is among))
-      (made held edits change)))
+      change.made))
       (are_made place number there)
 
   keeps_names : put_by edits ≡ None → KeepsNames old new
@@ -251,7 +250,7 @@ module _ (held : VolumeState) (edits : List Edit) (change : IsChange held edits)
 
   module _ (number directory : ℕ) (some : put_by edits ≡ Some (number, directory)) where
     put_is : IsPut (edited_by held edits) edits number directory
-    put_is = put_some (edited_by held edits) edits number directory some (put held edits change)
+    put_is = put_some (edited_by held edits) edits number directory some change.put
 
     name_put_there : HasChild new directory number
     name_put_there = by_node (at directory (tree_without_data new)) refl (omega (arith, links_behind directory number, put_is.leads))
@@ -265,8 +264,8 @@ module _ (held : VolumeState) (edits : List Edit) (change : IsChange held edits)
       count = count_is;
       node = there;
       name = name_put_there;
-      nodes = λ other of off stands. node_was other of stands (λ among. off (one_number (named_by edits) (named held edits change) of number among put_is.among));
-      names = λ of other off has. name_was of other (others_none (named_by edits) number other (named held edits change) put_is.among off) has;
+      nodes = λ other of off stands. node_was other of stands (λ among. off (one_number (named_by edits) change.named of number among put_is.among));
+      names = λ of other off has. name_was of other (others_none (named_by edits) number other change.named put_is.among off) has;
     }
 
   module _ (limits : Limits) (most : MAX_NAMES ≤ limits.names) (stamp : ℕ) (formed : IsFormed limits stamp (tree_without_data new)) (parents : List ℕ) (are : AreParents old parents) where

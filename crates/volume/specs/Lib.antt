@@ -5,7 +5,6 @@ pub mod FileBlocks
 pub mod FileParts
 pub mod Formats
 pub mod Formed
-pub mod Forms
 pub mod Fronts
 pub mod Kept
 pub mod Known

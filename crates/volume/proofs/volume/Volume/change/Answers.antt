@@ -23,8 +23,6 @@ use Rattle.volume.specs.Views.{volume_state_by, volume_state, volume_failures}
 use Rattle.volume.proofs.ApplyLaws.{applied_serves, applied_tree, apply_done, apply_refused}
 use Rattle.volume.proofs.ChangeLaws.{behind_serving, formed_after, journal_targets, known_after, log_same, may_settle, outline_after, parents_behind}
 use Rattle.volume.proofs.EditLaws.{front_room, outline_doable, outline_few}
-use Rattle.volume.proofs.FormLaws.{few}
-use Rattle.volume.proofs.FormedLaws.{tree_formed}
 use Rattle.volume.proofs.ServeLaws.{told_err}
 use Rattle.model_tree.specs.Trees.Stamp.{stamp}
 use Rattle.tree_edits.specs.Outlines.{tree_without_data}
@@ -58,7 +56,6 @@ outcome_of-requires-clause-few g c =
     let log : Log = log_of volume.store.journal in
     let held = volume_state_by volume.limits volume.run volume.table log in
     outline_few held c.args.edits.now c.requires (contents log) volume.table refl log.size volume.limits.nodes _ volume.limited volume.known.whole
-    (stamp (volume.run + 1) 0) (tree_formed volume.limits (stamp (volume.run + 1) 0) (contents log) volume.table volume.formed)
     (sym c.fits.ensures ∙ c.if-not-fits.false)
 
 pub outcome_of-requires-clause-room : goal.outcome_of-requires-clause-room
@@ -68,7 +65,6 @@ outcome_of-requires-clause-room g c = λ count within.
     let log : Log = log_of volume.store.journal in
     let held = volume_state_by volume.limits volume.run volume.table log in
     let room = front_room held c.args.edits.now c.requires (contents log) volume.table refl log.size volume.limits.nodes _ volume.limited volume.known.whole
-    (stamp (volume.run + 1) 0) (tree_formed volume.limits (stamp (volume.run + 1) 0) (contents log) volume.table volume.formed)
     (sym c.fits.ensures ∙ c.if-not-fits.false) count in
     let nodes = room.1 in
     record { charge = room.0; nodes = omega (arith, nodes, volume.known.are_cards.count) }
@@ -102,7 +98,7 @@ returns-in_err-apply-clause-volume g c =
     let failed : journal_failures c.outcome_of.new.base.journal ≡ journal_failures volume.store.journal = ap (λ (h : Health). h.failed) health in
     let told = told_err c.from_residual-in_err-apply.result (fault_of fault) c.from_residual-in_err-apply.ensures.1 in
     let up : old.is_down ≡ false = sym c.is_down.ensures ∙ c.if-is_down.false in
-    let short : length c.in_ok-outcome.outcome.updates.items ≤ 48 = omega (arith, few (volume_state_by volume.limits volume.run volume.table old) c.args.edits.now c.requires, c.in_ok-outcome.ensures.done.count) in
+    let short : length c.in_ok-outcome.outcome.updates.items ≤ 48 = omega (arith, c.requires.few, c.in_ok-outcome.ensures.done.count) in
     rw told (apply_refused word volume.limits volume.run volume.table old new (edited_by (volume_state_by volume.limits volume.run volume.table old) c.args.edits.now) _ _ fault
     (subst (λ (log : Log). IsSafe word log new) same c.in_err-apply.ensures.safe)
     up

@@ -1,10 +1,12 @@
--- The changes that there are of a volume's tree, and the edits that each is made of.
-use Rattle.std.specs.Prelude.{ℕ, zero, suc, List, [], ◌∷◌, ◌++◌, Option, Some, None}
+-- The changes that operations make of a volume's tree, and the edits that each is made of.
+use Rattle.std.specs.Prelude.{◌≤◌, ℕ, zero, suc, List, [], ◌∷◌, ◌++◌, Option, Some, None, length}
 use denote.Ref.{Bor}
 use Rattle.tree_transaction.specs.declared.nodes.Shown.{Shown}
 use Rattle.tree_edits.specs.declared.edit.Edit.{Edit}
 use Rattle.tree_edits.specs.declared.edit.Edit.TheVariants as edit
 use Rattle.model_tree.specs.declared.node.NodeKind.{NodeKind}
+use Rattle.volume.specs.Edits.{IsAboveAll}
+use Rattle.volume.specs.VolumeState.{VolumeState}
 
 -- where a name stands: its directory, and the stamp and the name of its entry
 pub record Place : Type 0 where
@@ -69,3 +71,13 @@ edits_by (Moving number old new target old_shown new_shown) =
 edits_by (Writing file offset bytes shown) =
     edit.PutBytes file offset bytes ∷ edit.Show file shown ∷ []
 edits_by (Setting number size shown) = resizing number size ++ (edit.Show number shown ∷ [])
+
+-- What a form asks beside its edits: a new node has a number above all others, and few bytes are
+-- written
+abbrev pub IsAllowed : VolumeState → Change → Type 0
+IsAllowed held (Making number of size shown directory name directory_shown) =
+    IsAboveAll held number
+IsAllowed held (Removing place number directory_shown) = Unit {0}
+IsAllowed held (Moving number old new target old_shown new_shown) = Unit {0}
+IsAllowed held (Writing file offset bytes shown) = length bytes.now ≤ 8192
+IsAllowed held (Setting number size shown) = Unit {0}

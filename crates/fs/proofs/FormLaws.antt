@@ -1,5 +1,5 @@
 -- What each form of a change makes sure of, of whichever tree its edits can be done in: they are few, one name is put at most and is there after them, and what fits before the first and after the last fits after each.
-use Rattle.std.proofs.Common.{◌≡◌, ◌≤◌, ◌<◌, ◌⊎◌, ℕ, zero, suc, true, List, [], ◌∷◌, Option, Some, None, length, take, get_or, refl, sym, ap, ◌∙◌, arith, inl, inr, subst}
+use Rattle.std.proofs.Common.{◌≡◌, ◌≤◌, ◌⊎◌, ◌+◌, ℕ, zero, suc, true, List, [], ◌∷◌, Option, Some, None, length, take, refl, sym, ap, ◌∙◌, arith, inl, inr, subst}
 use Rattle.std.proofs.Math.Logic.{∥∥₁_elim}
 use Rattle.std.proofs.Props.{props}
 use Rattle.std.proofs.lemmas.Bool.{cases_eq}
@@ -18,42 +18,16 @@ use Rattle.model_tree.specs.Trees.Charge.{charge, fits}
 use Rattle.model_tree.specs.Trees.Edit.{Show, PutNode, PutName, DropName, DropNode, PutBytes, SetSize, done, edited, altered_at, showing, name_put, with_content, overwritten, resized}
 use Rattle.model_tree.specs.Trees.Edit as model
 use Rattle.model_tree.specs.Trees.Keyed.{at, with, IsAbove}
+use Rattle.model_tree.specs.Trees.Stamp.{stamp}
 use Rattle.model_tree.specs.Trees.Tree.{Tree, Node, DirEntry, File, bytes_of, names_of, names_of_node, names_at, is_directory_at}
 use Rattle.model_tree.proofs.Trees.EditLaws.{directory_at}
 use Rattle.model_tree.proofs.Trees.KeyedLaws.{at-with_same, at-with_other, IsAbove-with}
-use Rattle.volume.specs.Edits.{IsAboveAll, IsChange, IsAllowed, edited_by}
+use Rattle.volume.specs.Edits.{HasPut, IsAboveAll, IsChange, edited_by, named_by}
 use Rattle.volume.specs.Formed.{IsFormed}
-use Rattle.volume.specs.Forms.{Change, Place, Making, Removing, Moving, Writing, Setting, edits_by, moving}
 use Rattle.volume.specs.VolumeState.{VolumeState}
-use Rattle.volume.proofs.RoomLaws.{above_altered, above_flat, above_name_dropped, above_node_dropped, above_shown, drop_name_room, drop_node_room, put_name_room_back, set_size_room_back, show_room}
-
--- the tree after so many of them
-abbrev pub front_of : VolumeState → List Edit → (count : ℕ) → Tree
-front_of held edits count = edited (take count (edits_of edits)) held.tree
-
--- the numbers that names are put for
-abbrev pub named_by : List Edit → List ℕ
-named_by [] = []
-named_by (edit.PutNode number kind shown ∷ edits) = named_by edits
-named_by (edit.DropNode number ∷ edits) = named_by edits
-named_by (edit.Show number shown ∷ edits) = named_by edits
-named_by (edit.PutName directory stamp name number ∷ edits) = number ∷ named_by edits
-named_by (edit.DropName directory stamp name ∷ edits) = named_by edits
-named_by (edit.PutBytes file offset bytes ∷ edits) = named_by edits
-named_by (edit.SetSize file size ∷ edits) = named_by edits
-
--- each name that edits put is in its directory of this tree
-abbrev pub HasPut : Tree → List Edit → Type 0
-HasPut tree [] = Unit {0}
-HasPut tree (edit.PutNode number kind shown ∷ edits) = HasPut tree edits
-HasPut tree (edit.DropNode number ∷ edits) = HasPut tree edits
-HasPut tree (edit.Show number shown ∷ edits) = HasPut tree edits
-HasPut tree (edit.PutName directory stamp name number ∷ edits) =
-    (at stamp (names_at tree directory) ≡ Some (record { name = name.now; number = number }))
-    × HasPut tree edits
-HasPut tree (edit.DropName directory stamp name ∷ edits) = HasPut tree edits
-HasPut tree (edit.PutBytes file offset bytes ∷ edits) = HasPut tree edits
-HasPut tree (edit.SetSize file size ∷ edits) = HasPut tree edits
+use Rattle.volume.proofs.EditLaws.{one_number}
+use Rattle.fs.specs.Forms.{Change, Place, Making, Removing, Moving, Writing, Setting, IsAllowed, edits_by, moving}
+use Rattle.fs.proofs.RoomLaws.{above_altered, above_flat, above_name_dropped, above_node_dropped, above_shown, drop_name_room, drop_node_room, put_name_room_back, set_size_room_back, show_room}
 
 -- Its edits are few, and put one name at most
 
@@ -89,15 +63,6 @@ made_named (Setting number None shown) = inl refl
 made_named (Setting number (Some size) shown) = inl refl
 
 -- and a number above all others
-
-only_one : (first : ℕ) (rest : List ℕ) → length (first ∷ rest) ≤ 1 → (number i : ℕ) → i < length (first ∷ rest) → number ≡ get_or (first ∷ rest) i number → number ≡ first
-only_one first rest one number zero less is = is
-only_one first rest one number (suc i) less is = absurd (omega (arith, one, less))
-
-pub one_number : (numbers : List ℕ) → length numbers ≤ 1 → (number other : ℕ) → IsAmong numbers number → IsAmong numbers other → number ≡ other
-one_number [] one number other among too = absurd (omega (arith, among.1.0))
-one_number (first ∷ rest) one number other among too =
-    only_one first rest one number among.0 among.1.0 among.1.1 ∙ sym (only_one first rest one other too.0 too.1.0 too.1.1)
 
 alone : (held : VolumeState) (number other : ℕ) → IsAboveAll held number → IsAmong (number ∷ []) other → IsAboveAll held other
 alone held number other above among = subst (IsAboveAll held) (one_number (number ∷ []) (omega arith) number other (0, (omega arith, refl)) among) above
@@ -277,29 +242,19 @@ module _ (limits : Limits) where
       (fits_within limits first (Show number (shown_of shown) ∷ []) (shows first number (shown_of shown) (above_altered sized tree number above), tt) all)
       count
 
--- A change
+-- So a volume takes a change of one of them
 
-module _ (held : VolumeState) (edits : List Edit) (change : IsChange held edits) where
-  pub few : updates_of_all edits ≤ 46
-  few = subst (λ (l : List Edit). updates_of_all l ≤ 46) (sym change.is) (few_updates held change.change change.allowed)
-
-  -- one name is put at most; a node that is made has it, and a number above all others
-  pub named : length (named_by edits) ≤ 1
-  named = subst (λ (l : List Edit). length (named_by l) ≤ 1) (sym change.is) (names_one change.change)
-
-  pub made : (made_by edits ≡ []) ⊎ (made_by edits ≡ named_by edits)
-  made = subst (λ (l : List Edit). (made_by l ≡ []) ⊎ (made_by l ≡ named_by l)) (sym change.is) (made_named change.change)
-
-  pub fresh : (number : ℕ) → IsAmong (made_by edits) number → IsAboveAll held number
-  fresh = subst (λ (l : List Edit). (number : ℕ) → IsAmong (made_by l) number → IsAboveAll held number) (sym change.is) (made_fresh held change.change change.allowed)
-
-  -- a name that is put is there after all of them
-  pub put : HasPut (edited_by held edits) edits
-  put = subst (λ (l : List Edit). HasPut (edited_by held l) l) (sym change.is) (name_there held.tree change.change (subst (AreDoable held.tree) change.is change.doable))
-
-  -- what fits after the last of them fits after each, in a tree that is well formed
-  pub fronts : (before : ℕ) → IsFormed held.limits before held.tree → IsTrue (fits held.limits (edited_by held edits)) → (count : ℕ) → IsTrue (fits held.limits (front_of held edits count))
-  fronts before formed all count = ∥∥₁_elim formed.well_formed (Prim.hlevel props) (λ well.
-      subst (λ (l : List Edit). IsTrue (fits held.limits (edited_by held l)) → IsTrue (fits held.limits (front_of held l count))) (sym change.is)
-      (λ whole. each_fits held.limits held.tree (above_flat 0 held.tree well.numbered) (sym (fits-without_data held.limits held.tree) ∙ well.fitting) change.change
-      (subst (AreDoable held.tree) change.is change.doable) whole count) all)
+pub form_is_change : (held : VolumeState) (before : ℕ) → IsFormed held.limits before held.tree → (change : Change) → IsAllowed held change → AreDoable held.tree (edits_by change)
+    → (IsTrue (fits held.limits (edited_by held (edits_by change))) → IsFormed held.limits (stamp (held.run + 1) 0) (edited_by held (edits_by change)))
+    → IsChange held (edits_by change)
+form_is_change held before formed change allowed doable stands = record {
+  few = few_updates held change allowed;
+  doable = doable;
+  named = names_one change;
+  made = made_named change;
+  fresh = made_fresh held change allowed;
+  put = name_there held.tree change doable;
+  fronts = λ count all. ∥∥₁_elim formed.well_formed (Prim.hlevel props) (λ well.
+      each_fits held.limits held.tree (above_flat 0 held.tree well.numbered) (sym (fits-without_data held.limits held.tree) ∙ well.fitting) change doable all count);
+  formed = stands;
+}

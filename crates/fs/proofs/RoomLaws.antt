@@ -1,36 +1,21 @@
 -- What the edits of a change do to the room of a tree: a node that shows something else takes as much, what is dropped takes none, and a name or a size that is put takes some.
 use Rattle.std.proofs.Common.{◌≡◌, ◌≤◌, ◌&&◌, ℕ, Bool, true, false, [], ◌∷◌, Option, Some, None, length, eqb, ltb, refl, sym, ap, ap₂, ◌∙◌, arith, inl, inr}
-use Rattle.std.specs.Prelude.{IsTrue, nat_le}
-use Rattle.std.proofs.lemmas.Bool.{and_parts, cases_eq, le-leb, leb-true}
+use Rattle.std.specs.Prelude.{IsTrue}
+use Rattle.std.proofs.lemmas.Bool.{cases_eq, le-leb}
 use Rattle.std.proofs.lemmas.Option.{same_Some}
 use Rattle.tree_edits.specs.Outlines.{without_data}
 use Rattle.tree_edits.proofs.NamedLaws.{few-at}
 use Rattle.model_tree.specs.declared.limits.Limits.{Limits}
-use Rattle.model_tree.specs.Trees.Charge.{blocks, charge, charge_of_blocks, few_names, fits}
+use Rattle.model_tree.specs.Trees.Charge.{blocks, charge, charge_of_blocks, fits}
 use Rattle.model_tree.specs.Trees.Edit.{Shown, Show, DropName, DropNode, PutName, SetSize, done, name_dropped, name_put, showing, altered, altered_at, with_content, resized}
 use Rattle.model_tree.specs.Trees.Keyed.{Keyed, at, with, without, kept_or_not, before_or_behind, in_place_of, total, worth_at, IsAbove}
 use Rattle.model_tree.specs.Trees.Tree.{Tree, Node, Content, DirEntry, File, Directory, bytes_of, names_of, is_directory, is_directory_at, is_directory_node}
 use Rattle.model_tree.proofs.Trees.KeyedLaws.{at-with_same, at-with_other, at-without_same, at-without_other, at-above, some≢none, IsAbove-with, IsAbove-without, total-with, total-without}
 use Rattle.model_tree.proofs.Trees.KeyedParts.{total-ones}
 use Rattle.tree_check.proofs.FitLaws.{few-from}
+use Rattle.volume.proofs.EditLaws.{DoesFit, fit_parts}
 
--- What a tree that fits has
-
-pub record DoesFit (limits : Limits) (tree : Tree) : Type 0 where
-  pub charge : total charge tree ≤ limits.data_sectors
-  pub nodes : length tree ≤ limits.nodes
-  pub few : IsTrue (few_names limits.names tree)
-
-pub fit_parts : (limits : Limits) (tree : Tree) → IsTrue (fits limits tree) → DoesFit limits tree
-unfolding fits
-fit_parts limits tree fit =
-    let all = and_parts (nat_le (total charge tree) limits.data_sectors) (nat_le (length tree) limits.nodes && few_names limits.names tree) fit in
-    let both = and_parts (nat_le (length tree) limits.nodes) (few_names limits.names tree) all.1 in
-    record {
-      charge = leb-true (total charge tree) limits.data_sectors all.0;
-      nodes = leb-true (length tree) limits.nodes both.0;
-      few = both.1;
-    }
+-- A tree fits that has what one needs
 
 fit_of : (limits : Limits) (tree : Tree) → DoesFit limits tree → IsTrue (fits limits tree)
 unfolding fits
