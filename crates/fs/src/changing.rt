@@ -238,7 +238,7 @@ impl<D: Device> Fs<D> {
         ensures only { IfErr result (λ fault.
             (fault ≡ FsFault.Memory) ⊎ (fault ≡ FsFault.Device)) }
     {
-        self.volume.change(edits)?;
+        self.volume.change_fitting(edits)?;
         self.changes += 1;
         Ok(())
     }
@@ -260,7 +260,7 @@ impl<D: Device> Fs<D> {
         ensures only { IfErr result (λ fault.
             (fault ≡ FsFault.Memory) ⊎ (fault ≡ FsFault.Device)) }
     {
-        self.volume.keep(edits)?;
+        self.volume.keep_fitting(edits)?;
         self.changes += 1;
         Ok(())
     }

@@ -24,7 +24,7 @@ impl From<TransactionFault> for VolumeFault {
 
 #[tactic(auto, unfolding(crate::specs::Views::volume_state, crate::specs::Views::volume_failures))]
 impl<D: Device> Volume<D> {
-    ghost use Rattle.std.specs.Prelude.{◌≡◌, ◌↔◌, true, false, OnOk, OnErr, IsErrOf};
+    ghost use Rattle.std.specs.Prelude.{◌≡◌, ◌↔◌, true, false, OnOk, OnErr, IsErrOf, IsTrue};
     ghost use Rattle.tree_edits.specs.Measures.{AreMeasurable};
     ghost use Rattle.model_tree.specs.Trees.Charge.{fits};
     ghost use Rattle.volume.specs.Changes.{IsTree, ending_of};
@@ -73,6 +73,32 @@ impl<D: Device> Volume<D> {
         if !self.fits(edits) {
             return Err(VolumeFault::NoSpace);
         }
+        self.change_fitting(edits)
+    }
+
+    /// Changes the tree as [`Volume::change`] does, by edits after which the tree fits: it does not
+    /// ask [`Volume::fits`] again.
+    ///
+    /// # Errors
+    ///
+    /// Those of [`Volume::change`] but [`VolumeFault::NoSpace`].
+    pub fn change_fitting(&mut self, edits: &[Edit<'_>]) -> Result<(), VolumeFault>
+        requires change { IsChange (volume_state self.old) edits.now }
+        requires fitting { IsTrue (fits (volume_state self.old).limits
+            (edited_by (volume_state self.old) edits.now)) }
+        ensures volume { AltersVolume self.old self.new
+            (IsEdited (volume_state self.old) edits.now) (ending_of result) }
+        ensures shows { OnOk result (ShowsTree D.keeps_word
+            (edited_by (volume_state self.old) edits.now) (volume_state self.new).tree) }
+        // Refused
+        ensures stays { OnErr result
+            (ShowsAs (volume_state self.old).tree (volume_state self.new).tree) }
+        ensures down { IsErrOf result VolumeFault.Down ↔ ((volume_state self.old).is_down ≡ true) }
+        ensures space { ¬ IsErrOf result VolumeFault.NoSpace }
+    {
+        if self.store.journal.is_down() {
+            return Err(VolumeFault::Down);
+        }
         let put = put_by(edits);
         let outcome = outcome_of(
             self.alloc,
@@ -93,14 +119,16 @@ impl<D: Device> Volume<D> {
         Ok(())
     }
 
-    /// Changes the tree by edits as [`Volume::change`] does, and keeps it: after `Ok` no crash
-    /// loses it, nor any change before it.
+    /// Changes the tree as [`Volume::change_fitting`] does, and keeps it: after `Ok` no crash loses
+    /// it, nor any change before it.
     ///
     /// # Errors
     ///
-    /// Those of [`Volume::change`].
-    pub fn keep(&mut self, edits: &[Edit<'_>]) -> Result<(), VolumeFault>
-        requires { IsChange (volume_state self.old) edits.now }
+    /// Those of [`Volume::change_fitting`].
+    pub fn keep_fitting(&mut self, edits: &[Edit<'_>]) -> Result<(), VolumeFault>
+        requires change { IsChange (volume_state self.old) edits.now }
+        requires fitting { IsTrue (fits (volume_state self.old).limits
+            (edited_by (volume_state self.old) edits.now)) }
         ensures volume { AltersVolume self.old self.new
             (IsTree (volume_state self.old) (edited_by (volume_state self.old) edits.now))
             (ending_of result) }
@@ -108,11 +136,9 @@ impl<D: Device> Volume<D> {
             (edited_by (volume_state self.old) edits.now) (volume_state self.new).tree) }
         // Refused
         ensures down { IsErrOf result VolumeFault.Down ↔ ((volume_state self.old).is_down ≡ true) }
-        ensures no_space { (volume_state self.old).is_down ≡ false
-            → IsErrOf result VolumeFault.NoSpace ↔ (fits (volume_state self.old).limits
-            (edited_by (volume_state self.old) edits.now) ≡ false) }
+        ensures space { ¬ IsErrOf result VolumeFault.NoSpace }
     {
-        self.change(edits)?;
+        self.change_fitting(edits)?;
         self.flush()
     }
 }

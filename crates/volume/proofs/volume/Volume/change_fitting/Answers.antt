@@ -1,0 +1,210 @@
+use Rattle.std.proofs.Common.{◌≡◌, ◌≤◌, ◌+◌, ◌∙◌, ℕ, false, List, Option, length, refl, sym, ap, subst, arith}
+use Rattle.std.specs.Prelude.{IsTrue, Err}
+use Rattle.tree_edits.specs.Outcomes.{cards_after}
+use Rattle.tree_edits.proofs.BlankLaws.{each_outline}
+use Rattle.journal.specs.Calls.{IsSafe, HasApplied}
+use Rattle.journal.specs.Journal.{log_of, journal_failures}
+use Rattle.journal.specs.Layout.{AreTargets, targets}
+use Rattle.journal.specs.Log.{Log, AnswersByDevice, contents}
+use Rattle.layout.specs.CachedNodes.{CachedNode}
+use Rattle.layout.specs.Health.{Health}
+use Rattle.layout.specs.Superblock.{is_size}
+use Rattle.model_tree.specs.Trees.Charge.{fits}
+use Rattle.model_tree.specs.Trees.Limits.{limits_of}
+use Rattle.volume.specs.Changes.{Done, VolumeChanges}
+use Rattle.volume.specs.ParentIndex.{AreParents}
+use Rattle.volume.specs.Edits.{IsEdited, edited_by, put_by}
+use Rattle.volume.specs.Parents.{PutsParent}
+use Rattle.volume.specs.Formed.{IsFormed, ShowsTree}
+use Rattle.volume.specs.Known.{AreKnownNodes, IsServing}
+use Rattle.volume.specs.Refusals.{fault_of}
+use Rattle.volume.specs.Views.{volume_state_by, volume_state, volume_failures}
+use Rattle.volume.proofs.ApplyLaws.{applied_serves, applied_tree, apply_done, apply_refused}
+use Rattle.volume.proofs.ChangeLaws.{behind_serving, formed_after, journal_targets, known_after, log_same, may_settle, outline_after, parents_behind}
+use Rattle.volume.proofs.EditLaws.{front_room, outline_doable, outline_few}
+use Rattle.volume.proofs.ServeLaws.{told_err}
+use Rattle.model_tree.specs.Trees.Stamp.{stamp}
+use Rattle.tree_edits.specs.Outlines.{tree_without_data}
+use Rattle.volume.proofs.KeepLaws.{left}
+use Rattle.volume.proofs.volume.Volume.change_fitting.Goals as goal
+
+pub returns-then-is_down-clause-volume : goal.returns-then-is_down-clause-volume
+returns-then-is_down-clause-volume g c = left g.D.Device.keeps_word _ (volume_state c.args.self.now) (volume_failures c.args.self.now)
+
+pub returns-in_err-apply-clause-shows : goal.returns-in_err-apply-clause-shows
+returns-in_err-apply-clause-shows g c = rw (told_err c.from_residual-in_err-apply.result (fault_of c.in_err-apply.field-0.0) c.from_residual-in_err-apply.ensures.1) (tt)
+
+pub outcome_of-requires-clause-can : goal.outcome_of-requires-clause-can
+unfolding volume_state
+outcome_of-requires-clause-can g c =
+    let volume = c.args.self.now in
+    let log : Log = log_of volume.store.journal in
+    outline_doable (volume_state_by volume.limits volume.run volume.table log) c.args.edits.now c.requires.change (contents log) volume.table refl
+
+pub outcome_of-requires-clause-few : goal.outcome_of-requires-clause-few
+unfolding volume_state
+outcome_of-requires-clause-few g c =
+    let volume = c.args.self.now in
+    let log : Log = log_of volume.store.journal in
+    let held = volume_state_by volume.limits volume.run volume.table log in
+    outline_few held c.args.edits.now c.requires.change (contents log) volume.table refl log.size volume.limits.nodes _ volume.limited volume.known.whole
+    c.requires.fitting
+
+pub outcome_of-requires-clause-room : goal.outcome_of-requires-clause-room
+unfolding volume_state
+outcome_of-requires-clause-room g c = λ count within.
+    let volume = c.args.self.now in
+    let log : Log = log_of volume.store.journal in
+    let held = volume_state_by volume.limits volume.run volume.table log in
+    let room = front_room held c.args.edits.now c.requires.change (contents log) volume.table refl log.size volume.limits.nodes _ volume.limited volume.known.whole
+    c.requires.fitting count in
+    let nodes = room.1 in
+    record { charge = room.0; nodes = omega (arith, nodes, volume.known.are_cards.count) }
+
+pub apply-requires : goal.apply-requires
+apply-requires g c =
+    let old : Log = log_of c.args.self.now.store.journal in
+    let mid : Log = log_of c.outcome_of.new.base.journal in
+    subst (λ (n : ℕ). AreTargets n (targets c.in_ok-outcome.outcome.updates.items))
+    (ap (λ (log : Log). log.size) (sym c.in_ok-outcome.ensures.kept))
+    (journal_targets old.size c.in_ok-outcome.outcome.updates.items c.in_ok-outcome.ensures.done.targets)
+
+pub settle-requires : goal.settle-requires
+unfolding volume_state
+settle-requires g c =
+    let volume = c.args.self.now in
+    let log : Log = log_of volume.store.journal in
+    may_settle g.D.Device.keeps_word volume.limits volume.run log volume.table volume.places c.args.edits.now c.in_ok-outcome.outcome c.requires.change volume.known c.in_ok-outcome.ensures.done
+
+pub returns-in_err-apply-clause-volume : goal.returns-in_err-apply-clause-volume
+unfolding volume_state volume_failures
+returns-in_err-apply-clause-volume g c =
+    let word = g.D.Device.keeps_word in
+    let volume = c.args.self.now in
+    let old : Log = log_of volume.store.journal in
+    let mid : Log = log_of c.outcome_of.new.base.journal in
+    let new : Log = log_of c.apply.new.self in
+    let fault = c.in_err-apply.field-0.0 in
+    let health = c.in_ok-outcome.ensures.health.stays (λ faulted. cc) in
+    let same : mid ≡ old = log_same old mid c.in_ok-outcome.ensures.kept (ap (λ (h : Health). h.is_down) health) in
+    let failed : journal_failures c.outcome_of.new.base.journal ≡ journal_failures volume.store.journal = ap (λ (h : Health). h.failed) health in
+    let told = told_err c.from_residual-in_err-apply.result (fault_of fault) c.from_residual-in_err-apply.ensures.1 in
+    let up : old.is_down ≡ false = sym c.is_down.ensures ∙ c.if-is_down.false in
+    let short : length c.in_ok-outcome.outcome.updates.items ≤ 48 = omega (arith, c.requires.change.few, c.in_ok-outcome.ensures.done.count) in
+    rw told (apply_refused word volume.limits volume.run volume.table old new (edited_by (volume_state_by volume.limits volume.run volume.table old) c.args.edits.now) _ _ fault
+    (subst (λ (log : Log). IsSafe word log new) same c.in_err-apply.ensures.safe)
+    up
+    (λ many. (let bound = (c.in_err-apply.ensures.too_many (ap (λ (log : Log). log.is_down) same ∙ up)).0 (ap (λ x. Err x) many) in omega (arith, bound, short)))
+    (subst (λ (log : Log). AnswersByDevice {T = Unit {0}} log new (journal_failures volume.store.journal) (journal_failures c.apply.new.self) (Err fault)) same
+    (subst (λ (n : ℕ). AnswersByDevice {T = Unit {0}} mid new n (journal_failures c.apply.new.self) (Err fault)) failed c.in_err-apply.ensures.answers))
+    c.in_err-apply.ensures.refuses)
+
+pub returns-in_err-apply-clause-stays : goal.returns-in_err-apply-clause-stays
+unfolding volume_state
+returns-in_err-apply-clause-stays g c =
+    let volume = c.args.self.now in
+    let old : Log = log_of volume.store.journal in
+    let new : Log = log_of c.apply.new.self in
+    let told = told_err c.from_residual-in_err-apply.result (fault_of c.in_err-apply.field-0.0) c.from_residual-in_err-apply.ensures.1 in
+    rw told (each_outline (contents new) volume.table ∙ sym (each_outline (contents old) volume.table))
+
+pub invariant_of-self-2 : goal.invariant_of-self-2
+unfolding volume_state
+invariant_of-self-2 g c =
+    let word = g.D.Device.keeps_word in
+    let volume = c.args.self.now in
+    let old : Log = log_of volume.store.journal in
+    let mid : Log = log_of c.outcome_of.new.base.journal in
+    let new : Log = log_of c.apply.new.self in
+    let nodes = volume.limits.nodes in
+    let held = volume_state_by volume.limits volume.run volume.table old in
+    let edits = c.args.edits.now in
+    let outcome = c.in_ok-outcome.outcome in
+    let comes = c.in_ok-outcome.ensures.done in
+    let health = c.in_ok-outcome.ensures.health.stays (λ faulted. cc) in
+    let same : mid ≡ old = log_same old mid c.in_ok-outcome.ensures.kept (ap (λ (h : Health). h.is_down) health) in
+    let safe : IsSafe word old new = subst (λ (log : Log). IsSafe word log new) same c.in_ok-apply.ensures.safe in
+    let has : HasApplied word outcome.updates.items old new = subst (λ (log : Log). HasApplied word outcome.updates.items log new) same c.in_ok-apply.ensures.ok in
+    let size : old.size ≡ new.size = sym safe.size in
+    let up : old.is_down ≡ false = sym c.is_down.ensures ∙ c.if-is_down.false in
+    let fit : IsTrue (fits volume.limits (edited_by held edits)) =
+    c.requires.fitting in
+    let settled : cards_after volume.table outcome ≡ c.settle.new.self = sym c.settle.ensures in
+    record {
+      bounded = volume.bounded;
+      sized = subst (λ (n : ℕ). IsTrue (is_size n nodes)) size volume.sized;
+      limited = volume.limited ∙ ap (λ (n : ℕ). limits_of n nodes) size;
+      formed = subst (λ (cards : List (Option CachedNode)). IsFormed volume.limits (stamp (volume.run + 1) 0) (tree_without_data cards)) settled
+          (formed_after word volume.limits volume.run old volume.table volume.places edits outcome c.requires.change volume.known comes fit);
+      known = subst (λ (cards : List (Option CachedNode)). AreKnownNodes new.size nodes cards outcome.places) settled
+          (subst (λ (n : ℕ). AreKnownNodes n nodes (cards_after volume.table outcome) outcome.places) size
+          (known_after word volume.limits volume.run old volume.table volume.places edits outcome c.requires.change volume.known comes));
+      named = subst (λ (cards : List (Option CachedNode)). AreParents cards c.put_parent.new.parents) settled
+          (parents_behind word volume.limits volume.run old volume.table volume.places edits outcome c.requires.change volume.known comes volume.limited fit volume.parents c.put_parent.new.parents volume.named
+          (subst (λ (cards : List (Option CachedNode)). PutsParent cards volume.parents c.put_parent.new.parents (put_by edits)) (sym settled)
+          (subst (λ (put : Option (ℕ × ℕ)). PutsParent c.settle.new.self volume.parents c.put_parent.new.parents put)
+          c.put_by-put.ensures c.put_parent.ensures)));
+      serves = λ k is_up. subst (λ (cards : List (Option CachedNode)). ∥ IsServing new nodes volume.run cards ∥₁) settled
+          (applied_serves word volume.limits volume.run volume.table (cards_after volume.table outcome) old new outcome.updates.items (edited_by held edits) 0 0
+          safe (omega arith) is_up has (λ kept. volume.serves kept up)
+          (λ kept. behind_serving word kept nodes volume.run old volume.table volume.places edits outcome volume.known.are_cards.count comes
+          (subst (λ l. IsFormed l (stamp (volume.run + 1) 0) (edited_by held edits)) volume.limited (c.requires.change.formed fit)) (volume.serves kept up)) k);
+    }
+
+pub returns-clause-volume : goal.returns-clause-volume
+unfolding volume_state volume_failures
+returns-clause-volume g c =
+    let word = g.D.Device.keeps_word in
+    let volume = c.args.self.now in
+    let old : Log = log_of volume.store.journal in
+    let mid : Log = log_of c.outcome_of.new.base.journal in
+    let new : Log = log_of c.apply.new.self in
+    let nodes = volume.limits.nodes in
+    let held = volume_state_by volume.limits volume.run volume.table old in
+    let edits = c.args.edits.now in
+    let outcome = c.in_ok-outcome.outcome in
+    let health = c.in_ok-outcome.ensures.health.stays (λ faulted. cc) in
+    let same : mid ≡ old = log_same old mid c.in_ok-outcome.ensures.kept (ap (λ (h : Health). h.is_down) health) in
+    let failed : journal_failures c.outcome_of.new.base.journal ≡ journal_failures volume.store.journal = ap (λ (h : Health). h.failed) health in
+    let safe : IsSafe word old new = subst (λ (log : Log). IsSafe word log new) same c.in_ok-apply.ensures.safe in
+    let has : HasApplied word outcome.updates.items old new = subst (λ (log : Log). HasApplied word outcome.updates.items log new) same c.in_ok-apply.ensures.ok in
+    let up : old.is_down ≡ false = sym c.is_down.ensures ∙ c.if-is_down.false in
+    let fit : IsTrue (fits volume.limits (edited_by held edits)) =
+    c.requires.fitting in
+    subst (λ (cards : List (Option CachedNode)). VolumeChanges word (IsEdited held edits) held (volume_state_by volume.limits volume.run cards new) (journal_failures volume.store.journal) (journal_failures c.apply.new.self) Done)
+    (sym c.settle.ensures)
+    (apply_done word volume.limits volume.run volume.table (cards_after volume.table outcome) old new outcome.updates.items (edited_by held edits)
+    (journal_failures volume.store.journal) (journal_failures c.apply.new.self) safe (let later = c.in_ok-apply.ensures.answers.later in omega (arith, later, failed))
+    (c.in_ok-apply.ensures.answers.stays_up (ap (λ (log : Log). log.is_down) same ∙ up) (λ fault. cc)) has (λ kept. volume.serves kept up)
+    (λ kept. behind_serving word kept nodes volume.run old volume.table volume.places edits outcome volume.known.are_cards.count c.in_ok-outcome.ensures.done
+    (subst (λ l. IsFormed l (stamp (volume.run + 1) 0) (edited_by held edits)) volume.limited (c.requires.change.formed fit)) (volume.serves kept up))
+    (c.in_ok-apply.ensures.answers.none (λ fault. cc) ∙ failed))
+
+pub returns-clause-shows : goal.returns-clause-shows
+unfolding volume_state
+returns-clause-shows g c =
+    let word = g.D.Device.keeps_word in
+    let volume = c.args.self.now in
+    let old : Log = log_of volume.store.journal in
+    let mid : Log = log_of c.outcome_of.new.base.journal in
+    let new : Log = log_of c.apply.new.self in
+    let nodes = volume.limits.nodes in
+    let held = volume_state_by volume.limits volume.run volume.table old in
+    let edits = c.args.edits.now in
+    let outcome = c.in_ok-outcome.outcome in
+    let health = c.in_ok-outcome.ensures.health.stays (λ faulted. cc) in
+    let same : mid ≡ old = log_same old mid c.in_ok-outcome.ensures.kept (ap (λ (h : Health). h.is_down) health) in
+    let safe : IsSafe word old new = subst (λ (log : Log). IsSafe word log new) same c.in_ok-apply.ensures.safe in
+    let has : HasApplied word outcome.updates.items old new = subst (λ (log : Log). HasApplied word outcome.updates.items log new) same c.in_ok-apply.ensures.ok in
+    let up : old.is_down ≡ false = sym c.is_down.ensures ∙ c.if-is_down.false in
+    let fit : IsTrue (fits volume.limits (edited_by held edits)) =
+    c.requires.fitting in
+    subst (λ (cards : List (Option CachedNode)). ShowsTree word (edited_by held edits) (volume_state_by volume.limits volume.run cards new).tree)
+    (sym c.settle.ensures)
+    (record {
+      outline = outline_after word volume.limits volume.run old volume.table volume.places edits outcome c.requires.change volume.known c.in_ok-outcome.ensures.done (contents new);
+      tree_is = λ k. applied_tree word volume.limits volume.run volume.table (cards_after volume.table outcome) old new outcome.updates.items (edited_by held edits) 0 0
+          safe (omega arith) (c.in_ok-apply.ensures.answers.stays_up (ap (λ (log : Log). log.is_down) same ∙ up) (λ fault. cc)) has (λ kept. volume.serves kept up)
+          (λ kept. behind_serving word kept nodes volume.run old volume.table volume.places edits outcome volume.known.are_cards.count c.in_ok-outcome.ensures.done
+          (subst (λ l. IsFormed l (stamp (volume.run + 1) 0) (edited_by held edits)) volume.limited (c.requires.change.formed fit)) (volume.serves kept up)) k;
+    })
