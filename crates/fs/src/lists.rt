@@ -6,7 +6,7 @@ ghost use Rattle.model_tree.specs.Rights.Inherit.{created_list};
 ghost use Rattle.model.specs.Operations.SetAttr.{list_set};
 
 use acl_eval::{Ace, Acl, NodeKind};
-use acl_set::{Given, MAX_MODE, at_creation, with_mode};
+use acl_set::{AclFault, Given, MAX_MODE, at_creation, with_mode};
 use std::alloc::{AllocError, Global};
 use wire_attributes::Settings;
 
@@ -30,7 +30,12 @@ pub(crate) fn list_created(
         mode: settings.mode,
         acl: None,
     };
-    at_creation(alloc, parent, kind, &given).map_err(|_| AllocError)
+    match at_creation(alloc, parent, kind, &given) {
+        Ok(acl) => Ok(acl),
+        Err(AclFault::Memory) => Err(AllocError),
+        // no list is given that could be refused
+        Err(AclFault::Ace(_)) => unreachable!(),
+    }
 }
 
 /// The list of a node of this kind and list after a SETATTR (RFC 8881, section 6.4.1): the one that
@@ -48,8 +53,13 @@ pub(crate) fn list_set(
     if let Some(set) = set {
         return Ok(set);
     }
-    match mode {
-        Some(mode) => with_mode(alloc, kind, acl.as_slice(), mode).map_err(|_| AllocError),
-        None => acl.try_clone(),
+    let Some(mode) = mode else {
+        return acl.try_clone();
+    };
+    match with_mode(alloc, kind, acl.as_slice(), mode) {
+        Ok(list) => Ok(list),
+        Err(AclFault::Memory) => Err(AllocError),
+        // a list of a mode is never refused
+        Err(AclFault::Ace(_)) => unreachable!(),
     }
 }

@@ -250,7 +250,7 @@ impl<D: Device> Fs<D> {
     {
         // a name leads to a node always
         let Some(cached) = self.volume.node(number) else {
-            return Err(NotDone::Memory);
+            unreachable!();
         };
         let is_cut = self.check_known(cached, asked.how)?;
         if !may_open(cached, cred, asked.share.access, is_cut) {

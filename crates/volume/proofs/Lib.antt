@@ -34,3 +34,4 @@ pub mod ShownLaws
 pub mod SoundLaws
 pub mod StandLaws
 pub mod StartLaws
+pub mod ViewLaws

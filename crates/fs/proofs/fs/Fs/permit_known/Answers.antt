@@ -1,4 +1,4 @@
-use Rattle.std.proofs.Common.{◌∙◌, true, false, sym, ap, subst}
+use Rattle.std.proofs.Common.{◌∙◌, true, false, is_some, true≢false, sym, ap, subst}
 use Rattle.std.proofs.lemmas.Result.{err_from_is_err_and}
 use Rattle.model.specs.Operations.Open.{known_refusals}
 use Rattle.model_tree.specs.Trees.Tree.{Tree}
@@ -7,8 +7,18 @@ use Rattle.fs.specs.Opening.{file_tests, may_use, type_of}
 use Rattle.fs.proofs.OpenTests as tests
 use Rattle.fs.proofs.RefusedLaws.{carried}
 use Rattle.volume.specs.Nodes.{IsNodeOf}
+use Rattle.volume.proofs.ViewLaws.{volume_formed}
 use Rattle.volume.proofs.ServeLaws.{told_err}
 use Rattle.fs.proofs.fs.Fs.permit_known.Goals as goal
+
+-- a name leads to a node
+
+pub unreachable-requires : goal.unreachable-requires
+unfolding fs_of
+unreachable-requires g c =
+    let tree = (fs_of c.args.self.now).volume.tree in
+    let there = tests.leads_to_node _ _ tree (volume_formed c.args.self.now.volume) c.args.asked.directory c.args.number c.args.asked.name.now c.requires.leads in
+    true≢false (sym there ∙ ap is_some c.in_default.ensures.none)
 
 pub returns-in_err-is_cut-clause-node : goal.returns-in_err-is_cut-clause-node
 returns-in_err-is_cut-clause-node g c = rw (told_err c.from_residual.result c.in_err-is_cut.field-0.0 c.from_residual.ensures.1) (tt)
