@@ -1,5 +1,5 @@
 -- A run that begins on the nodes that were read.
-use Rattle.std.proofs.Common.{◌≡◌, ◌≤◌, ◌<◌, ◌+◌, ◌^◌, ◌∙◌, ℕ, Bool, true, false, List, [], Option, Some, None, is_some, length, inl, inr, refl, sym, ap, subst, arith}
+use Rattle.std.proofs.Common.{◌≡◌, ◌≤◌, ◌<◌, ◌+◌, ◌^◌, ◌∙◌, ℕ, Bool, true, List, [], Option, Some, None, is_some, length, inl, inr, refl, sym, ap, subst, arith}
 use Rattle.std.proofs.Math.Logic.{∥∥₁_map}
 use Rattle.std.specs.Prelude.{IsTrue, OnOk, Result, Ok, Err}
 use Rattle.std.specs.Option.{unwrap_or}
@@ -8,7 +8,7 @@ use Rattle.disk.proofs.MomentLemmas.{AddsOnly-weaken, AddsOnly-join}
 use Rattle.journal.specs.Calls.{IsSafe}
 use Rattle.journal.specs.Log.{Log, StandsForFront}
 use Rattle.journal.specs.Settled.{Settles}
-use Rattle.layout.specs.CachedNodes.{CachedNode, cards_in, tree_of}
+use Rattle.layout.specs.CachedNodes.{CachedNode, cards_in}
 use Rattle.layout.specs.Rewriting.{all_second}
 use Rattle.layout.specs.Stands as layout
 use Rattle.layout.specs.Stands.{By, IsMark, Kept, MayHaveSeats, StandsNow, bare, current_version, served_version, mark_held, moved_by, number_of_version, version_1, version_2, version_by}
@@ -265,11 +265,3 @@ module _ (mark : Option ℕ) (size nodes run : ℕ) (base : Image) (kept : Kept)
     keeps = stands.keeps;
     stands = subst (λ (seats : Seats). layout.TreeStands (current_version seats) size nodes image run kept.tree) (sym none_kept) is;
   }
-
--- and where there is none it stands in the current version
-none_now : (mark : Option ℕ) (size nodes run : ℕ) (base : Image) (kept : Kept) → is_some mark ≡ false → StandsInSecond mark size nodes run base kept → StandsNow size nodes base run kept
-none_now None size nodes run base kept none stands = record { keeps = stands.keeps; stands = stands.stands }
-none_now (Some moved) size nodes run base kept none stands = absurd (cc)
-
-pub stays_cleared : (mark : Option ℕ) (nodes run : ℕ) (kept : Kept) (log : Log) → is_some mark ≡ false → StandsInSecond mark log.size nodes run log.base kept → IsCleared nodes run kept log log
-stays_cleared mark nodes run kept log none stands = record { stands = none_now mark log.size nodes run log.base kept none stands; cards = refl }
