@@ -4,6 +4,8 @@
 
 mod page;
 mod request;
+#[cfg(test)]
+mod tests;
 mod visit;
 
 pub use page::{Kind, Page};
