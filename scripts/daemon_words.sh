@@ -37,7 +37,7 @@ shown() {
 # The same for every release and at any port.
 without_numbers() {
     sed -E 's/^(.{4}nfs41d) [0-9]+\.[0-9.]+/\1 VERSION/; s/\(rattle-kit[^)]*\)$/(KIT)/
-        s/^(.{4}(serving|listening on) .*:)[0-9]+$/\1PORT/
+        s/^(.{4}(serving|listening on) .*:)[0-9]+$/\1PORT/; s/:[0-9]+(, metrics on )/:PORT\1/
         /other[.]img/s/:[1-9][0-9]+/:PORT/; s#d{250}[d/]*#dddd../#'
 }
 

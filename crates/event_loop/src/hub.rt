@@ -3,7 +3,7 @@
 use crate::counts::Counts;
 use crate::door::{Arrival, Door};
 use crate::glance::{Glance, has_replayed, syncs_of};
-use crate::line::{Line, Session, Start};
+use crate::line::{Line, Listening, Session, Start};
 use crate::lines::Lines;
 use crate::page::{State, page_of};
 use crate::readiness::tell_ready;
@@ -229,7 +229,11 @@ impl<D: Watched> Hub<D> {
             self.free_seats(rt, lines)?;
         }
         seating::tell_seats(&self.server, lines, now);
-        lines.tell(&Line::Listens(self.address()?), now);
+        let listening = Listening {
+            address: self.address()?,
+            metrics: self.sockets.metrics_address()?,
+        };
+        lines.tell(&Line::Listens(listening), now);
         Ok(())
     }
 

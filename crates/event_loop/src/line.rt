@@ -26,7 +26,7 @@ pub enum Line<'a> {
     /// Serving begins.
     Begins(Start<'a>),
     /// Where connections are accepted.
-    Listens(SocketAddr),
+    Listens(Listening),
     /// A new run has begun.
     Run(u32),
     /// A connection has a place.
@@ -88,6 +88,14 @@ pub struct Start<'a> {
     pub replayed: bool,
 }
 
+/// Where the server listens.
+#[derive(Clone, Copy)]
+pub struct Listening {
+    pub address: SocketAddr,
+    /// Where it serves counts, if it does.
+    pub metrics: Option<SocketAddr>,
+}
+
 /// A client's session.
 #[derive(Clone, Copy)]
 pub struct Session<'a> {
@@ -135,7 +143,7 @@ impl Display for Line<'_> {
     fn fmt<W: Write>(&self, f: &mut Formatter<W>) -> fmt::Result {
         match *self {
             Line::Begins(start) => start.fmt(f),
-            Line::Listens(address) => write!(f, "listening on {address}"),
+            Line::Listens(listening) => listening.fmt(f),
             Line::Run(run) => write!(f, "run {run}"),
             Line::Comes { from, taken } => {
                 write!(f, "connection from {from}, {}", Places(taken))
@@ -176,6 +184,16 @@ impl Display for Start<'_> {
         let Start { title, run, .. } = *self;
         let replayed = if self.replayed { ", log replayed" } else { "" };
         write!(f, "{title}, run {run}{replayed}")
+    }
+}
+
+impl Display for Listening {
+    fn fmt<W: Write>(&self, f: &mut Formatter<W>) -> fmt::Result {
+        let Listening { address, metrics } = *self;
+        match metrics {
+            Some(metrics) => write!(f, "listening on {address}, metrics on {metrics}"),
+            None => write!(f, "listening on {address}"),
+        }
     }
 }
 

@@ -53,6 +53,11 @@ impl Monitor {
         })
     }
 
+    /// Where it listens.
+    pub fn address(&self) -> io::Result<SocketAddr> {
+        self.listener.local_addr()
+    }
+
     /// The system told of a visitor that waits.
     pub fn wake(&mut self) {
         self.can_accept = true;

@@ -94,6 +94,14 @@ impl Sockets {
         self.door.address()
     }
 
+    /// Where counts are served, if they are.
+    pub fn metrics_address(&self) -> io::Result<Option<SocketAddr>> {
+        match &self.monitor {
+            Some(monitor) => Ok(Some(monitor.address()?)),
+            None => Ok(None),
+        }
+    }
+
     /// Waits for the system, and tells the door and the peers what it told of them. Whether it told
     /// anything.
     pub fn hear(&mut self, timeout: Option<Duration>) -> Result<bool, Refused> {
