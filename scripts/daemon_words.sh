@@ -121,6 +121,7 @@ helping() {
     echo '== help'
     try --help
     try -h
+    try help
     try --version
     try -V
     try serve --help
@@ -129,6 +130,9 @@ helping() {
     for words in ls get tar put; do
         try "$words" --help
     done
+    try help serve
+    try help put
+    try help help
     echo '== no form'
     try
     cp err.txt usage.txt
@@ -137,7 +141,8 @@ helping() {
     try --no-such-option v.img
     try -x v.img
     try v.img 127.0.0.1:0 more
-    try help
+    try help mount
+    try help serve more
     try mount v.img
     try serve serve v.img
     try check --version
@@ -241,6 +246,10 @@ options() {
     serves v.img 127.0.0.1:0 --quiet
     serves --quiet -- v.img 127.0.0.1:0
     serves v.img '[::1]:0'
+    echo '== serve: files that are named as commands'
+    volume help
+    serves ./help 127.0.0.1:0
+    serves serve help 127.0.0.1:0
     echo '== serve: options that it refuses'
     for words in "--name $(printf 'n%.0s' {1..1025})" '--name a --name b' \
         '--forget-after' '--forget-after -1' '--forget-after soon' '--forget-after 1.5' \

@@ -48,7 +48,7 @@ pub const QUIET: &str = "quiet";
 
 pub const METRICS: &str = "metrics";
 
-/// The whole command. What `serve` takes may stand without that word.
+/// The whole command. What `serve` takes may be given without that word.
 pub fn command<'a>(alloc: Global) -> Result<Command<'a>, AllocError> {
     let command = Command::new(alloc, "nfs41d")
         .bin_name("nfs41d")?
@@ -59,8 +59,7 @@ pub fn command<'a>(alloc: Global) -> Result<Command<'a>, AllocError> {
              out of a volume that is not served, and into an empty one.",
         )
         .args_conflicts_with_subcommands(true)
-        .subcommand_negates_reqs(true)
-        .disable_help_subcommand(true);
+        .subcommand_negates_reqs(true);
     with_serving(alloc, command)?
         .subcommand(serve(alloc)?)?
         .subcommand(format(alloc)?)?
@@ -128,7 +127,7 @@ fn with_serving<'a>(alloc: Global, command: Command<'a>) -> Result<Command<'a>, 
     ))?;
     let command = with_sessions(alloc, command)?;
     let command = with_door(alloc, command)?;
-    with_telling(alloc, command)
+    with_reports(alloc, command)
 }
 
 /// Options on clients and their sessions.
@@ -138,8 +137,8 @@ fn with_sessions<'a>(alloc: Global, command: Command<'a>) -> Result<Command<'a>,
             alloc,
             NAME,
             "NAME",
-            "What tells this server from others, the same at each start; by default the name of \
-             the host, a colon, and the path of the volume",
+            "What distinguishes this server from others, the same at each start; by default the \
+             name of the host, a colon, and the path of the volume",
         ))?
         .arg(option(
             alloc,
@@ -176,8 +175,8 @@ fn with_door<'a>(alloc: Global, command: Command<'a>) -> Result<Command<'a>, All
         ))
 }
 
-/// Options on what it tells.
-fn with_telling<'a>(alloc: Global, command: Command<'a>) -> Result<Command<'a>, AllocError> {
+/// Options on what it prints and counts.
+fn with_reports<'a>(alloc: Global, command: Command<'a>) -> Result<Command<'a>, AllocError> {
     command
         .arg(flag(alloc, QUIET, "Print failures only"))?
         .arg(option(

@@ -66,7 +66,7 @@ impl Usage {
             Usage::Form => {
                 "nfs41d [[serve] [OPTIONS] FILE [ADDRESS:PORT] | \
                  format [--force] FILE SECTORS NODES | check FILE | ls FILE PATH | \
-                 get FILE PATH | tar FILE | put FILE TAR | --help | --version]"
+                 get FILE PATH | tar FILE | put FILE TAR | help [COMMAND] | --version]"
             }
             Usage::Nameless => {
                 "nfs41d --name NAME FILE [ADDRESS:PORT], \

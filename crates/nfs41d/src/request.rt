@@ -60,7 +60,7 @@ pub struct Serving<'a> {
     pub file: &'a str,
     /// Where to listen; None: at the socket that a service manager hands over.
     pub address: Option<SocketAddr>,
-    /// What tells this server from others; None: the host and the file.
+    /// What distinguishes this server from others; None: the host and the file.
     pub name: Option<&'a str>,
     pub forget_after: Option<Duration>,
     pub persistent: bool,
