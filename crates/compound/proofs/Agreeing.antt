@@ -1,5 +1,5 @@
 -- A step keeps the table of the volume's run, with the volume's seats.
-use Rattle.std.proofs.Common.{◌≡◌, ℕ, false, List, [], Option, None, Some, Result, Ok, Err, IfOk, refl, sym, ap, ◌∙◌}
+use Rattle.std.proofs.Common.{◌≡◌, ℕ, inl, false, List, [], Option, None, Some, Result, Ok, Err, IfOk, refl, sym, ap, ◌∙◌}
 use Rattle.volume.specs.Changes.{Done}
 use Rattle.fs.specs.Changes.{FsChanges}
 use Rattle.model.specs.Operations.Answer as model
@@ -89,7 +89,7 @@ agreed keeps_word now old new asked request done before after keeps agree steps 
     let turn = stepped_on world 0 now request in
     let table_is : turn.world.table ≡ new.table = ap (λ (w : World). w.table) (steps world 0 has).1 in
     let gives : TurnGives old (λ w n. stepped_on w n now request) (kept_of_world turn.world) (lasts turn.executed) =
-    record { world = world; number = 0; has = has; kept = refl; lasting_is = refl } in
+    record { world = world; number = 0; has = has; kept = refl; lasting_is = inl refl } in
     record {
       run = ap (λ (t : Table). t.run) (sym table_is) ∙ (further_run world 0 now request request.ended ∙ (ap (λ (t : Table). t.run) has.table_is ∙ (agree.run ∙ sym changes.volume_changes.same.run)));
       seats = ap (λ (t : Table). t.seats) (sym table_is) ∙ sym (changes.volume_changes.ends.seats keeps (kept_of_world turn.world) (lasts turn.executed) gives);

@@ -34,11 +34,12 @@ leaves_all keeps_word given old new before after same told =
       no_count = λ undone. ap (λ (f : FileSystem). f.changes) same;
     }
 
--- one that answered, and neither changed the volume nor has to last
-pub answers_quietly : (keeps_word : Type 0) (given : Given) (old new : FileSystem) (before after : ℕ) → new ≡ old → after ≡ before → old.volume.is_down ≡ false
-    → (keeps_word → (kept : Kept) (lasts : Bool) → given kept lasts → kept.seats ≡ old.volume.seats) → ((kept : Kept) (lasts : Bool) → given kept lasts → lasts ≡ false)
+-- one that answered, and neither changed the volume nor, where the device keeps its word, has to last
+pub answers_still : (keeps_word : Type 0) (given : Given) (old new : FileSystem) (before after : ℕ) → new ≡ old → after ≡ before → old.volume.is_down ≡ false
+    → (keeps_word → (kept : Kept) (lasts : Bool) → given kept lasts → kept.seats ≡ old.volume.seats)
+    → (keeps_word → (kept : Kept) (lasts : Bool) → given kept lasts → kept.seats ≡ old.volume.seats → lasts ≡ false)
     → FsChanges keeps_word given old new before after Done
-answers_quietly keeps_word given old new before after same told up stays quiet =
+answers_still keeps_word given old new before after same told up stays quiet =
     let held : new.volume ≡ old.volume = ap (λ (f : FileSystem). f.volume) same in
     record {
       volume_changes = record {
@@ -55,7 +56,7 @@ answers_quietly keeps_word given old new before after same told up stays quiet =
               ready = subst (λ (h : VolumeState). IsRecent h recent) (sym held) ready;
               seats = ap (λ (h : VolumeState). h.seats) held ∙ sym (stays keeps kept lasts is);
               no_others = λ one among. inl among;
-              durable = λ durable one among. absurd (never lasts (quiet kept lasts is) durable);
+              durable = λ durable one among. absurd (never lasts (quiet keeps kept lasts is (stays keeps kept lasts is)) durable);
             },
           );
         };
@@ -65,6 +66,12 @@ answers_quietly keeps_word given old new before after same told up stays quiet =
   where
     never : (b : Bool) → b ≡ false → b ≡ true → ⊥
     never b is other = cc
+
+-- and on no device
+pub answers_quietly : (keeps_word : Type 0) (given : Given) (old new : FileSystem) (before after : ℕ) → new ≡ old → after ≡ before → old.volume.is_down ≡ false
+    → (keeps_word → (kept : Kept) (lasts : Bool) → given kept lasts → kept.seats ≡ old.volume.seats) → ((kept : Kept) (lasts : Bool) → given kept lasts → lasts ≡ false)
+    → FsChanges keeps_word given old new before after Done
+answers_quietly keeps_word given old new before after same told up stays quiet = answers_still keeps_word given old new before after same told up stays (λ keeps kept lasts is seats. quiet kept lasts is)
 
 nothing_done : Nothing ≡ Done → ⊥
 nothing_done is = cc
@@ -79,7 +86,7 @@ left_all keeps_word given old new before after changes =
 
 -- What the definition says may be said otherwise where the device keeps its word, as long as its trees are the same on any device
 module _ (keeps_word : Type 0) (given other : Given) (weaker : keeps_word → (after : Kept) (lasts : Bool) → other after lasts → given after lasts)
-    (alike : (after : Kept) (lasts : Bool) → other after lasts → (kept : Kept) × given kept lasts × (kept.tree ≡ after.tree))
+    (alike : (after : Kept) (lasts : Bool) → other after lasts → (kept : Kept) × (lasting : Bool) × given kept lasting × (kept.tree ≡ after.tree))
     (old new : FileSystem) (before after : ℕ) where
   ends_when : (ending : Ending) → EndsAs keeps_word given old.volume new.volume before after ending → EndsAs keeps_word other old.volume new.volume before after ending
   ends_when Done ends = record {
@@ -94,7 +101,7 @@ module _ (keeps_word : Type 0) (given other : Given) (weaker : keeps_word → (a
     shows = ⊎_elim
         (λ (same : ShowsAs old.volume.tree new.volume.tree). inl same)
         (λ (each : (kept : Kept) (lasts : Bool) → given kept lasts → ShowsAs kept.tree new.volume.tree).
-        inr (λ kept lasts is. let so = alike kept lasts is in subst (λ (tree : Tree). ShowsAs tree new.volume.tree) so.2 (each so.0 lasts so.1)))
+        inr (λ kept lasts is. let so = alike kept lasts is in subst (λ (tree : Tree). ShowsAs tree new.volume.tree) so.3 (each so.0 so.1 so.2)))
         ends.shows;
   }
 

@@ -1,5 +1,5 @@
 -- The seats that a volume keeps, and the turn in which a seat holds a reply.
-use Rattle.std.proofs.Common.{◌≡◌, ℕ, Bool, true, false, List, [], ◌∷◌, find, Option, Some, None, refl, sym, ap, ap₂, ◌∙◌}
+use Rattle.std.proofs.Common.{◌≡◌, ℕ, Bool, true, false, List, [], ◌∷◌, find, Option, Some, None, refl, sym, ap, ap₂, ◌∙◌, inl, inr}
 use Rattle.std.specs.Global.{Vec}
 use Rattle.layout.specs.Stands.{Kept}
 use Rattle.volume.specs.Changes.{Ending, Done, IsSeats}
@@ -25,7 +25,7 @@ use Rattle.compound.specs.Steps.{RequestSteps, stepped_on}
 use Rattle.compound.specs.Views.{Asked}
 use Rattle.compound.specs.Volumes.{HasSameTree, IsSeated, RunGives, TurnGives, kept_of_world, lasts}
 use Rattle.compound.specs.declared.step.Stepped.TheVariants as stepped
-use Rattle.compound.proofs.QuietLaws.{answers_quietly, changes_when}
+use Rattle.compound.proofs.QuietLaws.{answers_still, changes_when}
 use Rattle.compound.proofs.VolumeLaws.{is_quiet, quiet_ran}
 
 -- Edits
@@ -44,9 +44,12 @@ module _ (keeps_word : Type 0) (fs : FileSystem) where
   pub seated_still : (failed : ℕ) (seats : Seats) → fs.volume.is_down ≡ false → (keeps_word → seats ≡ fs.volume.seats)
       → FsChanges keeps_word (IsSeated fs.volume seats) fs fs failed failed Done
   seated_still failed seats up there =
-      answers_quietly keeps_word (IsSeated fs.volume seats) fs fs failed failed refl refl up
+      answers_still keeps_word (IsSeated fs.volume seats) fs fs failed failed refl refl up
       (λ keeps kept lasting given. ap (λ (of : Kept). of.seats) given.0 ∙ there keeps)
-      (λ kept lasting given. given.1)
+      (λ keeps kept lasting given stays. elim given.1 [
+        | inl quiet ↦ quiet
+        | inr differs ↦ absurd (differs stays)
+      ])
 
   module _ (new : FileSystem) (before after : ℕ) (end : Ending) where
     -- what was put are these seats
@@ -57,7 +60,8 @@ module _ (keeps_word : Type 0) (fs : FileSystem) where
         (λ keeps kept lasting given. (given.0 ∙ ap (λ (s : Seats). let of : Kept = record { tree = fs.volume.tree; seats = s } in of) (same keeps), given.1))
         (λ kept lasting given. (
           (let of : Kept = record { tree = fs.volume.tree; seats = seats } in of),
-          (refl, given.1),
+          false,
+          (refl, inl refl),
           ap (λ (of : Kept). of.tree) (sym given.0),
         ))
         fs new before after end changes
@@ -72,7 +76,10 @@ given_seats : (state : SharedState) (table : Table) (opens : Opens) (request lef
     → (after : Kept) (lasting : Bool) → RunGives state request now operation after lasting → IsSeated state.files.volume table.seats after lasting
 given_seats state table opens request left now operation outcome quiet gives after lasting ran = (
   ran.kept ∙ ap (λ (r : HasRun). kept_of_world (world_by ran.world r)) (gives ran.world ran.rest ran.has),
-  ran.lasting_is ∙ quiet_ran ran.world (with_rest request ran.rest) operation (run_in_room ran.world (with_rest request ran.rest) now operation) quiet,
+  elim ran.lasting_is [
+    | inl durable ↦ inl (durable ∙ quiet_ran ran.world (with_rest request ran.rest) operation (run_in_room ran.world (with_rest request ran.rest) now operation) quiet)
+    | inr differs ↦ inr differs
+  ],
 )
 
 pub seats_change : (keeps_word : Type 0) (state : SharedState) (table : Table) (opens : Opens) (request left : InProgress) (now : ℕ) (operation : Argument) (outcome : model.Outcome)
@@ -114,7 +121,10 @@ stored_gives state now request last ended after lasting gives =
     let turn = ends_now gives.world gives.number now request last ended in (
       gives.kept ∙ ap (λ (t : Turned). kept_of_world t.world) turn
           ∙ ap₂ (λ (tree : Tree) (table : Table). let of : Kept = record { tree = tree; seats = (kept_by request.slot (result_of request last) table).seats } in of) gives.has.tree gives.has.table_is,
-      gives.lasting_is ∙ ap (λ (t : Turned). lasts t.executed) turn,
+      elim gives.lasting_is [
+        | inl durable ↦ inl (durable ∙ ap (λ (t : Turned). lasts t.executed) turn)
+        | inr differs ↦ inr differs
+      ],
     )
 
 -- the seats once the slot keeps the reply, by the edits that were planned

@@ -1,5 +1,5 @@
 -- What operations and turns do to a file system, by the definition.
-use Rattle.std.proofs.Common.{◌≡◌, ℕ, Bool, true, false, ◌&&◌, ◌||◌, List, length, nat_le, Option, Some, None, Result, Ok, Err, refl, sym, ap, ◌∙◌}
+use Rattle.std.proofs.Common.{◌≡◌, ℕ, Bool, true, false, ◌&&◌, ◌||◌, List, length, nat_le, Option, Some, None, Result, Ok, Err, refl, sym, ap, ◌∙◌, inl, inr}
 use Rattle.std.specs.Result.{IsErrAnd}
 use Rattle.layout.specs.Stands.{Kept}
 use Rattle.volume.specs.Changes.{Given, Ending, Done}
@@ -65,16 +65,20 @@ run_tells state request now operation leaves agree after lasting gives =
       rest = gives.rest;
       has = gives.has;
       kept = gives.kept ∙ ap (λ (s : Seats). let kept : Kept = record { tree = tree_by gives.world ran; seats = s } in kept) seats;
-      lasting_is = gives.lasting_is;
+      lasting_is = elim gives.lasting_is [
+        | inl durable ↦ durable
+        | inr differs ↦ absurd (differs (ap (λ (kept : Kept). kept.seats) gives.kept ∙ seats))
+      ];
     }
 
 -- on any device its tree is the same
 run_alike : (state : SharedState) (request : InProgress) (now : ℕ) (operation : Argument) (after : Kept) (lasting : Bool)
     → RunGives state request now operation after lasting
-    → (kept : Kept) × OperationGives state request now operation kept lasting × (kept.tree ≡ after.tree)
+    → (kept : Kept) × (lasts : Bool) × OperationGives state request now operation kept lasts × (kept.tree ≡ after.tree)
 run_alike state request now operation after lasting gives = (
   with_tree state.files.volume (tree_by gives.world (run_in_room gives.world (with_rest request gives.rest) now operation)),
-  record { world = gives.world; rest = gives.rest; has = gives.has; kept = refl; lasting_is = gives.lasting_is },
+  lasts (entry_by gives.world (with_rest request gives.rest) operation (run_in_room gives.world (with_rest request gives.rest) now operation)),
+  record { world = gives.world; rest = gives.rest; has = gives.has; kept = refl; lasting_is = refl },
   ap (λ (kept : Kept). kept.tree) (sym gives.kept),
 )
 
@@ -242,16 +246,27 @@ read_gives state request now operation rest going next after lasting gives =
       rest = rest;
       has = gives.has;
       kept = gives.kept ∙ (ap (λ (t : Turned). kept_of_world t.world) turn ∙ run_keeps world gives.number (with_rest request rest) operation ran);
-      lasting_is = gives.lasting_is ∙ (ap (λ (t : Turned). lasts t.executed) turn ∙ ap lasts (run_executed world gives.number (with_rest request rest) operation ran));
+      lasting_is = elim gives.lasting_is [
+        | inl durable ↦ inl (durable ∙ (ap (λ (t : Turned). lasts t.executed) turn ∙ ap lasts (run_executed world gives.number (with_rest request rest) operation ran)))
+        | inr differs ↦ inr differs
+      ];
     }
+
+-- a turn that executes nothing that has to last, and leaves the seats
+quiet_turn : (state : SharedState) (turn : World → (number : ℕ) → Turned) → (after : Kept) (lasting : Bool) → (gives : TurnGives state turn after lasting)
+    → lasts (turn gives.world gives.number).executed ≡ false → after.seats ≡ state.files.volume.seats → lasting ≡ false
+quiet_turn state turn after lasting gives none stays = elim gives.lasting_is [
+  | inl durable ↦ durable ∙ none
+  | inr differs ↦ absurd (differs stays)
+]
 
 -- one whose next operation is refused before it runs does nothing
 pub refused_turn : (state : SharedState) (request : InProgress) (now number : ℕ) (reason : Status) → request.ended ≡ None → next_operation request ≡ Refuses number reason
     → (after : Kept) (lasting : Bool)
-    → TurnGives state (λ world number. stepped_on world number now request) after lasting → lasting ≡ false
+    → TurnGives state (λ world number. stepped_on world number now request) after lasting → after.seats ≡ state.files.volume.seats → lasting ≡ false
 refused_turn state request now number reason going next after lasting gives =
-    gives.lasting_is
-    ∙ (ap (λ (t : Turned). lasts t.executed) (goes_next gives.world gives.number now request going)
+    quiet_turn state (λ world number. stepped_on world number now request) after lasting gives
+    (ap (λ (t : Turned). lasts t.executed) (goes_next gives.world gives.number now request going)
     ∙ ap (λ n. lasts (operates gives.world gives.number now request n).executed) next
     ∙ ap lasts (behind_executed gives.world gives.number request (model.Refused number reason) None))
 
@@ -265,10 +280,14 @@ same_turns state turn other same after lasting gives =
       number = gives.number;
       has = gives.has;
       kept = gives.kept ∙ ap (λ (t : Turned). kept_of_world t.world) is;
-      lasting_is = gives.lasting_is ∙ ap (λ (t : Turned). lasts t.executed) is;
+      lasting_is = elim gives.lasting_is [
+        | inl durable ↦ inl (durable ∙ ap (λ (t : Turned). lasts t.executed) is)
+        | inr differs ↦ inr differs
+      ];
     }
 
 -- or that execute nothing
 pub idle_turns : (state : SharedState) (turn : World → (number : ℕ) → Turned) → ((world : World) (number : ℕ) → HasState world state → (turn world number).executed ≡ None)
-    → (after : Kept) (lasting : Bool) → TurnGives state turn after lasting → lasting ≡ false
-idle_turns state turn idle after lasting gives = gives.lasting_is ∙ ap lasts (idle gives.world gives.number gives.has)
+    → (after : Kept) (lasting : Bool) → TurnGives state turn after lasting → after.seats ≡ state.files.volume.seats → lasting ≡ false
+idle_turns state turn idle after lasting gives =
+    quiet_turn state turn after lasting gives (ap lasts (idle gives.world gives.number gives.has))

@@ -1,5 +1,5 @@
 -- What the operations of a COMPOUND do to the file system below it, by the definition.
-use Rattle.std.specs.Prelude.{ℕ, Bool, false, List, Option, Some, None, Result, Ok, Err, ◌≡◌}
+use Rattle.std.specs.Prelude.{ℕ, Bool, false, List, Option, Some, None, Result, Ok, Err, ◌≡◌, ◌≢◌, ◌⊎◌}
 use Rattle.fs.specs.FileSystem.{FileSystem}
 use Rattle.layout.specs.Stands.{Kept}
 use Rattle.model.specs.Operations.Operation.{Argument}
@@ -47,6 +47,11 @@ entry_by world request operation (turns.Replays reply session slot) = None
 abbrev pub kept_of_world : World → Kept
 kept_of_world world = record { tree = world.tree; seats = world.table.seats }
 
+-- whether what is kept has to last: where the seats change all of it, and else where `durable` says
+-- so
+abbrev pub HasToLast : VolumeState → (durable : Bool) → Given
+HasToLast held durable after lasting = (lasting ≡ durable) ⊎ (after.seats ≢ held.seats)
+
 -- In some world that has this, whatever follows the operation, it leaves this tree, with the seats
 -- as they were, and has to last or not: of an operation on the tree.
 pub record OperationGives (state : SharedState) (request : InProgress) (now : ℕ)
@@ -67,8 +72,8 @@ pub record RunGives (state : SharedState) (request : InProgress) (now : ℕ) (op
   pub has : HasState world state
   pub kept : after
       ≡ kept_of_world (world_by world (run_in_room world (with_rest request rest) now operation))
-  pub lasting_is : lasting ≡ lasts (entry_by world (with_rest request rest) operation
-      (run_in_room world (with_rest request rest) now operation))
+  pub lasting_is : HasToLast state.files.volume (lasts (entry_by world (with_rest request rest)
+      operation (run_in_room world (with_rest request rest) now operation))) after lasting
 
 -- in some such world, on some connection, this turn does
 pub record TurnGives (state : SharedState) (turn : World → (number : ℕ) → Turned) (after : Kept)
@@ -77,12 +82,14 @@ pub record TurnGives (state : SharedState) (turn : World → (number : ℕ) → 
   pub number : ℕ
   pub has : HasState world state
   pub kept : after ≡ kept_of_world (turn world number).world
-  pub lasting_is : lasting ≡ lasts (turn world number).executed
+  pub lasting_is :
+      HasToLast state.files.volume (lasts (turn world number).executed) after lasting
 
--- the tree stays, and so does what has to last; the seats are these
+-- the tree stays, and the seats are these; where that is a change it lasts, with all that there was
+-- before it
 abbrev pub IsSeated : VolumeState → Seats → Given
 IsSeated held seats after lasting =
-    (after ≡ record { tree = held.tree; seats = seats }) × (lasting ≡ false)
+    (after ≡ record { tree = held.tree; seats = seats }) × HasToLast held false after lasting
 
 -- the tree stands as it did, and no change was counted
 pub record HasSameTree (old new : FileSystem) : Type 0 where

@@ -13,7 +13,7 @@ use Rattle.compound.proofs.VolumeLaws.{read_gives, refused_turn, turn_stays}
 use Rattle.compound.specs.declared.fault.Fault.TheVariants as fault
 use Rattle.fs.proofs.ChangeLaws.{changes_by}
 use Rattle.volume.proofs.ServeLaws.{told_err}
-use Rattle.compound.proofs.QuietLaws.{leaves_all, answers_quietly}
+use Rattle.compound.proofs.QuietLaws.{leaves_all, answers_still}
 use Rattle.compound.proofs.running.Running.run_next.Goals as goal
 
 pub returns-in_ok-done-in-Reads-clause-turns : goal.returns-in_ok-done-in-Reads-clause-turns
@@ -78,11 +78,11 @@ returns-in_ok-done-in-Reads-clause-volume g c =
 pub returns-in-Refuses-clause-volume : goal.returns-in-Refuses-clause-volume
 returns-in-Refuses-clause-volume g c =
     let next = rw c.in-Refuses.is at c.in_ok-operation.ensures.ok in
-    answers_quietly g.D.Device.keeps_word _ _ _ _ _ refl refl c.requires.up
+    answers_still g.D.Device.keeps_word _ _ _ _ _ refl refl c.requires.up
     (λ keeps. turn_stays (shared_of c.args.fs.now c.args.table.now c.args.opens.now) _
     (λ world number has. refused_keeps world number c.args.now (in_progress_of c.args.self.now) c.in-Refuses.operation c.in-Refuses.status c.requires.more next)
     (c.requires.agrees keeps).seats)
-    (refused_turn (shared_of c.args.fs.now c.args.table.now c.args.opens.now) (in_progress_of c.args.self.now) c.args.now c.in-Refuses.operation c.in-Refuses.status c.requires.more next)
+    (λ keeps. refused_turn (shared_of c.args.fs.now c.args.table.now c.args.opens.now) (in_progress_of c.args.self.now) c.args.now c.in-Refuses.operation c.in-Refuses.status c.requires.more next)
 
 pub returns-in-Refuses-clause-kept : goal.returns-in-Refuses-clause-kept
 returns-in-Refuses-clause-kept g c = subst (IsReplyKept (table_of c.args.table.now)) (sym c.refused.ensures.gives) tt
