@@ -6,9 +6,10 @@ use Rattle.model.specs.Server.Runs.{Event, Arrives, Turns, HangsUp, Takes}
 use Rattle.model_tree.specs.Trees.Tree.{Tree}
 use Rattle.server.specs.Connections.{turn_view}
 use Rattle.server.specs.Refused.{IsUntouched, HasTurned, RefusesTurn, RefusesHangUp, connection_at, view}
-use Rattle.server.specs.Seen.{Seen, Said, ServerCall, Did, Done, Took, Turned, Does, IsServed, IsTurned, Stays}
+use Rattle.server.specs.Seen.{Seen, Said, ServerCall, Did, Done, Took, Turned, Does, IsServed, IsTurned, Stays, trees_of}
 use Rattle.server.specs.Seen as served
 use Rattle.server.specs.Views.{Serves, Turning, server_failures, files_of, gave, seen_with, volume_of, world_of}
+use Rattle.server.proofs.Pairs.{ready_beside, recent_beside}
 use Rattle.server.specs.declared.fault.ServerFault.{ServerFault}
 use Rattle.server.specs.declared.fault.ServerFault.TheVariants as faults
 use Rattle.server.specs.declared.server.Server.{Server}
@@ -71,7 +72,7 @@ one_call {old = old} {new = new} event said up serves = record {
       record {
         after = done.0;
         calls = Did event said ∷ [];
-        ready = done.1.ready;
+        ready = recent_beside (volume_of new) (volume_of new).seats done.0 done.1.ready;
         are = refl;
         served = served.IsServed.Goes_on event said served.Begins done.1;
       };
@@ -189,8 +190,8 @@ turns_then connection now first old new calls before are (served.Goes_on {betwee
     turns_then connection now first between new (Did (Turns connection now) said ∷ calls)
     (served.IsServed.Goes_on (Turns connection now) said before does) ((refl, refl), are) more
 
-ready_then : (connection now : ℕ) (old new : Seen) → IsTurned connection now old new → IsRecent old.volume old.serving.recent
-    → IsRecent new.volume new.serving.recent
+ready_then : (connection now : ℕ) (old new : Seen) → IsTurned connection now old new → IsRecent old.volume (trees_of old.serving.left)
+    → IsRecent new.volume (trees_of new.serving.left)
 ready_then connection now old new Stays ready = ready
 ready_then connection now old new (served.Goes_on {between = between} busy does more) ready = ready_then connection now between new more does.ready
 
@@ -207,7 +208,7 @@ hung_up {old = old} {new = new} connection now up turning = record {
       record {
         after = turned.2.0;
         calls = Did (HangsUp connection) Done ∷ calls.0;
-        ready = turned.2.1.ready;
+        ready = recent_beside (volume_of new) (volume_of new).seats turned.2.0 turned.2.1.ready;
         are = (refl, calls.2);
         served = served.IsServed.Goes_on (HangsUp connection) Done calls.1 turned.2.1;
       };
@@ -223,11 +224,12 @@ turned_only {old = old} {new = new} connection now up turning = record {
   made = λ keeps is_up recent is.
       let turned = turning keeps recent is in
       let calls = turns_then connection now (seen_with old recent) (seen_with old recent) turned.0 [] served.Begins tt turned.1 in
-      let ready = ready_then connection now (seen_with old recent) turned.0 turned.1 is in
+      let ready = ready_then connection now (seen_with old recent) turned.0 turned.1 (ready_beside (volume_of old) (volume_of old).seats recent is) in
       record {
         after = turned.2.0;
         calls = calls.0;
-        ready = subst (λ (seen : Seen). IsRecent seen.volume seen.serving.recent) turned.2.1 ready;
+        ready = recent_beside (volume_of new) (volume_of new).seats turned.2.0
+            (subst (λ (seen : Seen). IsRecent seen.volume (trees_of seen.serving.left)) turned.2.1 ready);
         are = calls.2;
         served = subst (λ (seen : Seen). IsServed (seen_with old recent) calls.0 seen) turned.2.1 calls.1;
       };

@@ -1,5 +1,5 @@
 -- A checkpoint between two calls: the machine is as it was, and a crash leaves what it might have left.
-use Rattle.std.proofs.Common.{◌≡◌, ◌⊎◌, ℕ, List, [], ◌∷◌, Result, Ok, Err, refl, sym, ap, ◌∙◌, subst, inl, inr, ⊎_elim, true, false, true≢false, arith}
+use Rattle.std.proofs.Common.{◌≡◌, ◌⊎◌, ℕ, List, [], ◌∷◌, Result, Ok, Err, refl, sym, ap, ◌∙◌, subst, inl, inr, true, false, true≢false, ⊎_elim}
 use Rattle.std.specs.List.{IsAmong}
 use Rattle.disk.specs.Moments.{History, AddsOnly}
 use Rattle.disk.proofs.MomentLemmas.{AddsOnly-weaken}
@@ -14,34 +14,33 @@ use Rattle.volume.specs.Changes.{Stays}
 use Rattle.volume.specs.VolumeState.{VolumeState, IsSameVolume, IsRecent, KeepsRecent, AddsTrees, StandsForOne, IsLeft, MayAdd, kept_of}
 use Rattle.model_tree.specs.Trees.Keyed.{Keyed}
 use Rattle.model.specs.Sessions.Opens.{Opens}
-use Rattle.model.specs.Server.Runs.{Serving, Event}
+use Rattle.model.specs.Server.Runs.{Serving, Event, Left}
 use Rattle.model_tree.specs.Seats.Seats.{Seats}
 use Rattle.model.specs.Sessions.Session.{Table}
 use Rattle.model_tree.specs.Trees.Tree.{Tree}
 use Rattle.model.specs.Server.World.{World, Connection}
-use Rattle.server.specs.Seen.{MayKeepDuring, Checkpoints, Breaks}
-use Rattle.server.specs.Views.{world_by, serving_by}
+use Rattle.server.specs.Seen.{MayKeepDuring, left_of, Checkpoints, Breaks}
+use Rattle.server.specs.Views.{world_by, beside, serving_by}
+use Rattle.server.proofs.Pairs.{beside_left, ready_beside}
 use Rattle.server.proofs.Moves.{broken_leaves, leaves_now}
 use Rattle.server.proofs.ServedTurns.{broken}
 use Rattle.server.proofs.Turning.{agrees_on}
 
 -- whichever event it is taken for
-keeping_moments : (old : Serving) (held : VolumeState) (new : History) → IsRecent held old.recent → IsAmong old.held held.seats → AddsTrees held (kept_of held) new → (event : Event)
-    → AddsOnly (StandsForOne held (MayKeepDuring old event)) held.history new
-keeping_moments old held new is seated adds event = AddsOnly-weaken
-    (StandsForOne held (MayAdd held old.recent (kept_of held))) (StandsForOne held (MayKeepDuring old event)) held.history new
+keeping_moments : (world : World) (held : VolumeState) (recent : List Tree) (new : History) → IsRecent held recent → AddsTrees held (kept_of held) new → (event : Event)
+    → AddsOnly (StandsForOne held (MayKeepDuring (serving_by world (beside held.seats recent) held.is_down) event)) held.history new
+keeping_moments world held recent new is adds event = AddsOnly-weaken
+    (StandsForOne held (MayAdd held recent (kept_of held))) (StandsForOne held (MayKeepDuring (serving_by world (beside held.seats recent) held.is_down) event)) held.history new
     (λ image found. (
       found.0,
-      ⊎_elim
-          (λ (stays : IsLeft held old.recent found.0). (inl stays.0, inl (subst (λ (seats : Seats). IsAmong old.held seats) (sym stays.1) seated)))
-          (λ (same : found.0 ≡ kept_of held). (
-            inl (subst (λ (tree : Tree). IsAmong old.recent tree) (sym (ap (λ (kept : Kept). kept.tree) same)) is.newest),
-            inl (subst (λ (seats : Seats). IsAmong old.held seats) (sym (ap (λ (kept : Kept). kept.seats) same)) seated),
-          ))
-          found.1,
+      inl (⊎_elim
+          (λ (stays : IsLeft held recent found.0). beside_left held.seats recent (left_of found.0) stays.0 stays.1)
+          (λ (same : found.0 ≡ kept_of held).
+          subst (λ (kept : Kept). IsAmong (beside held.seats recent) (left_of kept)) (sym same) (beside_left held.seats recent (left_of (kept_of held)) is.newest refl))
+          found.1),
       found.2,
     ))
-    (adds old.recent is)
+    (adds recent is)
 
 -- The table agrees with the volume, as before, unless that is down
 
@@ -63,7 +62,7 @@ module _ (old new : FileSystem) (table : Table) (opens : Opens) (connections : K
   kept_world trees = keeps_world new.volume.tree ∙ ap (λ (tree : Tree). record (world_by (shared old table opens) connections) { tree = tree }) trees
 
   abbrev serving_of : FileSystem → List Tree → Serving
-  serving_of files recent = serving_by (world_by (shared files table opens) connections) recent (files.volume.seats ∷ []) files.volume.is_down
+  serving_of files recent = serving_by (world_by (shared files table opens) connections) (beside files.volume.seats recent) files.volume.is_down
 
   abbrev Keeps : (recent left : List Tree) → Type 0
   Keeps recent left =
@@ -74,43 +73,39 @@ module _ (old new : FileSystem) (table : Table) (opens : Opens) (connections : K
       → AddsTrees old.volume (kept_of old.volume) new.volume.history → (recent : List Tree) → IsRecent old.volume recent → Keeps recent recent
   checkpointed trees seats up still_up keeps adds recent ready = record {
     serving =
-        ap (λ (world : World). serving_by world recent (new.volume.seats ∷ []) new.volume.is_down) (kept_world trees)
-        ∙ (ap (λ (kept : Seats). serving_by (world_by (shared old table opens) connections) recent (kept ∷ []) new.volume.is_down) seats
-        ∙ ap (serving_by (world_by (shared old table opens) connections) recent (old.volume.seats ∷ [])) (still_up ∙ sym up));
+        ap (λ (world : World). serving_by world (beside new.volume.seats recent) new.volume.is_down) (kept_world trees)
+        ∙ (ap (λ (kept : Seats). serving_by (world_by (shared old table opens) connections) (beside kept recent) new.volume.is_down) seats
+        ∙ ap (serving_by (world_by (shared old table opens) connections) (beside old.volume.seats recent)) (still_up ∙ sym up));
     moves = λ event. record {
-      moments = keeping_moments (serving_of old recent) old.volume new.volume.history ready (0, (omega arith, refl)) adds event;
+      moments = keeping_moments (world_by (shared old table opens) connections) old.volume recent new.volume.history ready adds event;
       leaves = leaves_now new.volume recent (keeps recent ready).leaves;
       same = same;
     };
-    ready = keeps recent ready;
+    ready = ready_beside new.volume new.volume.seats recent (keeps recent ready);
   }
 
   -- where the device fails in it
   pub checkpoint_fails : old.volume.is_down ≡ false → new.volume.is_down ≡ true → AddsTrees old.volume (kept_of old.volume) new.volume.history
-      → (event : Event) (recent : List Tree) → IsRecent old.volume recent → (after : List Tree) × (held : List Seats)
+      → (event : Event) (recent : List Tree) → IsRecent old.volume recent → (left : List Left)
       × Breaks (record { serving = serving_of old recent; volume = old.volume }) event (record {
-        serving = serving_by (record (world_by (shared new table opens) connections) { tree = old.volume.tree }) after held new.volume.is_down;
+        serving = serving_by (record (world_by (shared new table opens) connections) { tree = old.volume.tree }) left new.volume.is_down;
         volume = new.volume;
       })
   checkpoint_fails up down adds event recent ready = (
-    old.volume.tree ∷ recent,
-    old.volume.seats ∷ old.volume.seats ∷ [],
+    left_of (kept_of old.volume) ∷ beside old.volume.seats recent,
     record {
       fails = record {
         up = up;
         world = keeps_world old.volume.tree;
         down = down;
-        no_others = λ tree left. inl (⊎_elim
-            (λ (first : tree ≡ old.volume.tree). subst (λ (one : Tree). IsAmong recent one) (sym first) ready.newest)
-            (λ (rest : IsAmong recent tree). rest)
-            (among_more old.volume.tree recent tree left));
-        seats = λ one among. inl (⊎_elim
-            (λ (first : one ≡ old.volume.seats). (0, (omega arith, first)))
-            (λ (rest : IsAmong (old.volume.seats ∷ []) one). rest)
-            (among_more old.volume.seats (old.volume.seats ∷ []) one among));
+        no_others = λ one among. inl (⊎_elim
+            (λ (first : one ≡ left_of (kept_of old.volume)).
+            subst (IsAmong (beside old.volume.seats recent)) (sym first) (beside_left old.volume.seats recent (left_of (kept_of old.volume)) ready.newest refl))
+            (λ (rest : IsAmong (beside old.volume.seats recent) one). rest)
+            (among_more (left_of (kept_of old.volume)) (beside old.volume.seats recent) one among));
       };
       moves = record {
-        moments = keeping_moments (serving_of old recent) old.volume new.volume.history ready (0, (omega arith, refl)) adds event;
+        moments = keeping_moments (world_by (shared old table opens) connections) old.volume recent new.volume.history ready adds event;
         leaves = broken_leaves old.volume new.volume (kept_of old.volume) recent ready adds same;
         same = same;
       };

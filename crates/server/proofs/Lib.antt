@@ -3,6 +3,7 @@ pub mod HangUps
 pub mod LifeStops
 pub mod Moves
 pub mod Openings
+pub mod Pairs
 pub mod Persisting
 pub mod Refusals
 pub mod Resumptions

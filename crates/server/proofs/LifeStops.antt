@@ -5,7 +5,7 @@ use Rattle.std.proofs.Math.Logic.{∥∥₁_elim, ∥∥₁_map, ∥∥₁_prop}
 use Rattle.std.proofs.Props.{props}
 use Rattle.disk.specs.Moments.{seen}
 use Rattle.layout.specs.Stands.{Kept}
-use Rattle.model.specs.Server.Runs.{Serving, Stored, MayHoldSeats, IsSeatedAfter, IsRun, effect_of, mounted}
+use Rattle.model.specs.Server.Runs.{Serving, Stored, MayHoldSeats, IsRun, effect_of, mounted, Left, left_after, IsAfterEvent}
 use Rattle.model.specs.Sessions.SeatRuns.{Stop, AreSeats, HoldsFrom, IsFreed}
 use Rattle.model_tree.specs.Seats.Seats.{Seats, SeatsApart, has_seat, held_at, held_in, run_of}
 use Rattle.model.specs.Server.ServedOnce.{numbers_in}
@@ -21,6 +21,7 @@ use Rattle.model.proofs.Sessions.SlotLaw.{others_between}
 use Rattle.volume.proofs.RemountLaws.{seen_left}
 use Rattle.server.specs.Headline.{Stopped, Follows, executed_in}
 use Rattle.server.specs.LifeLaws.{history_in, stored_in, freed_in, LeavesSeats, OnMap, OnMount, WasUp, EveryHeld, EveryStays, EveryFollows, EveryDead, EverySits, EveryStored, EveryAsked, AreRuns, last_of, numbers_over, EveryOnce, WasFreed, table_in, IsGivenAgain, EveryRetried}
+use Rattle.server.specs.Seen.{left_of}
 use Rattle.server.specs.Views.{server_limits}
 use Rattle.server.proofs.Stops.{IsJoined, joined, mounted_leaves, every_stop, every_run_again, follows_run}
 
@@ -37,10 +38,10 @@ its_run : (stopped : Stopped) → IsRun (mounted (limits_of stopped) stopped.run
 its_run stopped =
     subst (λ (s : Serving). IsRun s stopped.old.serving (history_in stopped)) stopped.mounted.serves (calls_joined stopped).run
 
-abbrev MayBeLeft : Stopped → Seats → Type 0
-MayBeLeft stopped left = MayHoldSeats stopped.old.serving stopped.event left
+abbrev MayHold : Stopped → Seats → Type 0
+MayHold stopped left = MayHoldSeats stopped.old.serving stopped.event left
 
-abbrev stop_of : (stopped : Stopped) (left : Seats) → MayBeLeft stopped left → Stop (limits_of stopped)
+abbrev stop_of : (stopped : Stopped) (left : Seats) → MayHold stopped left → Stop (limits_of stopped)
 stop_of stopped left leaves = record {
   run = stopped.run;
   start = stopped.start.tree;
@@ -57,30 +58,30 @@ stop_of stopped left leaves = record {
 
 -- The seats that its crash left are such
 
-pub may_be_left : (stopped : Stopped) (left : Seats) → LeavesSeats stopped left → ∥ MayBeLeft stopped left ∥₁
+pub may_be_left : (stopped : Stopped) (left : Seats) → LeavesSeats stopped left → ∥ MayHold stopped left ∥₁
 may_be_left stopped _ (OnMap {image = image} {nodes = nodes} {run = run} {kept = kept} left stands) =
     let is = every_stop stopped image left in
-    ∣ subst (λ (k : Kept). MayBeLeft stopped k.seats) (sym (is.no_other nodes run kept stands).0) is.good.seats ∣₁
+    ∣ subst (λ (k : Kept). MayHold stopped k.seats) (sym (is.no_other nodes run kept stands).0) (is.kept.tree, is.good.left) ∣₁
 may_be_left stopped _ (OnMount {device = device} {from = from} {again = again} remounts found) =
-    ∥∥₁_map (every_run_again stopped device from again remounts found).good (λ good. good.seats)
+    ∥∥₁_map (every_run_again stopped device from again remounts found).good (λ good. (_, good.left))
 
-may_follow : (old new : Stopped) → Follows old new → ∥ MayBeLeft old new.start.seats ∥₁
-may_follow old new follows = ∥∥₁_map (follows_run old new follows).0 (λ good. good.seats)
+may_follow : (old new : Stopped) → Follows old new → ∥ MayHold old new.start.seats ∥₁
+may_follow old new follows = ∥∥₁_map (follows_run old new follows).0 (λ good. (_, good.left))
 
 -- and there always are some
-held_now : (stopped : Stopped) → (left : Seats) × IsAmong stopped.old.serving.held left
+held_now : (stopped : Stopped) → (left : Left) × IsAmong stopped.old.serving.left left
 held_now stopped =
     let now = stopped.old.volume.history.now in
     let one = (calls_joined stopped).leaves (seen now) (seen_left now) in
-    (one.0.seats, one.1.1)
+    (left_of one.0, one.1)
 
-some_left : (stopped : Stopped) → (left : Seats) × MayBeLeft stopped left
-some_left stopped = let held = held_now stopped in (held.0, inl held.1)
+some_left : (stopped : Stopped) → (left : Seats) × MayHold stopped left
+some_left stopped = let held = held_now stopped in (held.0.seats, (held.0.tree, inl held.1))
 
-now_left : (stopped : Stopped) → WasUp stopped → MayBeLeft stopped (effect_of stopped.old.serving.world stopped.event).table.seats
+now_left : (stopped : Stopped) → WasUp stopped → MayHold stopped (effect_of stopped.old.serving.world stopped.event).table.seats
 now_left stopped up =
-    let after = (effect_of stopped.old.serving.world stopped.event).table.seats in
-    inr (subst (λ (b : Bool). IsSeatedAfter stopped.old.serving.world stopped.event b after) (sym up) refl)
+    let after = left_after (effect_of stopped.old.serving.world stopped.event) in
+    (after.tree, inr (subst (λ (b : Bool). IsAfterEvent stopped.old.serving.world stopped.event b after) (sym up) refl))
 
 -- Of one run
 
@@ -154,7 +155,7 @@ module _ (stored : List Stored) (i : ℕ) (one : Stored) where
   abbrev IsHeldOr : (left : Seats) → (freed : Type 0) → Type 0
   IsHeldOr left freed = HoldsFrom left stored i one ⊎ freed
 
-  carried : (stopped : Stopped) → HoldsFrom stopped.start.seats stored i one → (left : Seats) → MayBeLeft stopped left → IsHeldOr left (IsFreed left (freed_in stopped) one.session)
+  carried : (stopped : Stopped) → HoldsFrom stopped.start.seats stored i one → (left : Seats) → MayHold stopped left → IsHeldOr left (IsFreed left (freed_in stopped) one.session)
   carried stopped holds left may =
       let seat = seat_holds one.session one.slot stopped.start.seats holds.reply.held holds.held in
       elim (every_seat_stays (limits_of stopped) (stop_of stopped left may) one.session seat.0 seat.1) [
@@ -162,7 +163,7 @@ module _ (stored : List Stored) (i : ℕ) (one : Stored) where
         | inr freed ↦ inr freed
       ]
 
-  carried_on : (first : Stopped) → ((left : Seats) → MayBeLeft first left → IsHeldOr left (IsFreed left (freed_in first) one.session)) → (rest : List Stopped) → AreRuns first rest
+  carried_on : (first : Stopped) → ((left : Seats) → MayHold first left → IsHeldOr left (IsFreed left (freed_in first) one.session)) → (rest : List Stopped) → AreRuns first rest
       → (left : Seats) → LeavesSeats (last_of first rest) left → ∥ IsHeldOr left (WasFreed one.session first rest left) ∥₁
   carried_on first step [] are left leaves = ∥∥₁_map (may_be_left first left leaves) (λ may. step left may)
   carried_on first step (next ∷ rest) are left leaves = ∥∥₁_elim (may_follow first next are.0) ∥∥₁_prop (λ may. elim (step next.start.seats may) [
@@ -193,8 +194,8 @@ module _ (stored : List Stored) (i : ℕ) (one : Stored) where
   }
 
   -- the seats of a server that is up are those that a crash would leave
-  up_left : (last : Stopped) → WasUp last → MayBeLeft last (table_in last).seats
-  up_left last up = let held = held_now last in subst (MayBeLeft last) ((every_dead last up).seats held.0 held.1) (inl held.1)
+  up_left : (last : Stopped) → WasUp last → MayHold last (table_in last).seats
+  up_left last up = let held = held_now last in subst (MayHold last) ((every_dead last up).seats held.0 held.1) (held.0.tree, inl held.1)
 
   given_in : (last : Stopped) → HoldsFrom last.start.seats stored i one → WasUp last
       → IsGivenAgain (table_in last) stored i one ⊎ IsFreed (table_in last).seats (freed_in last) one.session
@@ -206,7 +207,7 @@ module _ (stored : List Stored) (i : ℕ) (one : Stored) where
   abbrev IsGivenOr : (last : Stopped) → (freed : Type 0) → Type 0
   IsGivenOr last freed = IsGivenAgain (table_in last) stored i one ⊎ freed
 
-  retried_on : (first next : Stopped) → ((left : Seats) → MayBeLeft first left → IsHeldOr stored i one left (IsFreed left (freed_in first) one.session)) → (rest : List Stopped) → AreRuns first (next ∷ rest)
+  retried_on : (first next : Stopped) → ((left : Seats) → MayHold first left → IsHeldOr stored i one left (IsFreed left (freed_in first) one.session)) → (rest : List Stopped) → AreRuns first (next ∷ rest)
       → WasUp (last_of next rest) → ∥ IsGivenOr (last_of next rest) (WasFreed one.session first (next ∷ rest) (table_in (last_of next rest)).seats) ∥₁
   retried_on first next step [] are up = ∥∥₁_map (may_follow first next are.0) (λ may. elim (step next.start.seats may) [
     | inl holds ↦ elim (given_in next holds up) [

@@ -1,5 +1,5 @@
 -- What the calls of a server do to what a crash may leave.
-use Rattle.std.proofs.Common.{◌≡◌, ◌<◌, ◌≤◌, ◌+◌, ◌^◌, ℕ, List, [], ◌∷◌, length, Bool, false, None, refl, sym, ap, ap₂, ◌∙◌, subst, inl, ⊎_elim, arith}
+use Rattle.std.proofs.Common.{◌≡◌, ◌<◌, ◌≤◌, ◌+◌, ◌^◌, ℕ, List, [], ◌∷◌, length, Bool, false, None, refl, sym, ap, ap₂, ◌∙◌, subst, inl, arith, ⊎_elim}
 use Rattle.std.specs.List.{IsAmong}
 use Rattle.std.proofs.Math.Logic.{∥∥₁_elim, ∥∥₁_map, ∥∥₁_prop}
 use Rattle.model_tree.specs.declared.limits.Limits.{Limits}
@@ -27,9 +27,11 @@ use Rattle.model_tree.specs.Trees.Keyed.{Keyed}
 use Rattle.model.specs.Sessions.Session.{Table, loaded_table, Settings}
 use Rattle.model.specs.Server.World.{World, Connection, mounted_world}
 use Rattle.server.specs.Headline.{IsMounted}
-use Rattle.server.specs.Views.{world_by, server_limits, serving_by}
-use Rattle.server.specs.Seen.{Seen, LeavesNow, MayKeepDuring, Moves, Said, event_told, Does}
-use Rattle.server.proofs.Worlds.{happened_quietly, among_rest}
+use Rattle.server.specs.Views.{world_by, server_limits, beside, serving_by}
+use Rattle.server.specs.Seen.{Seen, left_of, LeavesNow, MayKeepDuring, Moves, Said, event_told, Does}
+use Rattle.server.proofs.Pairs.{beside_left, ready_beside}
+use Rattle.server.proofs.Worlds.{happened_quietly}
+use Rattle.volume.proofs.FrontLaws.{among_rest}
 use Rattle.disk.proofs.MomentLemmas.{AddsOnly-same}
 
 -- no past moment is as late as the present
@@ -65,14 +67,14 @@ stands_on old new kept image same stands =
 
 -- a volume leaves one list of seats, its own
 pub leaves_now : (held : VolumeState) (recent : List Tree) → LeavesOne held recent
-    → (image : Image) → Left held.history.now image → StandsForOne held (λ kept. IsAmong recent kept.tree × IsAmong (held.seats ∷ []) kept.seats) image
+    → (image : Image) → Left held.history.now image → StandsForOne held (λ kept. IsAmong (beside held.seats recent) (left_of kept)) image
 leaves_now held recent leaves image left =
     let one = leaves image left in
-    (one.0, (one.1.0, (0, (omega arith, one.1.1))), one.2)
+    (one.0, beside_left held.seats recent (left_of one.0) one.1.0 one.1.1, one.2)
 
--- after a failure a crash leaves one of the trees before the call, or the one after it, and so the seats
+-- after a failure a crash leaves what it might have left before the call, or what is kept after it
 pub broken_leaves : (held after_held : VolumeState) (after : Kept) (recent : List Tree) → IsRecent held recent → AddsTrees held after after_held.history → IsSameVolume held after_held
-    → (image : Image) → Left after_held.history.now image → StandsForOne after_held (λ kept. IsAmong (after.tree ∷ recent) kept.tree × IsAmong (after.seats ∷ held.seats ∷ []) kept.seats) image
+    → (image : Image) → Left after_held.history.now image → StandsForOne after_held (λ kept. IsAmong (left_of after ∷ beside held.seats recent) (left_of kept)) image
 broken_leaves held after_held after recent is adds same image left = ⊎_elim
     (λ (earlier : LeftSince held.history (moment held.history) image).
     let one = is.leaves image (left_now held.history image earlier) in
@@ -81,27 +83,31 @@ broken_leaves held after_held after recent is adds same image left = ⊎_elim
     (λ (before : IsLeft held recent added.0). stays added.0 before added.2)
     (λ (behind : added.0 ≡ after). (
       added.0,
-      ((0, (omega arith, ap (λ (kept : Kept). kept.tree) behind)), (0, (omega arith, ap (λ (kept : Kept). kept.seats) behind))),
+      (0, (omega arith, ap left_of behind)),
       stands_on held after_held added.0 image same added.2,
     ))
     added.1)
     ((adds recent is).added (moment held.history) image (omega arith) (inl left))
   where
     stays : (kept : Kept) → IsLeft held recent kept → StandsFor held.sectors held.limits.nodes held.run kept image
-        → StandsForOne after_held (λ kept. IsAmong (after.tree ∷ recent) kept.tree × IsAmong (after.seats ∷ held.seats ∷ []) kept.seats) image
-    stays kept among stands = (kept, (among_rest after.tree recent kept.tree among.0, (1, (omega arith, among.1))), stands_on held after_held kept image same stands)
+        → StandsForOne after_held (λ kept. IsAmong (left_of after ∷ beside held.seats recent) (left_of kept)) image
+    stays kept among stands = (
+      kept,
+      among_rest (left_of after) (beside held.seats recent) (left_of kept) (beside_left held.seats recent (left_of kept) among.0 among.1),
+      stands_on held after_held kept image same stands,
+    )
 
 -- a call that does an event without the device
 pub does_quietly : (held : VolumeState) (old new : World) (down : Bool) (event : Event) (said : Said) → executed_of old event ≡ None → down ≡ false → new ≡ effect_of old event
     → new.table.seats ≡ held.seats → said ≡ event_told old event → (recent : List Tree) → IsRecent held recent → (after : List Tree)
-    × Does (record { serving = serving_by old recent (held.seats ∷ []) down; volume = held }) event said (record { serving = serving_by new after (held.seats ∷ []) down; volume = held })
+    × Does (record { serving = serving_by old (beside held.seats recent) down; volume = held }) event said (record { serving = serving_by new (beside held.seats after) down; volume = held })
 does_quietly held old new down event said none up is seated says recent ready = (
   recent,
   record {
     happens = happened_quietly old new recent held.seats down down event none up up is seated;
     says = says;
     moves = moves_none _ _ event held (leaves_now held recent ready.leaves);
-    ready = ready;
+    ready = ready_beside held held.seats recent ready;
   },
 )
 
@@ -131,11 +137,11 @@ module _ (fs : FileSystem) (table : Table) (opens : Opens) (connections : Keyed 
   -- and the server
   pub mounted_by : {keeps_word : Type 0} → keeps_word → FindsSeats keeps_word fs.volume seats → fs.volume.run < 2 ^ 32 → fs.volume.is_down ≡ false → Holds fs.volume
       → ∥ IsStart fs.volume.limits fs.volume.run fs.volume.tree ∥₁ → fs.volume.limits.aces_set + 5 ≤ fs.volume.limits.aces
-      → IsMounted settings fs.volume.run (kept_of fs.volume) (record { serving = serving_by (world_by (shared fs table opens) connections) (fs.volume.tree ∷ []) (fs.volume.seats ∷ []) fs.volume.is_down; volume = fs.volume })
+      → IsMounted settings fs.volume.run (kept_of fs.volume) (record { serving = serving_by (world_by (shared fs table opens) connections) (beside fs.volume.seats (fs.volume.tree ∷ [])) fs.volume.is_down; volume = fs.volume })
   mounted_by keeps finds few up holds starts room = record {
     serves =
-        ap (λ (w : World). serving_by w (fs.volume.tree ∷ []) (fs.volume.seats ∷ []) fs.volume.is_down) (begun_with ∙ ap begun (finds.are keeps))
-        ∙ ap (λ (b : Bool). serving_by (begun fs.volume.seats) (fs.volume.tree ∷ []) (fs.volume.seats ∷ []) b) up;
+        ap (λ (w : World). serving_by w (beside fs.volume.seats (fs.volume.tree ∷ [])) fs.volume.is_down) (begun_with ∙ ap begun (finds.are keeps))
+        ∙ ap (λ (b : Bool). serving_by (begun fs.volume.seats) (beside fs.volume.seats (fs.volume.tree ∷ [])) b) up;
     counted = refl;
     few = few;
     begins = refl;
@@ -164,8 +170,8 @@ pub limits_room : (sectors : ℕ) (held : VolumeState) → held.limits ≡ limit
 limits_room sectors held limits = subst (λ (l : Limits). l.aces_set + 5 ≤ l.aces) (sym limits) (omega arith)
 
 pub same_seen : (old new : World) (recent : List Tree) (old_held new_held : VolumeState) → new ≡ old → new_held ≡ old_held
-    → (let one : Seen = record { serving = serving_by old recent (old_held.seats ∷ []) old_held.is_down; volume = old_held } in one)
-    ≡ record { serving = serving_by new recent (new_held.seats ∷ []) new_held.is_down; volume = new_held }
+    → (let one : Seen = record { serving = serving_by old (beside old_held.seats recent) old_held.is_down; volume = old_held } in one)
+    ≡ record { serving = serving_by new (beside new_held.seats recent) new_held.is_down; volume = new_held }
 same_seen old new recent old_held new_held worlds volumes =
-    ap (λ (w : World). let one : Seen = record { serving = serving_by w recent (old_held.seats ∷ []) old_held.is_down; volume = old_held } in one) (sym worlds)
-    ∙ ap (λ (h : VolumeState). let one : Seen = record { serving = serving_by new recent (h.seats ∷ []) h.is_down; volume = h } in one) (sym volumes)
+    ap (λ (w : World). let one : Seen = record { serving = serving_by w (beside old_held.seats recent) old_held.is_down; volume = old_held } in one) (sym worlds)
+    ∙ ap (λ (h : VolumeState). let one : Seen = record { serving = serving_by new (beside h.seats recent) h.is_down; volume = h } in one) (sym volumes)

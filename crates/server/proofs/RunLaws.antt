@@ -8,12 +8,11 @@ use Rattle.model_tree.specs.Trees.Keyed.{at}
 use Rattle.model.specs.Operations.Operation.{Argument, operation_of}
 use Rattle.model.specs.Wire.Rpc.{CallRead, NoCall, OtherVersion, Calls, Request, Answers, Runs, read_call, request_of}
 use Rattle.model.specs.Server.Runs as runs
-use Rattle.model_tree.specs.Trees.Tree.{Tree}
 use Rattle.model.specs.Server.World as world
 use Rattle.model.specs.Server.World.{World, Idle, InProgress, Next, Refuses, Reads, HasRun, Gives, Replays, Entry, Connection, Quiet, Waiting, Busy, Replied, Closed, one, turned, called, further, operates, behind, closes, has_run, is_last, is_to_hold, next_operation, in_room, run}
 use Rattle.disk.specs.Moments.{seen}
 use Rattle.server.specs.RunLaws.{IsSeenReady, HangUpIsCalls, NeverEmpty, IsIdle, OnlyIdle}
-use Rattle.server.specs.Seen.{Seen, ServerCall, Did, IsServed, IsTurned, Stays}
+use Rattle.server.specs.Seen.{Seen, ServerCall, Did, IsServed, IsTurned, Stays, left_of}
 use Rattle.server.specs.Seen as served
 use Rattle.server.proofs.Stops.{joined, mounted_leaves}
 
@@ -35,7 +34,7 @@ pub never_empty : NeverEmpty
 never_empty settings run start first last calls mounted served none =
     let all = joined first last calls (mounted_leaves settings run start first mounted) served in
     let one = all.leaves (seen last.volume.history.now) (seen_left last.volume.history.now) in
-    let never = subst (λ (recent : List Tree). IsAmong recent one.0.tree) none one.1.0 in
+    let never = subst (λ (left : List runs.Left). IsAmong left (left_of one.0)) none one.1 in
     absurd (omega (arith, never.1.0))
 
 -- A step is not idle

@@ -1,5 +1,5 @@
 -- A turn of a connection, as the turn of its server.
-use Rattle.std.proofs.Common.{◌≡◌, ℕ, List, [], ◌∷◌, subst, false, true≢false, Option, Some, Result, Ok, Err, IfOk, OnErr, refl, sym, ap, ap₂, ◌∙◌, inl, inr, arith}
+use Rattle.std.proofs.Common.{◌≡◌, ℕ, List, [], ◌∷◌, subst, false, true≢false, Option, Some, Result, Ok, Err, IfOk, OnErr, refl, sym, ap, ap₂, ◌∙◌, inl, inr, Bool}
 use Rattle.disk.specs.Moments.{History, AddsOnly}
 use Rattle.disk.proofs.MomentLemmas.{AddsOnly-weaken}
 use Rattle.compound.specs.States.{Agrees, SharedState, HasState, with_state}
@@ -25,11 +25,12 @@ use Rattle.model.specs.Server.World as world
 use Rattle.model.specs.Server.World.{World, one, with_connection}
 use Rattle.server.specs.declared.turn.Turn.{Turn}
 use Rattle.server.specs.Connections.{ConnectionTurns, IsRising, HasGoneOn, turn_view}
-use Rattle.server.specs.Seen.{MayKeepDuring}
-use Rattle.server.specs.Views.{world_by, server_limits, serving_by}
+use Rattle.server.specs.Seen.{MayKeepDuring, left_of}
+use Rattle.server.specs.Views.{world_by, server_limits, beside, serving_by}
 use Rattle.server.proofs.Persisting.{one_settings}
 use Rattle.server.proofs.Turning.{one_is, agrees_on}
-use Rattle.server.proofs.Worlds.{may_leave_from, may_hold_from}
+use Rattle.server.proofs.Pairs.{beside_left, same_seats, lasting_by, has_to_last}
+use Rattle.server.proofs.Worlds.{may_be_left_from}
 
 pub has_state : (state : SharedState) (connections : Keyed world.Connection) → HasState (world_by state connections) state
 has_state state connections = record {
@@ -87,8 +88,13 @@ gone_on_at old new number before after there written further =
 abbrev pub turn_of : SharedState → Keyed world.Connection → (number now : ℕ) → world.Turned
 turn_of state connections number now = one (world_by state connections) number now
 
+-- whether that has to last
+abbrev pub turn_lasts : SharedState → Keyed world.Connection → (number now : ℕ) → Bool
+turn_lasts state connections number now =
+    lasting_by (same_seats (turn_of state connections number now).world.table.seats state.files.volume.seats) (lasts (turn_of state connections number now).executed)
+
 pub gives_one : (state : SharedState) (connections : Keyed world.Connection) (number now : ℕ) (before : world.Connection) → at number connections ≡ Some before
-    → TurnGives state (λ w n. world.turned w n now (Some before)) (kept_of_world (turn_of state connections number now).world) (lasts (turn_of state connections number now).executed)
+    → TurnGives state (λ w n. world.turned w n now (Some before)) (kept_of_world (turn_of state connections number now).world) (turn_lasts state connections number now)
 gives_one state connections number now before is =
     let same = one_is (world_by state connections) number now before is in
     record {
@@ -96,13 +102,16 @@ gives_one state connections number now before is =
       number = number;
       has = has_state state connections;
       kept = ap (λ (t : world.Turned). kept_of_world t.world) same;
-      lasting_is = ap (λ (t : world.Turned). lasts t.executed) same;
+      lasting_is =
+          has_to_last state.files.volume (kept_of_world (turn_of state connections number now).world)
+          (same_seats (turn_of state connections number now).world.table.seats state.files.volume.seats) (lasts (turn_of state connections number now).executed) _
+          (ap (λ (t : world.Turned). lasts t.executed) same);
     }
 
 -- what a crash within it may leave
 
 abbrev pub serving_of : SharedState → Keyed world.Connection → List Tree → Serving
-serving_of state connections recent = serving_by (world_by state connections) recent (state.files.volume.seats ∷ []) state.files.volume.is_down
+serving_of state connections recent = serving_by (world_by state connections) (beside state.files.volume.seats recent) state.files.volume.is_down
 
 pub turning_moments : (state : SharedState) (old : Keyed world.Connection) (number now : ℕ) (recent : List Tree) (new : History) → IsRecent state.files.volume recent → state.files.volume.is_down ≡ false
     → AddsTrees state.files.volume (kept_of_world (turn_of state old number now).world) new
@@ -113,11 +122,10 @@ turning_moments state old number now recent new is up moments =
   where
     either : (kept : Kept) → MayAdd state.files.volume recent (kept_of_world (turn_of state old number now).world) kept
         → MayKeepDuring (serving_of state old recent) (runs.Turns number now) kept
-    either kept (inl stays) = (inl stays.0, inl (0, (omega arith, stays.1)))
-    either kept (inr goes) = subst (MayKeepDuring (serving_of state old recent) (runs.Turns number now)) (sym goes) (
-      may_leave_from (world_by state old) recent (state.files.volume.seats ∷ []) state.files.volume.is_down (runs.Turns number now) is.newest up,
-      may_hold_from (world_by state old) recent (state.files.volume.seats ∷ []) state.files.volume.is_down (runs.Turns number now) up,
-    )
+    either kept (inl stays) = inl (beside_left state.files.volume.seats recent (left_of kept) stays.0 stays.1)
+    either kept (inr goes) =
+        subst (MayKeepDuring (serving_of state old recent) (runs.Turns number now)) (sym goes)
+        (may_be_left_from (world_by state old) (beside state.files.volume.seats recent) state.files.volume.is_down (runs.Turns number now) up)
 
 -- The table agrees with the volume after a step too, unless that is down
 

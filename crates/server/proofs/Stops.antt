@@ -1,5 +1,5 @@
 -- The calls of a server are a run of the machine, and what a crash within one leaves stands for what the machine may leave.
-use Rattle.std.proofs.Common.{◌≡◌, ◌<◌, ◌+◌, ◌^◌, ℕ, List, refl, sym, ap, ◌∙◌, subst, inl, ⊎_elim, arith}
+use Rattle.std.proofs.Common.{◌≡◌, ◌<◌, ◌+◌, ◌^◌, ℕ, List, refl, sym, ap, ◌∙◌, subst, inl, arith, ap₂, ⊎_elim}
 use Rattle.std.specs.List.{IsAmong}
 use Rattle.std.proofs.Math.Logic.{∥∥₁_elim, ∥∥₁_map}
 use Rattle.std.proofs.Props.{props}
@@ -12,19 +12,21 @@ use Rattle.volume.specs.Stands.{StandsFor, IsBase}
 use Rattle.volume.specs.Superblock.{last_run}
 use Rattle.volume.proofs.FormatLaws.{fresh_stands_for}
 use Rattle.volume.proofs.OneTree.{Kept-set, one_stands}
-use Rattle.model.proofs.Server.Headline.{every_run}
+use Rattle.model.proofs.Server.Headline.{only_one, every_held_is_kept}
 use Rattle.model.proofs.Operations.GivenLaws.{every_stamp_is_given}
 use Rattle.model.proofs.Server.StampLaws.{every_stamp}
 use Rattle.model.specs.Server.StampRuns.{AreGiven}
 use Rattle.model.specs.Server.Runs as runs
-use Rattle.model.specs.Server.Runs.{Serving, Event, Takes, IsRun, AreStamped, history_after, history_failing, effect_of, mounted}
+use Rattle.model.specs.Server.Runs.{Serving, Left, Event, Takes, IsRun, AreStamped, history_after, history_failing, effect_of, mounted}
 use Rattle.model.specs.Server.World.{World}
+use Rattle.model_tree.specs.Seats.Seats.{Seats}
+use Rattle.model_tree.specs.Trees.Tree.{Tree}
 use Rattle.volume.proofs.RemountLaws.{seen_left, rests_left, lasting, served_good}
 use Rattle.volume.specs.Formats.{IsFresh}
 use Rattle.volume.specs.Remounts.{StandsForGood, LeavesGood}
 use Rattle.server.specs.Headline.{IsMounted, IsGoodKept, EveryStop, EveryRun, EveryFirst, IsNewVolume, Formatted, Powers, NeverLost, IsNotLost, EveryTrace, Stopped, executed_in, Follows, IsLater, Next, Then, EveryLife, EveryStamping}
 use Rattle.volume.specs.VolumeState.{StandsForOne}
-use Rattle.server.specs.Seen.{Seen, LeavesNow, MayKeepDuring, Moves, ServerCall, IsServed, Begins, Goes_on, Fails_at, Stays_down, Keeps_on, world_after, history_of, AreTold, event_told}
+use Rattle.server.specs.Seen.{Seen, left_of, trees_of, LeavesNow, MayKeepDuring, Moves, ServerCall, IsServed, Begins, Goes_on, Fails_at, Stays_down, Keeps_on, world_after, history_of, AreTold, event_told}
 use Rattle.server.specs.Views.{server_limits}
 use Rattle.server.proofs.Moves.{left_now}
 use Rattle.model.specs.Sessions.Session.{Settings}
@@ -35,7 +37,7 @@ stopped_in : (old new : Seen) (event : Event) → LeavesNow old → Moves old ev
 stopped_in old new event leaves moves image left = ⊎_elim
     (λ (before : LeftSince old.volume.history (moment old.volume.history) image).
     let one = leaves image (left_now old.volume.history image before) in
-    (one.0, (inl one.1.0, inl one.1.1), one.2))
+    (one.0, inl one.1, one.2))
     (λ (added : StandsForOne old.volume (MayKeepDuring old.serving event) image). added)
     (moves.moments.added (moment old.volume.history) image (omega arith) left)
 
@@ -102,9 +104,11 @@ joined first last calls leaves (Keeps_on {old = old} {new = new} before keeps) =
 pub mounted_leaves : (settings : Settings) (run : ℕ) (start : Kept) (first : Seen) → IsMounted settings run start first → LeavesNow first
 mounted_leaves settings run start first mounted image left =
     let one = mounted.ready.leaves image left in
-    let seated : first.volume.seats ≡ start.seats = ap (λ (kept : Kept). kept.seats) mounted.begins in (
+    let seated : first.volume.seats ≡ start.seats = ap (λ (kept : Kept). kept.seats) mounted.begins in
+    let tree : one.0.tree ≡ start.tree = only_one start.tree one.0.tree (subst (λ (s : Serving). IsAmong (trees_of s.left) one.0.tree) mounted.serves one.1.0) in
+    let is : left_of one.0 ≡ left_of start = ap₂ (λ (t : Tree) (s : Seats). let l : Left = record { tree = t; seats = s } in l) tree (one.1.1 ∙ seated) in (
       one.0,
-      (one.1.0, subst (λ (s : Serving). IsAmong s.held one.0.seats) (sym mounted.serves) (0, (omega arith, one.1.1 ∙ seated))),
+      subst (λ (s : Serving). IsAmong s.left (left_of one.0)) (sym mounted.serves) (0, (omega arith, is)),
       one.2,
     )
 
@@ -117,17 +121,15 @@ every_stop stopped image left =
     let history = history_of first.serving.world stopped.calls in
     let all = joined first old stopped.calls (mounted_leaves stopped.settings stopped.run stopped.start first stopped.mounted) stopped.served in
     let found = stopped_in old stopped.new stopped.event all.leaves stopped.moves image left in
+    let kept = every_held_is_kept (server_limits first.volume.limits stopped.settings) stopped.run stopped.start.tree stopped.start.seats old.serving history
+    (subst (λ (s : Serving). IsRun s old.serving history) stopped.mounted.serves all.run) stopped.event (left_of found.0) found.1 in
     let stands : StandsFor first.volume.sectors first.volume.limits.nodes stopped.run found.0 image =
     subst (λ (s : ℕ). StandsFor s first.volume.limits.nodes stopped.run found.0 image) all.same.sectors
     (subst (λ (n : ℕ). StandsFor old.volume.sectors n stopped.run found.0 image) (ap (λ l. l.nodes) all.same.limits)
     (subst (λ (r : ℕ). StandsFor old.volume.sectors old.volume.limits.nodes r found.0 image) (all.same.run ∙ stopped.mounted.counted) found.2)) in
     record {
       kept = found.0;
-      good = record {
-        tree = every_run (server_limits first.volume.limits stopped.settings) stopped.run stopped.start.tree stopped.start.seats old.serving history
-            (subst (λ (s : Serving). IsRun s old.serving history) stopped.mounted.serves all.run) stopped.event found.0.tree found.1.0;
-        seats = found.1.1;
-      };
+      good = record { tree = kept.prefix; left = found.1; held = kept.held };
       stands = stands;
       no_other = λ nodes run other others.
           let one = one_stands _ _ _ _ _ other found.0 image others stands in

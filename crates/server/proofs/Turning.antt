@@ -15,7 +15,7 @@ use Rattle.layout.specs.Stands.{Kept}
 use Rattle.volume.specs.Changes.{Ending, Done}
 use Rattle.fs.specs.FileSystem.{FileSystem}
 use Rattle.fs.proofs.ChangeLaws.{changes_by}
-use Rattle.compound.proofs.QuietLaws.{answers_quietly}
+use Rattle.compound.proofs.QuietLaws.{answers_still}
 use Rattle.compound.proofs.Rooms.{state_same}
 use Rattle.model_tree.proofs.Trees.KeyedLaws.{at-below, at-first, at-rest, some≢none}
 use Rattle.model_tree.specs.Trees.Keyed.{Keyed, at, with, IsAbove}
@@ -165,11 +165,11 @@ pub idle_changes : (keeps_word : Type 0) (state : SharedState) (failed : ℕ) (t
     → ((world : World) (number : ℕ) → HasState world state → (turn world number).executed ≡ None) → ((world : World) (number : ℕ) → HasState world state → (turn world number).world.table ≡ world.table)
     → FsChanges keeps_word (TurnGives state turn) state.files state.files failed failed Done
 idle_changes keeps_word state failed turn up agrees idle tables =
-    answers_quietly keeps_word (TurnGives state turn) state.files state.files failed failed refl (omega arith) up
+    answers_still keeps_word (TurnGives state turn) state.files state.files failed failed refl (omega arith) up
     (λ keeps kept lasts gives.
     ap (λ (k : Kept). k.seats) gives.kept
     ∙ (ap (λ (t : Table). t.seats) (tables gives.world gives.number gives.has ∙ gives.has.table_is) ∙ (agrees keeps).seats))
-    (idle_turns state turn idle)
+    (λ keeps. idle_turns state turn idle)
 
 -- a table that agrees with a volume agrees with one of the same run and seats
 pub agrees_on : (old new : FileSystem) (table : Table) → new.volume.run ≡ old.volume.run → new.volume.seats ≡ old.volume.seats → Agrees old table → Agrees new table

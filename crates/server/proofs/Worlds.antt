@@ -1,113 +1,117 @@
 -- Events of a server that keeps each change at once.
-use Rattle.std.proofs.Common.{◌≡◌, ◌+◌, ◌<◌, ◌≤◌, ℕ, zero, suc, Bool, true, false, List, [], ◌∷◌, ◌++◌, length, get_or, None, Some, Result, Ok, Err, IfOk, OnOk, OnErr, refl, sym, ap, ◌∙◌, subst, inl, inr, cond, arith, lt-ltb}
+use Rattle.std.proofs.Common.{◌≡◌, ◌+◌, ◌<◌, ◌≤◌, ℕ, Bool, true, false, List, [], ◌∷◌, ◌++◌, length, None, Some, Result, Ok, Err, IfOk, OnOk, OnErr, refl, sym, ap, ◌∙◌, subst, inl, inr, cond, arith, lt-ltb, ◌≢◌, ◌⊎◌, ap₂}
 use Rattle.std.specs.List.{IsAmong}
 use Rattle.std.proofs.lemmas.Bool.{cases_eq}
 use Rattle.layout.specs.Stands.{Kept}
 use Rattle.model_tree.specs.Trees.Keyed.{Keyed, at, with, without}
 use Rattle.model.specs.Wire.Record.{RecordLimits, Front, Partial, Refused, Whole, front}
 use Rattle.model.specs.Wire.Rpc.{is_call_read, read_call}
-use Rattle.model.specs.Server.Runs.{Event, Happens, DeviceFails, StaysDown, MayLeave, MayHoldSeats, IsSeatedAfter, effect_of, executed_of, executed_by}
+use Rattle.model.specs.Server.Runs.{Event, Happens, DeviceFails, StaysDown, effect_of, executed_of, executed_by, Left, left_after, MayBeLeft, IsAfterEvent, Serving}
 use Rattle.model_tree.specs.Seats.Seats.{Seats}
 use Rattle.model_tree.specs.Trees.Tree.{Tree}
 use Rattle.model.specs.Server.World as world
 use Rattle.model.specs.Server.World.{World, Quiet, Closed, arrives, arrives_at, arrived, takes, without_reply, connects, can_connect, connection_changed, with_connection, hangs_up, is_busy}
 use Rattle.model_tree.proofs.Trees.KeyedLaws.{at-with_same, at-with_other, at-without_same, at-without_other}
 use Rattle.compound.specs.States.{SharedState}
-use Rattle.compound.specs.Volumes.{lasts}
+use Rattle.compound.specs.Volumes.{kept_of_world, lasts}
 use Rattle.volume.specs.Changes.{LeavesOnCrash}
 use Rattle.volume.specs.VolumeState.{VolumeState}
 use Rattle.volume.proofs.FrontLaws.{among_more}
-use Rattle.model.proofs.Server.RuledOutLaws.{each_event_happens, dropped}
+use Rattle.model.proofs.Server.RuledOutLaws.{dropped}
 use Rattle.model.proofs.Server.RunLaws.{EntryFits, event_fits}
 use Rattle.rpc.specs.Assembly.{record_limits}
 use Rattle.slab.specs.Slab.{Slab, slab_len, Updates}
 use Rattle.server.specs.declared.connection.Connection.{Connection}
 use Rattle.server.specs.Connections.{IsOfRun, connections_of, connection_view}
 use Rattle.server.proofs.SlabLaws.{with_slot, grew, grew_count}
-use Rattle.server.specs.Views.{world_by, serving_by}
+use Rattle.server.specs.Views.{world_by, beside, serving_by}
+use Rattle.server.proofs.Pairs.{among_beside, beside_left, same_seats, lasting_by, lasting_more}
 
 -- Events
 
--- only one list of seats is left
-only_one : (one seats : Seats) → IsAmong (one ∷ []) seats → seats ≡ one
-only_one one seats among = by_place among.0 among.1.0 among.1.1
-  where
-    by_place : (place : ℕ) → place < length (one ∷ []) → seats ≡ get_or (one ∷ []) place seats → seats ≡ one
-    by_place zero less e = e
-    by_place (suc place) less e = absurd (omega arith)
-
--- an event that executes nothing leaves the trees
+-- an event that executes nothing leaves what might be left
 pub happened_quietly : (old new : World) (recent : List Tree) (kept : Seats) (old_down new_down : Bool) (event : Event) → executed_of old event ≡ None → old_down ≡ false → new_down ≡ false → new ≡ effect_of old event
-    → new.table.seats ≡ kept → Happens (serving_by old recent (kept ∷ []) old_down) event (serving_by new recent (kept ∷ []) new_down)
+    → new.table.seats ≡ kept → Happens (serving_by old (beside kept recent) old_down) event (serving_by new (beside kept recent) new_down)
 happened_quietly old new recent kept old_down new_down event none up still is seated = record {
   up = up;
   world = is;
   still_up = still;
-  no_others = λ tree left. inl left;
-  durable = λ entry e lasts tree left.
+  no_others = λ left among. inl among;
+  durable = λ entry e lasts left among.
       let done : executed_of old event ≡ Some entry = subst (λ (b : Bool). executed_by old event b ≡ Some entry) up e in
       let never : ⊥ = cc in absurd never;
-  seats = λ seats left. only_one kept seats left ∙ sym seated;
+  seats = λ left among. (among_beside kept recent left among).1 ∙ sym seated;
 }
 
-pub may_leave_from : (old : World) (recent : List Tree) (kept : List Seats) (down : Bool) (event : Event) → IsAmong recent old.tree → down ≡ false
-    → MayLeave (serving_by old recent kept down) event (effect_of old event).tree
-may_leave_from old recent kept down event newest up =
-    subst (λ (b : Bool). MayLeave (serving_by old recent kept b) event (effect_of old event).tree) (sym up) (
-    let made = each_event_happens (serving_by old recent kept false) event refl newest in
-    subst (MayLeave (serving_by old recent kept false) event) (ap (λ (w : World). w.tree) made.1.world) (made.1.no_others made.0.world.tree made.2))
+-- what there is after it may be left
+pub may_be_left_from : (old : World) (left : List Left) (down : Bool) (event : Event) → down ≡ false → MayBeLeft (serving_by old left down) event (left_after (effect_of old event))
+may_be_left_from old left down event up = inr (subst (λ (b : Bool). IsAfterEvent old event b (left_after (effect_of old event))) (sym up) refl)
 
--- an event that leaves a crash some of the trees before and the one after it, and after what has to last that one alone
-pub happened_leaving : (held : VolumeState) (after : Kept) (old new : World) (recent left : List Tree) (kept : List Seats) (old_down new_down : Bool) (event : Event) → IsAmong recent old.tree → old_down ≡ false → new_down ≡ false
-    → new ≡ effect_of old event → new.table.seats ≡ held.seats → after.tree ≡ (effect_of old event).tree → LeavesOnCrash held after (lasts (executed_of old event)) recent left
-    → Happens (serving_by old recent kept old_down) event (serving_by new left (held.seats ∷ []) new_down)
-happened_leaving held after old new recent left kept old_down new_down event newest up still is seated tree leaves = record {
+-- An event that leaves a crash some of the trees before and the one after it, and after what has to last that one alone: where the seats change, that is so
+module _ (before held : VolumeState) (old : World) (recent left : List Tree) (down : Bool) (event : Event) (up : down ≡ false)
+    (seats : held.seats ≡ (effect_of old event).table.seats) where
+  abbrev after : Kept
+  after = kept_of_world (effect_of old event)
+
+  abbrev serves : Serving
+  serves = serving_by old (beside before.seats recent) down
+
+  after_it : (one : Left) → one.tree ≡ after.tree → one.seats ≡ held.seats → MayBeLeft serves event one
+  after_it one tree same =
+      let is : one ≡ left_after (effect_of old event) = ap₂ (λ (t : Tree) (s : Seats). let l : Left = record { tree = t; seats = s } in l) tree (same ∙ seats) in
+      subst (MayBeLeft serves event) (sym is) (may_be_left_from old (beside before.seats recent) down event up)
+
+  others_left : (same : (after.seats ≡ before.seats) ⊎ (after.seats ≢ before.seats)) → LeavesOnCrash held after (lasting_by same (lasts (executed_of old event))) recent left
+      → (one : Left) → IsAmong (beside held.seats left) one → MayBeLeft serves event one
+  unfolding lasting_by
+  others_left (inl same) leaves one among =
+      let is = among_beside held.seats left one among in
+      elim (leaves.no_others one.tree is.0) [
+        | inl stays ↦ inl (beside_left before.seats recent one stays (is.1 ∙ (seats ∙ same)))
+        | inr behind ↦ after_it one behind is.1
+      ]
+  others_left (inr differs) leaves one among =
+      let is = among_beside held.seats left one among in
+      after_it one (leaves.durable refl one.tree is.0) is.1
+
+pub happened_leaving : (before held : VolumeState) (old new : World) (recent left : List Tree) (old_down new_down : Bool) (event : Event) → old_down ≡ false → new_down ≡ false
+    → new ≡ effect_of old event → new.table.seats ≡ held.seats
+    → LeavesOnCrash held (kept_of_world (effect_of old event)) (lasting_by (same_seats (effect_of old event).table.seats before.seats) (lasts (executed_of old event))) recent left
+    → Happens (serving_by old (beside before.seats recent) old_down) event (serving_by new (beside held.seats left) new_down)
+happened_leaving before held old new recent left old_down new_down event up still is seated leaves = record {
   up = up;
   world = is;
   still_up = still;
-  no_others = λ one among. elim (leaves.no_others one among) [
-    | inl stays ↦ inl stays
-    | inr behind ↦ subst (MayLeave (serving_by old recent kept old_down) event) (sym (behind ∙ tree)) (may_leave_from old recent kept old_down event newest up)
-  ];
+  no_others = others_left before held old recent left old_down event up leaves.seats same leaves;
   durable = λ entry e durable one among.
       let done : executed_of old event ≡ Some entry = subst (λ (b : Bool). executed_by old event b ≡ Some entry) up e in
       let fits : EntryFits old.tree (effect_of old event).tree (Some entry) = subst (EntryFits old.tree (effect_of old event).tree) done (event_fits old event) in
-      leaves.durable (ap lasts done ∙ durable) one among ∙ (tree ∙ fits.1);
-  seats = λ seats among. only_one held.seats seats among ∙ sym seated;
+      leaves.durable (lasting_more same (lasts (executed_of old event)) (ap lasts done ∙ durable)) one.tree (among_beside held.seats left one among).0 ∙ fits.1;
+  seats = λ one among. (among_beside held.seats left one among).1 ∙ sym seated;
 }
+  where
+    same : ((effect_of old event).table.seats ≡ before.seats) ⊎ ((effect_of old event).table.seats ≢ before.seats)
+    same = same_seats (effect_of old event).table.seats before.seats
 
-pub among_rest : {A : Type 0} (more : A) (recent : List A) (one : A) → IsAmong recent one → IsAmong (more ∷ recent) one
-among_rest more recent one among = (suc among.0, (omega (arith, among.1.0), among.1.1))
-
--- and the seats that it leaves
-pub may_hold_from : (old : World) (recent : List Tree) (kept : List Seats) (down : Bool) (event : Event) → down ≡ false
-    → MayHoldSeats (serving_by old recent kept down) event (effect_of old event).table.seats
-may_hold_from old recent kept down event up = inr (subst (λ (b : Bool). IsSeatedAfter old event b (effect_of old event).table.seats) (sym up) refl)
-
-pub failed_from : (old new : World) (recent : List Tree) (kept : List Seats) (old_down new_down : Bool) (event : Event) → IsAmong recent old.tree → old_down ≡ false → new_down ≡ true → new ≡ old
-    → DeviceFails (serving_by old recent kept old_down) event (serving_by new ((effect_of old event).tree ∷ recent) ((effect_of old event).table.seats ∷ kept) new_down)
-failed_from old new recent kept old_down new_down event newest up down is = record {
+pub failed_from : (old new : World) (left : List Left) (old_down new_down : Bool) (event : Event) → old_down ≡ false → new_down ≡ true → new ≡ old
+    → DeviceFails (serving_by old left old_down) event (serving_by new (left_after (effect_of old event) ∷ left) new_down)
+failed_from old new left old_down new_down event up down is = record {
   up = up;
   world = is;
   down = down;
-  no_others = λ tree left. elim (among_more (effect_of old event).tree recent tree left) [
-    | inl first ↦ subst (MayLeave (serving_by old recent kept old_down) event) (sym first) (may_leave_from old recent kept old_down event newest up)
-    | inr rest ↦ inl rest
-  ];
-  seats = λ seats left. elim (among_more (effect_of old event).table.seats kept seats left) [
-    | inl first ↦ subst (MayHoldSeats (serving_by old recent kept old_down) event) (sym first) (may_hold_from old recent kept old_down event up)
+  no_others = λ one among. elim (among_more (left_after (effect_of old event)) left one among) [
+    | inl first ↦ subst (MayBeLeft (serving_by old left old_down) event) (sym first) (may_be_left_from old left old_down event up)
     | inr rest ↦ inl rest
   ];
 }
 
-pub stays_down : (old new : World) (old_down new_down : Bool) (recent : List Tree) (kept : List Seats) (connection : ℕ) → old_down ≡ true → new_down ≡ true → new ≡ takes old connection
-    → StaysDown (serving_by old recent kept old_down) connection (serving_by new recent kept new_down)
-stays_down old new old_down new_down recent kept connection was down is = record {
+pub stays_down : (old new : World) (old_down new_down : Bool) (left : List Left) (connection : ℕ) → old_down ≡ true → new_down ≡ true → new ≡ takes old connection
+    → StaysDown (serving_by old left old_down) connection (serving_by new left new_down)
+stays_down old new old_down new_down left connection was down is = record {
   down = was;
   world = is;
   still_down = down;
-  no_others = λ tree left. left;
-  seats = λ seats left. left;
+  no_others = λ one among. among;
 }
 
 -- What they make of a world

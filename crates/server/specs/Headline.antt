@@ -4,7 +4,7 @@ use Rattle.std.specs.Prelude.{ℕ, List, [], ◌∷◌, slice_get, Some, ◌≡�
 use Rattle.disk.specs.Moments.{Image, History, LeftSince, at_rest, moment, seen}
 use Rattle.layout.specs.Stands.{Kept, bare}
 use Rattle.model_tree.specs.Trees.Fresh.{fresh_tree}
-use Rattle.model.specs.Server.Runs.{Event, MayHoldSeats, IsGoodPrefix, AreStamped, mounted, executed, done_with, before, stamp_in}
+use Rattle.model.specs.Server.Runs.{Event, IsGoodPrefix, AreStamped, mounted, executed, done_with, before, stamp_in, Stored, HasAllHeld, replies_with}
 use Rattle.model.specs.Sessions.SeatRuns.{AreSeats}
 use Rattle.model.specs.Server.SoundRuns.{IsStart}
 use Rattle.model.specs.Server.StampRuns.{AreGiven}
@@ -17,7 +17,7 @@ use Rattle.volume.specs.Remounts.{Remounts, IsFound, LeavesGood}
 use Rattle.volume.specs.Stands.{StandsFor}
 use Rattle.volume.specs.Superblock.{last_run}
 use Rattle.volume.specs.declared.fault.MountFault.TheVariants as mounts
-use Rattle.server.specs.Seen.{Seen, ServerCall, Moves, IsServed, world_after, history_of, AreTold}
+use Rattle.server.specs.Seen.{Seen, ServerCall, Moves, IsServed, world_after, history_of, AreTold, MayKeepDuring, trees_of}
 use Rattle.server.specs.Views.{server_limits, volume_of, seen_with}
 use Rattle.server.specs.declared.server.Server.{Server}
 use Rattle.disk.specs.declared.device.Device.{Ghosts}
@@ -35,7 +35,7 @@ pub record IsMounted (settings : Settings) (run : ℕ) (start : Kept) (first : S
   pub seats : AreSeats run start.seats
   pub starts : ∥ IsStart first.volume.limits run start.tree ∥₁
   pub room : first.volume.limits.aces_set + 5 ≤ first.volume.limits.aces
-  pub ready : IsRecent first.volume first.serving.recent
+  pub ready : IsRecent first.volume (trees_of first.serving.left)
 
 -- so begins a server that a mount gives
 abbrev pub BeginsServing : {D : Type 0} {g : Ghosts D} → (settings : Settings) → Server D g → Type 0
@@ -80,16 +80,23 @@ executed_in stopped =
 abbrev pub handed_out_in : Stopped → List ℕ
 handed_out_in stopped = (history_of stopped.first.serving.world stopped.calls).handed_out
 
+-- the replies that its seats held or were to hold, each with the operations that it names
+abbrev pub replies_in : Stopped → List (Stored × List ℕ)
+replies_in stopped = replies_with (history_of stopped.first.serving.world stopped.calls)
+    stopped.old.serving.world stopped.event stopped.old.serving.is_down
+
 -- The tree of a good prefix: each change and COMMIT whose reply was handed out is in it, and each
 -- change in it was permitted.
 abbrev pub IsGoodTree : Stopped → Tree → Type 0
 IsGoodTree stopped tree =
     IsGoodPrefix stopped.start.tree (executed_in stopped) (handed_out_in stopped) tree
 
--- Such a tree, with the seats that the machine may leave beside it
+-- Such a tree with seats that the machine leaves beside it; and it has each change and COMMIT that a
+-- reply in these seats names
 pub record IsGoodKept (stopped : Stopped) (kept : Kept) : Type 0 where
   pub tree : IsGoodTree stopped kept.tree
-  pub seats : MayHoldSeats stopped.old.serving stopped.event kept.seats
+  pub left : MayKeepDuring stopped.old.serving stopped.event kept
+  pub held : HasAllHeld (executed_in stopped) (replies_in stopped) kept.seats tree.k
 
 -- What a crash leaves holds exactly such a pair.
 pub record IsCrashSafe (stopped : Stopped) (image : Image) : Type 0 where

@@ -6,12 +6,12 @@ use Rattle.model.specs.Wire.Rpc.{NoCall, read_call}
 use Rattle.model.specs.Server.World.{World, Connection, Waiting, Busy, Idle, one}
 use Rattle.volume.specs.VolumeState.{IsRecent}
 use Rattle.server.specs.Headline.{IsMounted}
-use Rattle.server.specs.Seen.{Seen, ServerCall, IsServed, IsTurned}
+use Rattle.server.specs.Seen.{Seen, ServerCall, IsServed, IsTurned, trees_of}
 use Rattle.model.specs.Sessions.Session.{Settings}
 
 -- the next call can be made
 abbrev pub IsSeenReady : Seen → Type 0
-IsSeenReady seen = IsRecent seen.volume seen.serving.recent
+IsSeenReady seen = IsRecent seen.volume (trees_of seen.serving.left)
 
 -- The turns of a hang-up are calls, as those of a run, and further calls can be made after them,
 -- also where it was refused for memory
@@ -26,7 +26,7 @@ abbrev pub NeverEmpty : Type 0
 NeverEmpty =
     (settings : Settings) (run : ℕ) (start : Kept) (first last : Seen) (calls : List ServerCall)
     → IsMounted settings run start first → IsServed first calls last
-    → last.serving.recent ≡ [] → ⊥
+    → last.serving.left ≡ [] → ⊥
 
 -- nothing to do: no whole call waits, and no request has begun
 abbrev pub IsIdle : Option Connection → Type 0

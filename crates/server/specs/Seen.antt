@@ -1,12 +1,14 @@
 -- A server as its caller sees it from call to call: the machine of the headline, and the volume
 -- below it.
-use Rattle.std.specs.Prelude.{ℕ, true, List, [], ◌∷◌, Option, Some, None, ◌≡◌}
+use Rattle.std.specs.Prelude.{ℕ, true, List, [], ◌∷◌, Option, Some, None, ◌≡◌, map}
 use Rattle.std.specs.List.{IsAmong}
 use Rattle.disk.specs.Moments.{Image, AddsOnly, Left}
 use Rattle.layout.specs.Stands.{Kept}
 use Rattle.volume.specs.VolumeState.{VolumeState, IsSameVolume, StandsForOne, IsRecent}
 use Rattle.model_tree.specs.Trees.Keyed.{at}
-use Rattle.model.specs.Server.Runs.{Serving, Event, Arrives, Turns, HangsUp, Connects, Takes, Happens, DeviceFails, StaysDown, MayLeave, MayHoldSeats, RunHistory, no_history, history_after, history_failing, effect_of}
+use Rattle.model_tree.specs.Trees.Tree.{Tree}
+use Rattle.model.specs.Server.Runs.{Serving, Event, Arrives, Turns, HangsUp, Connects, Takes, Happens, DeviceFails, StaysDown, RunHistory, no_history, history_after, history_failing, effect_of, MayBeLeft}
+use Rattle.model.specs.Server.Runs as runs
 use Rattle.model.specs.Server.World as world
 use Rattle.model.specs.Server.World.{World, Turn, one, taken_at, reply_at, is_busy}
 
@@ -14,19 +16,26 @@ pub record Seen : Type 0 where
   pub serving : Serving
   pub volume : VolumeState
 
--- a tree and seats that the machine leaves now
-abbrev pub IsLeftBy : Serving → Kept → Type 0
-IsLeftBy serving kept = IsAmong serving.recent kept.tree × IsAmong serving.held kept.seats
+-- what a volume keeps, as the machine has it
+abbrev pub left_of : Kept → runs.Left
+left_of kept = record { tree = kept.tree; seats = kept.seats }
 
--- each map that a crash leaves now stands for such a pair
+-- the trees of these
+abbrev pub trees_of : List runs.Left → List Tree
+trees_of left = map (λ one. one.tree) left
+
+-- what the machine leaves now
+abbrev pub IsLeftBy : Serving → Kept → Type 0
+IsLeftBy serving kept = IsAmong serving.left (left_of kept)
+
+-- each map that a crash leaves now stands for such a tree and seats
 abbrev pub LeavesNow : Seen → Type 0
 LeavesNow seen = (image : Image) → Left seen.volume.history.now image
     → StandsForOne seen.volume (IsLeftBy seen.serving) image
 
 -- and while an event happens
 abbrev pub MayKeepDuring : Serving → Event → Kept → Type 0
-MayKeepDuring serving event kept =
-    MayLeave serving event kept.tree × MayHoldSeats serving event kept.seats
+MayKeepDuring serving event kept = MayBeLeft serving event (left_of kept)
 
 -- what a call adds to what a crash may leave, at each moment of it: what the machine may leave
 -- while the event happens
@@ -69,7 +78,7 @@ pub record Does (old : Seen) (event : Event) (said : Said) (new : Seen) : Type 0
   pub says : said ≡ event_told old.serving.world event
   pub moves : Moves old event new
   -- so the next call can be made
-  pub ready : IsRecent new.volume new.serving.recent
+  pub ready : IsRecent new.volume (trees_of new.serving.left)
 
 pub record Breaks (old : Seen) (event : Event) (new : Seen) : Type 0 where
   pub fails : DeviceFails old.serving event new.serving
@@ -86,7 +95,7 @@ pub record Checkpoints (old new : Seen) : Type 0 where
   pub serving : new.serving ≡ old.serving
   pub moves : (event : Event) → Moves old event new
   -- so the next call can be made
-  pub ready : IsRecent new.volume new.serving.recent
+  pub ready : IsRecent new.volume (trees_of new.serving.left)
 
 -- what was done, the newest first
 pub data ServerCall : Type 0 where

@@ -1,5 +1,5 @@
 -- What contracts see of a server: its world, and what stands on its device.
-use Rattle.std.specs.Prelude.{ℕ, Bool, List, [], ◌∷◌, Option, ◌≡◌}
+use Rattle.std.specs.Prelude.{ℕ, Bool, List, [], ◌∷◌, Option, ◌≡◌, map}
 use Rattle.std.specs.Global.{Vec}
 use Rattle.std.specs.Option.{option_map}
 use Rattle.compound.specs.States.{SharedState, most_reply_bytes, shared_of}
@@ -7,7 +7,7 @@ use Rattle.disk.specs.declared.device.Device.{Ghosts}
 use Rattle.fs.specs.FileSystem.{FileSystem}
 use Rattle.fs.specs.Views.{fs_of, fs_failures}
 use Rattle.model_tree.specs.declared.limits.Limits.{Limits}
-use Rattle.model.specs.Server.Runs.{Serving, Event}
+use Rattle.model.specs.Server.Runs.{Serving, Event, Left}
 use Rattle.model_tree.specs.Seats.Seats.{Seats}
 use Rattle.model_tree.specs.Trees.Tree.{Tree}
 use Rattle.model.specs.Server.World as world
@@ -77,18 +77,17 @@ abbrev pub MountsServer : {D : Type 0} {g : Ghosts D} → (device : D) → Serve
 MountsServer {g = g} device server = MountServes g.keeps_word g.size g.failed g.history device
     (volume_of server) (server_failures server)
 
--- the machine of the headline: a crash may leave these trees now, each with any of these seats
-abbrev pub serving_by : World → List Tree → (held : List Seats) → (is_down : Bool) → Serving
-serving_by world recent held is_down = record {
-  world = world;
-  recent = recent;
-  held = held;
-  is_down = is_down;
-}
+-- these trees, each with these seats beside it
+abbrev pub beside : Seats → List Tree → List Left
+beside seats recent = map (λ tree. record { tree = tree; seats = seats }) recent
 
--- the server as that machine, with the seats of its volume alone
+-- the machine of the headline: a crash may leave these now
+abbrev pub serving_by : World → List Left → (is_down : Bool) → Serving
+serving_by world left is_down = record { world = world; left = left; is_down = is_down }
+
+-- the server as that machine: a crash may leave these trees now, with the seats of its volume alone
 abbrev pub serving : {D : Type 0} {g : Ghosts D} → Server D g → List Tree → Serving
-serving server recent = serving_by (world_of server) recent ((volume_of server).seats ∷ [])
+serving server recent = serving_by (world_of server) (beside (volume_of server).seats recent)
     (volume_of server).is_down
 
 -- the same with the volume below it
@@ -96,12 +95,10 @@ abbrev pub seen_with : {D : Type 0} {g : Ghosts D} → Server D g → List Tree 
 seen_with server recent = record { serving = serving server recent; volume = volume_of server }
 
 -- and one that is down: what its volume shows since it failed is left open, and its world has the
--- tree that it had; a crash may leave any of these seats
-abbrev pub seen_down : {D : Type 0} {g : Ghosts D} → Server D g → Tree → List Tree → List Seats
-    → Seen
-seen_down server tree recent held = record {
-  serving =
-      serving_by (record (world_of server) { tree = tree }) recent held (volume_of server).is_down;
+-- tree that it had; a crash may leave any of these
+abbrev pub seen_down : {D : Type 0} {g : Ghosts D} → Server D g → Tree → List Left → Seen
+seen_down server tree left = record {
+  serving = serving_by (record (world_of server) { tree = tree }) left (volume_of server).is_down;
   volume = volume_of server;
 }
 
@@ -123,16 +120,16 @@ Keeps old new = (recent : List Tree) → IsRecent (volume_of old) recent
 -- the device fails in it
 abbrev pub ServerFails : {D : Type 0} {g : Ghosts D} → (old new : Server D g) → Event → Type 0
 ServerFails old new event = (recent : List Tree) → IsRecent (volume_of old) recent
-    → (after : List Tree) × (held : List Seats)
-    × Breaks (seen_with old recent) event (seen_down new (volume_of old).tree after held)
+    → (left : List Left)
+    × Breaks (seen_with old recent) event (seen_down new (volume_of old).tree left)
 
 -- a server that is down gives a reply, whichever tree it had
 abbrev pub GivesReply : {D : Type 0} {g : Ghosts D} → (old new : Server D g) → (connection : ℕ)
     → Said
     → Type 0
-GivesReply old new connection said = (tree : Tree) (recent : List Tree) (held : List Seats)
-    → LeavesNow (seen_down old tree recent held)
-    → GivesDown (seen_down old tree recent held) connection said (seen_down new tree recent held)
+GivesReply old new connection said = (tree : Tree) (left : List Left)
+    → LeavesNow (seen_down old tree left)
+    → GivesDown (seen_down old tree left) connection said (seen_down new tree left)
 
 -- so many turns of a connection, and then what comes
 abbrev pub Turning : {D : Type 0} {g : Ghosts D} → (old : Server D g) → (connection now : ℕ)

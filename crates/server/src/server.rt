@@ -50,7 +50,6 @@ impl<D: Device> Server<D> {
     ghost use Rattle.model_tree.specs.Seats.SeatViews.{seats_view};
     ghost use Rattle.std.specs.Prelude.{◌≢◌, ◌≡◌, ◌≤◌, ◌↔◌, List, true, false, Some, None, length, OnOk, OnErr, IfOk, IfErr, IsErrOf};
     ghost use Rattle.model.specs.Server.Runs as runs;
-    ghost use Rattle.model_tree.specs.Seats.Seats.{Seats};
     ghost use Rattle.model_tree.specs.Trees.Tree.{Tree};
     ghost use Rattle.model.specs.Server.World.{Closed, is_busy, can_connect};
     ghost use Rattle.server.specs.Connections.{turn_view};
@@ -268,8 +267,8 @@ impl<D: Device> Server<D> {
             (after : List Tree) × (between ≡ seen_with self.new after)) }
         ensures fails { D.keeps_word → (volume_of self.old).is_down ≡ false
             → IsErrOf result ServerFault.Device → Turning self.old conn now (λ between.
-            (after : List Tree) × (held : List Seats) × Breaks between (runs.Turns conn now)
-            (seen_down self.new between.serving.world.tree after held)) }
+            (left : List runs.Left) × Breaks between (runs.Turns conn now)
+            (seen_down self.new between.serving.world.tree left)) }
         // Refused
         ensures refused { IfErr result (RefusesHangUp (view self.old) (view self.new) conn) }
         ensures is_down { (volume_of self.old).is_down ≡ true

@@ -48,10 +48,10 @@ returns-in-Some-clause-down g c =
     let before = c.in-Some.connection.now in
     let after = c.take_output.new.self in
     let there = stands s.connections c.args.conn before c.in-Some.ensures.value in
-    λ keeps down tree recent held leaves.
+    λ keeps down tree left leaves.
     let files : FileSystem = record (fs_of s.fs) { volume = record (fs_of s.fs).volume { tree = tree } } in
     record {
-      stays = stays_down _ _ _ _ recent held c.args.conn down down
+      stays = stays_down _ _ _ _ left c.args.conn down down
           (took (shared files (table_of s.table) (opens_of s.opens)) (connections_of s.connections) _ c.args.conn (connection_view before) (connection_view after)
           there (wrote s.connections c.args.conn before after c.in-Some.ensures.value) c.take_output.ensures.left);
       says = ap Gave (c.take_output.ensures.given ∙ ap reply_in (sym there));

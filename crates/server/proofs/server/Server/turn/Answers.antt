@@ -12,11 +12,12 @@ use Rattle.server.specs.Connections.{connections_of, connection_view}
 use Rattle.server.specs.Faults.{turn_fault}
 use Rattle.server.specs.declared.fault.ServerFault.TheVariants as faults
 use Rattle.server.specs.Seen.{Turned}
-use Rattle.server.specs.Views.{world_of, volume_of, server_failures, world_by}
+use Rattle.server.specs.Views.{world_of, volume_of, server_failures, world_by, beside}
 use Rattle.compound.proofs.QuietLaws.{left_all, broken≢done}
 use Rattle.model_tree.proofs.Trees.KeyedLaws.{at-with_other}
 use Rattle.model_tree.specs.Trees.Keyed.{at}
 use Rattle.server.proofs.Moves.{broken_leaves, leaves_now}
+use Rattle.server.proofs.Pairs.{ready_beside}
 use Rattle.server.proofs.Refusals.{told_by, device_told, turn_refused}
 use Rattle.server.proofs.SlabLaws.{stands, stands_none, wrote, wrote_count, rewrote, numbers_rise}
 use Rattle.server.proofs.ServedTurns.{turned, turn_of, undone, broken, gone_on_at, gives_one, turning_moments}
@@ -101,9 +102,8 @@ returns-in_err-turn-clause-fails g c =
     (stands s.connections c.args.conn before c.in-Some.ensures.value)) in
     λ recent ready. (
       _,
-      _,
       record {
-        fails = failed_from _ _ recent _ _ _ (runs.Turns c.args.conn c.args.now) ready.newest up failed.volume_changes.ends.down
+        fails = failed_from _ _ (beside (fs_of s.fs).volume.seats recent) _ _ (runs.Turns c.args.conn c.args.now) up failed.volume_changes.ends.down
             (broken (shared_of s.fs s.table s.opens) (shared_of c.turn.new.engine.fs.now c.turn.new.engine.table.now c.turn.new.engine.opens.now) (connections_of s.connections) _ volume.same (failed.no_count broken≢done)
             (ap₂ (shared (fs_of c.turn.new.engine.fs.now)) back.1.0 back.1.1) (rewrote s.connections c.args.conn before after c.in-Some.ensures.value back.0) (fs_of s.fs).volume.tree);
         moves = record {
@@ -171,15 +171,15 @@ returns-clause-ok g c =
     let left = volume.ends.leaves keeps _ _ gives recent ready in (
       left.0,
       record {
-        happens = happened_leaving (fs_of c.turn.new.engine.fs.now).volume _ _ _ recent left.0 _ _ _ (runs.Turns c.args.conn c.args.now) ready.newest up volume.ends.still_up made.1
-            agreed.seats refl left.1;
+        happens = happened_leaving (fs_of s.fs).volume (fs_of c.turn.new.engine.fs.now).volume _ _ recent left.0 _ _ (runs.Turns c.args.conn c.args.now) up volume.ends.still_up made.1
+            agreed.seats left.1;
         says = ap Turned made.0;
         moves = record {
           moments = turning_moments (shared_of s.fs s.table s.opens) (connections_of s.connections) c.args.conn c.args.now recent _ ready up (volume.moments keeps _ _ gives);
           leaves = leaves_now (fs_of c.turn.new.engine.fs.now).volume left.0 left.1.ready.leaves;
           same = volume.same;
         };
-        ready = left.1.ready;
+        ready = ready_beside (fs_of c.turn.new.engine.fs.now).volume (fs_of c.turn.new.engine.fs.now).volume.seats left.0 left.1.ready;
       },
     )
 
