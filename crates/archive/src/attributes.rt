@@ -20,9 +20,9 @@ pub(crate) struct Wanted {
     pub(crate) time: u64,
 }
 
-/// Attributes, spelled.
+/// Attributes, encoded.
 #[derive(Drop)]
-pub(crate) struct Spelled {
+pub(crate) struct Encoded {
     bitmap: [u32; 2],
     values: Vec<u8>,
 }
@@ -32,7 +32,7 @@ fn bit(attribute: Attribute) -> u32 {
     1 << (attribute.number() % 32)
 }
 
-impl Spelled {
+impl Encoded {
     pub(crate) fn bitmap(&self) -> &[u32]
         ensures { length result.now ≤ 8 }
     {
@@ -44,7 +44,7 @@ impl Spelled {
     }
 
     /// A list by which only the owner has rights, and all of them.
-    pub(crate) fn owner_only(alloc: Global) -> Result<Spelled, Refusal> {
+    pub(crate) fn owner_only(alloc: Global) -> Result<Encoded, Refusal> {
         let all = Ace {
             kind: AceKind::Allow,
             flags: AceFlags::empty(),
@@ -53,18 +53,18 @@ impl Spelled {
         };
         let mut w = Writer::new(alloc);
         write_list(alloc, &mut w, &[all])?;
-        Ok(Spelled {
+        Ok(Encoded {
             bitmap: [bit(Attribute::Acl), 0],
             values: w.into_vec(),
         })
     }
 
-    /// What a node is to have, and of a file its size, with which its time is set.
+    /// What a node is to have, and of a file its size, which sets its time.
     pub(crate) fn of(
         alloc: Global,
         size: Option<u64>,
         wanted: &Wanted,
-    ) -> Result<Spelled, Refusal> {
+    ) -> Result<Encoded, Refusal> {
         let mut w = Writer::new(alloc);
         let mut bitmap = [0, bit(Attribute::Owner) | bit(Attribute::OwnerGroup)];
         if let Some(size) = size {
@@ -83,7 +83,7 @@ impl Spelled {
         }
         write_text(&mut w, &text_of(alloc, Who::User(wanted.owner))?)?;
         write_text(&mut w, &text_of(alloc, Who::NamedGroup(wanted.group))?)?;
-        Ok(Spelled {
+        Ok(Encoded {
             bitmap,
             values: w.into_vec(),
         })

@@ -1,4 +1,4 @@
-//! Why nothing is listed, read or put.
+//! Errors of listing, reading and filling a volume.
 
 use fs::FsFault;
 use model_tree::status::Status;
@@ -10,7 +10,7 @@ use thiserror::Error;
 use volume::{MountFault, VolumeFault};
 use xdr::Refusal;
 
-/// Why nothing is listed, read or put. It prints the name.
+/// An error of listing, reading or filling a volume. It is printed by its name.
 #[derive(Debug, Drop, Error)]
 pub enum ArchiveFault {
     /// The volume cannot be mounted.
@@ -19,16 +19,16 @@ pub enum ArchiveFault {
     /// The archive cannot be read.
     #[error("{0}")]
     Tar(#[from] TarFault),
-    /// The volume that is to be filled has a name already.
+    /// The volume that is to be filled is not empty.
     #[error("NotEmpty")]
     NotEmpty,
-    /// Something about this path.
+    /// Something is wrong with this path.
     #[error("{reason} ({path})")]
     Path { reason: Reason, path: String },
     /// The volume's file failed.
     #[error("Device")]
     Device,
-    /// What is written to failed.
+    /// The output failed.
     #[error("Io")]
     Io,
     #[error("Memory")]
@@ -77,13 +77,13 @@ pub enum Reason {
     /// The volume's access control lists deny it.
     #[error("Access")]
     Access,
-    /// Anything else.
+    /// Any other status.
     #[error("Refused")]
     Refused,
 }
 
 impl Reason {
-    /// Why an entry of this kind is not put.
+    /// Why an entry of this kind is refused.
     pub(crate) fn of_kind(kind: Kind) -> Reason {
         match kind {
             Kind::Link => Reason::Link,
@@ -109,7 +109,7 @@ impl From<Status> for Reason {
     }
 }
 
-/// Why a file system or a writer did not do a step.
+/// An error of the file system, an encoder or the archive.
 #[derive(Clone, Copy, Debug, PartialEq, Eq)]
 pub(crate) enum StepFault {
     Reason(Reason),

@@ -74,7 +74,7 @@ fn write_line<W: Write>(
     write_name(name, out)
 }
 
-/// Writes a name, with `?` in place of what would steer a terminal, and a line feed.
+/// Writes a name, with `?` for each control character, and a line feed.
 fn write_name<W: Write>(name: &str, out: &mut W) -> Result<(), ArchiveFault> {
     for c in name.chars() {
         let shown = if c.is_control() { '?' } else { c };

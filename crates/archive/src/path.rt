@@ -26,7 +26,7 @@ pub(crate) fn split_last(key: &[u8]) -> (&[u8], &[u8]) {
     }
 }
 
-/// What is wrong with a path.
+/// The error of a path.
 pub(crate) fn refuse(alloc: Global, reason: Reason, path: &[u8]) -> ArchiveFault {
     match String::from_utf8_lossy(alloc, path) {
         Ok(path) => ArchiveFault::Path { reason, path },

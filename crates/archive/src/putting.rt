@@ -8,7 +8,7 @@ ghost use Rattle.std.specs.Prelude.{◌≤◌, length};
 ghost use Rattle.fs.specs.Opening.{type_of};
 ghost use Rattle.model.specs.Operations.Open.{given_by};
 
-use crate::attributes::{Spelled, Wanted};
+use crate::attributes::{Encoded, Wanted};
 use crate::fault::{ArchiveFault, Reason, StepFault};
 use crate::filling::fault_at;
 use crate::path::split_last;
@@ -38,10 +38,10 @@ const IMPLICIT: Wanted = Wanted {
     time: 0,
 };
 
-/// How many bytes the reply to a listing of one name has.
+/// The room of the reply to a listing of one name, in bytes.
 const LISTING_BYTES: u32 = 4_096;
 
-/// The open of a file that is made.
+/// The reply to an OPEN, of whatever kind, has room.
 const ROOM: OpenRoom = OpenRoom {
     nothing: true,
     cut: true,
@@ -75,7 +75,7 @@ impl Directory {
     }
 }
 
-/// The user that puts.
+/// The user by whose rights everything is put.
 fn caller() -> Cred {
     Cred {
         uid: 0,
@@ -110,7 +110,7 @@ impl Putting {
         })
     }
 
-    /// Puts a directory, or says what one that is there is to have.
+    /// Puts a directory; of one that is there, sets what it is to have.
     pub(crate) fn put_directory(&mut self, key: &[u8], wanted: Wanted) -> Result<(), StepFault> {
         self.make_directories(key, wanted.time)?;
         let Some(directory) = self.directories.get_mut(key) else {
@@ -141,8 +141,8 @@ impl Putting {
             return Err(StepFault::Reason(Reason::NoEntry));
         };
         let moment = parent.moment(time);
-        let spelled = Spelled::owner_only(self.alloc)?;
-        let asked = new_directory(parent.number, name, spelled.bitmap(), spelled.values());
+        let encoded = Encoded::owner_only(self.alloc)?;
+        let asked = new_directory(parent.number, name, encoded.bitmap(), encoded.values());
         let number = self.fs.make_dir(&caller(), moment, asked, true)?.number;
         let made = Directory {
             number,
@@ -153,7 +153,7 @@ impl Putting {
         Ok(())
     }
 
-    /// Whether a file may have so many bytes.
+    /// Whether a file may have this size.
     pub(crate) fn may_have(&self, size: u64) -> bool {
         size <= self.fs.limits().file_bytes as u64
     }
@@ -206,7 +206,7 @@ fn is_empty(fs: &Fs<Shelf>) -> Result<bool, StepFault> {
     Ok(fs.list(&caller(), listing)?.entries.is_empty())
 }
 
-/// The directory that is asked for.
+/// The request to make a directory.
 fn new_directory<'a>(
     parent: u64,
     name: &'a [u8],
@@ -224,7 +224,7 @@ fn new_directory<'a>(
     }
 }
 
-/// The open that makes a file, to be written.
+/// The request to make a file and open it for writing.
 fn new_file<'a>(directory: u64, name: &'a [u8], bitmap: &'a [u32], values: &'a [u8]) -> Opening<'a>
     requires { length bitmap.now ≤ 8 }
     ensures { length (given_by (type_of result.how)).bitmap ≤ 8 }
@@ -246,8 +246,8 @@ fn make_file(
     name: &[u8],
     moment: u64,
 ) -> Result<u64, StepFault> {
-    let spelled = Spelled::owner_only(alloc)?;
-    let asked = new_file(directory, name, spelled.bitmap(), spelled.values());
+    let encoded = Encoded::owner_only(alloc)?;
+    let asked = new_file(directory, name, encoded.bitmap(), encoded.values());
     Ok(fs.open_file(&caller(), moment, asked, false, ROOM)?.number)
 }
 
@@ -276,8 +276,8 @@ fn write_bytes<R: Read + Drop>(
     Ok(offset)
 }
 
-/// Gives a node what it is to have, but of a directory the time; of a file its size too, with which
-/// its time is set.
+/// Gives a node what it is to have, except the time of a directory. A file gets its size too, which
+/// sets its time.
 fn settle(
     fs: &mut Fs<Shelf>,
     alloc: Global,
@@ -285,13 +285,13 @@ fn settle(
     size: Option<u64>,
     wanted: &Wanted,
 ) -> Result<(), StepFault> {
-    let spelled = Spelled::of(alloc, size, wanted)?;
+    let encoded = Encoded::of(alloc, size, wanted)?;
     let asked = Setting {
         number,
         verdict: Ok(()),
         attributes: GivenAttributes {
-            bitmap: spelled.bitmap(),
-            values: spelled.values(),
+            bitmap: encoded.bitmap(),
+            values: encoded.values(),
         },
     };
     Ok(fs.set_attributes(&caller(), wanted.time, asked, true)?)

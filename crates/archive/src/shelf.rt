@@ -8,7 +8,7 @@ use disk::{Device, DiskFault, FileDevice, SECTOR};
 use std::alloc::{AllocError, Global};
 
 /// A volume's file: one that is never written, as what is written is kept in memory, or one that
-/// is synced at the end only. It claims nothing.
+/// is synced only at the end. It claims nothing of what it holds.
 #[derive(Drop)]
 pub(crate) struct Shelf {
     file: FileDevice,
@@ -52,7 +52,7 @@ impl Written {
 }
 
 impl Shelf {
-    /// Whose file is not written.
+    /// A device whose file is not written.
     pub(crate) fn to_read(alloc: Global, file: FileDevice) -> Shelf {
         Shelf {
             sectors: file.sectors(),
@@ -62,7 +62,7 @@ impl Shelf {
         }
     }
 
-    /// Whose file is written, but not synced.
+    /// A device whose file is written, but not synced.
     pub(crate) fn to_fill(file: FileDevice) -> Shelf {
         Shelf {
             sectors: file.sectors(),

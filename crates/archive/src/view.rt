@@ -1,4 +1,4 @@
-//! A volume to look at.
+//! A volume that is only read.
 
 ghost use Rattle.std.specs.Prelude.{◌≡◌};
 
@@ -67,7 +67,7 @@ impl View {
         }
     }
 
-    /// Appends up to so many bytes of a file from a place on. Nothing of a directory.
+    /// Appends at most `most` bytes of a file, from an offset on, and none of a directory.
     pub(crate) fn read(
         &mut self,
         number: u64,
