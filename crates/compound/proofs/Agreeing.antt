@@ -15,9 +15,13 @@ use Rattle.compound.specs.Operates.{run_in_room, world_by}
 use Rattle.compound.specs.Runs.{with_rest}
 use Rattle.compound.specs.States.{SharedState, HasState, Agrees, most_reply_bytes}
 use Rattle.compound.specs.Steps.{RequestSteps, stepped_on}
-use Rattle.compound.specs.Views.{Asked}
+use Rattle.compound.specs.Views.{Asked, asked_of, in_progress_of}
 use Rattle.compound.specs.Volumes.{TurnGives, kept_of_world, lasts, undone_step_ending}
+use Rattle.compound.specs.Engines.{StepsTo, Steps, files_in, state_in}
+use Rattle.compound.specs.declared.engine.Engine.{Engine}
+use Rattle.compound.specs.declared.running.Running.{Running}
 use Rattle.compound.specs.declared.step.Stepped.{Stepped}
+use Rattle.disk.specs.declared.device.Device.{Ghosts}
 use Rattle.compound.specs.declared.step.StepError.{StepError}
 use Rattle.compound.proofs.TablesGo.{run_after, finish_run}
 
@@ -101,3 +105,11 @@ pub agreed_if : (keeps_word : Type 0) (now : ℕ) (old new : SharedState) (asked
     → IfOk result (λ done. Agrees new.files new.table)
 agreed_if keeps_word now old new asked request (Ok done) before after keeps agree steps changes = agreed keeps_word now old new asked request done before after keeps agree steps changes
 agreed_if keeps_word now old new asked request (Err undone) before after keeps agree steps changes = tt
+
+pub steps_agree : {D : Type 0} {g : Ghosts D} (old new : Engine D g) (running : Running) (result : Result Stepped StepError) → (g.keeps_word → Agrees (files_in old) (state_in old).table)
+    → StepsTo old new running result → Steps old new running result
+steps_agree {g = g} old new running result agree steps = record {
+  turn = steps;
+  agrees = λ keeps.
+      agreed_if g.keeps_word old.moment (state_in old) (state_in new) (asked_of running) (in_progress_of running) result _ _ keeps (agree keeps) (steps.step keeps) steps.volume;
+}

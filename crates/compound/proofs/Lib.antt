@@ -10,6 +10,8 @@ pub mod Identity
 pub mod ListLaws
 pub mod OpenLaws
 pub mod OpenNamedLaws
+pub mod Operating
+pub mod Outcomes
 pub mod OwnResults
 pub mod Pages
 pub mod Parts

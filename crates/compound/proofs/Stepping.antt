@@ -1,5 +1,5 @@
 -- A step of a request is the turn of the definition.
-use Rattle.std.proofs.Common.{◌≡◌, ℕ, List, refl, sym, ap, ap₂, subst, ◌∙◌}
+use Rattle.std.proofs.Common.{◌≡◌, ◌+◌, ℕ, List, refl, sym, ap, ap₂, subst, ◌∙◌}
 use Rattle.model.specs.Operations.Answer as model
 use Rattle.model.specs.Wire.Record.{framed}
 use Rattle.model.specs.Wire.Rpc.{Success, reply_text}
@@ -10,12 +10,13 @@ use Rattle.compound.specs.Operates.{left_by_effect}
 use Rattle.compound.specs.Runs.{with_rest}
 use Rattle.compound.specs.Views.{Asked}
 use Rattle.compound.specs.States.{SharedState, HasState, with_state}
-use Rattle.compound.specs.Steps.{RequestSteps, stepped_on}
+use Rattle.compound.specs.Steps.{GoesFurther, RequestGoesOn, RequestSteps, stepped_on}
 use Rattle.compound.specs.Turns.{TurnsTo, ResultLeaves, repeated}
 use Rattle.compound.proofs.Rooms.{state_same}
 use Rattle.compound.specs.declared.executed.Effect.{Effect}
 use Rattle.compound.specs.declared.executed.Effect.TheVariants as effect
 use Rattle.compound.specs.declared.step.Stepped.{Stepped}
+use Rattle.compound.specs.declared.step.Stepped.TheVariants as stepped
 
 -- what an operation leaves does not touch the bytes after it
 pub left_rest : (left : Effect) (request : InProgress) (rest : List ℕ) → left_by_effect left (with_rest request rest) ≡ with_rest (left_by_effect left request) rest
@@ -78,3 +79,22 @@ repeats_to now old new request session slot reply bytes same turn is one number 
   ap (λ (t : Turned). t.world) (turn one number served)
       ∙ ap₂ (λ (left : World) (sent : List ℕ). with_connection left number (Replied sent)) (sym (ap (with_state one) same ∙ state_same one old served)) (sym is),
 )
+
+-- What goes on after a result goes on from the request before it
+
+further_as : (request left : InProgress) (done : Stepped) → left.answered ≡ request.answered → left.ended ≡ request.ended → GoesFurther left done → GoesFurther request done
+further_as request left (stepped.Ran progress) counts ends is = (sym ends ∙ is.0, is.1 ∙ ap (λ (n : ℕ). n + 1) counts)
+further_as request left (stepped.Answered reply) counts ends is = tt
+
+pub goes_on_as : (run : ℕ) (asked before : Asked) (request left after : InProgress) (done : Stepped) → before ≡ asked → after ≡ left
+    → left.context.run ≡ run → left.answered ≡ request.answered → left.ended ≡ request.ended
+    → RequestGoesOn after.context.run before after done → RequestGoesOn run asked request done
+goes_on_as run asked before request left after done same is runs counts ends goes =
+    let at_left = subst (λ (one : InProgress). RequestGoesOn one.context.run before one done) is goes in
+    let at_asked = subst (λ (one : Asked). RequestGoesOn left.context.run one left done) same at_left in
+    let at_run = subst (λ (r : ℕ). RequestGoesOn r asked left done) runs at_asked in
+    record {
+      stays = at_run.stays;
+      further = further_as request left done counts ends at_run.further;
+      fits = at_run.fits;
+    }

@@ -1,9 +1,13 @@
 pub mod Ahead
 pub mod Beside
 pub mod EncodedResult
+pub mod Engines
 pub mod Files
+pub mod Memory
+pub mod Nexts
 pub mod Operates
 pub mod Pages
+pub mod Readings
 pub mod Runs
 pub mod States
 pub mod Steps

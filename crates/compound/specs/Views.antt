@@ -10,6 +10,7 @@ use Rattle.rpc.specs.Views.{compound_view}
 use Rattle.xdr.specs.Forms.{counted}
 use Rattle.wire.specs.ArgumentView.{argument_view}
 use Rattle.wire.specs.SmallViews.{state_view}
+use Rattle.compound.specs.declared.begin.Call.{Call}
 use Rattle.compound.specs.declared.running.Running.{Running}
 use Rattle.compound.specs.declared.progress.Progress.{Progress}
 use Rattle.compound.specs.declared.progress.HandlePlace.{HandlePlace}
@@ -34,6 +35,9 @@ pub record Asked : Type 0 where
 
 abbrev pub asks : (xid : ℕ) → Cred → Compound → Asked
 asks xid cred compound = record { xid = xid; cred = cred; compound = compound }
+
+abbrev pub asked_by : Call → Asked
+asked_by call = asks call.xid call.cred.now (compound_view call.compound)
 
 abbrev pub context_of : Cred → Progress → Context
 context_of cred progress = record {

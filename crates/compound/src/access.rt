@@ -1,33 +1,29 @@
 //! ACCESS (RFC 8881, section 18.1).
 
 use crate::executed::{Effect, Executed};
-use crate::running::Running;
+use crate::reading::Reading;
 use crate::tree::status_of;
 use disk::Device;
-use fs::{Access, Fs};
+use fs::Access;
 use wire::{AccessAnswer, Answer, Operation};
 
-impl Running<'_> {
-    ghost use Rattle.fs.specs.Views.{fs_of};
+impl<D: Device> Reading<'_, '_, D> {
     ghost use Rattle.model.specs.Operations.Operation as operations;
-    ghost use Rattle.compound.specs.Operates.{Reads};
-    ghost use Rattle.compound.specs.States.{CanServe};
-    ghost use Rattle.compound.specs.Views.{in_progress_of};
+    ghost use Rattle.compound.specs.Readings.{ReadsAs};
 
     /// ACCESS: of the bits that are asked those that the current node has, and those of them that
     /// the caller is granted.
-    pub(crate) fn access<D: Device>(&self, fs: &Fs<D>, asked: u32) -> Executed
-        requires { CanServe (fs_of fs.now) (in_progress_of self.now) }
-        ensures { Reads (fs_of fs.now) (in_progress_of self.now)
-            (operations.Argument.Access asked) result }
+    pub(crate) fn access(&self, asked: u32) -> Executed
+        ensures { ReadsAs self.now (operations.Argument.Access asked) result }
     {
-        let number = match self.current_node() {
+        let running = self.running;
+        let number = match running.current_node() {
             Ok(number) => number,
-            Err(status) => return self.refuse(Operation::Access, status),
+            Err(status) => return running.refuse(Operation::Access, status),
         };
-        match fs.access(self.cred, number, asked) {
-            Ok(access) => self.settle(Answer::Access(answered(access)), Effect::Stays),
-            Err(fault) => self.refuse(Operation::Access, status_of(fault)),
+        match self.fs.access(running.cred, number, asked) {
+            Ok(access) => running.settle(Answer::Access(answered(access)), Effect::Stays),
+            Err(fault) => running.refuse(Operation::Access, status_of(fault)),
         }
     }
 }

@@ -1,7 +1,7 @@
 //! A COMPOUND before its first operation, and between two.
 
-ghost use Rattle.std.specs.Prelude.{◌≡◌, ◌≤◌, [], IfOk, IfErr};
-ghost use Rattle.compound.specs.declared.fault.Fault.TheVariants.{Memory};
+ghost use Rattle.std.specs.Prelude.{◌≡◌, ◌≤◌, []};
+ghost use Rattle.compound.specs.Memory.{OrMemory};
 ghost use Rattle.compound.specs.declared.progress.TheConstants.{RESULT_BUFFER};
 
 use crate::fault::Fault;
@@ -14,16 +14,14 @@ use std::mem;
 use xdr::Writer;
 
 impl Progress {
-    ghost use Rattle.std.specs.Prelude.{◌≡◌, IfOk, IfErr};
+    ghost use Rattle.compound.specs.Memory.{OrMemory};
     ghost use Rattle.compound.specs.Views.{IsBegin};
-    ghost use Rattle.compound.specs.declared.fault.Fault.TheVariants.{Memory};
 
     /// Before the first operation, in this run of the server. All memory for the reply is taken
     /// here, and that of the results only where `results_buffer`, which an earlier COMPOUND left,
     /// has too little.
     pub fn begin(alloc: Global, run: u32, results_buffer: &mut Writer) -> Result<Progress, Fault>
-        ensures ok { IfOk result (IsBegin run) }
-        ensures err { IfErr result (λ fault. fault ≡ Memory) }
+        ensures { OrMemory result (IsBegin run) }
     {
         let reply = Writer::with_capacity(alloc, RECORD_BUFFER)?;
         let results = take_memory(alloc, results_buffer)?;
@@ -44,35 +42,39 @@ impl Progress {
 
 /// Memory for the results: what an earlier COMPOUND left, or where that is too little more.
 fn take_memory(alloc: Global, results_buffer: &mut Writer) -> Result<Writer, Fault>
-    ensures bytes { IfOk result (λ results. results.bytes ≡ []) }
-    ensures room { IfOk result (λ results. RESULT_BUFFER ≤ results.capacity) }
-    ensures err { IfErr result (λ fault. fault ≡ Memory) }
+    ensures { OrMemory result (λ results.
+        (results.bytes ≡ []) × (RESULT_BUFFER ≤ results.capacity)) }
 {
     results_buffer.truncate(0);
     results_buffer.reserve(RESULT_BUFFER)?;
     Ok(mem::replace(results_buffer, Writer::new(alloc)))
 }
 
+/// The call of a COMPOUND, by this caller.
+#[derive(Drop)]
+pub struct Call<'a> {
+    pub xid: u32,
+    pub cred: &'a Cred,
+    pub compound: Compound<'a>,
+}
+
 impl<'a> Running<'a> {
     ghost use Rattle.std.specs.Prelude.{◌≡◌, true};
-    ghost use Rattle.rpc.specs.Views.{compound_view};
-    ghost use Rattle.compound.specs.Views.{in_progress_of, asks, asked_of, resumed, fits_operations};
+    ghost use Rattle.compound.specs.Views.{in_progress_of, asked_by, asked_of, resumed, fits_operations};
 
-    /// The COMPOUND of a call with this xid, by this caller, from where it has come to.
+    /// The COMPOUND of this call, from where it has come to.
     #[tactic(auto, unfolding(crate::specs::Views::in_progress_of))]
-    pub fn resume(
-        alloc: Global,
-        xid: u32,
-        cred: &'a Cred,
-        compound: Compound<'a>,
-        progress: Progress,
-    ) -> Running<'a>
-        requires { fits_operations (asks xid cred.now (compound_view compound)) progress ≡ true }
-        ensures asked { asked_of result ≡ asks xid cred.now (compound_view compound.entry) }
+    pub fn resume(alloc: Global, call: Call<'a>, progress: Progress) -> Running<'a>
+        requires { fits_operations (asked_by call) progress ≡ true }
+        ensures asked { asked_of result ≡ asked_by call.entry }
         ensures progress { result.progress ≡ progress }
-        ensures request { in_progress_of result
-            ≡ resumed (asks xid cred.now (compound_view compound.entry)) progress }
+        ensures request { in_progress_of result ≡ resumed (asked_by call.entry) progress }
     {
+        let Call {
+            xid,
+            cred,
+            compound,
+        } = call;
         Running {
             alloc,
             xid,

@@ -4,10 +4,10 @@ ghost use Rattle.compound.specs.Beside.{closed_answer};
 ghost use Rattle.compound.specs.Operates.{IsShortOutcome};
 
 use crate::executed::{Effect, Executed};
+use crate::reading::Reading;
 use crate::results::MAX_REPLY_BYTES;
 use crate::running::Running;
 use disk::Device;
-use fs::Fs;
 use model_tree::status::Status;
 use opens::{Found, Opens};
 use wire::{Answer, CloseArguments, Operation, Outcome, StateId};
@@ -18,42 +18,28 @@ pub(crate) const CLOSED: StateId = StateId {
     other: [0; 12],
 };
 
-impl Running<'_> {
-    ghost use Rattle.std.specs.Prelude.{◌≡◌, ℕ, nat_le, length, IfErr};
-    ghost use Rattle.fs.specs.Views.{fs_of};
-    ghost use Rattle.model.specs.Operations.Answer.{Done};
+impl<D: Device> Reading<'_, '_, D> {
+    ghost use Rattle.std.specs.Prelude.{IfErr};
     ghost use Rattle.model.specs.Operations.Operation as operations;
-    ghost use Rattle.model.specs.Sessions.StateIds.{found};
-    ghost use Rattle.model.specs.Server.World.{reply_with};
     ghost use Rattle.opens.specs.Views.{opens_of};
     ghost use Rattle.wire.specs.ArgumentViews.{close_view};
     ghost use Rattle.wire.specs.Short.{IsRefusal};
-    ghost use Rattle.wire.specs.SmallViews.{state_view};
-    ghost use Rattle.compound.specs.Beside.{Closes, EndsOpen, closed_answer};
-    ghost use Rattle.compound.specs.Operates.{ChangesTreeAndOpens, HasResult};
-    ghost use Rattle.compound.specs.States.{CanServe};
-    ghost use Rattle.compound.specs.Views.{in_progress_of};
+    ghost use Rattle.compound.specs.Beside.{Closes};
+    ghost use Rattle.compound.specs.Readings.{ChangesOpens, files_read, request_read};
 
     /// CLOSE: the open that the stateid names has ended, and the current filehandle keeps no
     /// stateid. Nothing ends where the reply has no room for the result.
-    pub(crate) fn close<D: Device>(
-        &self,
-        fs: &Fs<D>,
-        opens: &mut Opens,
-        arguments: &CloseArguments,
-    ) -> Executed
-        requires { CanServe (fs_of fs.now) (in_progress_of self.now) }
-        ensures gives { (now : ℕ) → ChangesTreeAndOpens (fs_of fs.now) (fs_of fs.now)
-            (opens_of opens.old) (opens_of opens.new) now (in_progress_of self.now)
+    pub(crate) fn close(&self, opens: &mut Opens, arguments: &CloseArguments) -> Executed
+        ensures { ChangesOpens self.now (opens_of opens.old) (opens_of opens.new)
             (operations.Argument.Close (close_view arguments.now)) result }
-        ensures answered { HasResult (in_progress_of self.now) result }
     {
-        let serial = match self.open_to_close(fs, opens, arguments) {
+        let running = self.running;
+        let serial = match self.open_to_close(opens, arguments) {
             Ok(serial) => serial,
-            Err(status) => return self.refuse(Operation::Close, status),
+            Err(status) => return running.refuse(Operation::Close, status),
         };
-        if !self.has_closed_room() {
-            return self.refuse(Operation::Close, Status::RepTooBig);
+        if !running.has_closed_room() {
+            return running.refuse(Operation::Close, Status::RepTooBig);
         }
         opens.close(serial);
         Executed::Gives {
@@ -63,20 +49,25 @@ impl Running<'_> {
     }
 
     /// The serial of the open that ends, after all tests but that of the room of the reply.
-    fn open_to_close<D: Device>(
-        &self,
-        fs: &Fs<D>,
-        opens: &Opens,
-        arguments: &CloseArguments,
-    ) -> Result<u64, Status>
-        requires { CanServe (fs_of fs.now) (in_progress_of self.now) }
-        ensures step { Closes (fs_of fs.now) (opens_of opens.now) (in_progress_of self.now)
+    fn open_to_close(&self, opens: &Opens, arguments: &CloseArguments) -> Result<u64, Status>
+        ensures step { Closes (files_read self.now) (opens_of opens.now) (request_read self.now)
             (close_view arguments.now) result }
         ensures refused { IfErr result IsRefusal }
     {
-        self.check_current(fs)?;
-        self.open_of_state(opens, &arguments.state)
+        self.check_current()?;
+        self.running.open_of_state(opens, &arguments.state)
     }
+}
+
+impl Running<'_> {
+    ghost use Rattle.std.specs.Prelude.{◌≡◌, nat_le, length};
+    ghost use Rattle.model.specs.Operations.Answer.{Done};
+    ghost use Rattle.model.specs.Sessions.StateIds.{found};
+    ghost use Rattle.model.specs.Server.World.{reply_with};
+    ghost use Rattle.opens.specs.Views.{opens_of};
+    ghost use Rattle.wire.specs.SmallViews.{state_view};
+    ghost use Rattle.compound.specs.Beside.{EndsOpen, closed_answer};
+    ghost use Rattle.compound.specs.Views.{in_progress_of};
 
     /// The serial of the open that a stateid names where the next operation uses it.
     fn open_of_state(&self, opens: &Opens, stateid: &StateId) -> Result<u64, Status>

@@ -10,6 +10,7 @@ ghost use Rattle.rpc.specs.Views.{result_text};
 ghost use Rattle.session.specs.Views.{table_of};
 ghost use Rattle.compound.specs.Turns.{AreOfReply};
 ghost use Rattle.compound.specs.Views.{slot_of};
+ghost use Rattle.compound.specs.declared.progress.TheConstants.{RESULT_BUFFER};
 
 use crate::fault::Fault;
 use crate::held_replies::put_seats;
@@ -23,18 +24,25 @@ use rpc::{Compound, CompoundResult, Reply, Tag, write_reply};
 use session::Table;
 use xdr::Writer;
 
+/// The status of the last result, and what a reply that a seat holds makes of the seats.
+#[derive(Drop)]
+pub(crate) struct LastResult {
+    pub(crate) status: Status,
+    pub(crate) edits: Option<SeatEdits>,
+}
+
 impl Running<'_> {
-    ghost use Rattle.std.specs.Prelude.{◌≡◌, ℕ, List, Some, IfOk, IfErr, OnOk};
+    ghost use Rattle.std.specs.Prelude.{◌≡◌, ℕ, List, Some, IfOk, OnOk};
     ghost use Rattle.fs.specs.Views.{fs_of, AltersFs};
     ghost use Rattle.model.specs.Wire.Record.{framed};
     ghost use Rattle.model.specs.Wire.Rpc.{Success, reply_text};
     ghost use Rattle.model.specs.Server.World.{kept_by, result_of};
     ghost use Rattle.session.specs.Views.{table_of, reply_kept};
+    ghost use Rattle.compound.specs.Memory.{OrMemory};
     ghost use Rattle.compound.specs.States.{CanSeat};
     ghost use Rattle.compound.specs.Turns.{AreOfReply};
     ghost use Rattle.compound.specs.Views.{in_progress_of};
     ghost use Rattle.compound.specs.Volumes.{IsSeated, HasSameTree, ending};
-    ghost use Rattle.compound.specs.declared.fault.Fault.TheVariants.{Memory};
 
     /// The reply's whole record, once the last result is there. The slot keeps the result of the
     /// COMPOUND, and where a seat holds it these edits are made of the seats. No memory is taken,
@@ -43,16 +51,15 @@ impl Running<'_> {
     pub(crate) fn end(
         self,
         table: &mut Table,
-        last: Status,
-        edits: Option<SeatEdits>,
+        last: LastResult,
         results_buffer: &mut Writer,
     ) -> Vec<u8>
-        requires { AreOfReply (in_progress_of self).slot (result_of (in_progress_of self) last)
-            (table_of table.old) edits }
+        requires { AreOfReply (in_progress_of self).slot
+            (result_of (in_progress_of self) last.status) (table_of table.old) last.edits }
         ensures reply { result.items ≡ framed (reply_text (in_progress_of self.entry).xid
-            (Success (result_of (in_progress_of self.entry) last))) }
+            (Success (result_of (in_progress_of self.entry) last.status))) }
         ensures kept { table_of table.new ≡ kept_by (in_progress_of self.entry).slot
-            (result_of (in_progress_of self.entry) last) (table_of table.old) }
+            (result_of (in_progress_of self.entry) last.status) (table_of table.old) }
     {
         let Running {
             xid,
@@ -67,12 +74,17 @@ impl Running<'_> {
             slot,
             ..
         } = progress;
-        let compound = result_of(last, tag, answered, results.as_slice());
+        let LastResult { status, edits } = last;
+        let compound = result_of(status, tag, answered, results.as_slice());
         let record = match write_reply(reply, xid, &Reply::Compound(compound)) {
             Ok(record) => record,
             Err(_) => unreachable!(),
         };
-        let left = keep_by(table, slot, &record[BEFORE_RESULT..], results, edits);
+        let kept = KeptResult {
+            bytes: &record[BEFORE_RESULT..],
+            edits,
+        };
+        let left = keep_by(table, slot, kept, results);
         give_back(left, results_buffer);
         record
     }
@@ -108,9 +120,8 @@ impl Running<'_> {
     /// The whole result, in memory of its own.
     #[tactic(auto, unfolding(crate::specs::Views::in_progress_of))]
     fn result(&self, last: Status) -> Result<Vec<u8>, Fault>
-        ensures ok { IfOk result (λ bytes.
+        ensures { OrMemory result (λ bytes.
             bytes.items ≡ result_of (in_progress_of self.now) last) }
-        ensures err { IfErr result (λ fault. fault ≡ Memory) }
     {
         let out = Writer::with_capacity(self.alloc, RESULT_BUFFER)?;
         let progress = &self.progress;
@@ -155,47 +166,48 @@ fn result_of<'a>(status: Status, tag: Tag<'a>, count: u32, results: &'a [u8]) ->
     }
 }
 
+/// The bytes of a result, and the edits of the seats where one holds it.
+#[derive(Drop)]
+struct KeptResult<'a> {
+    bytes: &'a [u8],
+    edits: Option<SeatEdits>,
+    ghost short: { length bytes.now ≤ RESULT_BUFFER },
+}
+
 /// Where a slot runs the COMPOUND it keeps the result, as `keep` says. What is left of the memory
 /// comes back.
 fn keep_by(
     table: &mut Table,
     slot: Option<SlotId>,
-    bytes: &[u8],
+    kept: KeptResult<'_>,
     memory: Writer,
-    edits: Option<SeatEdits>,
 ) -> Option<Vec<u8>>
     requires room { RESULT_BUFFER ≤ memory.capacity }
-    requires short { length bytes.now ≤ RESULT_BUFFER }
-    requires edits { AreOfReply (option_map slot_of slot) bytes.now (table_of table.old) edits }
-    ensures { table_of table.new ≡ kept_by (option_map slot_of slot) bytes.now
+    requires edits { AreOfReply (option_map slot_of slot) kept.bytes.now (table_of table.old)
+        kept.edits }
+    ensures { table_of table.new ≡ kept_by (option_map slot_of slot) kept.entry.bytes.now
         (table_of table.old) }
 {
     match slot {
-        Some(id) => keep(table, &id, bytes, memory, edits),
+        Some(id) => keep(table, &id, kept, memory),
         None => Some(memory.into_vec()),
     }
 }
 
-/// The slot keeps the bytes of a result, in this memory, and these edits are made of the seats
-/// where one holds it. The memory of the reply before comes back.
+/// The slot keeps the result, in this memory. The memory of the reply before comes back.
 #[tactic(auto, unfolding(model::specs::Sessions::Session::finish))]
-fn keep(
-    table: &mut Table,
-    id: &SlotId,
-    bytes: &[u8],
-    memory: Writer,
-    edits: Option<SeatEdits>,
-) -> Option<Vec<u8>>
+fn keep(table: &mut Table, id: &SlotId, kept: KeptResult<'_>, memory: Writer) -> Option<Vec<u8>>
     requires room { RESULT_BUFFER ≤ memory.capacity }
-    requires short { length bytes.now ≤ RESULT_BUFFER }
-    requires edits { AreOfReply (Some (slot_of id.now)) bytes.now (table_of table.old) edits }
+    requires edits { AreOfReply (Some (slot_of id.now)) kept.bytes.now (table_of table.old)
+        kept.edits }
     ensures { table_of table.new
-        ≡ finish id.now.session id.now.slot bytes.now (table_of table.old) }
+        ≡ finish id.now.session id.now.slot kept.entry.bytes.now (table_of table.old) }
 {
-    let kept = copied(bytes, memory);
+    let KeptResult { bytes, edits } = kept;
+    let bytes = copied(bytes, memory);
     match edits {
-        Some(edits) => table.finish_held(&id.session, id.slot, kept, edits),
-        None => table.finish(&id.session, id.slot, kept),
+        Some(edits) => table.finish_held(&id.session, id.slot, bytes, edits),
+        None => table.finish(&id.session, id.slot, bytes),
     }
 }
 

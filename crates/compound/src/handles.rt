@@ -4,10 +4,10 @@ ghost use Rattle.std.specs.Prelude.{◌≡◌};
 
 use crate::executed::{Effect, Executed};
 use crate::fault::Fault;
+use crate::reading::Reading;
 use crate::running::Running;
 use crate::tree::status_of;
 use disk::Device;
-use fs::Fs;
 use model_tree::node::ROOT;
 use model_tree::status::Status;
 use std::alloc::Global;
@@ -18,14 +18,11 @@ use xdr::Writer;
 impl Running<'_> {
     ghost use Rattle.std.specs.Prelude.{◌≡◌, true, false, IfOk, IfErr};
     ghost use Rattle.fs.specs.FileSystem.{FileSystem};
-    ghost use Rattle.fs.specs.Views.{fs_of};
     ghost use Rattle.model.specs.Operations.Context.{has_current, current_number, has_saved, saved_number};
     ghost use Rattle.model.specs.Operations.Operation as operations;
     ghost use Rattle.model_tree.specs.declared.status.Status.TheVariants as status;
     ghost use Rattle.compound.specs.Operates.{Reads};
-    ghost use Rattle.compound.specs.States.{CanServe};
     ghost use Rattle.compound.specs.Views.{in_progress_of};
-    ghost use Rattle.compound.specs.declared.fault.Fault.TheVariants.{Memory};
 
     /// PUTROOTFH (section 18.21): the root is the current node, whether it is there or not.
     pub(crate) fn put_root(&self) -> Executed
@@ -33,50 +30,6 @@ impl Running<'_> {
             → Reads files (in_progress_of self.now) operations.Argument.PutRootFh result }
     {
         self.settle(Answer::PutRootFh, Effect::Moves(ROOT))
-    }
-
-    /// PUTFH (section 18.19): the node that the filehandle names is the current one.
-    pub(crate) fn put_handle<D: Device>(&self, fs: &Fs<D>, handle: &[u8]) -> Executed
-        requires { (fs_of fs.now).volume.is_down ≡ false }
-        ensures { Reads (fs_of fs.now) (in_progress_of self.now)
-            (operations.Argument.PutFh handle.now) result }
-    {
-        match fs.put_handle(handle) {
-            Ok(number) => self.settle(Answer::PutFh, Effect::Moves(number)),
-            Err(fault) => self.refuse(Operation::PutFh, status_of(fault)),
-        }
-    }
-
-    /// GETFH (section 18.8).
-    pub(crate) fn get_handle<D: Device>(&self, fs: &Fs<D>) -> Result<Executed, Fault>
-        requires { CanServe (fs_of fs.now) (in_progress_of self.now) }
-        ensures gives { IfOk result (Reads (fs_of fs.now) (in_progress_of self.now)
-            operations.Argument.GetFh) }
-        ensures err { IfErr result (λ fault. fault ≡ Memory) }
-    {
-        let number = match self.current_node() {
-            Ok(number) => number,
-            Err(status) => return Ok(self.refuse(Operation::GetFh, status)),
-        };
-        match fs.handle(number) {
-            Ok(handle) => {
-                let values = spelled(self.alloc, &handle)?;
-                Ok(self.settle_spelled(Operation::GetFh, values))
-            }
-            Err(fault) => Ok(self.refuse(Operation::GetFh, status_of(fault))),
-        }
-    }
-
-    /// SAVEFH (section 18.28): the current node is the saved one too.
-    pub(crate) fn save_handle<D: Device>(&self, fs: &Fs<D>) -> Executed
-        requires { CanServe (fs_of fs.now) (in_progress_of self.now) }
-        ensures { Reads (fs_of fs.now) (in_progress_of self.now)
-            operations.Argument.SaveFh result }
-    {
-        match self.check_current(fs) {
-            Ok(()) => self.settle(Answer::SaveFh, Effect::Saves),
-            Err(status) => self.refuse(Operation::SaveFh, status),
-        }
     }
 
     /// RESTOREFH (section 18.27): the saved node is the current one too, whether it is there or
@@ -127,14 +80,57 @@ impl Running<'_> {
     }
 }
 
-ghost use Rattle.std.specs.Prelude.{IfOk, IfErr};
+#[tactic(auto, unfolding(crate::specs::Views::in_progress_of, model::specs::Server::World::outcome_text))]
+impl<D: Device> Reading<'_, '_, D> {
+    ghost use Rattle.model.specs.Operations.Operation as operations;
+    ghost use Rattle.compound.specs.Memory.{OrMemory};
+    ghost use Rattle.compound.specs.Readings.{ReadsAs};
+
+    /// PUTFH (section 18.19): the node that the filehandle names is the current one.
+    pub(crate) fn put_handle(&self, handle: &[u8]) -> Executed
+        ensures { ReadsAs self.now (operations.Argument.PutFh handle.now) result }
+    {
+        match self.fs.put_handle(handle) {
+            Ok(number) => self.running.settle(Answer::PutFh, Effect::Moves(number)),
+            Err(fault) => self.running.refuse(Operation::PutFh, status_of(fault)),
+        }
+    }
+
+    /// GETFH (section 18.8).
+    pub(crate) fn get_handle(&self) -> Result<Executed, Fault>
+        ensures { OrMemory result (ReadsAs self.now operations.Argument.GetFh) }
+    {
+        let running = self.running;
+        let number = match running.current_node() {
+            Ok(number) => number,
+            Err(status) => return Ok(running.refuse(Operation::GetFh, status)),
+        };
+        match self.fs.handle(number) {
+            Ok(handle) => {
+                let values = spelled(running.alloc, &handle)?;
+                Ok(running.settle_spelled(Operation::GetFh, values))
+            }
+            Err(fault) => Ok(running.refuse(Operation::GetFh, status_of(fault))),
+        }
+    }
+
+    /// SAVEFH (section 18.28): the current node is the saved one too.
+    pub(crate) fn save_handle(&self) -> Executed
+        ensures { ReadsAs self.now operations.Argument.SaveFh result }
+    {
+        match self.check_current() {
+            Ok(()) => self.running.settle(Answer::SaveFh, Effect::Saves),
+            Err(status) => self.running.refuse(Operation::SaveFh, status),
+        }
+    }
+}
+
 ghost use Rattle.xdr.specs.Forms.{counted};
-ghost use Rattle.compound.specs.declared.fault.Fault.TheVariants.{Memory};
+ghost use Rattle.compound.specs.Memory.{OrMemory};
 
 /// A filehandle as GETFH's result has it.
 fn spelled(alloc: Global, handle: &[u8; 8]) -> Result<Vec<u8>, Fault>
-    ensures ok { IfOk result (λ values. values.items ≡ counted handle.now) }
-    ensures err { IfErr result (λ fault. fault ≡ Memory) }
+    ensures { OrMemory result (λ values. values.items ≡ counted handle.now) }
 {
     let mut out = Writer::new(alloc);
     out.write_opaque(handle)?;

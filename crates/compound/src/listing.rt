@@ -1,19 +1,19 @@
 //! READDIR (RFC 8881, section 18.23).
 
-ghost use Rattle.std.specs.Prelude.{◌≡◌, All, IfOk, IfErr};
+ghost use Rattle.std.specs.Prelude.{◌≡◌, All};
 ghost use Rattle.fs.specs.Listing.{PageFits, list_arguments, page_view};
 ghost use Rattle.model.specs.Wire.WireAnswers.{read_dir_answer};
 ghost use Rattle.wire.specs.ArgumentViews.{read_dir_view};
 ghost use Rattle.wire_attributes.specs.Listed.{EntryFits};
 ghost use Rattle.xdr.specs.Clauses.{Wrote};
+ghost use Rattle.compound.specs.Memory.{OrMemory};
 ghost use Rattle.compound.specs.Pages.{chain_of, link_of, links_of};
-ghost use Rattle.compound.specs.declared.fault.Fault.TheVariants.{Memory};
 
 use crate::executed::Executed;
 use crate::fault::Fault;
-use crate::running::Running;
+use crate::reading::Reading;
 use disk::Device;
-use fs::{Fs, Listing, Page};
+use fs::{Listing, Page};
 use std::alloc::Global;
 use wire::{Operation, ReadDirArguments};
 use wire_attributes::ListedEntry;
@@ -22,38 +22,28 @@ use xdr::{Refusal, Writer};
 /// The room that is taken for a page: as many bytes as the largest one has.
 const PAGE_BYTES: usize = 8_192;
 
-impl Running<'_> {
-    ghost use Rattle.std.specs.Prelude.{◌≡◌, IfOk, IfErr};
-    ghost use Rattle.fs.specs.Views.{fs_of};
+impl<D: Device> Reading<'_, '_, D> {
     ghost use Rattle.model.specs.Operations.Operation as operations;
     ghost use Rattle.wire.specs.ArgumentViews.{read_dir_view};
-    ghost use Rattle.compound.specs.Operates.{OnlyReads, HasResult};
-    ghost use Rattle.compound.specs.States.{CanServe};
-    ghost use Rattle.compound.specs.Views.{in_progress_of};
-    ghost use Rattle.compound.specs.declared.fault.Fault.TheVariants.{Memory};
+    ghost use Rattle.compound.specs.Memory.{OrMemory};
+    ghost use Rattle.compound.specs.Readings.{ReadsAs};
 
     /// READDIR: a page of the current directory, of the entries after a cookie.
-    pub(crate) fn list<D: Device>(
-        &self,
-        fs: &Fs<D>,
-        arguments: &ReadDirArguments,
-    ) -> Result<Executed, Fault>
-        requires { CanServe (fs_of fs.now) (in_progress_of self.now) }
-        ensures gives { IfOk result (OnlyReads (fs_of fs.now) (in_progress_of self.now)
+    pub(crate) fn list(&self, arguments: &ReadDirArguments) -> Result<Executed, Fault>
+        ensures { OrMemory result (ReadsAs self.now
             (operations.Argument.ReadDir (read_dir_view arguments.now))) }
-        ensures answered { IfOk result (HasResult (in_progress_of self.now)) }
-        ensures err { IfErr result (λ fault. fault ≡ Memory) }
     {
-        let directory = match self.current_node() {
+        let running = self.running;
+        let directory = match running.current_node() {
             Ok(number) => number,
-            Err(status) => return Ok(self.refuse(Operation::ReadDir, status)),
+            Err(status) => return Ok(running.refuse(Operation::ReadDir, status)),
         };
-        match fs.list(self.cred, listing(directory, arguments)) {
+        match self.fs.list(running.cred, listing(directory, arguments)) {
             Ok(page) => {
-                let values = spelled(self.alloc, &page)?;
-                Ok(self.settle_spelled(Operation::ReadDir, values))
+                let values = spelled(running.alloc, &page)?;
+                Ok(running.settle_spelled(Operation::ReadDir, values))
             }
-            Err(fault) => self.tell_fault(Operation::ReadDir, fault),
+            Err(fault) => running.tell_fault(Operation::ReadDir, fault),
         }
     }
 }
@@ -76,9 +66,8 @@ fn listing(directory: u64, arguments: &ReadDirArguments) -> Listing<'_>
 /// The page as the result has it.
 fn spelled(alloc: Global, page: &Page<'_>) -> Result<Vec<u8>, Fault>
     requires { PageFits page.now }
-    ensures ok { IfOk result (λ values.
+    ensures { OrMemory result (λ values.
         values.items ≡ read_dir_answer.spelling (page_view page.now)) }
-    ensures err { IfErr result (λ fault. fault ≡ Memory) }
 {
     let mut out = Writer::with_capacity(alloc, PAGE_BYTES)?;
     write_page(&mut out, page)?;

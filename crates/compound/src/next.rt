@@ -36,7 +36,7 @@ pub(crate) enum Next<'a> {
 }
 
 impl Running<'_> {
-    ghost use Rattle.std.specs.Prelude.{◌≡◌, ◌≤◌, ℕ, ◌&&◌, not, List, length, drop, Ok, IfOk, IfErr};
+    ghost use Rattle.std.specs.Prelude.{◌≡◌, ◌≤◌, ℕ, ◌&&◌, not, List, length, drop, Ok, IfOk};
     ghost use Rattle.model.specs.Wire.Rpc.{is_empty};
     ghost use Rattle.model.specs.Server.Served.{looks_no_further};
     ghost use Rattle.wire.specs.ArgumentView.{argument_view};
@@ -45,8 +45,8 @@ impl Running<'_> {
     ghost use Rattle.model.specs.Server.World as world;
     ghost use Rattle.model.specs.Server.World.{next_operation, by_arguments, first_or, tests_of, is_last};
     ghost use Rattle.model.specs.Wire.WireArguments.{arguments_at};
+    ghost use Rattle.compound.specs.Memory.{OrMemory};
     ghost use Rattle.compound.specs.Views.{in_progress_of, asked_of, next_view, refused_or, IsWithin};
-    ghost use Rattle.compound.specs.declared.fault.Fault.TheVariants.{Memory};
 
     /// The next operation with its arguments, or why it is refused before it is run.
     ///
@@ -56,11 +56,10 @@ impl Running<'_> {
     /// bytes after the last operation, BADXDR.
     #[tactic(auto, unfolding(crate::specs::Views::in_progress_of, model::specs::Server::World::next_operation))]
     pub(crate) fn next_operation(&self, alloc: Global) -> Result<Next<'_>, Fault>
-        ensures ok { IfOk result (λ next.
+        ensures ok { OrMemory result (λ next.
             next_operation (in_progress_of self.now)
             ≡ next_view self.now.compound.operations.now next) }
         ensures within { IfOk result (IsWithin self.now.compound.operations.now) }
-        ensures err { IfErr result (λ fault. fault ≡ Memory) }
     {
         let start = Reader::new(&self.compound.operations[self.progress.position..]);
         let mut at = start.fork();
@@ -84,12 +83,11 @@ impl Running<'_> {
         start: Reader<'a>,
     ) -> Result<Next<'a>, Fault>
         requires { start ≡ (in_progress_of self.now).rest }
-        ensures ok { IfOk result (λ next. (bytes : List ℕ)
+        ensures ok { OrMemory result (λ next. (bytes : List ℕ)
             → number_at w32 start.entry ≡ Ok (number, bytes)
             → by_arguments (in_progress_of self.now) number (arguments_at number bytes)
             ≡ next_view self.now.compound.operations.now next) }
         ensures within { IfOk result (IsWithin self.now.compound.operations.now) }
-        ensures err { IfErr result (λ fault. fault ≡ Memory) }
     {
         let mut at = start;
         let argument = match Argument::read_numbered(alloc, &mut at) {

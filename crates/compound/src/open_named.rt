@@ -3,66 +3,57 @@
 ghost use Rattle.std.specs.Prelude.{◌≡◌, ◌≤◌, ◌<◌, ◌^◌, IsTrue, length};
 ghost use Rattle.fs.specs.Opening.{set_by, type_of};
 ghost use Rattle.model.specs.Operations.Open.{given_by, size_alone};
+ghost use Rattle.model.specs.Operations.Operation as operations;
 ghost use Rattle.wire_attributes.specs.Given.{given_of};
-ghost use Rattle.wire.specs.ArgumentViews.{open_type_view};
+ghost use Rattle.wire.specs.ArgumentViews.{open_type_view, opening_view};
 ghost use Rattle.wire.specs.SmallViews.{attributes_view};
 ghost use Rattle.xdr.specs.Forms.{is_trimmed};
 
+use crate::engine::Engine;
 use crate::executed::Executed;
 use crate::fault::Fault;
-use crate::opening::share_of;
+use crate::opening::{OpenDone, share_of};
 use crate::removing::change_info;
 use crate::running::Running;
 use crate::setting::was_set;
 use disk::Device;
-use fs::{Fs, How, OpenEffect, OpenRoom, Opening};
-use opens::Opens;
+use fs::{How, OpenEffect, OpenRoom, Opening};
 use wire::{Attributes, Bitmap, OpenArguments, OpenType, Operation};
 use wire_attributes::GivenAttributes;
 
 /// The attribute size, as a bitmap: all that a cut sets.
 const SIZE: u32 = 0x10;
 
+/// An OPEN of a file by its name.
+#[derive(Drop)]
+pub(crate) struct NamedOpen<'a> {
+    pub(crate) arguments: &'a OpenArguments<'a>,
+    pub(crate) how: &'a OpenType<'a>,
+    pub(crate) name: &'a [u8],
+    ghost opening: { opening_view arguments.now.opening
+        ≡ operations.Opens (open_type_view how.now) (operations.ByName name.now) },
+}
+
 impl Running<'_> {
-    ghost use Rattle.std.specs.Prelude.{◌≡◌, ◌≤◌, ◌^◌, ℕ, IfOk, OnErr};
+    ghost use Rattle.std.specs.Prelude.{◌≡◌, ◌≤◌, ◌^◌, ℕ};
     ghost use Rattle.fs.specs.Opening.{IsFileToOpen};
-    ghost use Rattle.fs.specs.Views.{fs_of, AltersFs};
     ghost use Rattle.model.specs.Operations.Operation as operations;
-    ghost use Rattle.model.specs.Sessions.Session.{Table};
-    ghost use Rattle.opens.specs.Views.{opens_of};
-    ghost use Rattle.wire.specs.ArgumentViews.{open_type_view, open_view, opening_view};
+    ghost use Rattle.wire.specs.ArgumentViews.{open_type_view, open_view};
     ghost use Rattle.compound.specs.Beside.{AsksFor, HasOpenRoom};
-    ghost use Rattle.compound.specs.Operates.{ChangesTreeAndOpens, HasResult};
-    ghost use Rattle.compound.specs.States.{CanServe, shared};
+    ghost use Rattle.compound.specs.Engines.{Changes, files_in};
+    ghost use Rattle.compound.specs.States.{CanServe};
     ghost use Rattle.compound.specs.Views.{in_progress_of};
-    ghost use Rattle.compound.specs.Volumes.{OperationGives, ending};
 
     /// OPEN of a file by its name. None is opened, made or cut where the reply has no room for the
     /// result.
     pub(crate) fn open_named<D: Device>(
         &self,
-        fs: &mut Fs<D>,
-        opens: &mut Opens,
-        now: u64,
-        arguments: &OpenArguments<'_>,
-        how: &OpenType<'_>,
-        name: &[u8],
+        engine: &mut Engine<'_, D>,
+        named: NamedOpen<'_>,
     ) -> Result<Executed, Fault>
-        requires ready { CanServe (fs_of fs.old) (in_progress_of self.now) }
-        requires opening { opening_view arguments.now.opening
-            ≡ operations.Opens (open_type_view how.now) (operations.ByName name.now) }
-        // What it answers
-        ensures gives { D.keeps_word → IfOk result
-            (ChangesTreeAndOpens (fs_of fs.old) (fs_of fs.new)
-            (opens_of opens.old) (opens_of opens.new) now (in_progress_of self.now)
-            (operations.Argument.Open (open_view arguments.now))) }
-        ensures answered { IfOk result (HasResult (in_progress_of self.now)) }
-        // Refused
-        ensures opens { OnErr result (opens_of opens.new ≡ opens_of opens.old) }
-        // In any case
-        ensures volume { (table : Table) → AltersFs fs.old fs.new (OperationGives
-            (shared (fs_of fs.old) table (opens_of opens.old)) (in_progress_of self.now) now
-            (operations.Argument.Open (open_view arguments.now))) (ending result) }
+        requires { CanServe (files_in engine.old) (in_progress_of self.now) }
+        ensures { Changes engine.old engine.new (in_progress_of self.now)
+            (operations.Argument.Open (open_view named.entry.arguments.now)) result }
     {
         let directory = match self.current_node() {
             Ok(number) => number,
@@ -70,21 +61,27 @@ impl Running<'_> {
         };
         let opening = Opening {
             directory,
-            name,
-            share: share_of(arguments),
-            how: how_of(how),
+            name: named.name,
+            share: share_of(named.arguments),
+            how: how_of(named.how),
         };
-        let Some(number) = fs.file_to_open(opening) else {
-            return self.refuse_last_open(fs, opens, now, arguments, how, opening);
+        let Some(number) = engine.fs.file_to_open(opening) else {
+            return self.refuse_last_open(engine, named, opening);
         };
-        let asked = self.asked_open(arguments, number)?;
-        opens.reserve()?;
-        let is_full = opens.is_full(fs.limits().opens, &asked);
-        let room = self.open_room(how);
-        match fs.open_file(self.cred, now, opening, is_full, room) {
+        let asked = self.asked_open(named.arguments, number)?;
+        engine.opens.reserve()?;
+        let is_full = engine.opens.is_full(engine.fs.limits().opens, &asked);
+        let room = self.open_room(named.how);
+        match engine
+            .fs
+            .open_file(self.cred, engine.moment, opening, is_full, room)
+        {
             Ok(made) => {
-                let change = change_info(made.directory.before, made.directory.after);
-                Ok(self.give_open(opens, asked, change, set_by(made.effect, how)))
+                let done = OpenDone {
+                    change: change_info(made.directory.before, made.directory.after),
+                    was_set: set_by(made.effect, named.how),
+                };
+                Ok(self.give_open(engine.opens, asked, done))
             }
             Err(fault) => self.tell_fault(Operation::Open, fault),
         }
@@ -95,32 +92,24 @@ impl Running<'_> {
     /// 65 bits, so it joins no other open.
     fn refuse_last_open<D: Device>(
         &self,
-        fs: &mut Fs<D>,
-        opens: &Opens,
-        now: u64,
-        arguments: &OpenArguments<'_>,
-        how: &OpenType<'_>,
+        engine: &mut Engine<'_, D>,
+        named: NamedOpen<'_>,
         opening: Opening<'_>,
     ) -> Result<Executed, Fault>
-        requires ready { CanServe (fs_of fs.old) (in_progress_of self.now) }
-        requires asked { AsksFor (in_progress_of self.now) (open_view arguments.now)
-            (open_type_view how.now) opening }
+        requires ready { CanServe (files_in engine.old) (in_progress_of self.now) }
+        requires asked { AsksFor (in_progress_of self.now) (open_view named.arguments.now)
+            (open_type_view named.how.now) opening }
         requires high { (number : ℕ) × (2 ^ 64 ≤ number)
-            × IsFileToOpen (fs_of fs.old) opening number }
-        // What it answers
-        ensures gives { D.keeps_word → IfOk result
-            (ChangesTreeAndOpens (fs_of fs.old) (fs_of fs.new)
-            (opens_of opens.now) (opens_of opens.now) now (in_progress_of self.now)
-            (operations.Argument.Open (open_view arguments.now))) }
-        ensures answered { IfOk result (HasResult (in_progress_of self.now)) }
-        // In any case
-        ensures volume { (table : Table) → AltersFs fs.old fs.new (OperationGives
-            (shared (fs_of fs.old) table (opens_of opens.now)) (in_progress_of self.now) now
-            (operations.Argument.Open (open_view arguments.now))) (ending result) }
+            × IsFileToOpen (files_in engine.old) opening number }
+        ensures { Changes engine.old engine.new (in_progress_of self.now)
+            (operations.Argument.Open (open_view named.entry.arguments.now)) result }
     {
-        let is_full = opens.has_no_room(fs.limits().opens);
-        let room = self.open_room(how);
-        match fs.open_file(self.cred, now, opening, is_full, room) {
+        let is_full = engine.opens.has_no_room(engine.fs.limits().opens);
+        let room = self.open_room(named.how);
+        match engine
+            .fs
+            .open_file(self.cred, engine.moment, opening, is_full, room)
+        {
             // the file that is made would have such a number
             Ok(made) => {
                 tell_64_bits(made.number);

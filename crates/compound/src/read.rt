@@ -1,18 +1,18 @@
 //! READ (RFC 8881, section 18.22).
 
-ghost use Rattle.std.specs.Prelude.{◌≡◌, ◌≤◌, ◌<◌, ◌^◌, ◌++◌, List, ℕ, length, drop, replicate, IfOk, IfErr, OnOk};
+ghost use Rattle.std.specs.Prelude.{◌≡◌, ◌≤◌, ◌<◌, ◌^◌, ◌++◌, List, ℕ, length, drop, replicate};
 ghost use Rattle.std.specs.Int.{w32};
 ghost use Rattle.model.specs.Wire.WireAnswers.{read_answer};
 ghost use Rattle.xdr.specs.Forms.{code_of, padding};
 ghost use Rattle.xdr.specs.Grammar.{number};
-ghost use Rattle.compound.specs.declared.fault.Fault.TheVariants.{Memory};
+ghost use Rattle.compound.specs.Memory.{OrMemory};
 
+use crate::engine::Engine;
 use crate::executed::Executed;
 use crate::fault::Fault;
 use crate::running::Running;
 use disk::Device;
-use fs::Fs;
-use opens::{Access, Opens};
+use opens::Access;
 use std::alloc::Global;
 use wire::{Operation, ReadArguments};
 
@@ -27,43 +27,33 @@ const PART_BYTES: usize = 8_192;
 const MAX_PAD: usize = 3;
 
 impl Running<'_> {
-    ghost use Rattle.std.specs.Prelude.{ℕ, IfOk};
-    ghost use Rattle.fs.specs.Views.{fs_of, AltersFs};
     ghost use Rattle.model.specs.Operations.Operation as operations;
-    ghost use Rattle.model.specs.Sessions.Session.{Table};
-    ghost use Rattle.opens.specs.Views.{opens_of};
     ghost use Rattle.wire.specs.ArgumentViews.{read_view};
-    ghost use Rattle.compound.specs.Operates.{ChangesTreeAndOpens, HasResult};
-    ghost use Rattle.compound.specs.States.{CanServe, shared};
+    ghost use Rattle.compound.specs.Engines.{Changes, files_in};
+    ghost use Rattle.compound.specs.States.{CanServe};
     ghost use Rattle.compound.specs.Views.{in_progress_of};
-    ghost use Rattle.compound.specs.Volumes.{OperationGives, ending};
 
     /// READ: bytes of the current file. They are put where the result has them, and copied no more.
     pub(crate) fn read<D: Device>(
         &self,
-        fs: &mut Fs<D>,
-        opens: &Opens,
+        engine: &mut Engine<'_, D>,
         arguments: &ReadArguments,
     ) -> Result<Executed, Fault>
-        requires { CanServe (fs_of fs.old) (in_progress_of self.now) }
-        // What it answers
-        ensures gives { (now : ℕ) → D.keeps_word → IfOk result (ChangesTreeAndOpens (fs_of fs.old)
-            (fs_of fs.new) (opens_of opens.now) (opens_of opens.now) now (in_progress_of self.now)
-            (operations.Argument.Read (read_view arguments.now))) }
-        ensures answered { IfOk result (HasResult (in_progress_of self.now)) }
-        // In any case
-        ensures volume { (now : ℕ) (table : Table) → AltersFs fs.old fs.new (OperationGives
-            (shared (fs_of fs.old) table (opens_of opens.now)) (in_progress_of self.now) now
-            (operations.Argument.Read (read_view arguments.now))) (ending result) }
+        requires { CanServe (files_in engine.old) (in_progress_of self.now) }
+        ensures { Changes engine.old engine.new (in_progress_of self.now)
+            (operations.Argument.Read (read_view arguments.now)) result }
     {
         let number = match self.current_node() {
             Ok(number) => number,
             Err(status) => return Ok(self.refuse(Operation::Read, status)),
         };
-        let verdict = self.verdict(opens, &arguments.state, Access::READ);
+        let verdict = self.verdict(engine.opens, &arguments.state, Access::READ);
         let ReadArguments { offset, count, .. } = *arguments;
         let mut values = room_for(self.alloc, count)?;
-        match fs.read(self.cred, number, verdict, offset, count, &mut values) {
+        match engine
+            .fs
+            .read(self.cred, number, verdict, offset, count, &mut values)
+        {
             Ok(is_end) => {
                 finish(&mut values, is_end)?;
                 Ok(self.settle_spelled(Operation::Read, values))
@@ -76,8 +66,7 @@ impl Running<'_> {
 /// Memory for the values of a READ, with zeros in place of what stands before the bytes.
 fn room_for(alloc: Global, count: u32) -> Result<Vec<u8>, Fault>
     ensures count { count < 2 ^ 32 }
-    ensures ok { IfOk result (λ values. length values.items ≡ 8) }
-    ensures err { IfErr result (λ fault. fault ≡ Memory) }
+    ensures values { OrMemory result (λ values. length values.items ≡ 8) }
 {
     let most = (count as usize).min(PART_BYTES);
     let mut values = Vec::with_capacity(alloc, FRONT + most + MAX_PAD)?;
@@ -87,10 +76,9 @@ fn room_for(alloc: Global, count: u32) -> Result<Vec<u8>, Fault>
 
 /// Writes what stands before the bytes of the file, and the zeros after them.
 fn finish(values: &mut Vec<u8>, is_end: bool) -> Result<(), Fault>
-    ensures ok { OnOk result ((front part : List ℕ) → values.old.items ≡ front ++ part
+    ensures { OrMemory result (λ _. (front part : List ℕ) → values.old.items ≡ front ++ part
         → length front ≡ 8 → length part < 2 ^ 32
         → values.new.items ≡ read_answer.spelling (record { is_end = is_end; data_bytes = part })) }
-    ensures err { IfErr result (λ fault. fault ≡ Memory) }
 {
     let len = values.len().saturating_sub(FRONT);
     let front = front_of(is_end, len.min(u32::MAX as usize) as u32);
@@ -120,9 +108,8 @@ fn put_front(values: &mut [u8], front: &[u8; 8])
 
 /// Zeros after this many bytes.
 fn pad(values: &mut Vec<u8>, len: usize) -> Result<(), Fault>
-    ensures ok { OnOk result (values.new.items
+    ensures { OrMemory result (λ _. values.new.items
         ≡ values.old.items ++ replicate (padding len) 0) }
-    ensures err { IfErr result (λ fault. fault ≡ Memory) }
 {
     let count = (4 - len % 4) % 4;
     values.extend_from_slice(&[0; MAX_PAD][..count])?;

@@ -5,60 +5,46 @@ ghost use Rattle.wire.specs.SmallViews.{change_view};
 ghost use Rattle.compound.specs.Operates.{IsShortOutcome};
 ghost use Rattle.compound.specs.Trees.{change_answer, removed_answer};
 
+use crate::engine::Engine;
 use crate::executed::{Effect, Executed};
 use crate::fault::Fault;
 use crate::results::MAX_REPLY_BYTES;
 use crate::running::Running;
 use disk::Device;
-use fs::Fs;
-use opens::Opens;
 use wire::{Answer, ChangeInfo, Operation, Outcome};
 
 impl Running<'_> {
-    ghost use Rattle.std.specs.Prelude.{◌≡◌, nat_le, length, IfOk, OnErr};
-    ghost use Rattle.fs.specs.Views.{fs_of, AltersFs};
+    ghost use Rattle.std.specs.Prelude.{◌≡◌, nat_le, length};
     ghost use Rattle.model.specs.Operations.Answer.{Done};
     ghost use Rattle.model.specs.Operations.Operation as operations;
-    ghost use Rattle.model.specs.Sessions.Session.{Table};
     ghost use Rattle.model.specs.Server.World.{reply_with};
-    ghost use Rattle.compound.specs.Operates.{ChangesTreeAndOpens, HasResult};
-    ghost use Rattle.opens.specs.Views.{opens_of};
-    ghost use Rattle.compound.specs.States.{CanServe, shared};
+    ghost use Rattle.compound.specs.Engines.{Changes, files_in};
+    ghost use Rattle.compound.specs.States.{CanServe};
     ghost use Rattle.compound.specs.Trees.{removed_answer};
     ghost use Rattle.compound.specs.Views.{in_progress_of};
-    ghost use Rattle.compound.specs.Volumes.{OperationGives, ending};
 
     /// REMOVE: the name is gone, and the node that it led to with its opens. Nothing is removed
     /// where the reply has no room for the result.
     pub(crate) fn remove<D: Device>(
         &self,
-        fs: &mut Fs<D>,
-        opens: &mut Opens,
-        now: u64,
+        engine: &mut Engine<'_, D>,
         name: &[u8],
     ) -> Result<Executed, Fault>
-        requires { CanServe (fs_of fs.old) (in_progress_of self.now) }
-        // What it answers
-        ensures gives { D.keeps_word → IfOk result
-            (ChangesTreeAndOpens (fs_of fs.old) (fs_of fs.new)
-            (opens_of opens.old) (opens_of opens.new) now (in_progress_of self.now)
-            (operations.Argument.Remove name.now)) }
-        ensures answered { IfOk result (HasResult (in_progress_of self.now)) }
-        // Refused
-        ensures opens { OnErr result (opens_of opens.new ≡ opens_of opens.old) }
-        // In any case
-        ensures volume { (table : Table) → AltersFs fs.old fs.new (OperationGives
-            (shared (fs_of fs.old) table (opens_of opens.old)) (in_progress_of self.now) now
-            (operations.Argument.Remove name.now)) (ending result) }
+        requires { CanServe (files_in engine.old) (in_progress_of self.now) }
+        ensures { Changes engine.old engine.new (in_progress_of self.now)
+            (operations.Argument.Remove name.now) result }
     {
         let directory = match self.current_node() {
             Ok(number) => number,
             Err(status) => return Ok(self.refuse(Operation::Remove, status)),
         };
         let has_room = self.has_removed_room();
-        match fs.remove(self.cred, now, directory, name, has_room) {
+        match engine
+            .fs
+            .remove(self.cred, engine.moment, directory, name, has_room)
+        {
             Ok(gone) => {
-                opens.remove_file(gone.number);
+                engine.opens.remove_file(gone.number);
                 Ok(Executed::Gives {
                     outcome: removed(gone.before, gone.after),
                     effect: Effect::Stays,

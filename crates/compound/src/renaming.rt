@@ -6,13 +6,15 @@ ghost use Rattle.opens.specs.Views.{opens_of};
 ghost use Rattle.compound.specs.Operates.{IsShortOutcome};
 ghost use Rattle.compound.specs.Trees.{renamed_answer};
 
+use crate::engine::Engine;
 use crate::executed::{Effect, Executed};
 use crate::fault::Fault;
+use crate::reading::Reading;
 use crate::removing::change_info;
 use crate::results::MAX_REPLY_BYTES;
 use crate::running::Running;
 use disk::Device;
-use fs::{Change, Fs, Renaming};
+use fs::{Change, Renaming};
 use model_tree::status::Status;
 use opens::Opens;
 use wire::{Answer, Operation, Outcome, RenameAnswer, RenameArguments};
@@ -23,46 +25,54 @@ const NO_CHANGE: Change = Change {
     after: 0,
 };
 
+impl<D: Device> Reading<'_, '_, D> {
+    ghost use Rattle.std.specs.Prelude.{IfOk, IfErr};
+    ghost use Rattle.wire.specs.Short.{IsRefusal};
+    ghost use Rattle.compound.specs.Readings.{files_read, request_read};
+    ghost use Rattle.compound.specs.Trees.{AreBoth, RefusesRename};
+
+    /// The numbers of the saved node and of the current one.
+    ///
+    /// # Errors
+    /// The first of these that holds: NOFILEHANDLE where none is current, STALE where the current
+    /// one is gone, and NOFILEHANDLE where none is saved.
+    fn both_nodes(&self) -> Result<(u64, u64), Status>
+        ensures ok { IfOk result (AreBoth (request_read self.now).context) }
+        ensures err { IfErr result (RefusesRename (files_read self.now) (request_read self.now)) }
+        ensures refused { IfErr result IsRefusal }
+    {
+        self.check_current()?;
+        Ok((self.running.saved_node()?, self.running.current_node()?))
+    }
+}
+
 impl Running<'_> {
-    ghost use Rattle.std.specs.Prelude.{◌≡◌, nat_le, length, IfOk, IfErr, OnErr};
-    ghost use Rattle.fs.specs.Views.{fs_of, AltersFs};
+    ghost use Rattle.std.specs.Prelude.{◌≡◌, nat_le, length};
     ghost use Rattle.model.specs.Operations.Answer.{Done};
     ghost use Rattle.model.specs.Operations.Operation as operations;
-    ghost use Rattle.model.specs.Sessions.Session.{Table};
     ghost use Rattle.model.specs.Server.World.{reply_with};
     ghost use Rattle.wire.specs.ArgumentViews.{rename_view};
-    ghost use Rattle.wire.specs.Short.{IsRefusal};
-    ghost use Rattle.compound.specs.Operates.{ChangesTreeAndOpens, HasResult};
-    ghost use Rattle.opens.specs.Views.{opens_of};
-    ghost use Rattle.compound.specs.States.{CanServe, shared};
-    ghost use Rattle.compound.specs.Trees.{AreBoth, RefusesRename, no_change, renamed_answer};
+    ghost use Rattle.compound.specs.Engines.{Changes, files_in};
+    ghost use Rattle.compound.specs.States.{CanServe};
+    ghost use Rattle.compound.specs.Trees.{no_change, renamed_answer};
     ghost use Rattle.compound.specs.Views.{in_progress_of};
-    ghost use Rattle.compound.specs.Volumes.{OperationGives, ending};
 
     /// RENAME of a name in the saved directory to one in the current directory. Nothing is renamed
     /// where the reply has no room for the result.
     pub(crate) fn rename<D: Device>(
         &self,
-        fs: &mut Fs<D>,
-        opens: &mut Opens,
-        now: u64,
+        engine: &mut Engine<'_, D>,
         arguments: &RenameArguments<'_>,
     ) -> Result<Executed, Fault>
-        requires { CanServe (fs_of fs.old) (in_progress_of self.now) }
-        // What it answers
-        ensures gives { D.keeps_word → IfOk result
-            (ChangesTreeAndOpens (fs_of fs.old) (fs_of fs.new)
-            (opens_of opens.old) (opens_of opens.new) now (in_progress_of self.now)
-            (operations.Argument.Rename (rename_view arguments.now))) }
-        ensures answered { IfOk result (HasResult (in_progress_of self.now)) }
-        // Refused
-        ensures opens { OnErr result (opens_of opens.new ≡ opens_of opens.old) }
-        // In any case
-        ensures volume { (table : Table) → AltersFs fs.old fs.new (OperationGives
-            (shared (fs_of fs.old) table (opens_of opens.old)) (in_progress_of self.now) now
-            (operations.Argument.Rename (rename_view arguments.now))) (ending result) }
+        requires { CanServe (files_in engine.old) (in_progress_of self.now) }
+        ensures { Changes engine.old engine.new (in_progress_of self.now)
+            (operations.Argument.Rename (rename_view arguments.now)) result }
     {
-        let (from, to) = match self.both_nodes(fs) {
+        let reading = Reading {
+            running: self,
+            fs: engine.fs,
+        };
+        let (from, to) = match reading.both_nodes() {
             Ok(numbers) => numbers,
             Err(status) => return Ok(self.refuse(Operation::Rename, status)),
         };
@@ -73,9 +83,9 @@ impl Running<'_> {
             to,
             new_name: arguments.new_name,
         };
-        match fs.rename(self.cred, now, asked, has_room) {
+        match engine.fs.rename(self.cred, engine.moment, asked, has_room) {
             Ok(made) => {
-                end_replaced(opens, asked, made.replaced);
+                end_replaced(engine.opens, asked, made.replaced);
                 Ok(Executed::Gives {
                     outcome: renamed(made.source, made.target),
                     effect: Effect::Stays,
@@ -83,21 +93,6 @@ impl Running<'_> {
             }
             Err(fault) => self.tell_fault(Operation::Rename, fault),
         }
-    }
-
-    /// The numbers of the saved node and of the current one.
-    ///
-    /// # Errors
-    /// The first of these that holds: NOFILEHANDLE where none is current, STALE where the current
-    /// one is gone, and NOFILEHANDLE where none is saved.
-    fn both_nodes<D: Device>(&self, fs: &Fs<D>) -> Result<(u64, u64), Status>
-        requires { CanServe (fs_of fs.now) (in_progress_of self.now) }
-        ensures ok { IfOk result (AreBoth (in_progress_of self.now).context) }
-        ensures err { IfErr result (RefusesRename (fs_of fs.now) (in_progress_of self.now)) }
-        ensures refused { IfErr result IsRefusal }
-    {
-        self.check_current(fs)?;
-        Ok((self.saved_node()?, self.current_node()?))
     }
 
     /// Whether the reply has room for the result of a RENAME. The change values do not matter.

@@ -2,19 +2,17 @@
 
 use crate::executed::{Effect, Executed};
 use crate::progress::SlotId;
+use crate::reading::Reading;
 use crate::results::MAX_REPLY_BYTES;
 use crate::running::Running;
 use disk::Device;
-use fs::Fs;
 use model_tree::status::Status;
 use session::{Begun, Table};
 use wire::{Answer, Operation, Outcome, SequenceArguments};
 
 #[tactic(auto, unfolding(crate::specs::Views::in_progress_of, model::specs::Server::World::outcome_text))]
 impl Running<'_> {
-    ghost use Rattle.std.specs.Prelude.{◌≡◌, ◌<◌, ◌^◌, ℕ, true, false, nat_le, length, None};
-    ghost use Rattle.fs.specs.Views.{fs_of};
-    ghost use Rattle.model.specs.Sessions.Opens.{Opens};
+    ghost use Rattle.std.specs.Prelude.{◌≡◌, ◌<◌, ◌^◌, false, nat_le, length, None};
     ghost use Rattle.model.specs.Operations.Operation as operations;
     ghost use Rattle.model.specs.Operations.Answer.{Done, ReclaimComplete as Reclaimed};
     ghost use Rattle.model.specs.Sessions.Session.{reclaim_complete};
@@ -22,8 +20,7 @@ impl Running<'_> {
     ghost use Rattle.model.specs.Server.World.{reply_with, outcome_text};
     ghost use Rattle.session.specs.Views.{table_of};
     ghost use Rattle.wire.specs.ArgumentViews.{sequence_view};
-    ghost use Rattle.compound.specs.Operates.{Operates, Reads, ChangesTable, HasResult, IsAnswered};
-    ghost use Rattle.compound.specs.States.{CanServe, shared};
+    ghost use Rattle.compound.specs.Operates.{ChangesTable, HasResult, IsAnswered};
     ghost use Rattle.compound.specs.Views.{in_progress_of};
 
     /// SEQUENCE. Where a slot runs the COMPOUND, its client is the session's from then on.
@@ -44,22 +41,6 @@ impl Running<'_> {
             }
             Ok(Begun::Replays) => Executed::Replays(slot),
             Err(status) => self.refuse(Operation::Sequence, status),
-        }
-    }
-
-    /// RECLAIM_COMPLETE.
-    pub(crate) fn reclaim<D: Device>(&self, fs: &Fs<D>, table: &mut Table, one_fs: bool) -> Executed
-        requires { CanServe (fs_of fs.now) (in_progress_of self.now) }
-        ensures gives { (now : ℕ) (opens : Opens)
-            → Operates now (shared (fs_of fs.now) (table_of table.old) opens)
-            (shared (fs_of fs.now) (table_of table.new) opens) (in_progress_of self.now)
-            (operations.Argument.ReclaimComplete one_fs) result }
-        ensures answered { HasResult (in_progress_of self.now) result }
-    {
-        if one_fs {
-            self.reclaim_one(fs)
-        } else {
-            self.reclaim_all(table)
         }
     }
 
@@ -106,16 +87,40 @@ impl Running<'_> {
     {
         self.has_room(&Outcome::short(Answer::ReclaimComplete))
     }
+}
+
+#[tactic(auto, unfolding(crate::specs::Views::in_progress_of, model::specs::Server::World::outcome_text))]
+impl<D: Device> Reading<'_, '_, D> {
+    ghost use Rattle.std.specs.Prelude.{ℕ, true};
+    ghost use Rattle.model.specs.Operations.Operation as operations;
+    ghost use Rattle.model.specs.Sessions.Opens.{Opens};
+    ghost use Rattle.session.specs.Views.{table_of};
+    ghost use Rattle.compound.specs.Operates.{Operates, HasResult};
+    ghost use Rattle.compound.specs.Readings.{ReadsAs, files_read, request_read};
+    ghost use Rattle.compound.specs.States.{shared};
+
+    /// RECLAIM_COMPLETE.
+    pub(crate) fn reclaim(&self, table: &mut Table, one_fs: bool) -> Executed
+        ensures gives { (now : ℕ) (opens : Opens)
+            → Operates now (shared (files_read self.now) (table_of table.old) opens)
+            (shared (files_read self.now) (table_of table.new) opens) (request_read self.now)
+            (operations.Argument.ReclaimComplete one_fs) result }
+        ensures answered { HasResult (request_read self.now) result }
+    {
+        if one_fs {
+            self.reclaim_one()
+        } else {
+            self.running.reclaim_all(table)
+        }
+    }
 
     /// RECLAIM_COMPLETE for the file system of the current filehandle: it is answered each time.
-    fn reclaim_one<D: Device>(&self, fs: &Fs<D>) -> Executed
-        requires { CanServe (fs_of fs.now) (in_progress_of self.now) }
-        ensures { Reads (fs_of fs.now) (in_progress_of self.now)
-            (operations.Argument.ReclaimComplete true) result }
+    fn reclaim_one(&self) -> Executed
+        ensures { ReadsAs self.now (operations.Argument.ReclaimComplete true) result }
     {
-        match self.check_current(fs) {
-            Ok(()) => self.settle(Answer::ReclaimComplete, Effect::Stays),
-            Err(status) => self.refuse(Operation::ReclaimComplete, status),
+        match self.check_current() {
+            Ok(()) => self.running.settle(Answer::ReclaimComplete, Effect::Stays),
+            Err(status) => self.running.refuse(Operation::ReclaimComplete, status),
         }
     }
 }

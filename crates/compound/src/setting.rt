@@ -6,58 +6,45 @@ ghost use Rattle.model.specs.Operations.Answer.{Answer as Answered};
 ghost use Rattle.model.specs.Attributes.Attribute.{trimmed};
 ghost use Rattle.compound.specs.Operates.{IsShortOutcome};
 
+use crate::engine::Engine;
 use crate::executed::{Effect, Executed};
 use crate::fault::Fault;
 use crate::removing::change_info;
 use crate::results::MAX_REPLY_BYTES;
 use crate::running::Running;
 use disk::Device;
-use fs::{Fs, Setting};
-use opens::{Access, Opens};
+use fs::Setting;
+use opens::Access;
 use wire::{Answer, Bitmap, CreateAnswer, Operation, Outcome, SetAttrArguments};
 use wire_attributes::GivenAttributes;
 
 impl Running<'_> {
-    ghost use Rattle.std.specs.Prelude.{◌≡◌, nat_le, length, IfOk};
-    ghost use Rattle.fs.specs.Views.{fs_of, AltersFs};
+    ghost use Rattle.std.specs.Prelude.{◌≡◌, nat_le, length};
     ghost use Rattle.model.specs.Operations.Answer.{Answer as Answered, Done};
     ghost use Rattle.model.specs.Attributes.Attribute.{trimmed};
     ghost use Rattle.model.specs.Operations.Operation as operations;
-    ghost use Rattle.model.specs.Sessions.Session.{Table};
     ghost use Rattle.model.specs.Server.World.{reply_with};
-    ghost use Rattle.opens.specs.Views.{opens_of};
     ghost use Rattle.wire.specs.ArgumentViews.{set_attr_view};
-    ghost use Rattle.compound.specs.Operates.{ChangesTreeAndOpens, HasResult};
-    ghost use Rattle.compound.specs.States.{CanServe, shared};
+    ghost use Rattle.compound.specs.Engines.{Changes, files_in};
+    ghost use Rattle.compound.specs.States.{CanServe};
     ghost use Rattle.compound.specs.Views.{in_progress_of};
-    ghost use Rattle.compound.specs.Volumes.{OperationGives, ending};
 
     /// SETATTR: nothing is set where the reply has no room for the result.
     pub(crate) fn set_attributes<D: Device>(
         &self,
-        fs: &mut Fs<D>,
-        opens: &Opens,
-        now: u64,
+        engine: &mut Engine<'_, D>,
         arguments: &SetAttrArguments<'_>,
     ) -> Result<Executed, Fault>
-        requires { CanServe (fs_of fs.old) (in_progress_of self.now) }
-        // What it answers
-        ensures gives { D.keeps_word → IfOk result
-            (ChangesTreeAndOpens (fs_of fs.old) (fs_of fs.new)
-            (opens_of opens.now) (opens_of opens.now) now (in_progress_of self.now)
-            (operations.Argument.SetAttr (set_attr_view arguments.now))) }
-        ensures answered { IfOk result (HasResult (in_progress_of self.now)) }
-        // In any case
-        ensures volume { (table : Table) → AltersFs fs.old fs.new (OperationGives
-            (shared (fs_of fs.old) table (opens_of opens.now)) (in_progress_of self.now) now
-            (operations.Argument.SetAttr (set_attr_view arguments.now))) (ending result) }
+        requires { CanServe (files_in engine.old) (in_progress_of self.now) }
+        ensures { Changes engine.old engine.new (in_progress_of self.now)
+            (operations.Argument.SetAttr (set_attr_view arguments.now)) result }
     {
         let number = match self.current_node() {
             Ok(number) => number,
             Err(status) => return Ok(self.refuse(Operation::SetAttr, status)),
         };
         let has_room = self.has_set_room(&arguments.attributes.bitmap);
-        let verdict = self.verdict(opens, &arguments.state, Access::WRITE);
+        let verdict = self.verdict(engine.opens, &arguments.state, Access::WRITE);
         let asked = Setting {
             number,
             verdict,
@@ -66,7 +53,10 @@ impl Running<'_> {
                 values: arguments.attributes.values,
             },
         };
-        match fs.set_attributes(self.cred, now, asked, has_room) {
+        match engine
+            .fs
+            .set_attributes(self.cred, engine.moment, asked, has_room)
+        {
             Ok(()) => Ok(Executed::Gives {
                 outcome: attributes_set(&arguments.attributes.bitmap),
                 effect: Effect::Stays,

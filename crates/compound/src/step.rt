@@ -7,6 +7,8 @@ ghost use Rattle.compound.specs.declared.executed.Effect.TheVariants as effect;
 ghost use Rattle.compound.specs.declared.executed.Executed.TheVariants as execution;
 
 use crate::encoded_result::EncodedResult;
+use crate::end::LastResult;
+use crate::engine::Engine;
 use crate::executed::{Effect, Executed};
 use crate::fault::Fault;
 use crate::next::Next;
@@ -40,21 +42,21 @@ pub struct StepError {
 }
 
 impl Running<'_> {
-    ghost use Rattle.std.specs.Prelude.{◌≡◌, ◌≤◌, ℕ, false, None, Some, length, drop, IfOk, IfErr, OnErr};
+    ghost use Rattle.std.specs.Prelude.{◌≡◌, ◌≤◌, false, None, Some, length, drop, IfOk, IfErr, OnErr};
     ghost use Rattle.fs.specs.Views.{fs_of, AltersFs};
     ghost use Rattle.opens.specs.Views.{opens_of};
     ghost use Rattle.session.specs.Views.{table_of};
     ghost use Rattle.model.specs.Operations.Answer as model;
-    ghost use Rattle.model.specs.Sessions.Opens.{Opens as Known};
     ghost use Rattle.model.specs.Server.World.{is_to_hold};
-    ghost use Rattle.compound.specs.Operates.{IsAnswered, IsReplyKept, left_by_effect};
-    ghost use Rattle.compound.specs.States.{Agrees, CanSeat, shared, shared_of};
+    ghost use Rattle.compound.specs.Engines.{BorrowsSame, Steps, files_in, state_in};
+    ghost use Rattle.compound.specs.Operates.{left_by_effect};
+    ghost use Rattle.compound.specs.States.{Agrees, CanSeat, shared_of};
     ghost use Rattle.compound.specs.Steps.{CanRun, RequestSteps, RequestGoesOn, stepped_on};
     ghost use Rattle.compound.specs.EncodedResult.{CanBeTold, Tells, with_last};
-    ghost use Rattle.compound.specs.Turns.{TurnsExecuted, ResultLeaves};
+    ghost use Rattle.compound.specs.Nexts.{RunsNext};
+    ghost use Rattle.compound.specs.Turns.{ResultLeaves};
     ghost use Rattle.compound.specs.Views.{in_progress_of, asked_of};
-    ghost use Rattle.compound.specs.Volumes.{TurnGives, ending, undone_step_ending};
-    ghost use Rattle.compound.specs.declared.step.Stepped.TheVariants as stepped;
+    ghost use Rattle.compound.specs.Volumes.{TurnGives, undone_step_ending};
 
     /// Reads the next operation, tests it and runs it, at this moment in nanoseconds since 1970. A
     /// change is kept on the device before its result is there. Once the last result is there and a
@@ -93,39 +95,30 @@ impl Running<'_> {
             (λ world number. stepped_on world number now (in_progress_of self.entry)))
             (undone_step_ending result) }
     {
+        let mut engine = Engine {
+            fs,
+            table,
+            opens,
+            moment: now,
+        };
         match self.progress.ended {
-            Some(last) => Ok(Stepped::Answered(self.store(fs, table, last, results_buffer)?)),
-            None => self.run(fs, table, opens, now, results_buffer),
+            Some(last) => self.store(&mut engine, last, results_buffer),
+            None => self.run(&mut engine, results_buffer),
         }
     }
 
     /// A step of a COMPOUND that has not ended.
     fn run<D: Device>(
         self,
-        fs: &mut Fs<D>,
-        table: &mut Table,
-        opens: &mut Opens,
-        now: u64,
+        engine: &mut Engine<'_, D>,
         results_buffer: &mut Writer,
     ) -> Result<Stepped, StepError>
-        requires { CanRun D.keeps_word (fs_of fs.old) (table_of table.old) (in_progress_of self) }
-        // Done
-        ensures step { D.keeps_word
-            → IfOk result (RequestSteps now (shared_of fs.old table.old opens.old)
-            (shared_of fs.new table.new opens.new) (asked_of self.entry)
-            (in_progress_of self.entry)) }
-        ensures goes_on { IfOk result (RequestGoesOn (fs_of fs.old).volume.run (asked_of self.entry)
-            (in_progress_of self.entry)) }
-        // Not done
-        ensures back { IfErr result (λ undone. undone.progress ≡ self.entry.progress) }
-        ensures others { OnErr result ((table_of table.new ≡ table_of table.old)
-            × (opens_of opens.new ≡ opens_of opens.old)) }
-        // In any case
-        ensures volume { AltersFs fs.old fs.new (TurnGives (shared_of fs.old table.old opens.old)
-            (λ world number. stepped_on world number now (in_progress_of self.entry)))
-            (undone_step_ending result) }
+        requires { CanRun D.keeps_word (files_in engine.old) (state_in engine.old).table
+            (in_progress_of self) }
+        ensures same { BorrowsSame engine.old engine.new }
+        ensures turn { Steps engine.old engine.new self.entry result }
     {
-        let Ran { position, done } = match self.run_next(fs, table, opens, now) {
+        let Ran { position, done } = match self.run_next(engine) {
             Ok(ran) => ran,
             Err(fault) => return Err(StepError {
                 fault,
@@ -136,7 +129,7 @@ impl Running<'_> {
         running.advance(position);
         match done {
             Executed::Replays(slot) => Ok(Stepped::Answered(running.repeat(
-                table,
+                engine.table,
                 &slot,
                 results_buffer,
             ))),
@@ -145,40 +138,20 @@ impl Running<'_> {
                     operation,
                     values: values.as_slice(),
                 };
-                Ok(running.answer(table, encoded, results_buffer))
+                Ok(running.answer(engine.table, encoded, results_buffer))
             }
             Executed::Gives { outcome, effect } => {
                 running.leave(effect);
-                Ok(running.answer(table, EncodedResult::Whole(&outcome), results_buffer))
+                Ok(running.answer(engine.table, EncodedResult::Whole(&outcome), results_buffer))
             }
         }
     }
 
     /// Reads the next operation, tests it and runs it. The COMPOUND itself is not changed yet.
-    fn run_next<D: Device>(
-        &self,
-        fs: &mut Fs<D>,
-        table: &mut Table,
-        opens: &mut Opens,
-        now: u64,
-    ) -> Result<Ran, Fault>
-        requires { CanRun D.keeps_word (fs_of fs.old) (table_of table.old) (in_progress_of self.now) }
-        // What it answers
-        ensures turns { D.keeps_word → IfOk result
-            (λ ran. TurnsExecuted now (shared_of fs.old table.old opens.old)
-            (shared_of fs.new table.new opens.new) (in_progress_of self.now)
-            (drop ran.position self.now.compound.operations.now) ran.done) }
-        ensures within { IfOk result (λ ran.
-            ran.position ≤ length self.now.compound.operations.now) }
-        ensures answered { IfOk result (λ ran. IsAnswered (in_progress_of self.now) ran.done) }
-        ensures kept { IfOk result (λ ran. IsReplyKept (table_of table.new) ran.done) }
-        // Refused
-        ensures table { OnErr result (table_of table.new ≡ table_of table.old) }
-        ensures opens { OnErr result (opens_of opens.new ≡ opens_of opens.old) }
-        // In any case
-        ensures volume { AltersFs fs.old fs.new (TurnGives (shared_of fs.old table.old opens.old)
-            (λ world number. stepped_on world number now (in_progress_of self.now)))
-            (ending result) }
+    fn run_next<D: Device>(&self, engine: &mut Engine<'_, D>) -> Result<Ran, Fault>
+        requires { CanRun D.keeps_word (files_in engine.old) (state_in engine.old).table
+            (in_progress_of self.now) }
+        ensures { RunsNext engine.old engine.new self.now result }
     {
         match self.next_operation(self.alloc)? {
             Next::Refuses { operation, status } => Ok(Ran {
@@ -186,7 +159,7 @@ impl Running<'_> {
                 done: refused(operation, status),
             }),
             Next::Reads { argument, position } => {
-                let done = self.operate(fs, table, opens, now, &argument)?;
+                let done = self.operate(engine, &argument)?;
                 Ok(Ran { position, done })
             }
         }
@@ -261,7 +234,11 @@ impl Running<'_> {
         if running.is_to_hold(table) {
             return Stepped::Ran(running.progress);
         }
-        Stepped::Answered(running.end(table, last, None, results_buffer))
+        let reply = LastResult {
+            status: last,
+            edits: None,
+        };
+        Stepped::Answered(running.end(table, reply, results_buffer))
     }
 
     /// With this result, which is the last one.
@@ -294,29 +271,24 @@ impl Running<'_> {
     /// then the reply is made.
     fn store<D: Device>(
         self,
-        fs: &mut Fs<D>,
-        table: &mut Table,
+        engine: &mut Engine<'_, D>,
         last: Status,
         results_buffer: &mut Writer,
-    ) -> Result<Vec<u8>, StepError>
-        requires ready { CanSeat D.keeps_word (fs_of fs.old) (table_of table.old) }
+    ) -> Result<Stepped, StepError>
+        requires ready { CanSeat D.keeps_word (files_in engine.old) (state_in engine.old).table }
         requires ended { (in_progress_of self).ended ≡ Some last }
-        // Done
-        ensures step { (now : ℕ) (known : Known) → D.keeps_word → IfOk result (λ reply.
-            RequestSteps now (shared (fs_of fs.old) (table_of table.old) known)
-            (shared (fs_of fs.new) (table_of table.new) known) (asked_of self.entry)
-            (in_progress_of self.entry) (stepped.Answered reply)) }
-        // Not done
-        ensures back { IfErr result (λ undone. undone.progress ≡ self.entry.progress) }
-        ensures table { OnErr result (table_of table.new ≡ table_of table.old) }
-        // In any case
-        ensures volume { (now : ℕ) (known : Known) → AltersFs fs.old fs.new (TurnGives
-            (shared (fs_of fs.old) (table_of table.old) known)
-            (λ world number. stepped_on world number now (in_progress_of self.entry)))
-            (undone_step_ending result) }
+        ensures same { BorrowsSame engine.old engine.new }
+        ensures turn { Steps engine.old engine.new self.entry result }
     {
-        match self.hold(fs, table, last) {
-            Ok(edits) => Ok(self.end(table, last, edits, results_buffer)),
+        match self.hold(engine.fs, engine.table, last) {
+            Ok(edits) => {
+                let reply = LastResult {
+                    status: last,
+                    edits,
+                };
+                let record = self.end(engine.table, reply, results_buffer);
+                Ok(Stepped::Answered(record))
+            }
             Err(fault) => Err(StepError {
                 fault,
                 progress: self.progress,

@@ -2,144 +2,134 @@
 
 ghost use Rattle.std.specs.Prelude.{◌≡◌};
 
+use crate::engine::Engine;
 use crate::executed::{Effect, Executed};
 use crate::fault::Fault;
+use crate::reading::Reading;
 use crate::results::MAX_REPLY_BYTES;
 use crate::running::Running;
 use disk::Device;
-use fs::{Fs, FsFault, NewDirectory};
+use fs::{FsFault, NewDirectory};
 use model_tree::status::Status;
 use wire::{
     Answer, Attributes, Bitmap, ChangeInfo, CreateAnswer, CreateArguments, Operation, Outcome,
 };
 use wire_attributes::GivenAttributes;
 
-impl Running<'_> {
-    ghost use Rattle.std.specs.Prelude.{◌≡◌, nat_le, length, IfOk, IfErr};
-    ghost use Rattle.fs.specs.Views.{fs_of, AltersFs};
-    ghost use Rattle.fs.specs.Operations.{new_directory};
-    ghost use Rattle.model.specs.Sessions.Opens.{Opens};
+impl<D: Device> Reading<'_, '_, D> {
+    ghost use Rattle.std.specs.Prelude.{IfErr};
     ghost use Rattle.model.specs.Operations.Operation as operations;
-    ghost use Rattle.model.specs.Sessions.Session.{Table};
-    ghost use Rattle.model.specs.Operations.Answer.{Done};
-    ghost use Rattle.model.specs.Attributes.Attribute.{trimmed};
-    ghost use Rattle.model.specs.Server.World.{reply_with};
-    ghost use Rattle.wire.specs.ArgumentViews.{create_view};
-    ghost use Rattle.wire.specs.SmallViews.{attributes_view};
     ghost use Rattle.wire.specs.Short.{IsRefusal};
-    ghost use Rattle.compound.specs.Operates.{Reads, ChangesTree, HasResult};
-    ghost use Rattle.compound.specs.States.{CanServe, shared};
-    ghost use Rattle.compound.specs.Trees.{TestsHandle, made_answer};
-    ghost use Rattle.compound.specs.Views.{in_progress_of};
-    ghost use Rattle.compound.specs.Volumes.{OperationGives, ending};
+    ghost use Rattle.compound.specs.Readings.{ReadsAs, files_read, request_read};
+    ghost use Rattle.compound.specs.Trees.{TestsHandle};
 
     /// The tests of the current filehandle: NOFILEHANDLE where there is none, STALE where its node
     /// is gone.
-    pub(crate) fn check_current<D: Device>(&self, fs: &Fs<D>) -> Result<(), Status>
-        requires { CanServe (fs_of fs.now) (in_progress_of self.now) }
-        ensures tests { TestsHandle (fs_of fs.now) (in_progress_of self.now) result }
+    pub(crate) fn check_current(&self) -> Result<(), Status>
+        ensures tests { TestsHandle (files_read self.now) (request_read self.now) result }
         ensures refused { IfErr result IsRefusal }
     {
-        let number = match self.current_node() {
+        let number = match self.running.current_node() {
             Ok(number) => number,
             Err(status) => return Err(status),
         };
-        match fs.check_node(number) {
+        match self.fs.check_node(number) {
             Ok(()) => Ok(()),
             Err(fault) => Err(status_of(fault)),
         }
     }
 
     /// LOOKUP (section 18.13): the node that the name leads to is the current one.
-    pub(crate) fn look_up<D: Device>(&self, fs: &Fs<D>, name: &[u8]) -> Executed
-        requires { CanServe (fs_of fs.now) (in_progress_of self.now) }
-        ensures { Reads (fs_of fs.now) (in_progress_of self.now)
-            (operations.Argument.Lookup name.now) result }
+    pub(crate) fn look_up(&self, name: &[u8]) -> Executed
+        ensures { ReadsAs self.now (operations.Argument.Lookup name.now) result }
     {
-        let directory = match self.current_node() {
+        let running = self.running;
+        let directory = match running.current_node() {
             Ok(number) => number,
-            Err(status) => return self.refuse(Operation::Lookup, status),
+            Err(status) => return running.refuse(Operation::Lookup, status),
         };
-        match fs.lookup(self.cred, directory, name) {
-            Ok(number) => self.settle(Answer::Lookup, Effect::Moves(number)),
-            Err(fault) => self.refuse(Operation::Lookup, status_of(fault)),
+        match self.fs.lookup(running.cred, directory, name) {
+            Ok(number) => running.settle(Answer::Lookup, Effect::Moves(number)),
+            Err(fault) => running.refuse(Operation::Lookup, status_of(fault)),
         }
     }
 
     /// LOOKUPP (section 18.14): the directory that has the name of the current one is the current
     /// node.
-    pub(crate) fn look_up_parent<D: Device>(&self, fs: &Fs<D>) -> Executed
-        requires { CanServe (fs_of fs.now) (in_progress_of self.now) }
-        ensures { Reads (fs_of fs.now) (in_progress_of self.now)
-            operations.Argument.LookupParent result }
+    pub(crate) fn look_up_parent(&self) -> Executed
+        ensures { ReadsAs self.now operations.Argument.LookupParent result }
     {
-        let directory = match self.current_node() {
+        let running = self.running;
+        let directory = match running.current_node() {
             Ok(number) => number,
-            Err(status) => return self.refuse(Operation::LookupParent, status),
+            Err(status) => return running.refuse(Operation::LookupParent, status),
         };
-        match fs.parent(self.cred, directory) {
-            Ok(number) => self.settle(Answer::LookupParent, Effect::Moves(number)),
-            Err(fault) => self.refuse(Operation::LookupParent, status_of(fault)),
-        }
-    }
-
-    /// CREATE (section 18.4).
-    pub(crate) fn create<D: Device>(
-        &self,
-        fs: &mut Fs<D>,
-        now: u64,
-        arguments: &CreateArguments<'_>,
-    ) -> Result<Executed, Fault>
-        requires { CanServe (fs_of fs.old) (in_progress_of self.now) }
-        // What it answers
-        ensures gives { D.keeps_word → IfOk result (ChangesTree (fs_of fs.old) (fs_of fs.new)
-            now (in_progress_of self.now)
-            (operations.Argument.Create (create_view arguments.now))) }
-        ensures answered { IfOk result (HasResult (in_progress_of self.now)) }
-        // In any case
-        ensures volume { (table : Table) (opens : Opens) → AltersFs fs.old fs.new
-            (OperationGives (shared (fs_of fs.old) table opens) (in_progress_of self.now) now
-            (operations.Argument.Create (create_view arguments.now))) (ending result) }
-    {
-        match arguments {
-            CreateArguments::NewDirectory { name, attributes } => {
-                self.create_directory(fs, now, name, attributes)
-            }
-            CreateArguments::OtherType(kind) => Ok(self.create_other(fs, *kind)),
+        match self.fs.parent(running.cred, directory) {
+            Ok(number) => running.settle(Answer::LookupParent, Effect::Moves(number)),
+            Err(fault) => running.refuse(Operation::LookupParent, status_of(fault)),
         }
     }
 
     /// CREATE of another type than a directory: nothing else is made by it.
-    pub(crate) fn create_other<D: Device>(&self, fs: &Fs<D>, kind: u32) -> Executed
-        requires { CanServe (fs_of fs.now) (in_progress_of self.now) }
-        ensures { Reads (fs_of fs.now) (in_progress_of self.now)
-            (operations.Argument.Create (operations.OtherType kind)) result }
+    fn create_other(&self, kind: u32) -> Executed
+        ensures { ReadsAs self.now (operations.Argument.Create (operations.OtherType kind)) result }
     {
-        match self.check_current(fs) {
-            Ok(()) => self.refuse(Operation::Create, Status::BadType),
-            Err(status) => self.refuse(Operation::Create, status),
+        match self.check_current() {
+            Ok(()) => self.running.refuse(Operation::Create, Status::BadType),
+            Err(status) => self.running.refuse(Operation::Create, status),
+        }
+    }
+}
+
+impl Running<'_> {
+    ghost use Rattle.std.specs.Prelude.{◌≡◌, nat_le, length};
+    ghost use Rattle.fs.specs.Operations.{new_directory};
+    ghost use Rattle.model.specs.Operations.Operation as operations;
+    ghost use Rattle.model.specs.Operations.Answer.{Done};
+    ghost use Rattle.model.specs.Attributes.Attribute.{trimmed};
+    ghost use Rattle.model.specs.Server.World.{reply_with};
+    ghost use Rattle.wire.specs.ArgumentViews.{create_view};
+    ghost use Rattle.wire.specs.SmallViews.{attributes_view};
+    ghost use Rattle.compound.specs.Engines.{Changes, files_in};
+    ghost use Rattle.compound.specs.States.{CanServe};
+    ghost use Rattle.compound.specs.Trees.{made_answer};
+    ghost use Rattle.compound.specs.Views.{in_progress_of};
+
+    /// CREATE (section 18.4).
+    pub(crate) fn create<D: Device>(
+        &self,
+        engine: &mut Engine<'_, D>,
+        arguments: &CreateArguments<'_>,
+    ) -> Result<Executed, Fault>
+        requires { CanServe (files_in engine.old) (in_progress_of self.now) }
+        ensures { Changes engine.old engine.new (in_progress_of self.now)
+            (operations.Argument.Create (create_view arguments.now)) result }
+    {
+        match arguments {
+            CreateArguments::NewDirectory { name, attributes } => {
+                self.create_directory(engine, name, attributes)
+            }
+            CreateArguments::OtherType(kind) => {
+                let reading = Reading {
+                    running: self,
+                    fs: engine.fs,
+                };
+                Ok(reading.create_other(*kind))
+            }
         }
     }
 
     /// CREATE of a directory (section 18.4): it is the current node. Nothing is made where the
     /// reply has no room for the result.
-    pub(crate) fn create_directory<D: Device>(
+    fn create_directory<D: Device>(
         &self,
-        fs: &mut Fs<D>,
-        now: u64,
+        engine: &mut Engine<'_, D>,
         name: &[u8],
         attributes: &Attributes<'_>,
     ) -> Result<Executed, Fault>
-        requires { CanServe (fs_of fs.old) (in_progress_of self.now) }
-        // What it answers
-        ensures gives { D.keeps_word → IfOk result (ChangesTree (fs_of fs.old) (fs_of fs.new)
-            now (in_progress_of self.now)
-            (new_directory name.now (attributes_view attributes.now))) }
-        ensures answered { IfOk result (HasResult (in_progress_of self.now)) }
-        // In any case
-        ensures volume { (table : Table) (opens : Opens) → AltersFs fs.old fs.new
-            (OperationGives (shared (fs_of fs.old) table opens) (in_progress_of self.now) now
-            (new_directory name.now (attributes_view attributes.now))) (ending result) }
+        requires { CanServe (files_in engine.old) (in_progress_of self.now) }
+        ensures { Changes engine.old engine.new (in_progress_of self.now)
+            (new_directory name.now (attributes_view attributes.now)) result }
     {
         let parent = match self.current_node() {
             Ok(number) => number,
@@ -154,7 +144,10 @@ impl Running<'_> {
                 values: attributes.values,
             },
         };
-        match fs.make_dir(self.cred, now, asked, has_room) {
+        match engine
+            .fs
+            .make_dir(self.cred, engine.moment, asked, has_room)
+        {
             Ok(made) => Ok(Executed::Gives {
                 outcome: created(&attributes.bitmap, made.before, made.number),
                 effect: Effect::Moves(made.number),

@@ -6,49 +6,36 @@ ghost use Rattle.wire.specs.ArgumentViews.{stable_number};
 ghost use Rattle.compound.specs.Files.{committed_answer, written_answer};
 ghost use Rattle.compound.specs.Operates.{IsShortOutcome};
 
+use crate::engine::Engine;
 use crate::executed::{Effect, Executed};
 use crate::fault::Fault;
 use crate::results::MAX_REPLY_BYTES;
 use crate::running::Running;
 use disk::Device;
-use fs::{Fs, Writing};
-use opens::{Access, Opens};
+use fs::Writing;
+use opens::Access;
 use wire::{Answer, Operation, Outcome, StableHow, WriteAnswer, WriteArguments};
 
 impl Running<'_> {
-    ghost use Rattle.std.specs.Prelude.{◌≡◌, nat_le, length, IfOk};
-    ghost use Rattle.fs.specs.Views.{fs_of, AltersFs};
+    ghost use Rattle.std.specs.Prelude.{◌≡◌, nat_le, length};
     ghost use Rattle.model.specs.Operations.Answer.{Done};
     ghost use Rattle.model.specs.Operations.Operation as operations;
-    ghost use Rattle.model.specs.Sessions.Session.{Table};
     ghost use Rattle.model.specs.Server.World.{reply_with};
-    ghost use Rattle.opens.specs.Views.{opens_of};
     ghost use Rattle.wire.specs.ArgumentViews.{write_view};
+    ghost use Rattle.compound.specs.Engines.{Changes, files_in};
     ghost use Rattle.compound.specs.Files.{committed_answer, written_answer};
-    ghost use Rattle.compound.specs.Operates.{ChangesTreeAndOpens, HasResult};
-    ghost use Rattle.compound.specs.States.{CanServe, shared};
+    ghost use Rattle.compound.specs.States.{CanServe};
     ghost use Rattle.compound.specs.Views.{in_progress_of};
-    ghost use Rattle.compound.specs.Volumes.{OperationGives, ending};
 
     /// WRITE: nothing is written where the reply has no room for the result.
     pub(crate) fn write<D: Device>(
         &self,
-        fs: &mut Fs<D>,
-        opens: &Opens,
-        now: u64,
+        engine: &mut Engine<'_, D>,
         arguments: &WriteArguments<'_>,
     ) -> Result<Executed, Fault>
-        requires { CanServe (fs_of fs.old) (in_progress_of self.now) }
-        // What it answers
-        ensures gives { D.keeps_word → IfOk result
-            (ChangesTreeAndOpens (fs_of fs.old) (fs_of fs.new)
-            (opens_of opens.now) (opens_of opens.now) now (in_progress_of self.now)
-            (operations.Argument.Write (write_view arguments.now))) }
-        ensures answered { IfOk result (HasResult (in_progress_of self.now)) }
-        // In any case
-        ensures volume { (table : Table) → AltersFs fs.old fs.new (OperationGives
-            (shared (fs_of fs.old) table (opens_of opens.now)) (in_progress_of self.now) now
-            (operations.Argument.Write (write_view arguments.now))) (ending result) }
+        requires { CanServe (files_in engine.old) (in_progress_of self.now) }
+        ensures { Changes engine.old engine.new (in_progress_of self.now)
+            (operations.Argument.Write (write_view arguments.now)) result }
     {
         tell_bytes(arguments.data);
         let number = match self.current_node() {
@@ -56,13 +43,16 @@ impl Running<'_> {
             Err(status) => return Ok(self.refuse(Operation::Write, status)),
         };
         let has_room = self.has_written_room();
-        let verdict = self.verdict(opens, &arguments.state, Access::WRITE);
+        let verdict = self.verdict(engine.opens, &arguments.state, Access::WRITE);
         let asked = Writing {
             offset: arguments.offset,
             bytes: arguments.data,
             is_stable: is_to_be_stable(arguments.stable),
         };
-        match fs.write(self.cred, now, number, verdict, asked, has_room) {
+        match engine
+            .fs
+            .write(self.cred, engine.moment, number, verdict, asked, has_room)
+        {
             Ok(count) => Ok(Executed::Gives {
                 outcome: written(self.progress.run, arguments.stable, count),
                 effect: Effect::Stays,
@@ -81,26 +71,18 @@ impl Running<'_> {
 
     /// COMMIT (section 18.3): all changes so far are kept. Nothing is where the reply has no room
     /// for the result.
-    pub(crate) fn commit<D: Device>(&self, fs: &mut Fs<D>) -> Result<Executed, Fault>
-        requires { CanServe (fs_of fs.old) (in_progress_of self.now) }
-        // What it answers
-        ensures gives { (arguments : operations.CommitArguments) (now : _) (opens : _)
-            → D.keeps_word → IfOk result
-            (ChangesTreeAndOpens (fs_of fs.old) (fs_of fs.new) opens opens
-            now (in_progress_of self.now) (operations.Argument.Commit arguments)) }
-        ensures answered { IfOk result (HasResult (in_progress_of self.now)) }
-        // In any case
-        ensures volume { (arguments : operations.CommitArguments) (now : _) (table : Table)
-            (opens : _) → AltersFs fs.old fs.new (OperationGives
-            (shared (fs_of fs.old) table opens) (in_progress_of self.now) now
-            (operations.Argument.Commit arguments)) (ending result) }
+    pub(crate) fn commit<D: Device>(&self, engine: &mut Engine<'_, D>) -> Result<Executed, Fault>
+        requires { CanServe (files_in engine.old) (in_progress_of self.now) }
+        ensures { (arguments : operations.CommitArguments)
+            → Changes engine.old engine.new (in_progress_of self.now)
+            (operations.Argument.Commit arguments) result }
     {
         let number = match self.current_node() {
             Ok(number) => number,
             Err(status) => return Ok(self.refuse(Operation::Commit, status)),
         };
         let has_room = self.has_committed_room();
-        match fs.commit(self.cred, number, has_room) {
+        match engine.fs.commit(self.cred, number, has_room) {
             Ok(()) => Ok(Executed::Gives {
                 outcome: committed(self.progress.run),
                 effect: Effect::Stays,

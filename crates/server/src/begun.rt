@@ -1,7 +1,7 @@
 //! A COMPOUND that has begun: what is kept of it from turn to turn, beside the record of its call.
 
 use crate::engine::Engine;
-use compound::{Fault, Progress, Running, Stepped};
+use compound::{Call, Fault, Progress, Running, Stepped};
 use disk::Device;
 use model_tree::acl::Cred;
 use rpc::CompoundPlace;
@@ -106,8 +106,12 @@ impl KeptCall {
         ensures progress { result.progress ≡ progress }
         ensures request { in_progress_of result ≡ resumed (asked_at request.now self.now) progress }
     {
-        let compound = self.place.compound(request);
-        Running::resume(alloc, self.xid, &self.cred, compound, progress)
+        let call = Call {
+            xid: self.xid,
+            cred: &self.cred,
+            compound: self.place.compound(request),
+        };
+        Running::resume(alloc, call, progress)
     }
 
     /// What a step of its COMPOUND leaves.

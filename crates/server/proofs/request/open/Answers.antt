@@ -31,7 +31,7 @@ returns-in_ok-progress-in-Runs-clause-ok c =
     let is = rw c.in-Ok-Calls.field-0-is at c.in-Ok-Calls.ensures.read in
     let by_tests = rw c.in-Runs.is at c.request.ensures.request in
     let stands = ap (λ (one : Compound). asks call.xid cred one) c.of-place.ensures.there in
-    let begins = c.in_ok-progress-in-Runs.ensures.ok in (
+    let begins = c.in_ok-progress-in-Runs.ensures in (
       can_begin c.args.run c.args.request.now call cred (compound_view compound) begun is by_tests stands begins c.of-place.ensures.within compound.some compound.tag.short,
       call_runs c.args.run c.args.request.now call cred (compound_view compound) begun is by_tests stands begins,
     )

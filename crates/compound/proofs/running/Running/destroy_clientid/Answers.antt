@@ -10,23 +10,29 @@ use Rattle.compound.proofs.Rooms.{gives_refusal}
 use Rattle.compound.proofs.Tables.{ran_destroy_client, table_runs}
 use Rattle.compound.proofs.running.Running.destroy_clientid.Goals as goal
 
-pub returns-in-Ok-clause-gives : goal.returns-in-Ok-clause-gives
+pub returns-in-Ok : goal.returns-in-Ok
 unfolding in_progress_of
-returns-in-Ok-clause-gives c = λ now fs.
-    let opens = opens_of c.args.opens.now in
-    let request = in_progress_of c.args.self.now in
-    let kind = Argument.DestroyClientId c.args.client in
-    c.answer_first.ensures.gives now (shared fs (table_of c.args.table.now) opens) (shared fs (table_of c.destroy_clientid.new.self) opens) kind
-    (table_runs now fs opens (table_of c.args.table.now) (table_of c.destroy_clientid.new.self) request request kind (Done Answer.DestroyClientId)
-    (λ world rest on. ran_destroy_client world (with_rest request rest) now _ _ _ on (c.deref.ensures.value ∙ c.in_ok-with_opens.ensures) c.in-Ok.ensures.answered))
+returns-in-Ok c = (
+  c.answer_first.ensures.answered,
+  λ now fs.
+      let opens = opens_of c.args.opens.now in
+      let request = in_progress_of c.args.self.now in
+      let kind = Argument.DestroyClientId c.args.client in
+      c.answer_first.ensures.gives now (shared fs (table_of c.args.table.now) opens) (shared fs (table_of c.destroy_clientid.new.self) opens) kind
+      (table_runs now fs opens (table_of c.args.table.now) (table_of c.destroy_clientid.new.self) request request kind (Done Answer.DestroyClientId)
+      (λ world rest on. ran_destroy_client world (with_rest request rest) now _ _ _ on (c.deref.ensures.value ∙ c.in_ok-with_opens.ensures) c.in-Ok.ensures.answered)),
+)
 
-pub returns-clause-gives : goal.returns-clause-gives
+pub returns : goal.returns
 unfolding in_progress_of
-returns-clause-gives c = λ now fs.
-    let opens = opens_of c.args.opens.now in
-    let request = in_progress_of c.args.self.now in
-    let kind = Argument.DestroyClientId c.args.client in
-    c.refuse.ensures.gives now (shared fs (table_of c.args.table.now) opens) (shared fs (table_of c.destroy_clientid.new.self) opens) kind
-    (gives_refusal now (shared fs (table_of c.args.table.now) opens) (shared fs (table_of c.destroy_clientid.new.self) opens) request kind 57 c.in-Err.status
-    (table_runs now fs opens (table_of c.args.table.now) (table_of c.destroy_clientid.new.self) request request kind (Refused 57 c.in-Err.status)
-    (λ world rest on. ran_destroy_client world (with_rest request rest) now _ _ _ on (c.deref.ensures.value ∙ c.in_ok-with_opens.ensures) c.in-Err.ensures.answered)))
+returns c = (
+  c.refuse.ensures.answered,
+  λ now fs.
+      let opens = opens_of c.args.opens.now in
+      let request = in_progress_of c.args.self.now in
+      let kind = Argument.DestroyClientId c.args.client in
+      c.refuse.ensures.gives now (shared fs (table_of c.args.table.now) opens) (shared fs (table_of c.destroy_clientid.new.self) opens) kind
+      (gives_refusal now (shared fs (table_of c.args.table.now) opens) (shared fs (table_of c.destroy_clientid.new.self) opens) request kind 57 c.in-Err.status
+      (table_runs now fs opens (table_of c.args.table.now) (table_of c.destroy_clientid.new.self) request request kind (Refused 57 c.in-Err.status)
+      (λ world rest on. ran_destroy_client world (with_rest request rest) now _ _ _ on (c.deref.ensures.value ∙ c.in_ok-with_opens.ensures) c.in-Err.ensures.answered))),
+)

@@ -19,8 +19,8 @@ pub unreachable-requires : goal.unreachable-requires
 unfolding in_progress_of
 unreachable-requires c =
     let result = result_text c.result_of-compound.result in
-    let text : result ≡ result_of (in_progress_of c.args.self) c.args.last =
-    c.result_of-compound.ensures.text ∙ ap (compound_text c.args.last c.args.self.compound.tag.bytes.now c.args.self.progress.answered) c.as_slice.ensures in
+    let text : result ≡ result_of (in_progress_of c.args.self) c.args.last.status =
+    c.result_of-compound.ensures.text ∙ ap (compound_text c.args.last.status c.args.self.compound.tag.bytes.now c.args.self.progress.answered) c.as_slice.ensures in
     omega (
       arith,
       c.in-Err.ensures.full,
@@ -29,41 +29,41 @@ unreachable-requires c =
       framed_length (reply_text c.args.self.xid (Success result)),
       success_length c.args.self.xid result,
       c.args.self.brief,
-      result_length (in_progress_of c.args.self) c.args.last,
+      result_length (in_progress_of c.args.self) c.args.last.status,
       ap length text,
     )
 
 -- The record, and the result in it
 
-pub keep_by-left-requires-clause-short : goal.keep_by-left-requires-clause-short
+pub invariant_of-kept : goal.invariant_of-kept
 unfolding in_progress_of
-keep_by-left-requires-clause-short c =
-    let text : result_text c.result_of-compound.result ≡ result_of (in_progress_of c.args.self) c.args.last =
-    c.result_of-compound.ensures.text ∙ ap (compound_text c.args.last c.args.self.compound.tag.bytes.now c.args.self.progress.answered) c.as_slice.ensures in
+invariant_of-kept c =
+    let text : result_text c.result_of-compound.result ≡ result_of (in_progress_of c.args.self) c.args.last.status =
+    c.result_of-compound.ensures.text ∙ ap (compound_text c.args.last.status c.args.self.compound.tag.bytes.now c.args.self.progress.answered) c.as_slice.ensures in
     let whole : c.deref.result.now ≡ framed (reply_text c.args.self.xid (Success (result_text c.result_of-compound.result))) =
     c.deref.ensures.value ∙ (c.in-Ok.ensures.ok ∙ ap (λ (front : List ℕ). front ++ framed (reply_text c.args.self.xid (Success (result_text c.result_of-compound.result)))) c.args.self.progress.reply_fresh) in
-    let within : take (length c.deref.result.now - 28) (drop 28 c.deref.result.now) ≡ result_of (in_progress_of c.args.self) c.args.last =
+    let within : take (length c.deref.result.now - 28) (drop 28 c.deref.result.now) ≡ result_of (in_progress_of c.args.self) c.args.last.status =
     result_within c.args.self.xid (result_text c.result_of-compound.result) c.deref.result.now whole ∙ text in
-    omega (arith, c.args.self.brief, result_length (in_progress_of c.args.self) c.args.last, ap length within)
+    record { short = omega (arith, c.args.self.brief, result_length (in_progress_of c.args.self) c.args.last.status, ap length within) }
 
 pub keep_by-left-requires-clause-edits : goal.keep_by-left-requires-clause-edits
 unfolding in_progress_of
 keep_by-left-requires-clause-edits c =
-    let text : result_text c.result_of-compound.result ≡ result_of (in_progress_of c.args.self) c.args.last =
-    c.result_of-compound.ensures.text ∙ ap (compound_text c.args.last c.args.self.compound.tag.bytes.now c.args.self.progress.answered) c.as_slice.ensures in
+    let text : result_text c.result_of-compound.result ≡ result_of (in_progress_of c.args.self) c.args.last.status =
+    c.result_of-compound.ensures.text ∙ ap (compound_text c.args.last.status c.args.self.compound.tag.bytes.now c.args.self.progress.answered) c.as_slice.ensures in
     let whole : c.deref.result.now ≡ framed (reply_text c.args.self.xid (Success (result_text c.result_of-compound.result))) =
     c.deref.ensures.value ∙ (c.in-Ok.ensures.ok ∙ ap (λ (front : List ℕ). front ++ framed (reply_text c.args.self.xid (Success (result_text c.result_of-compound.result)))) c.args.self.progress.reply_fresh) in
-    let within : take (length c.deref.result.now - 28) (drop 28 c.deref.result.now) ≡ result_of (in_progress_of c.args.self) c.args.last =
+    let within : take (length c.deref.result.now - 28) (drop 28 c.deref.result.now) ≡ result_of (in_progress_of c.args.self) c.args.last.status =
     result_within c.args.self.xid (result_text c.result_of-compound.result) c.deref.result.now whole ∙ text in
-    subst (λ (bytes : List ℕ). AreOfReply (option_map slot_of c.args.self.progress.slot) bytes (table_of c.args.table.now) c.args.edits) (sym within) c.requires
+    subst (λ (bytes : List ℕ). AreOfReply (option_map slot_of c.args.self.progress.slot) bytes (table_of c.args.table.now) c.args.last.edits) (sym within) c.requires
 
 pub returns-clause-kept : goal.returns-clause-kept
 unfolding in_progress_of
 returns-clause-kept c =
-    let text : result_text c.result_of-compound.result ≡ result_of (in_progress_of c.args.self) c.args.last =
-    c.result_of-compound.ensures.text ∙ ap (compound_text c.args.last c.args.self.compound.tag.bytes.now c.args.self.progress.answered) c.as_slice.ensures in
+    let text : result_text c.result_of-compound.result ≡ result_of (in_progress_of c.args.self) c.args.last.status =
+    c.result_of-compound.ensures.text ∙ ap (compound_text c.args.last.status c.args.self.compound.tag.bytes.now c.args.self.progress.answered) c.as_slice.ensures in
     let whole : c.deref.result.now ≡ framed (reply_text c.args.self.xid (Success (result_text c.result_of-compound.result))) =
     c.deref.ensures.value ∙ (c.in-Ok.ensures.ok ∙ ap (λ (front : List ℕ). front ++ framed (reply_text c.args.self.xid (Success (result_text c.result_of-compound.result)))) c.args.self.progress.reply_fresh) in
-    let within : take (length c.deref.result.now - 28) (drop 28 c.deref.result.now) ≡ result_of (in_progress_of c.args.self) c.args.last =
+    let within : take (length c.deref.result.now - 28) (drop 28 c.deref.result.now) ≡ result_of (in_progress_of c.args.self) c.args.last.status =
     result_within c.args.self.xid (result_text c.result_of-compound.result) c.deref.result.now whole ∙ text in
     c.keep_by-left.ensures ∙ ap (λ (bytes : List ℕ). kept_by (option_map slot_of c.args.self.progress.slot) bytes (table_of c.args.table.now)) within

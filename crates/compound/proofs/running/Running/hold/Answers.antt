@@ -32,7 +32,7 @@ plan_hold-requires g c =
       arith,
       c.args.self.now.brief,
       result_length (in_progress_of c.args.self.now) c.args.last,
-      ap length (c.as_slice.ensures.value ∙ c.in_ok-result.ensures.ok),
+      ap length (c.as_slice.ensures.value ∙ c.in_ok-result.ensures),
     )
 
 pub returns-in_err-put_seats-clause-volume : goal.returns-in_err-put_seats-clause-volume
@@ -44,7 +44,7 @@ returns-in_err-put_seats-clause-volume g c =
     let result = result_of request c.args.last in
     let edits = edits_view c.in_ok-edits.edits in
     let held = kept_held request.slot c.in-Some.id.session c.in-Some.id.slot c.as_slice.result.now result table edits (ap (option_map slot_of) c.in-Some.is)
-    (c.as_slice.ensures.value ∙ c.in_ok-result.ensures.ok) c.in_ok-edits.ensures.seats in
+    (c.as_slice.ensures.value ∙ c.in_ok-result.ensures) c.in_ok-edits.ensures.seats in
     let told = told_err c.from_residual-in_err-put_seats.result c.in_err-put_seats.field-0.0 c.from_residual-in_err-put_seats.ensures.1 in
     rw told (seated_as g.D.Device.keeps_word fs _ _ _ _ (edited_all edits fs.volume.seats) (kept_by request.slot result table).seats
     (λ keeps. sym held ∙ ap (edited_all edits) (c.requires.agrees keeps).seats) (rw c.in_err-put_seats.was at c.put_seats.ensures.volume))
@@ -54,7 +54,7 @@ unfolding in_progress_of
 returns-clause-edits g c =
     let request = in_progress_of c.args.self.now in
     kept_held request.slot c.in-Some.id.session c.in-Some.id.slot c.as_slice.result.now (result_of request c.args.last) (table_of c.args.table.now) (edits_view c.in_ok-edits.edits)
-    (ap (option_map slot_of) c.in-Some.is) (c.as_slice.ensures.value ∙ c.in_ok-result.ensures.ok) c.in_ok-edits.ensures.seats
+    (ap (option_map slot_of) c.in-Some.is) (c.as_slice.ensures.value ∙ c.in_ok-result.ensures) c.in_ok-edits.ensures.seats
 
 pub returns-clause-volume : goal.returns-clause-volume
 unfolding in_progress_of
@@ -65,6 +65,6 @@ returns-clause-volume g c =
     let result = result_of request c.args.last in
     let edits = edits_view c.in_ok-edits.edits in
     let held = kept_held request.slot c.in-Some.id.session c.in-Some.id.slot c.as_slice.result.now result table edits (ap (option_map slot_of) c.in-Some.is)
-    (c.as_slice.ensures.value ∙ c.in_ok-result.ensures.ok) c.in_ok-edits.ensures.seats in
+    (c.as_slice.ensures.value ∙ c.in_ok-result.ensures) c.in_ok-edits.ensures.seats in
     seated_as g.D.Device.keeps_word fs _ _ _ Done (edited_all edits fs.volume.seats) (kept_by request.slot result table).seats
     (λ keeps. sym held ∙ ap (edited_all edits) (c.requires.agrees keeps).seats) (rw c.in_ok-put_seats.was at c.put_seats.ensures.volume)

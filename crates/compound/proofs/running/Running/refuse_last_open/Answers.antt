@@ -24,6 +24,8 @@ use Rattle.compound.proofs.Changing.{told_gives, told_changes, told_spelled}
 use Rattle.compound.proofs.OpenLaws.{on_tree}
 use Rattle.compound.proofs.OpenNamedLaws.{is_opening, open_makes, open_up, sized}
 use Rattle.compound.proofs.Trees.{is_on}
+use Rattle.session.specs.Views.{table_of}
+use Rattle.compound.proofs.Outcomes.{changed_if, on_err}
 use Rattle.compound.proofs.running.Running.refuse_last_open.Goals as goal
 
 -- what is asked of the file system is what the request asks, of a file of a high number
@@ -41,9 +43,9 @@ open_file-requires g c = c.requires.asked.few
 pub unreachable-requires : goal.unreachable-requires
 unfolding in_progress_of
 unreachable-requires g c =
-    let fs = fs_of c.args.fs.now in
+    let fs = fs_of c.args.engine.now.fs.now in
     let request = in_progress_of c.args.self.now in
-    let opens = opens_of c.args.opens.now in
+    let opens = opens_of c.args.engine.now.opens.now in
     let state : State = record { tree = fs.volume.tree; changes = fs.changes; opens = opens; context = request.context } in
     let on = is_on fs request c.args.opening.directory state c.requires.ready.run c.requires.asked.has c.requires.asked.at (record { tree_is = refl; changes_is = refl; context_is = refl }) in
     let same = sym (c.requires.high.2 state request.context.cred on) ∙ c.in-Ok.ensures.opened.number_is state request.context.cred on in
@@ -54,80 +56,83 @@ unreachable-requires g c =
 pub tell_fault-requires : goal.tell_fault-requires
 unfolding in_progress_of
 tell_fault-requires g c =
-    let fs = fs_of c.args.fs.now in
+    let fs = fs_of c.args.engine.now.fs.now in
     let request = in_progress_of c.args.self.now in
-    let opens = opens_of c.args.opens.now in
-    let arguments = open_view c.args.arguments.now in
+    let opens = opens_of c.args.engine.now.opens.now in
+    let arguments = open_view c.args.named.arguments.now in
     let number = c.requires.high.0 in
     let asked = new_open request.context.client arguments.owner number arguments.access in
-    open_up c.args.now fs request arguments opens c.in-Err.fault c.requires.ready.up
+    open_up c.args.engine.now.moment fs request arguments opens c.in-Err.fault c.requires.ready.up
     (λ state there known. c.in-Err.ensures.step state arguments (is_on fs request c.args.opening.directory state c.requires.ready.run c.requires.asked.has c.requires.asked.at there)
-    (opening_by c.args.now fs request arguments opens (open_type_view c.args.how.now) c.args.opening c.requires.ready.run c.requires.asked number c.limits.result.now.opens c.has_no_room-is_full.result
+    (opening_by c.args.engine.now.moment fs request arguments opens (open_type_view c.args.named.how.now) c.args.opening c.requires.ready.run c.requires.asked number c.limits.result.now.opens c.has_no_room-is_full.result
     c.requires.high.2 (ap (λ (limits : Limits). limits.opens) c.limits.ensures) (c.has_no_room-is_full.ensures.high asked c.requires.high.1) state there known))
 
-pub returns-clause-answered : goal.returns-clause-answered
+pub returns : goal.returns
 unfolding in_progress_of
-returns-clause-answered g c =
-    let fs = fs_of c.args.fs.now in
-    let request = in_progress_of c.args.self.now in
-    let opens = opens_of c.args.opens.now in
-    let arguments = open_view c.args.arguments.now in
-    let number = c.requires.high.0 in
-    let asked = new_open request.context.client arguments.owner number arguments.access in
-    subst (λ (r : Result Executed Fault). IfOk r (HasResult request)) (sym c.tell_fault.ensures)
-    (told_spelled request 18 c.in-Err.fault (omega arith) (open_up c.args.now fs request arguments opens c.in-Err.fault c.requires.ready.up
-    (λ state there known. c.in-Err.ensures.step state arguments (is_on fs request c.args.opening.directory state c.requires.ready.run c.requires.asked.has c.requires.asked.at there)
-    (opening_by c.args.now fs request arguments opens (open_type_view c.args.how.now) c.args.opening c.requires.ready.run c.requires.asked number c.limits.result.now.opens c.has_no_room-is_full.result
-    c.requires.high.2 (ap (λ (limits : Limits). limits.opens) c.limits.ensures) (c.has_no_room-is_full.ensures.high asked c.requires.high.1) state there known))))
-
-pub returns-clause-gives : goal.returns-clause-gives
-unfolding in_progress_of
-returns-clause-gives g c = λ keeps.
-    let fs = fs_of c.args.fs.now in
-    let new = fs_of c.open_file.new.self in
-    let request = in_progress_of c.args.self.now in
-    let opens = opens_of c.args.opens.now in
-    let arguments = open_view c.args.arguments.now in
-    let kind = Argument.Open arguments in
-    let how = open_type_view c.args.how.now in
-    let number = c.requires.high.0 in
-    let asked = new_open request.context.client arguments.owner number arguments.access in
-    let room = has_open_room fs c.args.opening c.open_room-room.result in
-    subst (λ (r : Result Executed Fault). IfOk r (ChangesTreeAndOpens fs new opens opens c.args.now request kind)) (sym c.tell_fault.ensures)
-    (told_gives c.args.now fs request kind (on_tree c.args.now request arguments) room
-    (sized c.args.now fs request arguments (type_of c.args.opening.how) c.args.opening.name.now c.args.opening.directory c.requires.asked.opening c.requires.asked.at room
-    (c.open_room-room.ensures (open_effect fs.volume.tree c.args.opening.directory c.args.opening.name.now (type_of c.args.opening.how))
-    ∙ ap (λ (of : OpenType). has_opened_room request (set_by (open_effect fs.volume.tree c.args.opening.directory c.args.opening.name.now (type_of c.args.opening.how)) of)) (sym c.requires.asked.how)))
-    g.D.Device.keeps_word _ new _ _ c.requires.ready.up _ opens opens c.in-Err.fault refl
-    (λ state there known. c.in-Err.ensures.step state arguments (is_on fs request c.args.opening.directory state c.requires.ready.run c.requires.asked.has c.requires.asked.at there)
-    (opening_by c.args.now fs request arguments opens how c.args.opening c.requires.ready.run c.requires.asked number c.limits.result.now.opens c.has_no_room-is_full.result
-    c.requires.high.2 (ap (λ (limits : Limits). limits.opens) c.limits.ensures) (c.has_no_room-is_full.ensures.high asked c.requires.high.1) state there known))
-    c.in-Err.ensures.room.refused c.in-Err.ensures.volume)
-
-pub returns-clause-volume : goal.returns-clause-volume
-unfolding in_progress_of
-returns-clause-volume g c = λ table.
-    let fs = fs_of c.args.fs.now in
-    let new = fs_of c.open_file.new.self in
-    let request = in_progress_of c.args.self.now in
-    let opens = opens_of c.args.opens.now in
-    let arguments = open_view c.args.arguments.now in
-    let kind = Argument.Open arguments in
-    let how = open_type_view c.args.how.now in
-    let number = c.requires.high.0 in
-    let asked = new_open request.context.client arguments.owner number arguments.access in
-    let room = has_open_room fs c.args.opening c.open_room-room.result in
-    let opening : (state : State) → IsHere fs request state → state.opens ≡ opens → IsOpening fs state c.args.opening c.has_no_room-is_full.result arguments =
-    opening_by c.args.now fs request arguments opens how c.args.opening c.requires.ready.run c.requires.asked number c.limits.result.now.opens c.has_no_room-is_full.result
-    c.requires.high.2 (ap (λ (limits : Limits). limits.opens) c.limits.ensures) (c.has_no_room-is_full.ensures.high asked c.requires.high.1) in
-    let step = λ (state : State) (there : IsHere fs request state) (known : state.opens ≡ opens).
-    c.in-Err.ensures.step state arguments (is_on fs request c.args.opening.directory state c.requires.ready.run c.requires.asked.has c.requires.asked.at there) (opening state there known) in
-    let fits = sized c.args.now fs request arguments (type_of c.args.opening.how) c.args.opening.name.now c.args.opening.directory c.requires.asked.opening c.requires.asked.at room
-    (c.open_room-room.ensures (open_effect fs.volume.tree c.args.opening.directory c.args.opening.name.now (type_of c.args.opening.how))
-    ∙ ap (λ (of : OpenType). has_opened_room request (set_by (open_effect fs.volume.tree c.args.opening.directory c.args.opening.name.now (type_of c.args.opening.how)) of)) (sym c.requires.asked.how)) in
-    subst (λ (r : Result Executed Fault). FsChanges g.D.Device.keeps_word (OperationGives (shared fs table opens) request c.args.now kind) fs new (fs_failures c.args.fs.now) (fs_failures c.open_file.new.self) (ending r)) (sym c.tell_fault.ensures)
-    (told_changes c.args.now fs request kind (on_tree c.args.now request arguments) room fits
-    g.D.Device.keeps_word _ new _ _ c.requires.ready.up _ table opens c.in-Err.fault step (open_up c.args.now fs request arguments opens c.in-Err.fault c.requires.ready.up step)
-    c.in-Err.ensures.room.refused c.in-Err.ensures.room.device
-    (open_makes c.args.now fs request arguments table opens c.args.opening c.has_no_room-is_full.result c.requires.ready.run c.requires.asked.has c.requires.asked.at opening room fits)
-    c.in-Err.ensures.volume)
+returns g c = record {
+  same = record { fs = refl; table = refl; opens = refl };
+  state = record {
+    gives = λ keeps.
+        let fs = fs_of c.args.engine.now.fs.now in
+        let new = fs_of c.open_file.new.self in
+        let request = in_progress_of c.args.self.now in
+        let opens = opens_of c.args.engine.now.opens.now in
+        let arguments = open_view c.args.named.arguments.now in
+        let kind = Argument.Open arguments in
+        let how = open_type_view c.args.named.how.now in
+        let number = c.requires.high.0 in
+        let asked = new_open request.context.client arguments.owner number arguments.access in
+        let room = has_open_room fs c.args.opening c.open_room-room.result in
+        changed_if c.args.engine.now.moment fs new (table_of c.args.engine.now.table.now) opens opens request kind c.tell_fault.result
+        (subst (λ (r : Result Executed Fault). IfOk r (ChangesTreeAndOpens fs new opens opens c.args.engine.now.moment request kind)) (sym c.tell_fault.ensures)
+        (told_gives c.args.engine.now.moment fs request kind (on_tree c.args.engine.now.moment request arguments) room
+        (sized c.args.engine.now.moment fs request arguments (type_of c.args.opening.how) c.args.opening.name.now c.args.opening.directory c.requires.asked.opening c.requires.asked.at room
+        (c.open_room-room.ensures (open_effect fs.volume.tree c.args.opening.directory c.args.opening.name.now (type_of c.args.opening.how))
+        ∙ ap (λ (of : OpenType). has_opened_room request (set_by (open_effect fs.volume.tree c.args.opening.directory c.args.opening.name.now (type_of c.args.opening.how)) of)) (sym c.requires.asked.how)))
+        g.D.Device.keeps_word _ new _ _ c.requires.ready.up _ opens opens c.in-Err.fault refl
+        (λ state there known. c.in-Err.ensures.step state arguments (is_on fs request c.args.opening.directory state c.requires.ready.run c.requires.asked.has c.requires.asked.at there)
+        (opening_by c.args.engine.now.moment fs request arguments opens how c.args.opening c.requires.ready.run c.requires.asked number c.limits.result.now.opens c.has_no_room-is_full.result
+        c.requires.high.2 (ap (λ (limits : Limits). limits.opens) c.limits.ensures) (c.has_no_room-is_full.ensures.high asked c.requires.high.1) state there known))
+        c.in-Err.ensures.room.refused c.in-Err.ensures.volume));
+    answered =
+        let fs = fs_of c.args.engine.now.fs.now in
+        let request = in_progress_of c.args.self.now in
+        let opens = opens_of c.args.engine.now.opens.now in
+        let arguments = open_view c.args.named.arguments.now in
+        let number = c.requires.high.0 in
+        let asked = new_open request.context.client arguments.owner number arguments.access in
+        subst (λ (r : Result Executed Fault). IfOk r (HasResult request)) (sym c.tell_fault.ensures)
+        (told_spelled request 18 c.in-Err.fault (omega arith) (open_up c.args.engine.now.moment fs request arguments opens c.in-Err.fault c.requires.ready.up
+        (λ state there known. c.in-Err.ensures.step state arguments (is_on fs request c.args.opening.directory state c.requires.ready.run c.requires.asked.has c.requires.asked.at there)
+        (opening_by c.args.engine.now.moment fs request arguments opens (open_type_view c.args.named.how.now) c.args.opening c.requires.ready.run c.requires.asked number c.limits.result.now.opens c.has_no_room-is_full.result
+        c.requires.high.2 (ap (λ (limits : Limits). limits.opens) c.limits.ensures) (c.has_no_room-is_full.ensures.high asked c.requires.high.1) state there known))));
+    table = refl;
+    opens = on_err _ refl;
+    volume =
+        let table = table_of c.args.engine.now.table.now in
+        let fs = fs_of c.args.engine.now.fs.now in
+        let new = fs_of c.open_file.new.self in
+        let request = in_progress_of c.args.self.now in
+        let opens = opens_of c.args.engine.now.opens.now in
+        let arguments = open_view c.args.named.arguments.now in
+        let kind = Argument.Open arguments in
+        let how = open_type_view c.args.named.how.now in
+        let number = c.requires.high.0 in
+        let asked = new_open request.context.client arguments.owner number arguments.access in
+        let room = has_open_room fs c.args.opening c.open_room-room.result in
+        let opening : (state : State) → IsHere fs request state → state.opens ≡ opens → IsOpening fs state c.args.opening c.has_no_room-is_full.result arguments =
+        opening_by c.args.engine.now.moment fs request arguments opens how c.args.opening c.requires.ready.run c.requires.asked number c.limits.result.now.opens c.has_no_room-is_full.result
+        c.requires.high.2 (ap (λ (limits : Limits). limits.opens) c.limits.ensures) (c.has_no_room-is_full.ensures.high asked c.requires.high.1) in
+        let step = λ (state : State) (there : IsHere fs request state) (known : state.opens ≡ opens).
+        c.in-Err.ensures.step state arguments (is_on fs request c.args.opening.directory state c.requires.ready.run c.requires.asked.has c.requires.asked.at there) (opening state there known) in
+        let fits = sized c.args.engine.now.moment fs request arguments (type_of c.args.opening.how) c.args.opening.name.now c.args.opening.directory c.requires.asked.opening c.requires.asked.at room
+        (c.open_room-room.ensures (open_effect fs.volume.tree c.args.opening.directory c.args.opening.name.now (type_of c.args.opening.how))
+        ∙ ap (λ (of : OpenType). has_opened_room request (set_by (open_effect fs.volume.tree c.args.opening.directory c.args.opening.name.now (type_of c.args.opening.how)) of)) (sym c.requires.asked.how)) in
+        subst (λ (r : Result Executed Fault). FsChanges g.D.Device.keeps_word (OperationGives (shared fs table opens) request c.args.engine.now.moment kind) fs new (fs_failures c.args.engine.now.fs.now) (fs_failures c.open_file.new.self) (ending r)) (sym c.tell_fault.ensures)
+        (told_changes c.args.engine.now.moment fs request kind (on_tree c.args.engine.now.moment request arguments) room fits
+        g.D.Device.keeps_word _ new _ _ c.requires.ready.up _ table opens c.in-Err.fault step (open_up c.args.engine.now.moment fs request arguments opens c.in-Err.fault c.requires.ready.up step)
+        c.in-Err.ensures.room.refused c.in-Err.ensures.room.device
+        (open_makes c.args.engine.now.moment fs request arguments table opens c.args.opening c.has_no_room-is_full.result c.requires.ready.run c.requires.asked.has c.requires.asked.at opening room fits)
+        c.in-Err.ensures.volume);
+  };
+}

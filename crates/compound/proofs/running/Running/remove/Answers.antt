@@ -21,114 +21,130 @@ use Rattle.compound.specs.Trees.{removed_answer}
 use Rattle.compound.proofs.RemoveLaws.{on_tree, sized, does_remove, removed_room, remove_makes, remove_up}
 use Rattle.compound.proofs.Trees.{is_on, wants}
 use Rattle.compound.proofs.VolumeLaws.{refusal_changes}
+use Rattle.session.specs.Views.{table_of}
+use Rattle.compound.proofs.Outcomes.{changed_if, on_err}
 use Rattle.compound.proofs.running.Running.remove.Goals as goal
 
-pub returns-in-Err-clause-gives : goal.returns-in-Err-clause-gives
-returns-in-Err-clause-gives g c = λ keeps table.
-    let opens = opens_of c.args.opens.now in
-    let fs = fs_of c.args.fs.now in
-    let request = in_progress_of c.args.self.now in
-    let kind = Argument.Remove c.args.name.now in
-    c.refuse.ensures.gives c.args.now (shared fs table opens) (shared fs table opens) kind
-    (subst (λ (reason : Status). GivesIn c.args.now (shared fs table opens) (shared fs table opens) request request kind (Refused 28 reason)) (sym c.in-Err.ensures.err.0)
-    (gives_refusal c.args.now (shared fs table opens) (shared fs table opens) request kind 28 _ (wants c.args.now fs table opens request kind refl c.in-Err.ensures.err.1)))
-
-pub returns-in-Err-clause-volume : goal.returns-in-Err-clause-volume
-returns-in-Err-clause-volume g c = λ table.
-    let opens = opens_of c.args.opens.now in
-    let fs = fs_of c.args.fs.now in
-    let request = in_progress_of c.args.self.now in
-    let kind = Argument.Remove c.args.name.now in
-    refusal_changes g.D.Device.keeps_word fs fs table opens (fs_failures c.args.fs.now) (fs_failures c.args.fs.now) request c.args.now kind 28 c.in-Err.status refl refl c.requires.up
-    (subst (λ (reason : Status). GivesIn c.args.now (shared fs table opens) (shared fs table opens) request request kind (Refused 28 reason)) (sym c.in-Err.ensures.err.0)
-    (gives_refusal c.args.now (shared fs table opens) (shared fs table opens) request kind 28 _ (wants c.args.now fs table opens request kind refl c.in-Err.ensures.err.1)))
+pub returns-in-Err : goal.returns-in-Err
+returns-in-Err g c = record {
+  same = record { fs = refl; table = refl; opens = refl };
+  state = record {
+    gives = λ keeps.
+        let table = table_of c.args.engine.now.table.now in
+        let opens = opens_of c.args.engine.now.opens.now in
+        let fs = fs_of c.args.engine.now.fs.now in
+        let request = in_progress_of c.args.self.now in
+        let kind = Argument.Remove c.args.name.now in
+        c.refuse.ensures.gives c.args.engine.now.moment (shared fs table opens) (shared fs table opens) kind
+        (subst (λ (reason : Status). GivesIn c.args.engine.now.moment (shared fs table opens) (shared fs table opens) request request kind (Refused 28 reason)) (sym c.in-Err.ensures.err.0)
+        (gives_refusal c.args.engine.now.moment (shared fs table opens) (shared fs table opens) request kind 28 _ (wants c.args.engine.now.moment fs table opens request kind refl c.in-Err.ensures.err.1)));
+    answered = c.refuse.ensures.answered;
+    table = refl;
+    opens = tt;
+    volume =
+        let table = table_of c.args.engine.now.table.now in
+        let opens = opens_of c.args.engine.now.opens.now in
+        let fs = fs_of c.args.engine.now.fs.now in
+        let request = in_progress_of c.args.self.now in
+        let kind = Argument.Remove c.args.name.now in
+        refusal_changes g.D.Device.keeps_word fs fs table opens (fs_failures c.args.engine.now.fs.now) (fs_failures c.args.engine.now.fs.now) request c.args.engine.now.moment kind 28 c.in-Err.status refl refl c.requires.up
+        (subst (λ (reason : Status). GivesIn c.args.engine.now.moment (shared fs table opens) (shared fs table opens) request request kind (Refused 28 reason)) (sym c.in-Err.ensures.err.0)
+        (gives_refusal c.args.engine.now.moment (shared fs table opens) (shared fs table opens) request kind 28 _ (wants c.args.engine.now.moment fs table opens request kind refl c.in-Err.ensures.err.1)));
+  };
+}
 
 -- Where it is done
 
-pub returns-in-Ok-remove-clause-gives : goal.returns-in-Ok-remove-clause-gives
+pub returns-in-Ok-remove : goal.returns-in-Ok-remove
 unfolding in_progress_of
-returns-in-Ok-remove-clause-gives g c = λ keeps table.
-    let opens = opens_of c.args.opens.now in
-    let fs = fs_of c.args.fs.now in
-    let new = fs_of c.remove.new.self in
-    let request = in_progress_of c.args.self.now in
-    let name = c.args.name.now in
-    let made = c.in-Ok-remove.gone in
-    let left = without_number made.number opens in
-    subst (λ (after : Opens). GivesIn c.args.now (shared fs table opens) (shared new table after) request request (Argument.Remove name) (outcome_view c.removed.result)) (sym c.remove_file.ensures)
-    (subst (λ (outcome : Outcome). GivesIn c.args.now (shared fs table opens) (shared new table left) request request (Argument.Remove name) outcome) (sym c.removed.ensures.is)
-    (gives_in_room c.args.now (shared fs table opens) (shared new table left) request request (Argument.Remove name) (removed_answer made.before made.after)
-    (removed_room request 0 0 made.before made.after true (sym c.in-Ok-remove.ensures.room.done ∙ c.has_removed_room-has_room.ensures))
-    (done_runs c.args.now fs request (Argument.Remove name) (on_tree c.args.now fs request name) new table opens left request.context (removed_answer made.before made.after)
-    (λ state there known. does_remove c.args.now fs request name new made opens state there known
-    (c.in-Ok-remove.ensures.step state (is_on fs request _ _ c.requires.run c.in-Ok.ensures.ok.0 c.in-Ok.ensures.ok.1 there) keeps)))))
-
-pub returns-in-Ok-remove-clause-answered : goal.returns-in-Ok-remove-clause-answered
-unfolding in_progress_of
-returns-in-Ok-remove-clause-answered g c =
-    let request = in_progress_of c.args.self.now in
-    let made = c.in-Ok-remove.gone in
-    record {
-      fits = c.removed.ensures.fits;
-      small = c.removed.ensures.small;
-      room = subst (HasRoom request) (sym c.removed.ensures.is)
-          (is_short request (removed_answer made.before made.after)
-          (removed_room request 0 0 made.before made.after true (sym c.in-Ok-remove.ensures.room.done ∙ c.has_removed_room-has_room.ensures)));
-    }
-
-pub returns-in-Ok-remove-clause-volume : goal.returns-in-Ok-remove-clause-volume
-unfolding in_progress_of
-returns-in-Ok-remove-clause-volume g c = λ table.
-    let opens = opens_of c.args.opens.now in
-    let fs = fs_of c.args.fs.now in
-    let request = in_progress_of c.args.self.now in
-    changes_by g.D.Device.keeps_word _ _
-    (remove_makes c.args.now fs request c.args.name.now table opens _ c.requires.run c.in-Ok.ensures.ok.0 c.in-Ok.ensures.ok.1 _ c.has_removed_room-has_room.ensures c.in-Ok-remove.ensures.room.done)
-    _ _ _ _ _ c.in-Ok-remove.ensures.volume
+returns-in-Ok-remove g c = record {
+  same = record { fs = refl; table = refl; opens = refl };
+  state = record {
+    gives = λ keeps.
+        let table = table_of c.args.engine.now.table.now in
+        let opens = opens_of c.args.engine.now.opens.now in
+        let fs = fs_of c.args.engine.now.fs.now in
+        let new = fs_of c.remove.new.self in
+        let request = in_progress_of c.args.self.now in
+        let name = c.args.name.now in
+        let made = c.in-Ok-remove.gone in
+        let left = without_number made.number opens in
+        subst (λ (after : Opens). GivesIn c.args.engine.now.moment (shared fs table opens) (shared new table after) request request (Argument.Remove name) (outcome_view c.removed.result)) (sym c.remove_file.ensures)
+        (subst (λ (outcome : Outcome). GivesIn c.args.engine.now.moment (shared fs table opens) (shared new table left) request request (Argument.Remove name) outcome) (sym c.removed.ensures.is)
+        (gives_in_room c.args.engine.now.moment (shared fs table opens) (shared new table left) request request (Argument.Remove name) (removed_answer made.before made.after)
+        (removed_room request 0 0 made.before made.after true (sym c.in-Ok-remove.ensures.room.done ∙ c.has_removed_room-has_room.ensures))
+        (done_runs c.args.engine.now.moment fs request (Argument.Remove name) (on_tree c.args.engine.now.moment fs request name) new table opens left request.context (removed_answer made.before made.after)
+        (λ state there known. does_remove c.args.engine.now.moment fs request name new made opens state there known
+        (c.in-Ok-remove.ensures.step state (is_on fs request _ _ c.requires.run c.in-Ok.ensures.ok.0 c.in-Ok.ensures.ok.1 there) keeps)))));
+    answered =
+        let request = in_progress_of c.args.self.now in
+        let made = c.in-Ok-remove.gone in
+        record {
+          fits = c.removed.ensures.fits;
+          small = c.removed.ensures.small;
+          room = subst (HasRoom request) (sym c.removed.ensures.is)
+              (is_short request (removed_answer made.before made.after)
+              (removed_room request 0 0 made.before made.after true (sym c.in-Ok-remove.ensures.room.done ∙ c.has_removed_room-has_room.ensures)));
+        };
+    table = refl;
+    opens = tt;
+    volume =
+        let table = table_of c.args.engine.now.table.now in
+        let opens = opens_of c.args.engine.now.opens.now in
+        let fs = fs_of c.args.engine.now.fs.now in
+        let request = in_progress_of c.args.self.now in
+        changes_by g.D.Device.keeps_word _ _
+        (remove_makes c.args.engine.now.moment fs request c.args.name.now table opens _ c.requires.run c.in-Ok.ensures.ok.0 c.in-Ok.ensures.ok.1 _ c.has_removed_room-has_room.ensures c.in-Ok-remove.ensures.room.done)
+        _ _ _ _ _ c.in-Ok-remove.ensures.volume;
+  };
+}
 
 -- Where it is not
 
 pub tell_fault-requires : goal.tell_fault-requires
 unfolding in_progress_of
 tell_fault-requires g c =
-    let fs = fs_of c.args.fs.now in
+    let fs = fs_of c.args.engine.now.fs.now in
     let request = in_progress_of c.args.self.now in
-    remove_up c.args.now fs request c.args.name.now _ c.in-Err-remove.fault c.requires.up c.requires.run c.in-Ok.ensures.ok.0 c.in-Ok.ensures.ok.1 c.in-Err-remove.ensures.step
+    remove_up c.args.engine.now.moment fs request c.args.name.now _ c.in-Err-remove.fault c.requires.up c.requires.run c.in-Ok.ensures.ok.0 c.in-Ok.ensures.ok.1 c.in-Err-remove.ensures.step
 
-pub returns-in-Err-remove-clause-gives : goal.returns-in-Err-remove-clause-gives
+pub returns-in-Err-remove : goal.returns-in-Err-remove
 unfolding in_progress_of
-returns-in-Err-remove-clause-gives g c = λ keeps.
-    let fs = fs_of c.args.fs.now in
-    let new = fs_of c.remove.new.self in
-    let request = in_progress_of c.args.self.now in
-    let name = c.args.name.now in
-    subst (λ (r : Result Executed Fault). IfOk r (ChangesTreeAndOpens fs new (opens_of c.args.opens.now) (opens_of c.args.opens.now) c.args.now request (Argument.Remove name))) (sym c.tell_fault.ensures)
-    (told_gives c.args.now fs request (Argument.Remove name) (on_tree c.args.now fs request name) _ (sized c.args.now fs request name _ c.has_removed_room-has_room.ensures)
-    g.D.Device.keeps_word _ new _ _ c.requires.up _ (opens_of c.args.opens.now) (opens_of c.args.opens.now) c.in-Err-remove.fault refl
-    (λ state there known. c.in-Err-remove.ensures.step state (is_on fs request _ _ c.requires.run c.in-Ok.ensures.ok.0 c.in-Ok.ensures.ok.1 there))
-    c.in-Err-remove.ensures.room.refused c.in-Err-remove.ensures.volume)
-
-pub returns-in-Err-remove-clause-answered : goal.returns-in-Err-remove-clause-answered
-unfolding in_progress_of
-returns-in-Err-remove-clause-answered g c =
-    let fs = fs_of c.args.fs.now in
-    let request = in_progress_of c.args.self.now in
-    subst (λ (r : Result Executed Fault). IfOk r (HasResult request)) (sym c.tell_fault.ensures)
-    (told_spelled request 28 c.in-Err-remove.fault (omega arith) (remove_up c.args.now fs request c.args.name.now _ c.in-Err-remove.fault c.requires.up c.requires.run c.in-Ok.ensures.ok.0 c.in-Ok.ensures.ok.1 c.in-Err-remove.ensures.step))
-
-pub returns-in-Err-remove-clause-volume : goal.returns-in-Err-remove-clause-volume
-unfolding in_progress_of
-returns-in-Err-remove-clause-volume g c = λ table.
-    let opens = opens_of c.args.opens.now in
-    let fs = fs_of c.args.fs.now in
-    let new = fs_of c.remove.new.self in
-    let request = in_progress_of c.args.self.now in
-    let name = c.args.name.now in
-    subst (λ (r : Result Executed Fault). FsChanges g.D.Device.keeps_word (OperationGives (shared fs table opens) request c.args.now (Argument.Remove name)) fs new (fs_failures c.args.fs.now) (fs_failures c.remove.new.self) (ending r))
-    (sym c.tell_fault.ensures)
-    (told_changes c.args.now fs request (Argument.Remove name) (on_tree c.args.now fs request name) _ (sized c.args.now fs request name _ c.has_removed_room-has_room.ensures)
-    g.D.Device.keeps_word _ new _ _ c.requires.up _ table opens c.in-Err-remove.fault
-    (λ state there known. c.in-Err-remove.ensures.step state (is_on fs request _ _ c.requires.run c.in-Ok.ensures.ok.0 c.in-Ok.ensures.ok.1 there))
-    (remove_up c.args.now fs request c.args.name.now _ c.in-Err-remove.fault c.requires.up c.requires.run c.in-Ok.ensures.ok.0 c.in-Ok.ensures.ok.1 c.in-Err-remove.ensures.step) c.in-Err-remove.ensures.room.refused c.in-Err-remove.ensures.room.device
-    (remove_makes c.args.now fs request name table opens _ c.requires.run c.in-Ok.ensures.ok.0 c.in-Ok.ensures.ok.1 _ c.has_removed_room-has_room.ensures)
-    c.in-Err-remove.ensures.volume)
+returns-in-Err-remove g c = record {
+  same = record { fs = refl; table = refl; opens = refl };
+  state = record {
+    gives = λ keeps.
+        let fs = fs_of c.args.engine.now.fs.now in
+        let new = fs_of c.remove.new.self in
+        let request = in_progress_of c.args.self.now in
+        let name = c.args.name.now in
+        changed_if c.args.engine.now.moment fs new (table_of c.args.engine.now.table.now) (opens_of c.args.engine.now.opens.now) (opens_of c.args.engine.now.opens.now) request (Argument.Remove name) c.tell_fault.result
+        (subst (λ (r : Result Executed Fault). IfOk r (ChangesTreeAndOpens fs new (opens_of c.args.engine.now.opens.now) (opens_of c.args.engine.now.opens.now) c.args.engine.now.moment request (Argument.Remove name))) (sym c.tell_fault.ensures)
+        (told_gives c.args.engine.now.moment fs request (Argument.Remove name) (on_tree c.args.engine.now.moment fs request name) _ (sized c.args.engine.now.moment fs request name _ c.has_removed_room-has_room.ensures)
+        g.D.Device.keeps_word _ new _ _ c.requires.up _ (opens_of c.args.engine.now.opens.now) (opens_of c.args.engine.now.opens.now) c.in-Err-remove.fault refl
+        (λ state there known. c.in-Err-remove.ensures.step state (is_on fs request _ _ c.requires.run c.in-Ok.ensures.ok.0 c.in-Ok.ensures.ok.1 there))
+        c.in-Err-remove.ensures.room.refused c.in-Err-remove.ensures.volume));
+    answered =
+        let fs = fs_of c.args.engine.now.fs.now in
+        let request = in_progress_of c.args.self.now in
+        subst (λ (r : Result Executed Fault). IfOk r (HasResult request)) (sym c.tell_fault.ensures)
+        (told_spelled request 28 c.in-Err-remove.fault (omega arith) (remove_up c.args.engine.now.moment fs request c.args.name.now _ c.in-Err-remove.fault c.requires.up c.requires.run c.in-Ok.ensures.ok.0 c.in-Ok.ensures.ok.1 c.in-Err-remove.ensures.step));
+    table = refl;
+    opens = on_err _ refl;
+    volume =
+        let table = table_of c.args.engine.now.table.now in
+        let opens = opens_of c.args.engine.now.opens.now in
+        let fs = fs_of c.args.engine.now.fs.now in
+        let new = fs_of c.remove.new.self in
+        let request = in_progress_of c.args.self.now in
+        let name = c.args.name.now in
+        subst (λ (r : Result Executed Fault). FsChanges g.D.Device.keeps_word (OperationGives (shared fs table opens) request c.args.engine.now.moment (Argument.Remove name)) fs new (fs_failures c.args.engine.now.fs.now) (fs_failures c.remove.new.self) (ending r))
+        (sym c.tell_fault.ensures)
+        (told_changes c.args.engine.now.moment fs request (Argument.Remove name) (on_tree c.args.engine.now.moment fs request name) _ (sized c.args.engine.now.moment fs request name _ c.has_removed_room-has_room.ensures)
+        g.D.Device.keeps_word _ new _ _ c.requires.up _ table opens c.in-Err-remove.fault
+        (λ state there known. c.in-Err-remove.ensures.step state (is_on fs request _ _ c.requires.run c.in-Ok.ensures.ok.0 c.in-Ok.ensures.ok.1 there))
+        (remove_up c.args.engine.now.moment fs request c.args.name.now _ c.in-Err-remove.fault c.requires.up c.requires.run c.in-Ok.ensures.ok.0 c.in-Ok.ensures.ok.1 c.in-Err-remove.ensures.step) c.in-Err-remove.ensures.room.refused c.in-Err-remove.ensures.room.device
+        (remove_makes c.args.engine.now.moment fs request name table opens _ c.requires.run c.in-Ok.ensures.ok.0 c.in-Ok.ensures.ok.1 _ c.has_removed_room-has_room.ensures)
+        c.in-Err-remove.ensures.volume);
+  };
+}

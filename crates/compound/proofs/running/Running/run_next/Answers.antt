@@ -1,4 +1,4 @@
-use Rattle.std.proofs.Common.{◌≡◌, refl, sym, subst}
+use Rattle.std.proofs.Common.{◌≡◌, refl, sym, subst, ap}
 use Rattle.std.specs.Prelude.{drop}
 use Rattle.session.specs.Views.{table_of}
 use Rattle.wire.specs.ArgumentView.{argument_view}
@@ -14,30 +14,8 @@ use Rattle.compound.specs.declared.fault.Fault.TheVariants as fault
 use Rattle.fs.proofs.ChangeLaws.{changes_by}
 use Rattle.volume.proofs.ServeLaws.{told_err}
 use Rattle.compound.proofs.QuietLaws.{leaves_all, answers_still}
+use Rattle.compound.proofs.Outcomes.{if_not, on_err}
 use Rattle.compound.proofs.running.Running.run_next.Goals as goal
-
-pub returns-in_ok-done-in-Reads-clause-turns : goal.returns-in_ok-done-in-Reads-clause-turns
-returns-in_ok-done-in-Reads-clause-turns g c = λ keeps.
-    let next = rw c.in-Reads.is at c.in_ok-operation.ensures.ok in
-    turns_read c.args.now (shared_of c.args.fs.now c.args.table.now c.args.opens.now) (shared_of c.operate.new.fs c.operate.new.table c.operate.new.opens) (in_progress_of c.args.self.now)
-    (argument_view c.in-Reads.argument) (drop c.in-Reads.position c.args.self.now.compound.operations.now) c.in_ok-done-in-Reads.done c.requires.more next
-    (c.in_ok-done-in-Reads.ensures.gives keeps)
-
-pub returns-in-Refuses-clause-turns : goal.returns-in-Refuses-clause-turns
-unfolding in_progress_of
-returns-in-Refuses-clause-turns g c = λ keeps.
-    let request = in_progress_of c.args.self.now in
-    let rest = drop c.args.self.now.progress.position c.args.self.now.compound.operations.now in
-    let state = shared_of c.args.fs.now c.args.table.now c.args.opens.now in
-    let next = rw c.in-Refuses.is at c.in_ok-operation.ensures.ok in
-    subst (TurnsExecuted c.args.now state state request rest) (sym c.refused.ensures.gives)
-    (turns_refused c.args.now state request rest c.in-Refuses.operation c.in-Refuses.status c.requires.more next refl)
-
-pub returns-in-Refuses-clause-answered : goal.returns-in-Refuses-clause-answered
-returns-in-Refuses-clause-answered g c =
-    let next = rw c.in-Refuses.is at c.in_ok-operation.ensures.ok in
-    subst (IsAnswered (in_progress_of c.args.self.now)) (sym c.refused.ensures.gives)
-    (refused_spelled (in_progress_of c.args.self.now) c.in-Refuses.operation c.in-Refuses.status next c.refused.ensures.number)
 
 pub operate-requires-clause-ready : goal.operate-requires-clause-ready
 operate-requires-clause-ready g c = record { up = c.requires.up; run = c.requires.run }
@@ -50,39 +28,92 @@ operate-requires-clause-first g c =
     let next = rw c.in-Reads.is at c.in_ok-operation.ensures.ok in
     first_alone (in_progress_of c.args.self.now) (argument_view c.in-Reads.argument) (drop c.in-Reads.position c.args.self.now.compound.operations.now) next
 
-pub returns-in_err-operation-clause-volume : goal.returns-in_err-operation-clause-volume
-returns-in_err-operation-clause-volume g c =
+-- It ran
+
+pub returns-in_ok-done-in-Reads : goal.returns-in_ok-done-in-Reads
+returns-in_ok-done-in-Reads g c =
+    let moment = c.args.engine.now.moment in
+    let old = shared_of c.args.engine.now.fs.now c.args.engine.now.table.now c.args.engine.now.opens.now in
+    let new = shared_of c.operate.new.engine.fs.now c.operate.new.engine.table.now c.operate.new.engine.opens.now in
+    let request = in_progress_of c.args.self.now in
+    let argument = argument_view c.in-Reads.argument in
+    let rest = drop c.in-Reads.position c.args.self.now.compound.operations.now in
+    let next = rw c.in-Reads.is at c.in_ok-operation.ensures.ok in
+    let runs = rw c.in_ok-done-in-Reads.was at c.operate.ensures.state in
+    record {
+      same = c.operate.ensures.same;
+      turns = λ keeps. turns_read moment old new request argument rest c.in_ok-done-in-Reads.done c.requires.more next (runs.gives keeps);
+      within = rw c.in-Reads.is at c.in_ok-operation.ensures.within;
+      answered = runs.answered;
+      kept = runs.kept;
+      table = tt;
+      opens = tt;
+      volume = changes_by g.D.Device.keeps_word _ _ (read_gives old request moment argument rest c.requires.more next) _ _ _ _ _ runs.volume;
+    }
+
+pub returns-in_err-done-in-Reads : goal.returns-in_err-done-in-Reads
+returns-in_err-done-in-Reads g c =
+    let moment = c.args.engine.now.moment in
+    let old = shared_of c.args.engine.now.fs.now c.args.engine.now.table.now c.args.engine.now.opens.now in
+    let request = in_progress_of c.args.self.now in
+    let argument = argument_view c.in-Reads.argument in
+    let rest = drop c.in-Reads.position c.args.self.now.compound.operations.now in
+    let next = rw c.in-Reads.is at c.in_ok-operation.ensures.ok in
+    let runs = rw c.in_err-done-in-Reads.was at c.operate.ensures.state in
+    let reason = c.in_err-done-in-Reads.field-0.0 in
+    let residual = c.from_residual-in_err-done-in-Reads in
+    let told = told_err residual.result reason residual.ensures.1 in
+    record {
+      same = c.operate.ensures.same;
+      turns = λ keeps. if_not _ _ _ residual.ensures.1;
+      within = if_not _ _ _ residual.ensures.1;
+      answered = if_not _ _ _ residual.ensures.1;
+      kept = if_not _ _ _ residual.ensures.1;
+      table = on_err _ runs.table;
+      opens = on_err _ runs.opens;
+      volume = rw told (changes_by g.D.Device.keeps_word _ _ (read_gives old request moment argument rest c.requires.more next) _ _ _ _ _ runs.volume);
+    }
+
+-- There is no memory
+
+pub returns-in_err-operation : goal.returns-in_err-operation
+returns-in_err-operation g c =
     let reason = c.in_err-operation.field-0.0 in
     let told = told_err c.from_residual.result reason c.from_residual.ensures.1 in
-    let memory : reason ≡ fault.Memory = rw c.in_err-operation.was at c.next_operation.ensures.err in
-    rw (told, memory) (leaves_all g.D.Device.keeps_word _ _ _ _ _ refl refl)
+    let memory : reason ≡ fault.Memory = rw c.in_err-operation.was at c.next_operation.ensures.ok in
+    record {
+      same = record { fs = refl; table = refl; opens = refl };
+      turns = λ keeps. if_not _ _ _ c.from_residual.ensures.1;
+      within = if_not _ _ _ c.from_residual.ensures.1;
+      answered = if_not _ _ _ c.from_residual.ensures.1;
+      kept = if_not _ _ _ c.from_residual.ensures.1;
+      table = on_err _ refl;
+      opens = on_err _ refl;
+      volume = rw (told, memory) (leaves_all g.D.Device.keeps_word _ _ _ _ _ refl refl);
+    }
 
-pub returns-in_err-done-in-Reads-clause-volume : goal.returns-in_err-done-in-Reads-clause-volume
-returns-in_err-done-in-Reads-clause-volume g c =
-    let next = rw c.in-Reads.is at c.in_ok-operation.ensures.ok in
-    let reason = c.in_err-done-in-Reads.field-0.0 in
-    let told = told_err c.from_residual-in_err-done-in-Reads.result reason c.from_residual-in_err-done-in-Reads.ensures.1 in
-    rw told (changes_by g.D.Device.keeps_word _ _
-    (read_gives (shared_of c.args.fs.now c.args.table.now c.args.opens.now) (in_progress_of c.args.self.now) c.args.now (argument_view c.in-Reads.argument)
-    (drop c.in-Reads.position c.args.self.now.compound.operations.now) c.requires.more next)
-    _ _ _ _ _ (rw c.in_err-done-in-Reads.was at c.operate.ensures.volume))
+-- It was refused before
 
-pub returns-in_ok-done-in-Reads-clause-volume : goal.returns-in_ok-done-in-Reads-clause-volume
-returns-in_ok-done-in-Reads-clause-volume g c =
-    let next = rw c.in-Reads.is at c.in_ok-operation.ensures.ok in
-    changes_by g.D.Device.keeps_word _ _
-    (read_gives (shared_of c.args.fs.now c.args.table.now c.args.opens.now) (in_progress_of c.args.self.now) c.args.now (argument_view c.in-Reads.argument)
-    (drop c.in-Reads.position c.args.self.now.compound.operations.now) c.requires.more next)
-    _ _ _ _ _ (rw c.in_ok-done-in-Reads.was at c.operate.ensures.volume)
-
-pub returns-in-Refuses-clause-volume : goal.returns-in-Refuses-clause-volume
-returns-in-Refuses-clause-volume g c =
+pub returns-in-Refuses : goal.returns-in-Refuses
+unfolding in_progress_of
+returns-in-Refuses g c =
+    let moment = c.args.engine.now.moment in
+    let state = shared_of c.args.engine.now.fs.now c.args.engine.now.table.now c.args.engine.now.opens.now in
+    let request = in_progress_of c.args.self.now in
+    let rest = drop c.args.self.now.progress.position c.args.self.now.compound.operations.now in
     let next = rw c.in-Refuses.is at c.in_ok-operation.ensures.ok in
-    answers_still g.D.Device.keeps_word _ _ _ _ _ refl refl c.requires.up
-    (λ keeps. turn_stays (shared_of c.args.fs.now c.args.table.now c.args.opens.now) _
-    (λ world number has. refused_keeps world number c.args.now (in_progress_of c.args.self.now) c.in-Refuses.operation c.in-Refuses.status c.requires.more next)
-    (c.requires.agrees keeps).seats)
-    (λ keeps. refused_turn (shared_of c.args.fs.now c.args.table.now c.args.opens.now) (in_progress_of c.args.self.now) c.args.now c.in-Refuses.operation c.in-Refuses.status c.requires.more next)
-
-pub returns-in-Refuses-clause-kept : goal.returns-in-Refuses-clause-kept
-returns-in-Refuses-clause-kept g c = subst (IsReplyKept (table_of c.args.table.now)) (sym c.refused.ensures.gives) tt
+    record {
+      same = record { fs = refl; table = refl; opens = refl };
+      turns = λ keeps. subst (TurnsExecuted moment state state request rest) (sym c.refused.ensures.gives)
+          (turns_refused moment state request rest c.in-Refuses.operation c.in-Refuses.status c.requires.more next refl);
+      within = c.args.self.now.within;
+      answered = subst (IsAnswered request) (sym c.refused.ensures.gives) (refused_spelled request c.in-Refuses.operation c.in-Refuses.status next c.refused.ensures.number);
+      kept = subst (IsReplyKept state.table) (sym c.refused.ensures.gives) tt;
+      table = tt;
+      opens = tt;
+      volume = answers_still g.D.Device.keeps_word _ _ _ _ _ refl refl c.requires.up
+          (λ keeps. turn_stays state _
+          (λ world number has. refused_keeps world number moment request c.in-Refuses.operation c.in-Refuses.status c.requires.more next)
+          (c.requires.agrees keeps).seats)
+          (λ keeps. refused_turn state request moment c.in-Refuses.operation c.in-Refuses.status c.requires.more next);
+    }

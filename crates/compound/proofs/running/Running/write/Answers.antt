@@ -22,133 +22,149 @@ use Rattle.compound.proofs.Rooms.{gives_in_room, gives_refusal}
 use Rattle.compound.proofs.Trees.{is_on}
 use Rattle.compound.proofs.VolumeLaws.{refusal_changes}
 use Rattle.compound.proofs.WriteLaws.{wants_file, write_on_tree, write_sized, does_write, write_makes, write_up, written_room}
+use Rattle.session.specs.Views.{table_of}
+use Rattle.compound.proofs.Outcomes.{changed_if, on_err}
 use Rattle.compound.proofs.running.Running.write.Goals as goal
 
-pub returns-in-Err-clause-gives : goal.returns-in-Err-clause-gives
-returns-in-Err-clause-gives g c = λ keeps table.
-    let opens = opens_of c.args.opens.now in
-    let fs = fs_of c.args.fs.now in
-    let request = in_progress_of c.args.self.now in
-    let arguments = write_view c.args.arguments.now in
-    let kind = Argument.Write arguments in
-    c.refuse.ensures.gives c.args.now (shared fs table opens) (shared fs table opens) kind
-    (subst (λ (reason : Status). GivesIn c.args.now (shared fs table opens) (shared fs table opens) request request kind (Refused 38 reason)) (sym c.in-Err.ensures.err.0)
-    (gives_refusal c.args.now (shared fs table opens) (shared fs table opens) request kind 38 _ (wants_file c.args.now fs table opens request arguments c.tell_bytes.ensures c.in-Err.ensures.err.1)))
-
-pub returns-in-Err-clause-volume : goal.returns-in-Err-clause-volume
-returns-in-Err-clause-volume g c = λ table.
-    let opens = opens_of c.args.opens.now in
-    let fs = fs_of c.args.fs.now in
-    let request = in_progress_of c.args.self.now in
-    let arguments = write_view c.args.arguments.now in
-    let kind = Argument.Write arguments in
-    refusal_changes g.D.Device.keeps_word fs fs table opens (fs_failures c.args.fs.now) (fs_failures c.args.fs.now) request c.args.now kind 38 c.in-Err.status refl refl c.requires.up
-    (subst (λ (reason : Status). GivesIn c.args.now (shared fs table opens) (shared fs table opens) request request kind (Refused 38 reason)) (sym c.in-Err.ensures.err.0)
-    (gives_refusal c.args.now (shared fs table opens) (shared fs table opens) request kind 38 _ (wants_file c.args.now fs table opens request arguments c.tell_bytes.ensures c.in-Err.ensures.err.1)))
+pub returns-in-Err : goal.returns-in-Err
+returns-in-Err g c = record {
+  same = record { fs = refl; table = refl; opens = refl };
+  state = record {
+    gives = λ keeps.
+        let table = table_of c.args.engine.now.table.now in
+        let opens = opens_of c.args.engine.now.opens.now in
+        let fs = fs_of c.args.engine.now.fs.now in
+        let request = in_progress_of c.args.self.now in
+        let arguments = write_view c.args.arguments.now in
+        let kind = Argument.Write arguments in
+        c.refuse.ensures.gives c.args.engine.now.moment (shared fs table opens) (shared fs table opens) kind
+        (subst (λ (reason : Status). GivesIn c.args.engine.now.moment (shared fs table opens) (shared fs table opens) request request kind (Refused 38 reason)) (sym c.in-Err.ensures.err.0)
+        (gives_refusal c.args.engine.now.moment (shared fs table opens) (shared fs table opens) request kind 38 _ (wants_file c.args.engine.now.moment fs table opens request arguments c.tell_bytes.ensures c.in-Err.ensures.err.1)));
+    answered = c.refuse.ensures.answered;
+    table = refl;
+    opens = tt;
+    volume =
+        let table = table_of c.args.engine.now.table.now in
+        let opens = opens_of c.args.engine.now.opens.now in
+        let fs = fs_of c.args.engine.now.fs.now in
+        let request = in_progress_of c.args.self.now in
+        let arguments = write_view c.args.arguments.now in
+        let kind = Argument.Write arguments in
+        refusal_changes g.D.Device.keeps_word fs fs table opens (fs_failures c.args.engine.now.fs.now) (fs_failures c.args.engine.now.fs.now) request c.args.engine.now.moment kind 38 c.in-Err.status refl refl c.requires.up
+        (subst (λ (reason : Status). GivesIn c.args.engine.now.moment (shared fs table opens) (shared fs table opens) request request kind (Refused 38 reason)) (sym c.in-Err.ensures.err.0)
+        (gives_refusal c.args.engine.now.moment (shared fs table opens) (shared fs table opens) request kind 38 _ (wants_file c.args.engine.now.moment fs table opens request arguments c.tell_bytes.ensures c.in-Err.ensures.err.1)));
+  };
+}
 
 -- Where it is done
 
-pub returns-in-Ok-write-clause-gives : goal.returns-in-Ok-write-clause-gives
+pub returns-in-Ok-write : goal.returns-in-Ok-write
 unfolding in_progress_of
-returns-in-Ok-write-clause-gives g c = λ keeps table.
-    let opens = opens_of c.args.opens.now in
-    let fs = fs_of c.args.fs.now in
-    let new = fs_of c.write.new.self in
-    let request = in_progress_of c.args.self.now in
-    let arguments = write_view c.args.arguments.now in
-    let kind = Argument.Write arguments in
-    let answer = written_answer request.context.run arguments.stable c.in-Ok-write.count in
-    subst (λ (outcome : Outcome). GivesIn c.args.now (shared fs table opens) (shared new table opens) request request kind outcome) (sym c.written.ensures.is)
-    (gives_in_room c.args.now (shared fs table opens) (shared new table opens) request request kind answer
-    (written_room request request.context.run arguments.stable c.in-Ok-write.count true (sym c.in-Ok-write.ensures.room.done ∙ c.has_written_room-has_room.ensures))
-    (done_runs c.args.now fs request kind (write_on_tree c.args.now fs request arguments) new table opens opens request.context answer
-    (λ state there known. does_write c.args.now fs request arguments new opens c.in-Ok-write.count state there known
-    (c.in-Ok-write.ensures.step state arguments (is_on fs request _ state c.requires.run c.in-Ok.ensures.ok.0 c.in-Ok.ensures.ok.1 there)
-    (record { verdict_is = c.verdict-verdict.ensures.is state known there.context_is; offset_is = refl; bytes_are = refl; stable_is = c.is_to_be_stable.ensures }) keeps))))
-
-pub returns-in-Ok-write-clause-answered : goal.returns-in-Ok-write-clause-answered
-unfolding in_progress_of
-returns-in-Ok-write-clause-answered g c =
-    let request = in_progress_of c.args.self.now in
-    let arguments = write_view c.args.arguments.now in
-    record {
-      fits = c.written.ensures.fits;
-      small = c.written.ensures.small;
-      room = subst (HasRoom request) (sym c.written.ensures.is)
-          (is_short request (written_answer request.context.run arguments.stable c.in-Ok-write.count)
-          (written_room request request.context.run arguments.stable c.in-Ok-write.count true (sym c.in-Ok-write.ensures.room.done ∙ c.has_written_room-has_room.ensures)));
-    }
-
-pub returns-in-Ok-write-clause-volume : goal.returns-in-Ok-write-clause-volume
-unfolding in_progress_of
-returns-in-Ok-write-clause-volume g c = λ table.
-    let opens = opens_of c.args.opens.now in
-    let fs = fs_of c.args.fs.now in
-    let request = in_progress_of c.args.self.now in
-    let arguments = write_view c.args.arguments.now in
-    changes_by g.D.Device.keeps_word _ _
-    (write_makes c.args.now fs request arguments table opens _ _ _ c.requires.run c.in-Ok.ensures.ok.0 c.in-Ok.ensures.ok.1
-    (λ state there known. record { verdict_is = c.verdict-verdict.ensures.is state known there.context_is; offset_is = refl; bytes_are = refl; stable_is = c.is_to_be_stable.ensures })
-    _ c.has_written_room-has_room.ensures c.in-Ok-write.ensures.room.done)
-    _ _ _ _ _ c.in-Ok-write.ensures.volume
+returns-in-Ok-write g c = record {
+  same = record { fs = refl; table = refl; opens = refl };
+  state = record {
+    gives = λ keeps.
+        let table = table_of c.args.engine.now.table.now in
+        let opens = opens_of c.args.engine.now.opens.now in
+        let fs = fs_of c.args.engine.now.fs.now in
+        let new = fs_of c.write.new.self in
+        let request = in_progress_of c.args.self.now in
+        let arguments = write_view c.args.arguments.now in
+        let kind = Argument.Write arguments in
+        let answer = written_answer request.context.run arguments.stable c.in-Ok-write.count in
+        subst (λ (outcome : Outcome). GivesIn c.args.engine.now.moment (shared fs table opens) (shared new table opens) request request kind outcome) (sym c.written.ensures.is)
+        (gives_in_room c.args.engine.now.moment (shared fs table opens) (shared new table opens) request request kind answer
+        (written_room request request.context.run arguments.stable c.in-Ok-write.count true (sym c.in-Ok-write.ensures.room.done ∙ c.has_written_room-has_room.ensures))
+        (done_runs c.args.engine.now.moment fs request kind (write_on_tree c.args.engine.now.moment fs request arguments) new table opens opens request.context answer
+        (λ state there known. does_write c.args.engine.now.moment fs request arguments new opens c.in-Ok-write.count state there known
+        (c.in-Ok-write.ensures.step state arguments (is_on fs request _ state c.requires.run c.in-Ok.ensures.ok.0 c.in-Ok.ensures.ok.1 there)
+        (record { verdict_is = c.verdict-verdict.ensures.is state known there.context_is; offset_is = refl; bytes_are = refl; stable_is = c.is_to_be_stable.ensures }) keeps))));
+    answered =
+        let request = in_progress_of c.args.self.now in
+        let arguments = write_view c.args.arguments.now in
+        record {
+          fits = c.written.ensures.fits;
+          small = c.written.ensures.small;
+          room = subst (HasRoom request) (sym c.written.ensures.is)
+              (is_short request (written_answer request.context.run arguments.stable c.in-Ok-write.count)
+              (written_room request request.context.run arguments.stable c.in-Ok-write.count true (sym c.in-Ok-write.ensures.room.done ∙ c.has_written_room-has_room.ensures)));
+        };
+    table = refl;
+    opens = tt;
+    volume =
+        let table = table_of c.args.engine.now.table.now in
+        let opens = opens_of c.args.engine.now.opens.now in
+        let fs = fs_of c.args.engine.now.fs.now in
+        let request = in_progress_of c.args.self.now in
+        let arguments = write_view c.args.arguments.now in
+        changes_by g.D.Device.keeps_word _ _
+        (write_makes c.args.engine.now.moment fs request arguments table opens _ _ _ c.requires.run c.in-Ok.ensures.ok.0 c.in-Ok.ensures.ok.1
+        (λ state there known. record { verdict_is = c.verdict-verdict.ensures.is state known there.context_is; offset_is = refl; bytes_are = refl; stable_is = c.is_to_be_stable.ensures })
+        _ c.has_written_room-has_room.ensures c.in-Ok-write.ensures.room.done)
+        _ _ _ _ _ c.in-Ok-write.ensures.volume;
+  };
+}
 
 -- Where it is not
 
 pub tell_fault-requires : goal.tell_fault-requires
 unfolding in_progress_of
 tell_fault-requires g c =
-    let opens = opens_of c.args.opens.now in
-    let fs = fs_of c.args.fs.now in
+    let opens = opens_of c.args.engine.now.opens.now in
+    let fs = fs_of c.args.engine.now.fs.now in
     let request = in_progress_of c.args.self.now in
     let arguments = write_view c.args.arguments.now in
-    write_up c.args.now fs request arguments opens c.in-Err-write.fault c.requires.up
+    write_up c.args.engine.now.moment fs request arguments opens c.in-Err-write.fault c.requires.up
     (λ state there known. c.in-Err-write.ensures.step state arguments (is_on fs request _ state c.requires.run c.in-Ok.ensures.ok.0 c.in-Ok.ensures.ok.1 there)
     (record { verdict_is = c.verdict-verdict.ensures.is state known there.context_is; offset_is = refl; bytes_are = refl; stable_is = c.is_to_be_stable.ensures }))
 
-pub returns-in-Err-write-clause-gives : goal.returns-in-Err-write-clause-gives
+pub returns-in-Err-write : goal.returns-in-Err-write
 unfolding in_progress_of
-returns-in-Err-write-clause-gives g c = λ keeps.
-    let opens = opens_of c.args.opens.now in
-    let fs = fs_of c.args.fs.now in
-    let new = fs_of c.write.new.self in
-    let request = in_progress_of c.args.self.now in
-    let arguments = write_view c.args.arguments.now in
-    let kind = Argument.Write arguments in
-    subst (λ (r : Result Executed Fault). IfOk r (ChangesTreeAndOpens fs new opens opens c.args.now request kind)) (sym c.tell_fault.ensures)
-    (told_gives c.args.now fs request kind (write_on_tree c.args.now fs request arguments) _ (write_sized c.args.now fs request arguments _ c.has_written_room-has_room.ensures)
-    g.D.Device.keeps_word _ new _ _ c.requires.up _ opens opens c.in-Err-write.fault refl
-    (λ state there known. c.in-Err-write.ensures.step state arguments (is_on fs request _ state c.requires.run c.in-Ok.ensures.ok.0 c.in-Ok.ensures.ok.1 there)
-    (record { verdict_is = c.verdict-verdict.ensures.is state known there.context_is; offset_is = refl; bytes_are = refl; stable_is = c.is_to_be_stable.ensures }))
-    c.in-Err-write.ensures.room.refused c.in-Err-write.ensures.volume)
-
-pub returns-in-Err-write-clause-answered : goal.returns-in-Err-write-clause-answered
-unfolding in_progress_of
-returns-in-Err-write-clause-answered g c =
-    let opens = opens_of c.args.opens.now in
-    let fs = fs_of c.args.fs.now in
-    let request = in_progress_of c.args.self.now in
-    let arguments = write_view c.args.arguments.now in
-    subst (λ (r : Result Executed Fault). IfOk r (HasResult request)) (sym c.tell_fault.ensures)
-    (told_spelled request 38 c.in-Err-write.fault (omega arith) (write_up c.args.now fs request arguments opens c.in-Err-write.fault c.requires.up
-    (λ state there known. c.in-Err-write.ensures.step state arguments (is_on fs request _ state c.requires.run c.in-Ok.ensures.ok.0 c.in-Ok.ensures.ok.1 there)
-    (record { verdict_is = c.verdict-verdict.ensures.is state known there.context_is; offset_is = refl; bytes_are = refl; stable_is = c.is_to_be_stable.ensures }))))
-
-pub returns-in-Err-write-clause-volume : goal.returns-in-Err-write-clause-volume
-unfolding in_progress_of
-returns-in-Err-write-clause-volume g c = λ table.
-    let opens = opens_of c.args.opens.now in
-    let fs = fs_of c.args.fs.now in
-    let new = fs_of c.write.new.self in
-    let request = in_progress_of c.args.self.now in
-    let arguments = write_view c.args.arguments.now in
-    let kind = Argument.Write arguments in
-    let writing = λ (state : State) (there : IsHere fs request state) (known : state.opens ≡ opens). let is : IsWriting state _ _ arguments = record { verdict_is = c.verdict-verdict.ensures.is state known there.context_is; offset_is = refl; bytes_are = refl; stable_is = c.is_to_be_stable.ensures } in is in
-    let step = λ (state : State) (there : IsHere fs request state) (known : state.opens ≡ opens). c.in-Err-write.ensures.step state arguments (is_on fs request _ state c.requires.run c.in-Ok.ensures.ok.0 c.in-Ok.ensures.ok.1 there) (writing state there known) in
-    subst (λ (r : Result Executed Fault). FsChanges g.D.Device.keeps_word (OperationGives (shared fs table opens) request c.args.now kind) fs new (fs_failures c.args.fs.now) (fs_failures c.write.new.self) (ending r))
-    (sym c.tell_fault.ensures)
-    (told_changes c.args.now fs request kind (write_on_tree c.args.now fs request arguments) _ (write_sized c.args.now fs request arguments _ c.has_written_room-has_room.ensures)
-    g.D.Device.keeps_word _ new _ _ c.requires.up _ table opens c.in-Err-write.fault
-    step
-    (write_up c.args.now fs request arguments opens c.in-Err-write.fault c.requires.up step) c.in-Err-write.ensures.room.refused c.in-Err-write.ensures.room.device
-    (write_makes c.args.now fs request arguments table opens _ _ _ c.requires.run c.in-Ok.ensures.ok.0 c.in-Ok.ensures.ok.1 writing _ c.has_written_room-has_room.ensures)
-    c.in-Err-write.ensures.volume)
+returns-in-Err-write g c = record {
+  same = record { fs = refl; table = refl; opens = refl };
+  state = record {
+    gives = λ keeps.
+        let opens = opens_of c.args.engine.now.opens.now in
+        let fs = fs_of c.args.engine.now.fs.now in
+        let new = fs_of c.write.new.self in
+        let request = in_progress_of c.args.self.now in
+        let arguments = write_view c.args.arguments.now in
+        let kind = Argument.Write arguments in
+        changed_if c.args.engine.now.moment fs new (table_of c.args.engine.now.table.now) opens opens request kind c.tell_fault.result
+        (subst (λ (r : Result Executed Fault). IfOk r (ChangesTreeAndOpens fs new opens opens c.args.engine.now.moment request kind)) (sym c.tell_fault.ensures)
+        (told_gives c.args.engine.now.moment fs request kind (write_on_tree c.args.engine.now.moment fs request arguments) _ (write_sized c.args.engine.now.moment fs request arguments _ c.has_written_room-has_room.ensures)
+        g.D.Device.keeps_word _ new _ _ c.requires.up _ opens opens c.in-Err-write.fault refl
+        (λ state there known. c.in-Err-write.ensures.step state arguments (is_on fs request _ state c.requires.run c.in-Ok.ensures.ok.0 c.in-Ok.ensures.ok.1 there)
+        (record { verdict_is = c.verdict-verdict.ensures.is state known there.context_is; offset_is = refl; bytes_are = refl; stable_is = c.is_to_be_stable.ensures }))
+        c.in-Err-write.ensures.room.refused c.in-Err-write.ensures.volume));
+    answered =
+        let opens = opens_of c.args.engine.now.opens.now in
+        let fs = fs_of c.args.engine.now.fs.now in
+        let request = in_progress_of c.args.self.now in
+        let arguments = write_view c.args.arguments.now in
+        subst (λ (r : Result Executed Fault). IfOk r (HasResult request)) (sym c.tell_fault.ensures)
+        (told_spelled request 38 c.in-Err-write.fault (omega arith) (write_up c.args.engine.now.moment fs request arguments opens c.in-Err-write.fault c.requires.up
+        (λ state there known. c.in-Err-write.ensures.step state arguments (is_on fs request _ state c.requires.run c.in-Ok.ensures.ok.0 c.in-Ok.ensures.ok.1 there)
+        (record { verdict_is = c.verdict-verdict.ensures.is state known there.context_is; offset_is = refl; bytes_are = refl; stable_is = c.is_to_be_stable.ensures }))));
+    table = refl;
+    opens = on_err _ refl;
+    volume =
+        let table = table_of c.args.engine.now.table.now in
+        let opens = opens_of c.args.engine.now.opens.now in
+        let fs = fs_of c.args.engine.now.fs.now in
+        let new = fs_of c.write.new.self in
+        let request = in_progress_of c.args.self.now in
+        let arguments = write_view c.args.arguments.now in
+        let kind = Argument.Write arguments in
+        let writing = λ (state : State) (there : IsHere fs request state) (known : state.opens ≡ opens). let is : IsWriting state _ _ arguments = record { verdict_is = c.verdict-verdict.ensures.is state known there.context_is; offset_is = refl; bytes_are = refl; stable_is = c.is_to_be_stable.ensures } in is in
+        let step = λ (state : State) (there : IsHere fs request state) (known : state.opens ≡ opens). c.in-Err-write.ensures.step state arguments (is_on fs request _ state c.requires.run c.in-Ok.ensures.ok.0 c.in-Ok.ensures.ok.1 there) (writing state there known) in
+        subst (λ (r : Result Executed Fault). FsChanges g.D.Device.keeps_word (OperationGives (shared fs table opens) request c.args.engine.now.moment kind) fs new (fs_failures c.args.engine.now.fs.now) (fs_failures c.write.new.self) (ending r))
+        (sym c.tell_fault.ensures)
+        (told_changes c.args.engine.now.moment fs request kind (write_on_tree c.args.engine.now.moment fs request arguments) _ (write_sized c.args.engine.now.moment fs request arguments _ c.has_written_room-has_room.ensures)
+        g.D.Device.keeps_word _ new _ _ c.requires.up _ table opens c.in-Err-write.fault
+        step
+        (write_up c.args.engine.now.moment fs request arguments opens c.in-Err-write.fault c.requires.up step) c.in-Err-write.ensures.room.refused c.in-Err-write.ensures.room.device
+        (write_makes c.args.engine.now.moment fs request arguments table opens _ _ _ c.requires.run c.in-Ok.ensures.ok.0 c.in-Ok.ensures.ok.1 writing _ c.has_written_room-has_room.ensures)
+        c.in-Err-write.ensures.volume);
+  };
+}
