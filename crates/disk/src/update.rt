@@ -1,5 +1,5 @@
 /// Bytes of a sector.
-pub const SECTOR: usize = 4096;
+pub const SECTOR: usize = sector::SIZE;
 
 /// A new content for one sector.
 #[derive(Drop)]

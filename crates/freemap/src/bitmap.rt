@@ -5,7 +5,8 @@ ghost use Rattle.freemap.specs.Places.{ShowsPlaces, HaveSamePart, OneSet, OneSpe
 ghost use Rattle.freemap.specs.Kept.{free_places};
 
 use crate::fault::Full;
-use crate::sectors::{self, SECTOR_BYTES, SECTOR_PLACES};
+use crate::sectors::{self, SECTOR_PLACES};
+use sector::SIZE;
 use std::alloc::{AllocError, Global};
 use std::marker::Model;
 
@@ -62,12 +63,12 @@ impl Bitmap {
     }
 
     /// Writes bitmap sector `part`, 0 or 1, which shows the places from `32768 * part` on.
-    pub fn to_sector(&self, part: u32, sector: &mut [u8; SECTOR_BYTES])
+    pub fn to_sector(&self, part: u32, sector: &mut [u8; SIZE])
         requires { part < 2 }
         ensures { ShowsPlaces sector.new self.now (SECTOR_PLACES * part) }
     {
-        let first = SECTOR_BYTES * part as usize;
-        sector.copy_from_slice(&self.bits[first..first + SECTOR_BYTES]);
+        let first = SIZE * part as usize;
+        sector.copy_from_slice(&self.bits[first..first + SIZE]);
     }
 
     /// Whether bitmap sector `part`, 0 or 1, is the same of both sets.
@@ -75,8 +76,8 @@ impl Bitmap {
         requires { part < 2 }
         ensures { IsTrue result ↔ HaveSamePart self.now other.now (SECTOR_PLACES * part) }
     {
-        let start = part as usize * SECTOR_BYTES;
-        let end = start + SECTOR_BYTES;
+        let start = part as usize * SIZE;
+        let end = start + SIZE;
         sectors::have_same_bits(&self.bits[start..end], &other.bits[start..end])
     }
 

@@ -5,7 +5,8 @@ ghost use Rattle.freemap.specs.Places.{ShowsPlaces, HaveSamePart};
 
 use crate::bitmap::Bitmap;
 use crate::fault::TakeFault;
-use crate::sectors::{SECTOR_BYTES, SECTOR_PLACES};
+use crate::sectors::SECTOR_PLACES;
+use sector::SIZE;
 use std::alloc::{AllocError, Global};
 use std::marker::Model;
 use std::rc::Rc;
@@ -48,7 +49,7 @@ impl SharedBitmap {
     }
 
     /// Writes bitmap sector `part`, 0 or 1, which shows the places from `32768 * part` on.
-    pub fn to_sector(&self, part: u32, sector: &mut [u8; SECTOR_BYTES])
+    pub fn to_sector(&self, part: u32, sector: &mut [u8; SIZE])
         requires { part < 2 }
         ensures { ShowsPlaces sector.new self.now (SECTOR_PLACES * part) }
     {

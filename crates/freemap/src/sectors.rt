@@ -5,15 +5,13 @@ ghost use Rattle.freemap.specs.Places.{bit_from, bit_of, places_in};
 ghost use Rattle.freemap.specs.Kept.{free_places, IsSetBelow, HaveSameBits, BitBecomes};
 
 use byteorder::{BigEndian, ByteOrder};
-
-/// The bytes of a sector.
-pub(crate) const SECTOR_BYTES: usize = 4096;
+use sector::SIZE;
 
 /// The places that a sector shows, one for each bit.
 pub const SECTOR_PLACES: u32 = 32768;
 
 /// The bytes of the two sectors, and the places that they show.
-pub(crate) const BYTES: usize = 8192;
+pub(crate) const BYTES: usize = 2 * SIZE;
 
 pub(crate) const PLACES: usize = 65536;
 
@@ -51,8 +49,8 @@ pub(crate) fn clear_bit(bits: &mut [u8], place: usize)
 
 /// Whether two sectors have the same bits.
 pub(crate) fn have_same_bits(a: &[u8], b: &[u8]) -> bool
-    requires a_len { length a.now ≡ SECTOR_BYTES }
-    requires b_len { length b.now ≡ SECTOR_BYTES }
+    requires a_len { length a.now ≡ SIZE }
+    requires b_len { length b.now ≡ SIZE }
     ensures { IsTrue result ↔ HaveSameBits a.now b.now }
 {
     *a == *b
