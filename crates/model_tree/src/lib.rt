@@ -11,5 +11,6 @@ pub mod limits;
 pub mod maps;
 pub mod node;
 pub mod seats;
+pub mod stamps;
 pub mod status;
 pub mod tree;

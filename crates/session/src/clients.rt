@@ -6,6 +6,7 @@ ghost use Rattle.std.specs.List.{AllPairs};
 use crate::client::Client;
 use crate::limits::MAX_CLIENTS;
 use model::not_done::NotDone;
+use model_tree::stamps::stamp;
 use model_tree::status::Status;
 use std::alloc::{AllocError, Global};
 use wire::{CreateSessionAnswer, ExchangeIdArguments};
@@ -131,7 +132,8 @@ impl Clients {
         if MAX_CLIENTS <= staying || self.serial == u32::MAX {
             return Err(NotDone::Status(Status::Delay));
         }
-        let number = u64::from(self.run) * 0x1_0000_0000 + u64::from(self.serial) + 1;
+        // Client ids are made as stamps are.
+        let number = stamp(self.run, self.serial + 1);
         let client = Client {
             number,
             owner: Vec::from_slice(alloc, owner)?,

@@ -20,6 +20,7 @@ use inode::Form;
 use layout::sectors::Sectors;
 use model_tree::limits::Limits;
 use model_tree::seats::Seats;
+use model_tree::stamps::stamp;
 use node_table::{CachedNode, Table};
 use std::alloc::{AllocError, Global};
 use tree_check::are_well_formed;
@@ -95,7 +96,7 @@ pub(crate) fn read_nodes<S: Sectors>(
         found.run,
     )?;
     let table = Table::from_cards(alloc, all_second(alloc, contents.cards)?)?;
-    let last_stamp = u64::from(found.run) * 0x1_0000_0000 + 0xFFFF_FFFF;
+    let last_stamp = stamp(found.run, u32::MAX);
     if !are_well_formed(alloc, &table, &limits, last_stamp)? {
         return Err(MountFault::Damaged);
     }

@@ -1,4 +1,4 @@
-use Rattle.std.proofs.Common.{◌≡◌, ◌<◌, ◌+◌, ◌*◌, ◌∙◌, ℕ, List, Option, sym, ap, subst, arith, true≢false}
+use Rattle.std.proofs.Common.{◌≡◌, ◌<◌, ◌+◌, ◌∙◌, ℕ, List, Option, sym, ap, subst, arith, true≢false}
 use Rattle.std.specs.Prelude.{Err}
 use Rattle.node_table.specs.Tables.{AreNumbered, HaveOwnPlaces}
 use Rattle.disk.specs.Moments.{Image}
@@ -73,8 +73,8 @@ returns-then-not-branch-clause-damaged g c = λ k is kept stands.
     c.requires.volume.sized
     kept
     (λ well_formed. true≢false (sym (c.in_ok-are_well_formed.ensures.1 (asked (limits_of found.sectors found.nodes) c.of_volume-limits.result
-    (stamp (found.run + 1) 0) (c.from.result * 4294967296 + 4294967295 + 1) (all_second cards) c.in_ok-table.table
-    (sym c.of_volume-limits.ensures) (omega (arith, c.from.ensures)) (sym table) well_formed)) ∙ c.if-not-branch.true))
+    (stamp (found.run + 1) 0) (c.stamp-last_stamp.result + 1) (all_second cards) c.in_ok-table.table
+    (sym c.of_volume-limits.ensures) (omega (arith, c.stamp-last_stamp.ensures)) (sym table) well_formed)) ∙ c.if-not-branch.true))
     stands
 
 pub returns-clause-loaded : goal.returns-clause-loaded
@@ -85,8 +85,8 @@ returns-clause-loaded g c =
     let cards : List (Option CachedNode) = contents.cards.items in
     let table : c.in_ok-table.table ≡ all_second cards = c.in_ok-table.ensures.table ∙ c.in_ok-all_second.ensures in
     let well_formed : AreWellFormed (limits_of found.sectors found.nodes) (stamp (found.run + 1) 0) (all_second cards) =
-    asked c.of_volume-limits.result (limits_of found.sectors found.nodes) (c.from.result * 4294967296 + 4294967295 + 1) (stamp (found.run + 1) 0) c.in_ok-table.table (all_second cards)
-    c.of_volume-limits.ensures (omega (arith, c.from.ensures)) table (c.in_ok-are_well_formed.ensures.0 c.if-not-branch.false) in
+    asked c.of_volume-limits.result (limits_of found.sectors found.nodes) (c.stamp-last_stamp.result + 1) (stamp (found.run + 1) 0) c.in_ok-table.table (all_second cards)
+    c.of_volume-limits.ensures (omega (arith, c.stamp-last_stamp.ensures)) table (c.in_ok-are_well_formed.ensures.0 c.if-not-branch.false) in
     rw (table, c.in_ok-places.ensures) (record {
       known = known_second found.sectors found.nodes cards contents.places c.in_ok-contents.ensures.found.known c.in_ok-contents.ensures.found.size_is;
       well_formed = ∣ well_formed ∣₁;

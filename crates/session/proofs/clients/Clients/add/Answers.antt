@@ -28,7 +28,7 @@ returns c =
     let staying = λ (client : Client). stays c.args.arguments.now.owner.now c.args.dropped c.args.yielded (client_of client) in
     let kept = filter_same _ staying _ (λ x b f' k. search (rules, tests)) _ _ c.retain.ensures.filtered ∙ ap (filter staying) c.reserve.ensures.items in
     let grown = pushed c.push.result c.retain.new.self.items c.push.new.self.items _ c.push.ensures.items (sym c.is_err.ensures.value ∙ c.if-is_err.false) in
-    let number = c.from.result * 4294967296 + c.from-2.result + 1 in
+    let number = c.stamp-number.result in
     let made = record (record_of c.args.uid (exchange_id_view c.args.arguments.now) number) { owner = c.in_ok-from_slice.field-0.items } in
     let seen =
     pushed_view client_of c.retain.new.self.items c.push.new.self.items _ grown
