@@ -10,7 +10,7 @@ use Rattle.directory.specs.declared.order.By.TheVariants as by
 use Rattle.directory.specs.Records.{Record, record_from, stamp_of, without_place}
 use Rattle.directory.specs.Least.{IsLeast}
 use Rattle.directory.specs.Order.{compare_placed, at_place, IsBefore, AreRising, IsOrder, IsPosition, IsInserted, IsTakenOut}
-use Rattle.directory.proofs.Kept.{moved_at, moved_here}
+use Rattle.directory.proofs.Kept.{moved_at}
 use Rattle.directory.proofs.Rising.{before_cases, less_before, tied_less, cmp_low, cmp_same, low_first, tied_same, rising_at, rising_same}
 
 abbrev nothing : Record
@@ -98,9 +98,6 @@ module _ (xs : List Record) (p : ℕ) (h : p < length xs) where
 
   stays : (i : ℕ) (d : Record) → i < length xs - 1 → i ≢ p → get_or (without_place xs p) i d ≡ get_or xs i d
   stays i d low apart = moved_at xs p h last last_is i d low apart
-
-  comes : (d : Record) → p < length xs - 1 → get_or (without_place xs p) p d ≡ get_or xs (length xs - 1) d
-  comes d low = moved_here xs p h last last_is p d low refl
 
 module _ (by : By) (order mid : List ℕ) (xs ys : List Record) (place : ℕ) (kept : IsOrder by order xs) (within : place < length xs) (out : IsTakenOut by xs order mid place) (is : ys ≡ without_place xs place) where
   fewer : length ys ≡ length xs - 1

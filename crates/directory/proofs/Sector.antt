@@ -4,7 +4,7 @@ use Rattle.directory.specs.declared.fault.RecordsFault.{RecordsFault}
 use Rattle.std.proofs.Common.{Result, Err, ◌≡◌, ◌<◌, ◌≤◌, ◌+◌, ◌-◌, ◌*◌, min, ℕ, zero, suc, List, [], ◌∷◌, ◌++◌, length, get_or, take, drop, map, replicate, refl, sym, ap, ◌∙◌, arith, append_assoc}
 use Rattle.std.specs.List.{flat_map, AllByRecursion}
 use Rattle.std.specs.Int.{w64, to_be_bytes}
-use Rattle.std.proofs.lemmas.List.{take-map, drop-map, take_min, drop_min, length-drop, length-append, length-replicate, length-take, get_or-drop, drop-drop, take_at, take_all, length-map, replicate-append-replicate}
+use Rattle.std.proofs.lemmas.List.{take_min, drop_min, length-drop, length-append, length-replicate, length-take, get_or-drop, drop-drop, take_at, take_all, length-map, replicate-append-replicate}
 use Rattle.sector.specs.Placed.{IsNumberAt}
 use Rattle.sector.specs.Records.{AreWide}
 use Rattle.directory.specs.declared.entry.Entry.{Entry}
@@ -114,19 +114,6 @@ name_fits (e ∷ entries) zero entry all h is = let few : length (rc_slice_items
 name_fits (e ∷ entries) (suc i) entry all h is = name_fits entries i entry all.1 (omega arith) is
 
 -- a part of records
-
-each_take : (n : ℕ) (xs : List Record) → AllByRecursion IsRecord xs → AllByRecursion IsRecord (take n xs)
-each_take zero xs all = tt
-each_take (suc n) [] all = tt
-each_take (suc n) (x ∷ xs) all = (all.0, each_take n xs all.1)
-
-each_drop : (n : ℕ) (xs : List Record) → AllByRecursion IsRecord xs → AllByRecursion IsRecord (drop n xs)
-each_drop zero xs all = all
-each_drop (suc n) [] all = tt
-each_drop (suc n) (x ∷ xs) all = each_drop n xs all.1
-
-pub part_is : (entries : List Entry) (n m : ℕ) → map record_of (take n (drop m entries)) ≡ take n (drop m (map record_of entries))
-part_is entries n m = sym (take-map record_of n (drop m entries)) ∙ ap (take n) (sym (drop-map record_of m entries))
 
 -- the records from `first` on, 15 at most, however the part is cut to what is there
 pub same_part : (names : List Record) (first from to : ℕ) → from ≡ min first (length names) → to ≡ min (length names) (from + 15) → take (to - from) (drop from names) ≡ take 15 (drop first names)

@@ -95,9 +95,6 @@ steps_take size cards moved (suc k) i below within = (
 -- What they hold then
 
 module _ (cards : List (Option CachedNode)) (from count : ℕ) (image : Image) where
-  with_nodes : Image
-  with_nodes = applied (nodes_of cards from count) image
-
   marked : applied (step cards from count) image ≡ put (applied (nodes_of cards from count) image) (mark_update (from + count))
   marked = applied-push (nodes_of cards from count) (mark_update (from + count)) image
 
