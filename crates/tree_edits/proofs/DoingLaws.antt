@@ -35,11 +35,6 @@ use Rattle.model_tree.proofs.Trees.NodeChangeLaws.{length-resized}
 use Rattle.directory.specs.Listing.{by_stamp}
 use Rattle.directory.specs.Records.{Record, place_of, with_record, without_place}
 
--- clauses that hold of what was answered Ok, one after the other
-pub both_ok : {T E A B C : Type 0} (result : Result T E) → OnOk result A → OnOk result B → (A → B → C) → OnOk result C
-both_ok (Ok done) a b then = then a b
-both_ok (Err fault) a b then = tt
-
 pub all_ok : {T E A B C D : Type 0} (result : Result T E) → OnOk result A → OnOk result B → OnOk result C → (A → B → C → D) → OnOk result D
 all_ok (Ok done) a b c then = then a b c
 all_ok (Err fault) a b c then = tt

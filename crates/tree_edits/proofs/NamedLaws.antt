@@ -20,7 +20,7 @@ use Rattle.model_tree.specs.declared.node.NodeKind.{NodeKind}
 use Rattle.model_tree.specs.declared.node.NodeKind.TheVariants as kind
 use Rattle.model_tree.specs.Trees.Charge.{charge, charge_of_blocks, blocks_of, few_names}
 use Rattle.model_tree.specs.Trees.Edit.{altered, altered_at, name_put}
-use Rattle.model_tree.specs.Trees.Keyed.{Keyed, at, here_or, with, without}
+use Rattle.model_tree.specs.Trees.Keyed.{at, here_or, with, without}
 use Rattle.model_tree.proofs.Trees.KeyedLaws.{at-with_same}
 use Rattle.model_tree.specs.Trees.Tree.{Tree, Node, DirEntry, entry_of, names_at, names_of, found_or}
 
@@ -68,9 +68,6 @@ module _ (nodes : ℕ) (mark : ℕ → ℕ) (cards : List (Option CachedNode)) (
 
   names_are : names_at (tree_without_data cards) number ≡ by_stamp it.cached.names
   names_are = names_there cards known.apart place number it is
-
-  pub count_is : length (names_at (tree_without_data cards) number) ≡ length it.cached.names
-  count_is = ap (λ (l : Keyed DirEntry). length l) names_are ∙ length-by_stamp it.cached.names has_names.stamped
 
   pub entry_is : (name : List ℕ) → entry_of name (names_at (tree_without_data cards) number) ≡ entry_of name it.cached.names
   entry_is name = ap (entry_of name) names_are ∙ entry_of-by_stamp name it.cached.names has_names.names.apart has_names.stamped.apart

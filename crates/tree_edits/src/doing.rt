@@ -1,14 +1,14 @@
 //! Edits that are done on a transaction.
 
 ghost use Rattle.std.specs.Prelude.{◌≡◌, ◌≤◌, ◌<◌, ◌+◌, [], ◌∷◌, Some, None, All, length, slice_index_or};
-ghost use Rattle.std.specs.Prelude.{IsTrue, IfOk, IfSome, OnOk, IsErrOf};
+ghost use Rattle.std.specs.Prelude.{IsTrue, IfOk, OnOk, IsErrOf};
 ghost use Rattle.node_table.specs.Tables.{node_number_at};
 ghost use Rattle.tree_transaction.specs.Transactions.{cards_of, end_of, IsKnown};
 ghost use Rattle.tree_transaction.specs.Nodes.{shown_of, new_card, HasNode};
 ghost use Rattle.tree_edits.specs.declared.edit.Edit.TheVariants as edit;
 ghost use Rattle.tree_edits.specs.Doing.{DoesEdits, DoesAll, DoesAnywhere, CanDoAll, Overfills};
 ghost use Rattle.tree_edits.specs.Edits.{IsNewNode, IsShown, IsNewName, IsName, IsFileTo};
-ghost use Rattle.tree_edits.specs.Edits.{CanDo, AreDoable, edit_of, fresh_node};
+ghost use Rattle.tree_edits.specs.Edits.{CanDo, edit_of, fresh_node};
 ghost use Rattle.tree_edits.specs.Edits.{fresh_fields};
 ghost use Rattle.tree_edits.specs.Outlines.{tree_without_data};
 ghost use Rattle.tree_edits.specs.Parts.{PutsBytes};
@@ -196,79 +196,6 @@ fn put_bytes<S: Sectors>(
     transaction.write(base, place, offset, bytes)
 }
 
-/// The edits of a WRITE: bytes are put into a file, which shows something else then.
-#[derive(Clone, Copy)]
-struct Write<'e, 'a> {
-    file: u64,
-    offset: usize,
-    bytes: &'a [u8],
-    shown: &'e Shown,
-}
-
-/// These edits as those of a WRITE, if they are so. None is always safe: then each edit encodes the
-/// node.
-fn as_write<'e, 'a>(edits: &'e [Edit<'a>]) -> Option<Write<'e, 'a>>
-    ensures { IfSome result (λ write. edits.now
-        ≡ edit.PutBytes write.file write.offset write.bytes
-        ∷ edit.Show write.file write.shown.now ∷ []) }
-{
-    let [put, shows] = edits else {
-        return None;
-    };
-    let Edit::PutBytes {
-        file,
-        offset,
-        bytes,
-    } = put
-    else {
-        return None;
-    };
-    let Edit::Show { number, shown } = shows else {
-        return None;
-    };
-    if file != number {
-        return None;
-    }
-    Some(Write {
-        file: *file,
-        offset: *offset,
-        bytes: *bytes,
-        shown,
-    })
-}
-
-/// Puts bytes and lets the file show something else, as two edits: its node is encoded once.
-fn put_bytes_showing<S: Sectors>(
-    transaction: &mut Transaction<'_>,
-    base: &mut S,
-    file: u64,
-    offset: usize,
-    bytes: &[u8],
-    shown: &Shown,
-) -> Result<(), TransactionFault>
-    // Edits that can be done
-    requires known { IsKnown transaction.old × (end_of transaction.old ≤ S.size (S.kept base.old)) }
-    requires forms { HaveCurrentForms (cards_of transaction.old) }
-    requires can { AreDoable (tree_without_data (cards_of transaction.old))
-        (edit.PutBytes file offset bytes ∷ edit.Show file shown.now ∷ []) }
-    // Done, or full
-    ensures done { OnOk result (DoesEdits S.keeps_word (S.image (S.kept base.old))
-        (S.size (S.kept base.old)) transaction.old transaction.new
-        (edit.PutBytes file offset bytes.entry ∷ edit.Show file shown.now ∷ [])) }
-    ensures full { IsErrOf result TransactionFault.Full
-        → Overfills transaction.old
-        (edit.PutBytes file offset bytes.entry ∷ edit.Show file shown.now ∷ []) }
-    // In any case
-    ensures kept { (S.kept base.new ≡ S.kept base.old)
-        × (transaction.new.cards.table ≡ transaction.old.cards.table) }
-    ensures health { FailsOrStays (S.health base.old) (S.health base.new)
-        (IsErrOf result TransactionFault.Device) }
-    ensures bytes { All (λ byte. byte < 256) bytes.entry.now }
-{
-    let place = place_of(transaction, file);
-    transaction.write_showing(base, place, offset, bytes, shown)
-}
-
 fn set_size<S: Sectors>(
     transaction: &mut Transaction<'_>,
     base: &mut S,
@@ -349,33 +276,8 @@ fn edit_one<S: Sectors>(
     Ok(())
 }
 
-/// Does edits one after the other.
-fn edit_each<S: Sectors>(
-    transaction: &mut Transaction<'_>,
-    base: &mut S,
-    edits: &[Edit<'_>],
-) -> Result<(), TransactionFault>
-    requires can { CanDoAll (S.size (S.kept base.old)) transaction.old edits.now }
-    // Done, or full
-    ensures done { OnOk result (DoesAll S.keeps_word (S.image (S.kept base.old))
-        (S.size (S.kept base.old)) transaction.old transaction.new edits.now) }
-    ensures full { IsErrOf result TransactionFault.Full
-        → Overfills transaction.old edits.now }
-    // In any case
-    ensures kept { (S.kept base.new ≡ S.kept base.old)
-        × (transaction.new.cards.table ≡ transaction.old.cards.table) }
-    ensures health { FailsOrStays (S.health base.old) (S.health base.new)
-        (IsErrOf result TransactionFault.Device) }
-{
-    for edit in edits {
-        edit_one(transaction, base, edit)?;
-    }
-    Ok(())
-}
-
-/// Does edits one after the other; those of a WRITE together. Each must be one that can be done in
-/// the tree that those before it give, and after none of them may a directory have more than
-/// `Names::MAX_NAMES` names.
+/// Does edits one after the other. Each must be one that can be done in the tree that those before
+/// it give, and after none of them may a directory have more than `Names::MAX_NAMES` names.
 ///
 /// # Errors
 ///
@@ -399,15 +301,8 @@ pub(crate) fn edit_all<S: Sectors>(
     ensures health { FailsOrStays (S.health base.old) (S.health base.new)
         (IsErrOf result TransactionFault.Device) }
 {
-    match as_write(edits) {
-        Some(write) => put_bytes_showing(
-            transaction,
-            base,
-            write.file,
-            write.offset,
-            write.bytes,
-            write.shown,
-        ),
-        None => edit_each(transaction, base, edits),
+    for edit in edits {
+        edit_one(transaction, base, edit)?;
     }
+    Ok(())
 }

@@ -11,9 +11,9 @@ pub mod LayLaws
 pub mod NameLaws
 pub mod NodeLaws
 pub mod NumberLaws
+pub mod PendingLaws
 pub mod RerunLaws
 pub mod RunLaws
-pub mod ShowingLaws
 pub mod UpdateLaws
 pub mod WholeLaws
 pub mod WriteLaws

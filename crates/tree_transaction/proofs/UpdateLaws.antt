@@ -1,5 +1,5 @@
 -- Updates of different sectors: what they give, and one more.
-use Rattle.std.proofs.Common.{◌≡◌, ◌≢◌, ◌≤◌, ◌<◌, ℕ, zero, suc, List, [], ◌∷◌, ◌++◌, ◌⊎◌, length, get_or, set, refl, sym, ap, ◌∙◌, arith, subst, eq-eqb, ne_eqb, inl, inr}
+use Rattle.std.proofs.Common.{◌≡◌, ◌≢◌, ◌≤◌, ◌<◌, ◌+◌, ℕ, zero, suc, List, [], ◌∷◌, ◌++◌, ◌⊎◌, length, get_or, set, refl, sym, ap, ◌∙◌, arith, subst, eq-eqb, ne_eqb, inl, inr}
 use Rattle.std.proofs.lemmas.Bool.{cases_eq, cases_lt}
 use Rattle.disk.specs.declared.update.Update.{Update}
 use Rattle.std.proofs.Math.Path.{fun_ext}
@@ -37,11 +37,6 @@ applied-first (update ∷ updates) image n zero other apart first =
     applied-other updates (put image update) n (subst (λ (t : ℕ). HasNoUpdate t updates) first.there apart.0) ∙ put-here image update n first.there
 applied-first (update ∷ updates) image n (suc place) other apart first =
     applied-first updates (put image update) n place other apart.1 (record { within = let h = first.within in omega arith; there = first.there; before = λ i h. first.before (suc i) (omega arith) })
-
--- one more update after the others
-pub applied-last : (updates : List Update) (last : Update) (image : Image) → applied (updates ++ last ∷ []) image ≡ put (applied updates image) last
-applied-last [] last image = refl
-applied-last (update ∷ updates) last image = applied-last updates last (put image update)
 
 -- one more update, whether in place of another or not
 pub applied-updated : (updates : List Update) (update : Update) (image : Image) (n : ℕ) → UpdatesApart updates → applied (updated updates update) image n ≡ put (applied updates image) update n
@@ -93,6 +88,13 @@ apart-updated [] update apart = (λ i h. absurd (omega arith), tt)
 apart-updated (x ∷ updates) update apart = elim (cases_eq x.target update.target) [
   | inl e ↦ rw (eq-eqb x.target update.target e) (subst (λ (t : ℕ). HasNoUpdate t updates) e apart.0, apart.1)
   | inr off ↦ rw (ne_eqb x.target update.target off) (has_not-updated updates update x.target apart.0 (λ e. off (sym e)), apart-updated updates update apart.1)
+]
+
+pub length-updated : (updates : List Update) (update : Update) → length (updated updates update) ≤ length updates + 1
+length-updated [] update = omega arith
+length-updated (x ∷ updates) update = elim (cases_eq x.target update.target) [
+  | inl e ↦ rw (eq-eqb x.target update.target e) (omega arith)
+  | inr off ↦ rw (ne_eqb x.target update.target off) (omega (arith, length-updated updates update))
 ]
 
 pub image-updated : (updates : List Update) (update : Update) (image : Image) → UpdatesApart updates → applied (updated updates update) image ≡ put (applied updates image) update

@@ -3,8 +3,7 @@ use Rattle.std.proofs.Common.{◌≡◌, ◌≤◌, ◌<◌, ◌+◌, ◌∙◌,
 use Rattle.std.proofs.lemmas.List.{length-set}
 use Rattle.disk.specs.Moments.{Image, applied}
 use Rattle.freemap.specs.Kept.{free_places}
-use Rattle.inode.specs.Fields.{IsInode}
-use Rattle.model_tree.specs.Trees.Edit.{Shown, PutBytes}
+use Rattle.model_tree.specs.Trees.Edit.{PutBytes}
 use Rattle.layout.specs.CachedNodes.{CachedNode}
 use Rattle.layout.specs.Known.{IsCard}
 use Rattle.layout.specs.Marks.{times, times_set, mark_by}
@@ -13,13 +12,10 @@ use Rattle.tree_transaction.specs.Blocks.{WritesBytes, set_blocks}
 use Rattle.tree_transaction.specs.declared.transaction.Transaction.{Transaction}
 use Rattle.tree_transaction.specs.Transactions.{cards_of, IsKnown, StaysKnown, EditsOver, NodeBecomes, StandsAgain, IsOvercharged}
 use Rattle.tree_transaction.specs.Grown.{grown, reaching, blocks_to, CanWrite}
-use Rattle.tree_transaction.specs.Laying.{CanBeLaid, fields_with, sectors_for, Follow}
-use Rattle.tree_transaction.specs.Nodes.{fields_showing, showing}
-use Rattle.tree_transaction.specs.Written.{HasItsRuns, IsWritten, WritesShowing}
+use Rattle.tree_transaction.specs.Laying.{CanBeLaid, sectors_for, Follow}
+use Rattle.tree_transaction.specs.Written.{HasItsRuns, IsWritten}
 use Rattle.tree_transaction.proofs.BlockLaws.{none_filled}
-use Rattle.tree_transaction.proofs.KnownLaws.{put-back, in_table, named_once, fields_fit, edits_over, turns, overcharged}
-use Rattle.tree_transaction.proofs.NodeLaws.{shown_card}
-use Rattle.tree_transaction.proofs.ShowingLaws.{through, stands_through, shown_stays, shown_turns, shown_edits}
+use Rattle.tree_transaction.proofs.KnownLaws.{put-back, in_table, named_once, edits_over, turns, overcharged}
 use Rattle.tree_transaction.proofs.WriteLaws.{grown_region, can_be_laid, mid_known, charged_last, write_stays, write_now, write_made}
 
 module _ (old mid : Transaction) (place end : ℕ) (card : CachedNode) (filled : Bool) (known : IsKnown old) (can : CanWrite (cards_of old) place end) (w : IsWritten old mid place end card filled) where
@@ -59,38 +55,6 @@ module _ (old mid : Transaction) (place end : ℕ) (card : CachedNode) (filled :
   pub runs_now : filled ≡ false → HasItsRuns place card
   runs_now none = record { is_card = is_card none; apart = apart }
 
-  -- the node shows something else too
-  module _ (shown : Shown) (fits : IsInode w.was.form (fields_showing w.was.fields shown)) where
-    fits_with : IsInode w.was.form (fields_with (fields_showing written.fields shown) 0 [])
-    fits_with = let laid = can_be_laid old place end w.was known w.there can card.blocks mid.places w.gets w.count in fields_fit w.was.form (fields_showing w.was.fields shown) written.fields.size fits laid.fits.size
-
-    pub can_shown : CanBeLaid mid.nodes place mid.places (showing shown card)
-    can_shown =
-        let laid = can_be in
-        subst (λ (one : CachedNode). CanBeLaid mid.nodes place mid.places (showing shown one)) (sym w.card_is)
-        (record { room = laid.room; within = laid.within; fits = fits_with; marked = laid.marked })
-
-    fits_shown : filled ≡ false → IsInode card.form (fields_showing card.fields shown)
-    fits_shown none =
-        let card_fits = is_card none in
-        let fits_plain : IsInode w.was.form written.fields = subst (λ (one : CachedNode). IsInode one.form one.fields) w.card_is card_fits.fits in
-        subst (λ (one : CachedNode). IsInode one.form (fields_showing one.fields shown)) (sym w.card_is) (record {
-          number = fits_plain.number;
-          owner = fits.owner;
-          group = fits.group;
-          change = fits.change;
-          time_modify = fits.time_modify;
-          size = fits_plain.size;
-          runs = fits_plain.runs;
-          run_sectors = fits_plain.run_sectors;
-          each_run_sector = fits_plain.each_run_sector;
-          acl = fits.acl;
-          each_ace = fits.each_ace;
-        })
-
-    pub runs_shown : filled ≡ false → HasItsRuns place (showing shown card)
-    runs_shown none = record { is_card = shown_card shown card (is_card none) (fits_shown none); apart = apart }
-
   -- the cached node stands at its place again
 
   module _ (new : Transaction) (stands : StandsAgain mid new place card mid.places mid.updates) where
@@ -117,33 +81,3 @@ module _ (old mid : Transaction) (place end : ℕ) (card : CachedNode) (filled :
         → EditsOver base size old new place (λ number. PutBytes number offset bytes)
     tree_now base size offset bytes end_is writes = edits_over old new place w.was w.there base size (λ number. PutBytes number offset bytes)
         (write_made old place end w.was known w.there can card.blocks mid.places w.gets w.count new mid.updates w.others again base size offset bytes end_is writes)
-
-  -- and shows something else then
-
-  module _ (shown : Shown) (fits : IsInode w.was.form (fields_showing w.was.fields shown)) (new : Transaction) (stands : StandsAgain mid new place (showing shown card) mid.places mid.updates) where
-    plain : IsInode card.form (fields_with card.fields 0 [])
-    plain = let laid = can_now in laid.fits
-
-    within_mid : place < mid.nodes
-    within_mid = omega (arith, within_table, w.nodes)
-
-    abbrev between : Transaction
-    between = through mid new place card shown plain apart within_mid stands
-
-    stands_between : StandsAgain mid between place card mid.places mid.updates
-    stands_between = stands_through mid new place card shown plain apart within_mid stands
-
-    known_between : StaysKnown old between
-    known_between = known_now between stands_between
-
-    pub writes_showing : (word : Type 0) (base : Image) (size offset : ℕ) (bytes : List ℕ) → end ≡ offset + length bytes → (word → WritesBytes (applied old.updates base) (applied mid.updates base) (grown w.was end).blocks card.blocks offset bytes)
-        → WritesShowing word base size old new place offset bytes shown
-    writes_showing word base size offset bytes end_is writes = record {
-      mid = between;
-      known_mid = known_between;
-      cards_mid = subst (λ (e : ℕ). NodeBecomes old between place (reaching e)) end_is (cards_now between stands_between);
-      written = λ k. tree_now between stands_between base size offset bytes end_is (writes k);
-      known = shown_stays mid new place card shown plain apart within_mid stands known_between.known within_now;
-      cards = shown_turns mid new place card shown plain apart within_mid stands known_between.known within_now;
-      shows = shown_edits mid new place card shown plain apart within_mid stands known_between.known within_now;
-    }

@@ -1,6 +1,6 @@
 -- Updates of different sectors.
 use Rattle.std.specs.Prelude.{◌≡◌, ◌≢◌, ◌≤◌, ◌<◌, ◌==◌, [], ◌∷◌, if◌then◌else◌}
-use Rattle.std.specs.Prelude.{ℕ, zero, suc, List, length}
+use Rattle.std.specs.Prelude.{ℕ, zero, suc, List, length, set, Option, Some, None}
 use Rattle.disk.specs.declared.update.Update.{Update}
 use Rattle.disk.specs.Moments.{Image, applied}
 
@@ -9,6 +9,12 @@ abbrev pub target_of : List Update → ℕ → ℕ
 target_of [] i = 0
 target_of (update ∷ updates) zero = update.target
 target_of (update ∷ updates) (suc i) = target_of updates i
+
+-- and what it holds
+abbrev pub content_of : List Update → ℕ → List ℕ
+content_of [] i = []
+content_of (update ∷ updates) zero = update.content
+content_of (update ∷ updates) (suc i) = content_of updates i
 
 abbrev pub HasNoUpdate : (target : ℕ) → List Update → Type 0
 HasNoUpdate target updates = (i : ℕ) → i < length updates → target_of updates i ≢ target
@@ -28,6 +34,20 @@ abbrev pub updated : List Update → Update → List Update
 updated [] update = update ∷ []
 updated (first ∷ updates) update =
     if first.target == update.target then update ∷ updates else first ∷ updated updates update
+
+-- each with the sector of the inode that it is to hold, if there is one
+abbrev pub encoded : List Update → List (Option (List ℕ)) → List Update
+encoded [] pending = []
+encoded (update ∷ updates) [] = update ∷ updates
+encoded (update ∷ updates) (None ∷ pending) = update ∷ encoded updates pending
+encoded (update ∷ updates) (Some content ∷ pending) =
+    record { target = update.target; content = content } ∷ encoded updates pending
+
+-- with the sector of an inode in the update at a place, if there is one
+abbrev pub with_sector : List Update → ℕ → Option (List ℕ) → List Update
+with_sector updates i None = updates
+with_sector updates i (Some content) =
+    set updates i (record { target = target_of updates i; content = content })
 
 -- each is of a sector from `first` on, and below `end`
 abbrev pub AreBetween : (first end : ℕ) → List Update → Type 0

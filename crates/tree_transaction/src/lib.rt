@@ -8,6 +8,7 @@ mod laying;
 mod marks;
 mod nodes;
 mod numbers;
+mod pending;
 mod transaction;
 mod updates;
 

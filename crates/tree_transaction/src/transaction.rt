@@ -23,7 +23,7 @@ ghost use Rattle.tree_transaction.specs.Nodes.{IsNewCard, new_node, shown_of, sh
 ghost use Rattle.tree_transaction.specs.Nodes.{CanShow};
 ghost use Rattle.tree_transaction.specs.Updates.{AreTreeUpdates};
 ghost use Rattle.tree_transaction.specs.Whole.{Finishes};
-ghost use Rattle.tree_transaction.specs.Written.{HasBytes, HasItsRuns, IsWritten, WritesShowing};
+ghost use Rattle.tree_transaction.specs.Written.{HasBytes, HasItsRuns, IsWritten};
 
 use crate::blocks::{clear_tail, rewrite_names, write_blocks, write_names};
 use crate::fault::{SpaceFault, TransactionFault};
@@ -399,43 +399,6 @@ impl<'a> Transaction<'a> {
             (IsErrOf result TransactionFault.Device) }
     {
         let written = self.write_blocks_of(base, place, offset, bytes)?;
-        self.store_written(place, written)?;
-        Ok(())
-    }
-
-    /// Writes bytes as [`Transaction::write`] does, and lets the file show something else beside
-    /// its content, as [`Transaction::show`] does after it; its node is encoded once.
-    ///
-    /// # Errors
-    ///
-    /// Those of [`Transaction::write`].
-    pub fn write_showing<S: Sectors>(
-        &mut self,
-        base: &mut S,
-        place: u32,
-        offset: usize,
-        bytes: &[u8],
-        shown: &Shown,
-    ) -> Result<(), TransactionFault>
-        requires known { IsKnown self.old × (end_of self.old ≤ S.size (S.kept base.old)) }
-        requires file { CanWrite (cards_of self.old) place (offset + length bytes.now) }
-        requires node { CanShow (cards_of self.old) place (shown_of shown.now) }
-        ensures done { OnOk result (WritesShowing S.keeps_word (S.image (S.kept base.old))
-            (S.size (S.kept base.old)) self.old self.new place offset bytes.now
-            (shown_of shown.now)) }
-        // What it takes
-        ensures count { OnOk result (length self.new.updates
-            ≤ length self.old.updates + (offset % SECTOR + length bytes.now + 4095) / SECTOR + 10) }
-        ensures full { IsErrOf result TransactionFault.Full
-            → IsOvercharged self.old place (blocks_to (offset + length bytes.now)) }
-        // It only reads the base
-        ensures kept { (S.kept base.new ≡ S.kept base.old)
-            × (self.new.cards.table ≡ self.old.cards.table) }
-        ensures health { FailsOrStays (S.health base.old) (S.health base.new)
-            (IsErrOf result TransactionFault.Device) }
-    {
-        let mut written = self.write_blocks_of(base, place, offset, bytes)?;
-        show_in(&mut written.cached, shown)?;
         self.store_written(place, written)?;
         Ok(())
     }

@@ -7,11 +7,13 @@ ghost use Rattle.extents.specs.Sector.{run_sector};
 ghost use Rattle.inode.specs.Fields.{IsInode, fields_of};
 ghost use Rattle.inode.specs.Spelling.{inode_sector};
 ghost use Rattle.layout.specs.Health.{FailsOrStays};
-ghost use Rattle.tree_transaction.specs.Updates.{UpdatesApart, updated, IsFirst, HasNoUpdate, target_of};
+ghost use Rattle.tree_transaction.specs.Updates.{UpdatesApart, updated, IsFirst, HasNoUpdate};
+ghost use Rattle.tree_transaction.specs.Updates.{target_of, content_of, encoded, with_sector};
 
+use crate::pending::PendingInode;
 use disk::{SECTOR, Update};
 use extents::{MAX_SECTOR_RUNS, Run, write_run_sector};
-use inode::{Form, Inode, to_sector};
+use inode::{Form, Inode};
 use layout::sectors::{ReadFault, Sectors};
 use std::alloc::{AllocError, Global};
 use std::marker::Model;
@@ -19,22 +21,27 @@ use std::marker::Model;
 /// For so many updates there is room from the first one on: a WRITE of whole blocks has three.
 const ROOM: usize = 8;
 
-/// Updates of different sectors. Contracts see their list.
+/// Updates of different sectors. Those of inodes are encoded when the list is returned, so each
+/// once, however often its inode changed. Contracts see the list with all of them encoded.
 #[derive(Drop)]
 pub struct Updates {
+    alloc: Global,
     list: Vec<Update>,
+    /// For each update the inode that it is to hold, if it is not encoded yet.
+    pending: Vec<Option<PendingInode>>,
 }
 
 impl Model for Updates {
-    ghost use Rattle.std.specs.Prelude.{List};
+    ghost use Rattle.std.specs.Prelude.{◌≡◌, List, length};
     ghost use Rattle.disk.specs.declared.update.Update.{Update};
-    ghost use Rattle.tree_transaction.specs.Updates.{UpdatesApart};
+    ghost use Rattle.tree_transaction.specs.Updates.{UpdatesApart, encoded};
 
     ghost Value = { List Update };
 
-    ghost view = { λ updates. updates.list.items };
+    ghost view = { λ updates. encoded updates.list.items updates.pending.items };
 
-    ghost invariant = { λ updates. UpdatesApart updates.list.items };
+    ghost invariant = { λ updates. (length updates.pending.items ≡ length updates.list.items)
+        × UpdatesApart (encoded updates.list.items updates.pending.items) };
 }
 
 impl Updates {
@@ -43,7 +50,9 @@ impl Updates {
         ensures { result ≡ [] }
     {
         Updates {
+            alloc,
             list: Vec::new(alloc),
+            pending: Vec::new(alloc),
         }
     }
 
@@ -65,7 +74,7 @@ impl Updates {
             (IsTrue (is_err result)) }
     {
         match place_of(&self.list, n) {
-            Some(place) => Ok(self.list[place].content),
+            Some(place) => Ok(content_at(&self.list, &self.pending, place)),
             None => base.read(n),
         }
     }
@@ -82,12 +91,12 @@ impl Updates {
         // Refused
         ensures err { OnErr result (self.new ≡ self.old) }
     {
-        let place = place_for(&mut self.list, target)?;
-        fill(&mut self.list, place, content);
+        let place = place_for(&mut self.list, &mut self.pending, target)?;
+        fill(&mut self.list, &mut self.pending, place, content);
         Ok(())
     }
 
-    /// The same of the sector of an inode, which is encoded where it stays.
+    /// The same of the sector of an inode, which is encoded later.
     pub(crate) fn put_inode(
         &mut self,
         target: u32,
@@ -103,8 +112,9 @@ impl Updates {
         ensures count { length self.new ≤ length self.old + 1 }
         ensures err { OnErr result (self.new ≡ self.old) }
     {
-        let place = place_for(&mut self.list, target)?;
-        fill_inode(&mut self.list, place, inode, form);
+        let copy = PendingInode::new(self.alloc, inode, form)?;
+        let place = place_for(&mut self.list, &mut self.pending, target)?;
+        keep(&mut self.pending, place, copy);
         Ok(())
     }
 
@@ -119,8 +129,8 @@ impl Updates {
         ensures count { length self.new ≤ length self.old + 1 }
         ensures err { OnErr result (self.new ≡ self.old) }
     {
-        let place = place_for(&mut self.list, target)?;
-        fill_runs(&mut self.list, place, runs);
+        let place = place_for(&mut self.list, &mut self.pending, target)?;
+        fill_runs(&mut self.list, &mut self.pending, place, runs);
         Ok(())
     }
 
@@ -128,7 +138,12 @@ impl Updates {
     pub fn into_vec(self) -> Vec<Update>
         ensures { result.items ≡ self }
     {
-        let Updates { list } = self;
+        let Updates {
+            mut list,
+            pending,
+            ..
+        } = self;
+        encode_all(&mut list, &pending);
         list
     }
 }
@@ -136,57 +151,119 @@ impl Updates {
 /// The place of the update of a sector, which is one of zeros after the others where there was
 /// none: what it is to hold is put where it stays. The first one takes room for most transactions.
 /// An `Err` changes nothing.
-fn place_for(list: &mut Vec<Update>, target: u32) -> Result<usize, AllocError>
+fn place_for(
+    list: &mut Vec<Update>,
+    pending: &mut Vec<Option<PendingInode>>,
+    target: u32,
+) -> Result<usize, AllocError>
+    requires { length pending.old.items ≡ length list.old.items }
+    ensures whole { length pending.new.items ≡ length list.new.items }
     ensures within { IfOk result (λ place. place < length list.new.items) }
-    ensures there { IfOk result (λ place. target_of list.new.items place ≡ target) }
-    ensures put { IfOk result (λ place. (content : List ℕ) → set list.new.items place
+    ensures there { IfOk result (λ place.
+        target_of (encoded list.new.items pending.new.items) place ≡ target) }
+    ensures put { IfOk result (λ place. (content : List ℕ)
+        → set (encoded list.new.items pending.new.items) place
         (record { target = target; content = content })
-        ≡ updated list.old.items (record { target = target; content = content })) }
-    ensures count { length list.new.items ≤ length list.old.items + 1 }
-    ensures err { OnErr result (list.new.items ≡ list.old.items) }
+        ≡ updated (encoded list.old.items pending.old.items)
+        (record { target = target; content = content })) }
+    ensures err { OnErr result ((list.new.items ≡ list.old.items)
+        × (pending.new.items ≡ pending.old.items)) }
 {
     if let Some(place) = place_of(list, target) {
         return Ok(place);
     }
     let last = list.len();
-    list.reserve(if last == 0 { ROOM } else { 1 })?;
+    let room = if last == 0 { ROOM } else { 1 };
+    list.reserve(room)?;
+    pending.reserve(room)?;
     list.push_reserved(Update {
         target,
         content: [0; SECTOR],
     });
+    pending.push_reserved(None);
     Ok(last)
 }
 
 /// Puts a content into an update.
-fn fill(list: &mut Vec<Update>, place: usize, content: &[u8; SECTOR])
-    requires { place < length list.old.items }
-    ensures { list.new.items ≡ set list.old.items place
-        (record { target = target_of list.old.items place; content = content.now }) }
+fn fill(
+    list: &mut Vec<Update>,
+    pending: &mut Vec<Option<PendingInode>>,
+    place: usize,
+    content: &[u8; SECTOR],
+)
+    requires within { place < length list.old.items }
+    requires whole { length pending.old.items ≡ length list.old.items }
+    ensures put { encoded list.new.items pending.new.items
+        ≡ set (encoded list.old.items pending.old.items) place (record {
+          target = target_of (encoded list.old.items pending.old.items) place;
+          content = content.now;
+        }) }
+    ensures whole { length pending.new.items ≡ length list.new.items }
 {
     list[place].content.copy_from_slice(content);
-}
-
-/// Puts the encoding of an inode into an update.
-fn fill_inode(list: &mut Vec<Update>, place: usize, inode: &Inode, form: Form)
-    requires within { place < length list.old.items }
-    requires fits { IsInode form (fields_of inode.now) }
-    ensures { list.new.items ≡ set list.old.items place
-        (record {
-          target = target_of list.old.items place;
-          content = inode_sector form (fields_of inode.now);
-        }) }
-{
-    to_sector(inode, form, &mut list[place].content);
+    pending[place] = None;
 }
 
 /// Puts the encoding of runs into an update.
-fn fill_runs(list: &mut Vec<Update>, place: usize, runs: &[Run])
+fn fill_runs(
+    list: &mut Vec<Update>,
+    pending: &mut Vec<Option<PendingInode>>,
+    place: usize,
+    runs: &[Run],
+)
     requires within { place < length list.old.items }
+    requires whole { length pending.old.items ≡ length list.old.items }
     requires few { length runs.now ≤ MAX_SECTOR_RUNS }
-    ensures { list.new.items ≡ set list.old.items place
-        (record { target = target_of list.old.items place; content = run_sector runs.now }) }
+    ensures put { encoded list.new.items pending.new.items
+        ≡ set (encoded list.old.items pending.old.items) place (record {
+          target = target_of (encoded list.old.items pending.old.items) place;
+          content = run_sector runs.now;
+        }) }
+    ensures whole { length pending.new.items ≡ length list.new.items }
 {
     write_run_sector(runs, &mut list[place].content);
+    pending[place] = None;
+}
+
+/// What an update holds.
+fn content_at(list: &[Update], pending: &[Option<PendingInode>], place: usize) -> [u8; SECTOR]
+    requires within { place < length list.now }
+    requires whole { length pending.now ≡ length list.now }
+    ensures { result ≡ content_of (encoded list.now pending.now) place }
+{
+    let mut content = list[place].content;
+    if let Some(inode) = &pending[place] {
+        inode.encode(&mut content);
+    }
+    content
+}
+
+/// Keeps an inode that an update is to hold.
+fn keep(pending: &mut Vec<Option<PendingInode>>, place: usize, inode: PendingInode)
+    requires { place < length pending.old.items }
+    ensures { pending.new.items ≡ set pending.old.items place (Some inode) }
+{
+    pending[place] = Some(inode);
+}
+
+/// Encodes the inodes that are not encoded yet.
+fn encode_all(list: &mut Vec<Update>, pending: &[Option<PendingInode>])
+    requires { length pending.now ≡ length list.old.items }
+    ensures { list.new.items ≡ encoded list.old.items pending.now }
+{
+    for (place, inode) in pending.iter().enumerate() {
+        encode_at(list, place, inode);
+    }
+}
+
+/// Encodes an inode into its update, if there is one.
+fn encode_at(list: &mut Vec<Update>, place: usize, inode: &Option<PendingInode>)
+    requires { place < length list.old.items }
+    ensures { list.new.items ≡ with_sector list.old.items place inode.now }
+{
+    if let Some(inode) = inode {
+        inode.encode(&mut list[place].content);
+    }
 }
 
 /// Where the update of a sector stands.

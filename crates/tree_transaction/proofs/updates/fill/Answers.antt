@@ -1,12 +1,17 @@
-use Rattle.std.proofs.Common.{◌∙◌, ap, sym, List, ℕ, set}
+use Rattle.std.proofs.Common.{◌≡◌, ◌∙◌, ap, sym, List, ℕ, set, None}
 use Rattle.disk.specs.declared.update.Update.{Update}
-use Rattle.tree_transaction.specs.Updates.{target_of}
+use Rattle.tree_transaction.specs.Updates.{target_of, encoded}
+use Rattle.tree_transaction.proofs.PendingLaws.{encoded-put, target-encoded}
 use Rattle.tree_transaction.proofs.UpdateLaws.{target_of-at}
 use Rattle.tree_transaction.proofs.updates.fill.Goals as goal
 
-pub returns : goal.returns
-returns c =
+pub returns-clause-put : goal.returns-clause-put
+returns-clause-put c =
     let list = c.args.list.now.items in
-    let target = ap (λ (update : Update). update.target) c.index_mut.ensures.value ∙ sym (target_of-at list c.args.place c.index_mut.result.now c.requires) in
-    ap (λ (t : ℕ). set list c.args.place (record { target = t; content = c.copy_from_slice.new.self })) target
-    ∙ ap (λ (content : List ℕ). set list c.args.place (record { target = target_of list c.args.place; content = content })) c.copy_from_slice.ensures.after
+    let pending = c.args.pending.now.items in
+    let place = c.args.place in
+    let before = encoded list pending in
+    let target = ap (λ (update : Update). update.target) c.index_mut.ensures.value ∙ sym (target_of-at list place c.index_mut.result.now c.requires.within) ∙ sym (target-encoded list pending place) in
+    encoded-put list pending place (record { target = c.index_mut.result.now.target; content = c.copy_from_slice.new.self }) c.requires.whole
+    ∙ ap (λ (t : ℕ). set before place (record { target = t; content = c.copy_from_slice.new.self })) target
+    ∙ ap (λ (content : List ℕ). set before place (record { target = target_of before place; content = content })) c.copy_from_slice.ensures.after

@@ -12,7 +12,7 @@ use Rattle.tree_edits.specs.Edits.{AreDoable, StayFew}
 use Rattle.tree_edits.specs.Outlines.{tree_without_data}
 use Rattle.tree_edits.specs.Parts.{PartsAreBytes}
 use Rattle.tree_edits.proofs.ListLaws.{next_edit, does_nothing, goes_on, still_doable, still_few, overfills_later, overfills_first}
-use Rattle.tree_edits.proofs.doing.edit_each.Goals as goal
+use Rattle.tree_edits.proofs.doing.edit_all.Goals as goal
 
 pub loop-edit-preserved : goal.loop-edit-preserved
 loop-edit-preserved g c =

@@ -6,7 +6,7 @@ use Rattle.tree_edits.specs.Doing.{DoesEdits, Overfills}
 use Rattle.tree_edits.specs.Edits.{AreDoable, StayFew}
 use Rattle.tree_edits.specs.Outlines.{tree_without_data}
 use Rattle.tree_edits.specs.Parts.{PartsAreBytes}
-use Rattle.tree_edits.proofs.doing.edit_each.Given as goal
+use Rattle.tree_edits.proofs.doing.edit_all.Given as goal
 
 abbrev pub invariant-loop-edit : goal.invariant-loop-edit
 invariant-loop-edit g l = record {
