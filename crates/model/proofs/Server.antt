@@ -3,6 +3,7 @@ pub mod TurnCases
 pub mod StampLaws
 pub mod RunLaws
 pub mod Headline
+pub mod HeldLaws
 pub mod SoundLaws
 pub mod ResultRuns
 pub mod ServedOnceLaws

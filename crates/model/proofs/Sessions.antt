@@ -9,6 +9,7 @@ pub mod SlotRuns
 pub mod SlotsHeld
 pub mod KeptLaws
 pub mod SeatLaws
+pub mod AllOf
 pub mod StoringTurns
 pub mod SeatTables
 pub mod SeatsFreed
@@ -18,6 +19,7 @@ pub mod SeatReplies
 pub mod SeatWorlds
 pub mod SeatLives
 pub mod SeatRunLaws
+pub mod SeatFresh
 pub mod OpensSteps
 pub mod OpensGoOn
 pub mod OpensJoined

@@ -33,7 +33,8 @@ pub fn ruled_out()
 {}
 
 /// What they allow: from each state of a server that is up, each event happens, as in a server that
-/// flushes every change at once. So the headline speaks of every list of events.
+/// flushes every change at once; while something waits no reply is taken. So the headline speaks of
+/// every list of events.
 pub fn each_event_happens()
     ensures { EachEventHappens }
 {}

@@ -9,7 +9,7 @@ use Rattle.model.specs.Server.AnswerRuns.{IsPermittedAnswer, EveryAnswerIsPermit
 use Rattle.model_tree.specs.Trees.Keyed.{at}
 use Rattle.model.specs.Operations.Operation.{Argument, SequenceArguments, operation_of}
 use Rattle.model.specs.Wire.Rpc.{CallRead, NoCall, OtherVersion, Calls, Request, Answers, Runs, read_call, request_of}
-use Rattle.model.specs.Server.Runs.{Event, Arrives, Turns, HangsUp, Connects, Takes, executed_of, executed_by, Serving, RunHistory, IsRun, Begins, Goes_on, Fails_at, Stays_down, mounted, is_done}
+use Rattle.model.specs.Server.Runs.{Event, Arrives, Turns, HangsUp, Connects, Takes, executed_of, executed_by, Serving, RunHistory, IsRun, Begins, Goes_on, Fails_at, Stays_down, Flushed, mounted, is_done}
 use Rattle.model.specs.Sessions.Session as sessions
 use Rattle.model.specs.Sessions.Session.{Table, Session}
 use Rattle.model.specs.Operations.Step.{State, does, permitted}
@@ -193,6 +193,7 @@ run_is_permitted limits run start seats _ _ (Fails_at {old} {new} {history} even
     with_executed history.done (executed_of old.world event) (run_is_permitted limits run start seats old history runs) (event_permitted old.world event)
 run_is_permitted limits run start seats _ _ (Stays_down {old} {new} {history} connection runs stays) =
     subst AllPermitted (sym (taken_done history connection (reply_at old.world connection))) (run_is_permitted limits run start seats old history runs)
+run_is_permitted limits run start seats _ history (Flushed {old} {new} runs flushes) = run_is_permitted limits run start seats old history runs
 
 under_way : (world : World) (event : Event) (is_down : Bool) → EntryPermitted (executed_by world event is_down)
 under_way world event true = tt

@@ -8,7 +8,7 @@ use Rattle.model_tree.specs.Trees.Changes.{IsStamped}
 use Rattle.model_tree.specs.Trees.Keyed.{at}
 use Rattle.model.specs.Operations.Operation.{Argument, SequenceArguments, operation_of}
 use Rattle.model.specs.Wire.Rpc.{CallRead, NoCall, OtherVersion, Calls, Request, Answers, Runs, read_call, request_of}
-use Rattle.model.specs.Server.Runs.{Event, Arrives, Turns, HangsUp, Connects, Takes, executed_of, executed_by, Serving, RunHistory, IsRun, Begins, Goes_on, Fails_at, Stays_down, mounted, is_done}
+use Rattle.model.specs.Server.Runs.{Event, Arrives, Turns, HangsUp, Connects, Takes, executed_of, executed_by, Serving, RunHistory, IsRun, Begins, Goes_on, Fails_at, Stays_down, Flushed, mounted, is_done}
 use Rattle.model.specs.Sessions.Session as sessions
 use Rattle.model.specs.Sessions.Session.{Table, Session}
 use Rattle.model.specs.Server.SoundRuns.{IsStart}
@@ -210,6 +210,7 @@ module _ (limits : ServerLimits) (run : ℕ) (room : limits.volume.aces_set + 5 
         (event_stamped old.world event (serving_sound limits run room start seats begins old history runs).world)
     run_is_stamped _ _ (Stays_down {old} {new} {history} connection runs stays) =
         subst AllStamped (sym (taken_done history connection (reply_at old.world connection))) (run_is_stamped old history runs)
+    run_is_stamped _ history (Flushed {old} {new} runs flushes) = run_is_stamped old history runs
 
   under_way : (world : World) (event : Event) (is_down : Bool) → IsSoundWorld limits run world → EntryStamped (executed_by world event is_down)
   under_way world event true sound = tt

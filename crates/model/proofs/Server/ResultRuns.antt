@@ -12,7 +12,7 @@ use Rattle.model.specs.Wire.Record.{framed}
 use Rattle.model_tree.specs.Refusals.Refusal.{first_refusal}
 use Rattle.model.specs.Wire.Results.{HasResults, EveryRequestHasResults}
 use Rattle.model.specs.Wire.Rpc.{Success, reply_text}
-use Rattle.model.specs.Server.Runs.{Serving, RunHistory, IsRun, mounted, Event, Arrives, Turns, HangsUp, Connects, Takes, effect_of, Begins, Goes_on, Fails_at, Stays_down}
+use Rattle.model.specs.Server.Runs.{Serving, RunHistory, IsRun, mounted, Event, Arrives, Turns, HangsUp, Connects, Takes, effect_of, Begins, Goes_on, Fails_at, Stays_down, Flushed}
 use Rattle.model.specs.Sessions.Session as sessions
 use Rattle.model.specs.Sessions.Session.{Session, Table, is_session, begin}
 use Rattle.model.specs.Sessions.StateIds.{has_opens}
@@ -228,6 +228,8 @@ run_has limits run start seats serving history (Fails_at {old = old} {new = new}
     subst AllHave (sym fails.world) (run_has limits run start seats old earlier is_run)
 run_has limits run start seats serving history (Stays_down {old = old} {new = new} {history = earlier} connection is_run stays) =
     subst AllHave (sym stays.world) (event_has old.world (Takes connection) (run_has limits run start seats old earlier is_run))
+run_has limits run start seats serving history (Flushed {old = old} {new = new} is_run flushes) =
+    subst AllHave (sym flushes.world) (run_has limits run start seats old history is_run)
 
 pub every_request_has_results : EveryRequestHasResults
 every_request_has_results limits run start seats serving history is_run = run_has limits run start seats serving history is_run

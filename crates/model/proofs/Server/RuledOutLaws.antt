@@ -1,7 +1,7 @@
 -- The laws of what the definitions rule out.
 use Rattle.std.proofs.Common.{inr, ◌⊎◌, ◌≡◌, ◌≢◌, ℕ, zero, suc, ◌+◌, ◌-◌, ◌<◌, ◌≤◌, inl, Bool, true, false, cond, ◌==◌, nat_lt, List, [], ◌∷◌, ◌++◌, length, take, slice_get, find, Option, None, Some, Result, Ok, Err, refl, sym, ap, ◌∙◌, subst, arith, eq-eqb}
 use borrow.Author.Tests.{eqb-false}
-use Rattle.std.proofs.lemmas.Bool.{eqb-true, false≢true, cond-true}
+use Rattle.std.proofs.lemmas.Bool.{eqb-true, false≢true, true≢false, cond-true}
 use Rattle.model_tree.specs.Seats.Seats.{Seats}
 use Rattle.model_tree.specs.declared.status.Status.{Status}
 use Rattle.model_tree.specs.declared.status.Status.TheVariants as status
@@ -15,7 +15,7 @@ use Rattle.model.specs.Sessions.Session as sessions
 use Rattle.model.specs.Sessions.Session.{Table, Session, Slot, Kept, Begun, Runs, begin, begin_by, begin_slot, begin_new, finish, finished_slot, changed_where, is_session, slot_at, next_number}
 use Rattle.model_tree.specs.Trees.Tree.{Tree}
 use Rattle.model.specs.Server.World.{ServerLimits, World, InProgress, Connection, Quiet, Waiting, Busy, Replied, Closed, HasRun, Gives, Replays, outcome_text, exchanged, created_by, session_created, tabled, started_in, begun, reclaimed, refuses, in_room, has_room, run, Turned, Entry, executed_entry, behind, ends, goes_on, reply_with, status_of, requested, in_progress, called, with_result, is_last, has_run, operates, Next, Refuses, Reads, next_operation, turned, one, without_connection, hangs_up, hung_up, turns, operations_left, is_busy, further, closes, is_to_hold}
-use Rattle.model.specs.Server.Runs.{tree_after, executed, executed_by, executed_of, effect_of, Event, Serving, RunHistory, IsRun, Begins, Goes_on, Fails_at, Stays_down, mounted, left_after, Left, IsAfterEvent, is_done}
+use Rattle.model.specs.Server.Runs.{Takes, Happens, StaysDown, MayBeTaken, is_durable, tree_after, executed, executed_by, executed_of, effect_of, Event, Serving, RunHistory, IsRun, Begins, Goes_on, Fails_at, Stays_down, Flushed, mounted, left_after, Left, IsAfterEvent, is_done}
 use Rattle.model.specs.Server.RuledOut.{NoSkip, NoEarlyReply, NoTakingBack, NoReplyAlone, NoSecondRun, NoForgetting, NoGap, IsOutcome, IsBehind, IsOneFurther, OneATurn, HangsUpLast, request_by, request_in, request_at, after_turns, HangUpIsEvents, EachEventHappens, with_operations, EndsByHolding}
 use Rattle.std.proofs.Common.{get_or-set_same, length-set, lt-ltb}
 use Rattle.std.specs.List.{IsAmong}
@@ -32,7 +32,23 @@ no_skip start write change tree durable prefix =
     prefix.holds ∙ ap (λ (n : ℕ). tree_after start (take n (write ∷ change ∷ []))) two
 
 pub no_early_reply : NoEarlyReply
-no_early_reply old new event entry happens e lasts changes left among same = changes (sym same ∙ happens.durable entry e lasts left among)
+no_early_reply = record {
+  kept = λ old new event entry happens e lasts changes left among same. by_mode old new event entry happens e lasts changes left among same happens.defers refl;
+  waits = λ old new event happens waits. happens.waits_on waits;
+  given = λ old new connection waits. λ either. given_by old new connection waits either;
+}
+  where
+    before_of : Entry → Tree
+    before_of entry = entry.state.tree
+
+    by_mode : (old new : Serving) (event : Event) (entry : Entry) (happens : Happens old event new) → executed old event ≡ Some entry → is_durable entry ≡ true → before_of entry ≢ entry.after
+        → (left : Left) → IsAmong new.left left → left.tree ≡ before_of entry → (b : Bool) → happens.defers ≡ b → new.waits ≡ true
+    by_mode old new event entry happens e lasts changes left among same true mode = happens.deferred mode entry e lasts
+    by_mode old new event entry happens e lasts changes left among same false mode = absurd (changes (sym same ∙ happens.durable mode entry e lasts left among))
+
+    given_by : (old new : Serving) (connection : ℕ) → old.waits ≡ true → Happens old (Takes connection) new ⊎ StaysDown old connection new → ⊥
+    given_by old new connection waits (inl happens) = subst (λ (b : Bool). MayBeTaken b (Takes connection)) waits happens.taken
+    given_by old new connection waits (inr stays) = true≢false (sym waits ∙ stays.none_waits)
 
 -- what stands at a place stands there with more after it
 still_there : (done more : List Entry) (i : ℕ) (entry : Entry) → slice_get done i ≡ Some entry → slice_get (done ++ more) i ≡ Some entry
@@ -52,6 +68,8 @@ seats_same limits run start seats serving history Begins up left among = ap (λ 
 seats_same limits run start seats serving history (Goes_on event is_run happens) up left among = happens.seats left among
 seats_same limits run start seats serving history (Fails_at event is_run fails) up left among = absurd (false≢true (sym up ∙ fails.down))
 seats_same limits run start seats serving history (Stays_down connection is_run stays) up left among = absurd (false≢true (sym up ∙ stays.still_down))
+seats_same limits run start seats serving history (Flushed is_run flushes) up left among =
+    ap (λ (l : Left). l.seats) (flushes.newest left among) ∙ ap (λ (w : World). w.table.seats) (sym flushes.world)
 
 pub no_reply_alone : NoReplyAlone
 no_reply_alone limits run start seats old new history event is_run happens changed left among = elim (happens.no_others left among) [
@@ -468,6 +486,7 @@ flushed old event = record {
   world = effect_of old.world event;
   left = left_after (effect_of old.world event) ∷ [];
   is_down = false;
+  waits = old.waits;
 }
 
 lasts_flushed : (old new tree : Tree) (made : Option Entry) (entry : Entry) → EntryFits old new made → made ≡ Some entry → tree ≡ new → tree ≡ entry.after
@@ -477,7 +496,7 @@ lasts_flushed old new tree made entry fits is same =
 
 pub each_event_happens : EachEventHappens
 unfolding flushed
-each_event_happens old event up =
+each_event_happens old event up taken =
     let fits = event_fits old.world event in
     let after = left_after (effect_of old.world event) in
     let is : executed old event ≡ executed_of old.world event = ap (executed_by old.world event) up in (
@@ -488,7 +507,12 @@ each_event_happens old event up =
         still_up = refl;
         no_others = λ left among.
             inr (subst (λ (b : Bool). IsAfterEvent old.world event b left) (sym up) (only_one after left among));
-        durable = λ entry e lasts left among.
+        defers = false;
+        deferred = λ mode. absurd (false≢true mode);
+        waits_on = λ waits. waits;
+        at_once = λ mode. refl;
+        taken = taken;
+        durable = λ mode entry e lasts left among.
             lasts_flushed old.world.tree (effect_of old.world event).tree left.tree (executed_of old.world event) entry fits (sym is ∙ e)
             (ap (λ (l : Left). l.tree) (only_one after left among));
         seats = λ left among. ap (λ (l : Left). l.seats) (only_one after left among);

@@ -14,7 +14,7 @@ use Rattle.model.specs.Sessions.SessionRuns.{CountsFrom}
 use Rattle.model_tree.specs.Trees.Tree.{Tree}
 use Rattle.model.specs.Sessions.StateIds.{has_opens}
 use Rattle.model.specs.Server.World.{World, ServerLimits, InProgress, Connection, Quiet, Waiting, Busy, Replied, Closed, HasRun, Gives, Replays, exchanged, created_by, tabled, started_in, begun, reclaimed, refuses, in_room, has_room, run, Turned, Entry, executed_entry, behind, ends, goes_on, kept_by, result_of, with_result, is_last, has_run, operates, Next, Refuses, Reads, next_operation, requested, in_progress, called, turned, one, connection_changed, arrives, arrives_at, takes, without_reply, connects, can_connect, hangs_up, is_busy, reply_at, closes, is_to_hold, further}
-use Rattle.model.specs.Server.Runs.{Event, Arrives, Turns, HangsUp, Connects, Takes, effect_of, executed_of, RunHistory, Serving, mounted, IsRun, Begins, Goes_on, Fails_at, Stays_down}
+use Rattle.model.specs.Server.Runs.{Event, Arrives, Turns, HangsUp, Connects, Takes, effect_of, executed_of, RunHistory, Serving, mounted, IsRun, Begins, Goes_on, Fails_at, Stays_down, Flushed}
 use Rattle.model.specs.Server.ServedOnce.{number_begun, number_by, numbers_in, EveryServedSlot}
 use Rattle.model.proofs.Server.Headline.{Joined, done_behind, taken_done}
 use Rattle.model.proofs.Sessions.SlotLaw.{Stands, Goes, Stands-same, exchange_same, destroy_client_same, reclaim_same, destroy_stands, create_stands, finish_stands, begins_go, others_between}
@@ -307,6 +307,15 @@ counted_run limits run start seats id slot serving history (Stays_down {old = ol
     let counted = counted_run limits run start seats id slot old earlier is_run in
     subst (λ (done : List Entry). Counted id slot new (numbers_in id slot done)) (sym (taken_done earlier connection (reply_at old.world connection)))
     (record { last = counted.last; counts = counted.counts; stands = λ up. absurd (false≢true (sym up ∙ stays.still_down)) })
+counted_run limits run start seats id slot serving history (Flushed {old = old} {new = new} is_run flushes) =
+    counted_on (counted_run limits run start seats id slot old history is_run)
+  where
+    counted_on : Counted id slot old (numbers_in id slot history.done) → Counted id slot new (numbers_in id slot history.done)
+    counted_on counted = record {
+      last = counted.last;
+      counts = counted.counts;
+      stands = λ up. rw flushes.world (counted.stands flushes.up);
+    }
 
 pub every_served_slot : EveryServedSlot
 every_served_slot limits run start seats serving history is_run id slot =

@@ -23,7 +23,7 @@ use Rattle.model.specs.Operations.StepLaws.{IsSound}
 use Rattle.model_tree.specs.Trees.Tree.{Tree}
 use Rattle.model_tree.specs.Trees.WellFormed.{IsWellFormed, IsBefore}
 use Rattle.model.specs.Server.World.{in_room, refuses, has_room, World, ServerLimits, InProgress, Connection, Quiet, Waiting, Busy, Replied, Closed, HasRun, Gives, Replays, with_connection, with_table, exchanged, created_by, tabled, started_in, begun, reclaimed, stepped, state_of, run as runs_operation, Turned, Entry, executed_entry, replies, behind, ends, goes_on, with_result, is_last, has_run, operates, Next, Refuses, Reads, next_operation, requested, in_progress, called, turned, one, connection_changed, arrived, arrives, arrives_at, takes, without_reply, connects, can_connect, hangs_up, is_busy, without_connection, mounted_world, closes, is_to_hold, further}
-use Rattle.model.specs.Server.Runs.{Event, Arrives, Turns, HangsUp, Connects, Takes, effect_of, executed, Serving, RunHistory, IsRun, Begins, Goes_on, Fails_at, Stays_down, Left, IsAfterEvent, MayBeLeft, mounted}
+use Rattle.model.specs.Server.Runs.{Event, Arrives, Turns, HangsUp, Connects, Takes, effect_of, executed, Serving, RunHistory, IsRun, Begins, Goes_on, Fails_at, Stays_down, Flushed, Left, IsAfterEvent, MayBeLeft, mounted}
 use Rattle.model_tree.proofs.Trees.FreshTree.{fresh_well_formed, fresh_before}
 use Rattle.model_tree.proofs.Trees.KeyedLaws.{at-with_same, at-with_other, at-without_same, at-without_other, some≢none}
 use Rattle.model_tree.proofs.Rights.LimitLaws.{modes_keep_limits, inheritance_keeps_limits}
@@ -415,6 +415,12 @@ module _ (limits : ServerLimits) (run : ℕ) (room : limits.volume.aces_set + 5 
         record {
           world = subst (IsSoundWorld limits run) (sym stays.world) (takes_sound old.world connection before.world);
           left = λ left among. before.left left (stays.no_others left among);
+        }
+    serving_sound _ history (Flushed {old} {new} runs flushes) =
+        let before = serving_sound old history runs in
+        record {
+          world = subst (IsSoundWorld limits run) (sym flushes.world) before.world;
+          left = λ left among. subst IsLeft (sym (ap (λ (l : Left). l.tree) (flushes.newest left among))) (left_of old.world before.world);
         }
 
   later_start : (tree : Tree) → IsLeft tree → (next : ℕ) → run < next → IsStart limits.volume next tree

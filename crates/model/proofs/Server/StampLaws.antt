@@ -9,7 +9,7 @@ use Rattle.model_tree.specs.Trees.Charge.{fits}
 use Rattle.model_tree.specs.Trees.Keyed.{at}
 use Rattle.model.specs.Operations.Operation.{Argument, NewDirectory, RenameArguments, SetAttrArguments, WriteArguments, SequenceArguments, OpenType, ByName, ByHandle, OtherClaim, Opening, Opens as Opening_of, Exclusive, operation_of}
 use Rattle.model.specs.Wire.Rpc.{CallRead, NoCall, OtherVersion, Calls, Request, Answers, Runs, read_call, request_of}
-use Rattle.model.specs.Server.Runs.{before, Event, Arrives, Turns, HangsUp, Connects, Takes, effect_of, executed_of, executed_by, executed, Serving, RunHistory, mounted, done_with, IsRun, Begins, Goes_on, Fails_at, Stays_down, EveryStamp}
+use Rattle.model.specs.Server.Runs.{before, Event, Arrives, Turns, HangsUp, Connects, Takes, effect_of, executed_of, executed_by, executed, Serving, RunHistory, mounted, done_with, IsRun, Begins, Goes_on, Fails_at, Stays_down, Flushed, EveryStamp}
 use Rattle.model.specs.Sessions.Session as sessions
 use Rattle.model.specs.Sessions.Session.{Table, Session}
 use Rattle.model_tree.specs.Trees.Stamp.{is_stamp_left}
@@ -330,6 +330,12 @@ stamped limits run start seats _ _ (Stays_down {old} {new} {history} connection 
       numbers = subst Numbers (sym (append_none history.done)) was.numbers;
       below = λ up. absurd (differ new.is_down stays.still_down up);
     })
+stamped limits run start seats _ history (Flushed {old} {new} is_run flushes) =
+    let was = stamped limits run start seats old history is_run in
+    record {
+      numbers = was.numbers;
+      below = λ up. subst (λ (w : World). AreBelow w.changes history.done) (sym flushes.world) (was.below flushes.up);
+    }
 
 numbers_with : (serving : Serving) (history : RunHistory) (event : Event) → Stamped serving history.done → (down : Bool) → serving.is_down ≡ down
     → Numbers (done_with history (executed_by serving.world event down))

@@ -17,7 +17,7 @@ use Rattle.model.specs.Sessions.Opens.{Opens, Open}
 use Rattle.model.specs.Operations.Operation.{Argument, SequenceArguments, NewDirectory, OtherType, RenameArguments, operation_of}
 use Rattle.model.specs.Wire.Record.{framed}
 use Rattle.model.specs.Wire.Rpc.{Success, reply_text}
-use Rattle.model.specs.Server.Runs.{Serving, RunHistory, IsRun, mounted, Event, Arrives, Turns, HangsUp, Connects, Takes, effect_of, Begins, Goes_on, Fails_at, Stays_down, is_done}
+use Rattle.model.specs.Server.Runs.{Serving, RunHistory, IsRun, mounted, Event, Arrives, Turns, HangsUp, Connects, Takes, effect_of, Begins, Goes_on, Fails_at, Stays_down, Flushed, is_done}
 use Rattle.model.specs.Sessions.Session as sessions
 use Rattle.model.specs.Sessions.Session.{Session, Table, is_session}
 use Rattle.model.specs.Operations.SetAttr.{sets}
@@ -519,6 +519,8 @@ run_living limits run start seats serving history (Fails_at {old = old} {new = n
 run_living limits run start seats serving history (Stays_down {old = old} {new = new} {history = earlier} connection is_run stays) =
     subst Living (sym stays.world)
     (event_living limits old.world (Takes connection) (run_held limits run start seats old earlier is_run) (run_living limits run start seats old earlier is_run))
+run_living limits run start seats serving history (Flushed {old = old} {new = new} is_run flushes) =
+    subst Living (sym flushes.world) (run_living limits run start seats old history is_run)
 
 pub every_open_has_client : EveryOpenHasClient
 every_open_has_client limits run start seats serving history is_run =

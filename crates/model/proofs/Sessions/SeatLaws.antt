@@ -14,9 +14,6 @@ pub none_of_none : (o : Option Seat) → is_some o ≡ false → o ≡ None
 none_of_none None e = refl
 none_of_none (Some seat) e = absurd (true≢false e)
 
-pub some_is : (o : Option Seat) (seat : Seat) → o ≡ Some seat → is_some o ≡ true
-some_is o seat e = ap is_some e
-
 none_some : {A : Type 0} (seat : Seat) → None ≡ Some seat → A
 none_some seat e = absurd (cc)
 

@@ -6,7 +6,7 @@ use Rattle.std.proofs.lemmas.Slice.Eq.{bytes_eq-Decides}
 use Rattle.model_tree.specs.declared.status.Status.TheVariants as status
 use Rattle.model.specs.Operations.Answer.{Answer, Outcome, Done, Refused}
 use Rattle.model.specs.Operations.Operation.{Argument, SequenceArguments, operation_of}
-use Rattle.model.specs.Server.Runs.{Event, Arrives, Turns, HangsUp, Connects, Takes, effect_of, executed_of, executed_by, executed, done_with, Stored, freed_between, freed_of, RunHistory, history_after, history_failing, taken_by, Serving, Left, mounted, IsAfterEvent, MayBeLeft, DeviceFails, IsRun, Begins, Goes_on, Fails_at, Stays_down}
+use Rattle.model.specs.Server.Runs.{Event, Arrives, Turns, HangsUp, Connects, Takes, effect_of, executed_of, executed_by, executed, done_with, Stored, freed_between, freed_of, RunHistory, history_after, history_failing, taken_by, Serving, Left, mounted, IsAfterEvent, MayBeLeft, DeviceFails, IsRun, Begins, Goes_on, Fails_at, Stays_down, Flushed}
 use Rattle.model.specs.Sessions.SeatRuns.{AreSeats, Stop, freeing, stored_in, freed_in, executed_in, HoldsFrom, IsFreed, EverySeatStays, EveryRunCanFollow, AreLives, numbers_over, EveryNumberOnce, last_of, WasFreed, EveryReplyStaysHeld}
 use Rattle.model_tree.specs.Seats.Seats.{Seat, Seats, seat_of, has_seat, held_in, run_of, SeatsApart}
 use Rattle.model.specs.Server.ServedOnce.{number_by, numbers_in}
@@ -17,7 +17,8 @@ use Rattle.model_tree.specs.Trees.Tree.{Tree}
 use Rattle.model.specs.Server.World.{ServerLimits, World, InProgress, Gives, Replays, Entry, Turned, begun, started_in, refuses, run, is_to_hold, closes, behind, is_last, with_result, one, reply_at, arrives, takes, connects, hangs_up}
 use Rattle.model.proofs.Server.Headline.{only_one, done_behind, taken_done}
 use Rattle.model.proofs.Sessions.SeatLaws.{among_left, among_right, freed_listed, seat_holds, holds_there}
-use Rattle.model.proofs.Sessions.SeatTables.{id_in, in_run, id_of_run, all-found}
+use Rattle.model.proofs.Sessions.AllOf.{all-found}
+use Rattle.model.proofs.Sessions.SeatTables.{id_in, in_run, id_of_run}
 use Rattle.model.proofs.Sessions.SeatRunLaws.{event_seated, RunSeated, run_seated, every_reply_is_held}
 use Rattle.model.proofs.Sessions.SeatsGo.{SeatsGo, event_go}
 use Rattle.model.proofs.Server.ServedOnceLaws.{arrives_table, takes_table, connects_table, hangs_up_table, numbers_in-append, every_served_slot}
@@ -140,6 +141,13 @@ module _ (limits : ServerLimits) (run : ℕ) (start : Tree) (first : Seats) (sma
           → SeatsSo run first (taken_by earlier connection reply).freed left.seats
       by_reply held None left among = held left (stays.no_others left among)
       by_reply held (Some reply) left among = held left (stays.no_others left among)
+  run_so serving history (Flushed {old = old} {new = new} is_run flushes) =
+      let was = run_so old history is_run in
+      let so = was.up flushes.up in
+      record {
+        up = λ up. subst (λ (w : World). SeatsSo run first history.freed w.table.seats) (sym flushes.world) so;
+        held = λ left among. subst (SeatsSo run first history.freed) (sym (ap (λ (l : Left). l.seats) (flushes.newest left among))) so;
+      }
 
 left_so : (limits : ServerLimits) (stop : Stop limits) → SeatsSo stop.run stop.seats (freed_in stop) stop.left
 left_so limits stop = by_down stop.serving.is_down refl stop.leaves.1
@@ -321,6 +329,7 @@ module _ (limits : ServerLimits) (run : ℕ) (start : Tree) (first : Seats) (sma
       own_more id slot run earlier.done (executed_of old.world event) (run_own old earlier is_run) (own_now old earlier is_run fails.up event)
   run_own serving history (Stays_down {old = old} {new = new} {history = earlier} connection is_run stays) =
       subst (AreOwn id slot run) (sym (taken_done earlier connection (reply_at old.world connection))) (run_own old earlier is_run)
+  run_own serving history (Flushed {old = old} {new = new} is_run flushes) = run_own old history is_run
 
 -- Of a run that ended in a crash, with what was under way
 
@@ -329,7 +338,7 @@ module _ (limits : ServerLimits) (stop : Stop limits) (id : List ℕ) (slot : �
   none_among x among = let less = among.1.0 in omega (arith, less)
 
   failed : Serving
-  failed = record { world = stop.serving.world; left = []; is_down = true }
+  failed = record { world = stop.serving.world; left = []; is_down = true; waits = stop.serving.waits }
 
   fails : stop.serving.is_down ≡ false → DeviceFails stop.serving stop.event failed
   unfolding failed
@@ -337,6 +346,7 @@ module _ (limits : ServerLimits) (stop : Stop limits) (id : List ℕ) (slot : �
     up = up;
     world = refl;
     down = refl;
+    waits = refl;
     no_others = λ left among. absurd (none_among left among);
   }
 

@@ -1,11 +1,11 @@
 -- Exactly once over restarts, by induction over a run and over runs.
-use Rattle.std.proofs.Common.{◌≡◌, ℕ, ◌&&◌, ◌==◌, ◌^◌, ◌<◌, inl, inr, Bool, true, false, cond, List, [], ◌∷◌, ◌++◌, get_or, option_to_list, slice_get, find, Option, None, Some, is_some, eq-eqb, eqb-true, refl, sym, ap, ◌∙◌, subst, arith, append-nil}
+use Rattle.std.proofs.Common.{◌≡◌, ℕ, ◌&&◌, ◌==◌, ◌^◌, ◌<◌, inl, inr, Bool, true, false, cond, List, [], ◌++◌, get_or, option_to_list, slice_get, find, Option, None, Some, is_some, eq-eqb, eqb-true, refl, sym, ap, ◌∙◌, subst, arith, append-nil}
 use Rattle.std.specs.List.{IsAmong}
 use Rattle.std.proofs.lemmas.Bool.{true≢false, and_from}
 use Rattle.model_tree.specs.declared.status.Status.TheVariants as status
 use Rattle.model_tree.specs.Trees.Keyed.{at}
 use Rattle.model.specs.Operations.Operation.{SequenceArguments}
-use Rattle.model.specs.Server.Runs.{Event, Arrives, Turns, HangsUp, Connects, Takes, effect_of, Stored, stored_of, freed_between, freed_of, RunHistory, history_after, Serving, Left, mounted, IsAfterEvent, MayBeLeft, taken_by, IsRun, Begins, Goes_on, Fails_at, Stays_down}
+use Rattle.model.specs.Server.Runs.{Event, Arrives, Turns, HangsUp, Connects, Takes, effect_of, Stored, stored_of, freed_between, freed_of, RunHistory, history_after, Serving, Left, mounted, IsAfterEvent, MayBeLeft, taken_by, IsRun, Begins, Goes_on, Fails_at, Stays_down, Flushed}
 use Rattle.model.specs.Sessions.SeatRuns.{AreSeats, IsRetryOf, Stop, storing, freeing, EveryReplyIsHeld, EveryDeadSession}
 use Rattle.model_tree.specs.Seats.Seats.{HeldReply, Seat, Seats, seat_of, held_in, run_of}
 use Rattle.model.specs.Sessions.Session.{Table, Session, Refuses, Replays, is_session, begin, begin_held, begin_dead, begin_by, loaded_table, Settings}
@@ -13,7 +13,8 @@ use Rattle.model_tree.specs.Trees.Tree.{Tree}
 use Rattle.model.specs.Server.World.{ServerLimits, World, one, arrives, takes, connects, hangs_up, reply_at}
 use Rattle.model.proofs.Server.Headline.{only_one, slice_get-append, slice_get-within}
 use Rattle.model.proofs.Sessions.SeatLaws.{among_left}
-use Rattle.model.proofs.Sessions.SeatTables.{Seated, IsKept, past_earlier, id_of_run, id_in, in_run, seated_more, all-found}
+use Rattle.model.proofs.Sessions.AllOf.{all-found}
+use Rattle.model.proofs.Sessions.SeatTables.{Seated, IsKept, past_earlier, id_of_run, id_in, in_run, seated_more}
 use Rattle.model.proofs.Sessions.SeatWorlds.{one_seated}
 use Rattle.model.proofs.Server.ServedOnceLaws.{arrives_table, takes_table, connects_table, hangs_up_table}
 use Rattle.model.proofs.Sessions.SlotLaw.{id_of, dead_never}
@@ -125,6 +126,7 @@ table_seated run settings seats small are = record {
   apart = are.apart;
   past = λ id has. past_earlier run 0 id small (are.earlier id has);
   fits = tt;
+  counts = tt;
   old = λ i one at. absurd (cc);
   kept = λ i one at. absurd (cc);
 }
@@ -180,6 +182,22 @@ module _ (limits : ServerLimits) (run : ℕ) (start : Tree) (first : Seats) (sma
           (taken_by earlier connection reply).freed
       by_reply kept None left among = kept left (stays.no_others left among)
       by_reply kept (Some reply) left among = kept left (stays.no_others left among)
+  run_seated serving history (Flushed {old = old} {new = new} is_run flushes) =
+      let was = run_seated old history is_run in
+      let seated = was.up flushes.up in
+      record {
+        up = λ up. subst (λ (w : World). Seated run w.table history.stored history.freed × (w.table.run ≡ run)) (sym flushes.world) seated;
+        same = λ up left among. ap (λ (l : Left). l.seats) (flushes.newest left among) ∙ ap (λ (w : World). w.table.seats) (sym flushes.world);
+        kept = λ left among i one at.
+            kept_torn_in old.world.table.seats left.seats history (ap (λ (l : Left). l.seats) (flushes.newest left among)) i one (seated.0.kept i one at);
+      }
+    where
+      kept_torn_in : (there seats : Seats) (history : RunHistory) → seats ≡ there → (i : ℕ) (one : Stored) → IsKept there history.stored history.freed i one
+          → IsKept seats (history.stored ++ option_to_list history.torn) history.freed i one
+      kept_torn_in there seats history same i one kept =
+          subst (λ (s : Seats). IsKept s (history.stored ++ option_to_list history.torn) history.freed i one) (sym same)
+          (subst (λ (l : List (List ℕ)). IsKept there (history.stored ++ option_to_list history.torn) l i one) (append-nil history.freed)
+          (kept_more there history.stored (option_to_list history.torn) history.freed [] i one kept))
 
 -- The laws
 

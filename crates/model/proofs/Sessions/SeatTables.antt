@@ -1,7 +1,7 @@
 -- What holds of the seats beside the tables of clients and sessions, and that each call on them keeps it.
-use Rattle.std.proofs.Common.{◌≡◌, ℕ, zero, suc, ◌+◌, ◌-◌, ◌/◌, ◌^◌, ◌<◌, ◌≤◌, ◌⊎◌, inl, inr, Bool, true, false, not, cond, ◌==◌, nat_lt, nat_le, List, [], ◌∷◌, ◌++◌, map, filter, length, take, option_to_list, slice_get, find, Option, None, Some, is_some, refl, sym, ap, ◌∙◌, subst, arith, bytes_eq, length-set, append-nil, leb-true, ltb-true, eqb-true, eq-eqb, get_or-set_same}
+use Rattle.std.proofs.Common.{◌≡◌, ℕ, zero, suc, ◌+◌, ◌-◌, ◌/◌, ◌^◌, ◌<◌, ◌≤◌, ◌⊎◌, inl, inr, Bool, true, false, not, cond, ◌==◌, nat_lt, nat_le, List, [], ◌∷◌, ◌++◌, map, filter, length, take, option_to_list, slice_get, find, Option, None, Some, is_some, refl, sym, ap, ◌∙◌, subst, arith, bytes_eq, length-set, append-nil, leb-true, ltb-true, eqb-true, eq-eqb, get_or, get_or-set_same, get_or-set_other, replicate}
 use Rattle.std.specs.Int.{w64, to_be_bytes, from_be_bytes}
-use Rattle.std.specs.List.{AllByRecursion, list_all}
+use Rattle.std.specs.List.{AllByRecursion}
 use Rattle.std.proofs.lemmas.Bool.{true≢false, and_parts}
 use Rattle.std.proofs.lemmas.List.{length-replicate}
 use Rattle.std.proofs.lemmas.Nat.{from_be_bytes-to_be_bytes_8}
@@ -13,11 +13,12 @@ use Rattle.model_tree.specs.Refusals.Refusal.{first_refusal}
 use Rattle.model.specs.Server.Runs.{Stored, held_of_session, kept_in, kept_at, stored_as, stored_by, freed_between}
 use Rattle.model.specs.Sessions.SeatRuns.{HoldsFrom, IsFreed}
 use Rattle.model_tree.specs.Seats.Seats.{HeldReply, Seat, Seats, is_seat_of, seat_of, has_seat, held_in, held_at, freed, seated, holding, run_of, SeatsApart}
-use Rattle.model.specs.Sessions.Session.{SessionLimits, Client, Slot, Running, Kept, Session, Table, session_id, is_session, slot_at, no_slot, with_slot, is_client, client_number, is_of_clients, replaced_by, staying, gives_way, seats_staying, persists, limits_for, fore_channel, new_session, new_seat, create_refusals, create_unless, create_again, create_by, create_session, CreateSessionOutcome, next_number, destroy_by, is_running, started, finished_slot, held_reply, held_by, finish}
+use Rattle.model.specs.Sessions.Session.{SessionLimits, Client, Slot, Running, Kept, Session, Table, session_id, is_session, slot_at, no_slot, is_running_state, slots_given, with_slot, is_client, client_number, is_of_clients, replaced_by, staying, gives_way, seats_staying, persists, limits_for, fore_channel, new_session, new_seat, create_refusals, create_unless, create_again, create_by, create_session, CreateSessionOutcome, next_number, destroy_by, is_running, started, finished_slot, held_reply, held_by, finish}
 use Rattle.model.proofs.Server.Headline.{slice_get-append, slice_get-within}
+use Rattle.model.proofs.Sessions.AllOf.{all-mono, all-fewer, all-mapped, all-more, all-both, all-found, all_true, only_found}
 use Rattle.model.proofs.Sessions.SeatLaws.{has_freed, apart_freed, was_there, had_seat, stays_or_goes, seated_other, seated_new, apart_seated, has_holding, apart_holding, held_here, held_other, holding_was, seat_holds, holds_there, among_left, among_right, freed_listed}
 use Rattle.model_tree.proofs.Facts.BytesLaws.{bytes_apart, bytes_differ}
-use Rattle.model.proofs.Sessions.SlotLaw.{SameSessions, session_id-serial, id_of, serial_left}
+use Rattle.model.proofs.Sessions.SlotLaw.{SameSessions, RunsOn, session_id-serial, id_of, serial_left}
 use Rattle.model.proofs.Sessions.StoringTurns.{same_seats, nothing_stored}
 use Rattle.model.proofs.Sessions.TableCalls.{Holds, either, found_passes, found_given}
 use Rattle.model.proofs.Sessions.TableLaws.{Clients, Sessions, given_by, given_serial}
@@ -72,47 +73,25 @@ SeatFits seats session = (seat : Seat) → seat_of (id_in session) seats ≡ Som
 abbrev pub IsKept : Seats → List Stored → List (List ℕ) → ℕ → Stored → Type 0
 IsKept seats stored gone i one = HoldsFrom seats stored i one ⊎ IsFreed seats gone one.session
 
+-- what a seat holds of a slot has the number of the slot's last request, until the next one runs
+abbrev pub CountsSo : (runs : Bool) → (last number : ℕ) → Type 0
+CountsSo true last number = number ≡ last → ⊥
+CountsSo false last number = number ≡ last
+
+abbrev pub CountsAt : Slot → HeldReply → Type 0
+CountsAt slot held = CountsSo (is_running_state slot.state) slot.last held.number
+
+abbrev pub SeatCounts : Seats → Session → Type 0
+SeatCounts seats session = (place : ℕ) (held : HeldReply) → held_at (id_in session) place seats ≡ Some held → CountsAt (slot_at session place) held
+
 pub record Seated (run : ℕ) (table : Table) (stored : List Stored) (gone : List (List ℕ)) : Type 0 where
   pub of_run : AllByRecursion (λ (session : Session). in_run session.client ≡ run) table.sessions
   pub apart : SeatsApart table.seats
   pub past : (id : List ℕ) → has_seat id table.seats ≡ true → IsPast run table.session_serial id
   pub fits : AllByRecursion (SeatFits table.seats) table.sessions
+  pub counts : AllByRecursion (SeatCounts table.seats) table.sessions
   pub old : (i : ℕ) (one : Stored) → slice_get stored i ≡ Some one → IsPast run table.session_serial one.session
   pub kept : (i : ℕ) (one : Stored) → slice_get stored i ≡ Some one → IsKept table.seats stored gone i one
-
--- All of a list
-
-all-mono : {A : Type 0} (P Q : A → Type 0) (xs : List A) → ((x : A) → P x → Q x) → AllByRecursion P xs → AllByRecursion Q xs
-all-mono P Q [] step all = tt
-all-mono P Q (x ∷ xs) step all = (step x all.0, all-mono P Q xs step all.1)
-
-all-fewer : {A : Type 0} (P : A → Type 0) (test : A → Bool) (xs : List A) → AllByRecursion P xs → AllByRecursion P (filter test xs)
-all-fewer P test [] all = tt
-all-fewer {A} P test (x ∷ xs) all = by_test (test x) (all-fewer P test xs all.1)
-  where
-    by_test : (b : Bool) → AllByRecursion P (filter test xs) → AllByRecursion P (cond b (x ∷ filter test xs) (filter test xs))
-    by_test true rest = (all.0, rest)
-    by_test false rest = rest
-
-all-mapped : {A : Type 0} (P Q : A → Type 0) (f : A → A) (xs : List A) → ((x : A) → P x → Q (f x)) → AllByRecursion P xs → AllByRecursion Q (map f xs)
-all-mapped P Q f [] step all = tt
-all-mapped P Q f (x ∷ xs) step all = (step x all.0, all-mapped P Q f xs step all.1)
-
-all-more : {A : Type 0} (P : A → Type 0) (xs : List A) (x : A) → AllByRecursion P xs → P x → AllByRecursion P (xs ++ x ∷ [])
-all-more P [] x all here = (here, tt)
-all-more P (y ∷ xs) x all here = (all.0, all-more P xs x all.1 here)
-
-all-both : {A : Type 0} (P Q : A → Type 0) (xs : List A) → AllByRecursion P xs → AllByRecursion Q xs → AllByRecursion (λ (x : A). P x × Q x) xs
-all-both P Q [] first second = tt
-all-both P Q (x ∷ xs) first second = ((first.0, second.0), all-both P Q xs first.1 second.1)
-
-pub all-found : {A : Type 0} (P : A → Type 0) (test : A → Bool) (xs : List A) (x : A) → AllByRecursion P xs → find test xs ≡ Some x → P x
-all-found P test [] x all found = absurd (cc)
-all-found {A} P test (y ∷ xs) x all found = by_test (λ later. all-found P test xs x all.1 later) (test y) found
-  where
-    by_test : (find test xs ≡ Some x → P x) → (b : Bool) → cond b (Some y) (find test xs) ≡ Some x → P x
-    by_test rest true here = let same : y ≡ x = cc in subst P same all.0
-    by_test rest false later = rest later
 
 -- Nothing more was stored; and more may have been freed
 
@@ -129,6 +108,7 @@ seated_more run table stored gone more is = record {
   apart = is.apart;
   past = is.past;
   fits = is.fits;
+  counts = is.counts;
   old = is.old;
   kept = λ i one at. more_freed table.seats stored gone more i one (is.kept i one at);
 }
@@ -143,6 +123,9 @@ seated_same run old new stored gone same is = record {
   fits =
       subst (AllByRecursion (SeatFits new.seats)) (sym same.sessions)
       (subst (λ (s : Seats). AllByRecursion (SeatFits s) old.sessions) (sym same.seats) is.fits);
+  counts =
+      subst (AllByRecursion (SeatCounts new.seats)) (sym same.sessions)
+      (subst (λ (s : Seats). AllByRecursion (SeatCounts s) old.sessions) (sym same.seats) is.counts);
   old = λ i one at. subst (λ (n : ℕ). IsPast run n one.session) (sym same.serial) (is.old i one at);
   kept = λ i one at. subst (λ (s : Seats). IsKept s stored gone i one) (sym same.seats) (is.kept i one at);
 }
@@ -152,15 +135,26 @@ module _ (f : Session → Session) (clients : (x : Session) → (f x).client ≡
   same_id : (session : Session) → id_in (f session) ≡ id_in session
   same_id session = ap (λ (c : ℕ). session_id c (f session).serial) (clients session) ∙ ap (session_id session.client) (serials session)
 
+  mapped_runs : (run : ℕ) (sessions : List Session) → AllByRecursion (λ (session : Session). in_run session.client ≡ run) sessions
+      → AllByRecursion (λ (session : Session). in_run session.client ≡ run) (map f sessions)
+  mapped_runs run sessions of_run =
+      all-mapped (λ (session : Session). in_run session.client ≡ run) (λ (session : Session). in_run session.client ≡ run) f sessions
+      (λ session of. ap in_run (clients session) ∙ of) of_run
+
+  mapped_fits : (seats : Seats) (sessions : List Session) → AllByRecursion (SeatFits seats) sessions → AllByRecursion (SeatFits seats) (map f sessions)
+  mapped_fits seats sessions fits =
+      all-mapped (SeatFits seats) (SeatFits seats) f sessions
+      (λ session fit seat there. fit seat (ap (λ (id : List ℕ). seat_of id seats) (sym (same_id session)) ∙ there) ∙ sym (slots session)) fits
+
   pub seated_mapped : (run : ℕ) (table : Table) (stored : List Stored) (gone : List (List ℕ)) → Seated run table stored gone
+      → AllByRecursion (SeatCounts table.seats) (map f table.sessions)
       → Seated run (record table { sessions = map f table.sessions }) stored gone
-  seated_mapped run table stored gone is = record {
-    of_run = all-mapped (λ (session : Session). in_run session.client ≡ run) (λ (session : Session). in_run session.client ≡ run) f table.sessions
-        (λ session of_run. ap in_run (clients session) ∙ of_run) is.of_run;
+  seated_mapped run table stored gone is counts = record {
+    of_run = mapped_runs run table.sessions is.of_run;
     apart = is.apart;
     past = is.past;
-    fits = all-mapped (SeatFits table.seats) (SeatFits table.seats) f table.sessions
-        (λ session fits seat there. fits seat (ap (λ (id : List ℕ). seat_of id table.seats) (sym (same_id session)) ∙ there) ∙ sym (slots session)) is.fits;
+    fits = mapped_fits table.seats table.sessions is.fits;
+    counts = counts;
     old = is.old;
     kept = is.kept;
   }
@@ -172,6 +166,7 @@ seated_fewer run table stored gone keeps is = record {
   apart = is.apart;
   past = is.past;
   fits = all-fewer (SeatFits table.seats) keeps table.sessions is.fits;
+  counts = all-fewer (SeatCounts table.seats) keeps table.sessions is.counts;
   old = is.old;
   kept = is.kept;
 }
@@ -197,6 +192,12 @@ module _ (run : ℕ) (table : Table) (stored : List Stored) (gone : List (List �
     listed = among_left gone (freed_between table.seats left) one.session freed_before.listed;
   })
 
+  -- what is held of the seats that are left was held before
+  held_before : (id : List ℕ) (place : ℕ) (held : HeldReply) → held_at id place left ≡ Some held → held_at id place table.seats ≡ Some held
+  held_before id place held there =
+      let seat = seat_holds id place left held there in
+      ap (held_in place) (was_there goes id table.seats seat.0 is.apart seat.1 ∙ sym seat.1) ∙ there
+
   pub seated_less : Seated run (record table { seats = left }) stored (gone ++ freed_between table.seats left)
   seated_less = record {
     of_run = is.of_run;
@@ -204,6 +205,8 @@ module _ (run : ℕ) (table : Table) (stored : List Stored) (gone : List (List �
     past = λ id has. is.past id (had_seat goes id table.seats is.apart has);
     fits = all-mono (SeatFits table.seats) (SeatFits left) table.sessions
         (λ session fits seat there. fits seat (was_there goes (id_in session) table.seats seat is.apart there)) is.fits;
+    counts = all-mono (SeatCounts table.seats) (SeatCounts left) table.sessions
+        (λ session counts place held there. counts place held (held_before (id_in session) place held there)) is.counts;
     old = is.old;
     kept = λ i one at. still_kept i one (is.kept i one at);
   }
@@ -223,10 +226,6 @@ seated_destroyed run id table stored gone is (Some session) =
     (seated_fewer run table stored gone (λ x. not (is_session id x)) is))
 
 -- CREATE_SESSION
-
-all_true : {A : Type 0} (p : A → Bool) (xs : List A) → list_all p xs ≡ true → AllByRecursion (λ (x : A). p x ≡ true) xs
-all_true p [] all = tt
-all_true p (x ∷ xs) all = let parts = and_parts (p x) (list_all p xs) all in (parts.0, all_true p xs parts.1)
 
 abbrev pub IsBelow : ℕ → Session → Type 0
 IsBelow made session = session.serial ≤ made
@@ -272,11 +271,14 @@ module _ (run : ℕ) (table : Table) (stored : List Stored) (gone : List (List �
     past = λ id has. past_later run table.session_serial id (is.past id has);
     fits = all-more (SeatFits table.seats) table.sessions new is.fits
         (λ seat there. absurd (true≢false (sym (ap is_some there) ∙ new_has_none)));
+    counts = all-more (SeatCounts table.seats) table.sessions new is.counts
+        (λ place held there. absurd (true≢false (sym (ap is_some (seat_holds (id_in new) place table.seats held there).1) ∙ new_has_none)));
     old = λ i one at. past_later run table.session_serial one.session (is.old i one at);
     kept = is.kept;
   }
 
-  module _ (seat : Seat) (named : seat.session ≡ id_in new) (slots : length seat.slots ≡ length new.slots) where
+  module _ (seat : Seat) (named : seat.session ≡ id_in new) (slots : length seat.slots ≡ length new.slots)
+      (empty : (place : ℕ) → held_in place (Some seat) ≡ None) where
     abbrev with_it : Seats
     with_it = seated seat table.seats
 
@@ -313,6 +315,18 @@ module _ (run : ℕ) (table : Table) (stored : List Stored) (gone : List (List �
         let it : found ≡ seat = seated_new seat table.seats found none (ap (λ (id : List ℕ). seat_of id with_it) named ∙ there) in
         ap (λ (s : Seat). length s.slots) it ∙ slots
 
+    counts_old : (session : Session) → SeatCounts table.seats session × IsBelow table.session_serial session → SeatCounts with_it session
+    counts_old session both place held there =
+        let past = past_made run table.session_serial session.client session.serial both.1 (omega (arith, small)) in
+        both.0 place held (ap (held_in place) (sym (same_seat_of (id_in session) past)) ∙ there)
+
+    counts_new : SeatCounts with_it new
+    counts_new place held there =
+        let found = seat_holds (id_in new) place with_it held there in
+        let it : found.0 ≡ seat = seated_new seat table.seats found.0 none (ap (λ (id : List ℕ). seat_of id with_it) named ∙ found.1) in
+        let same : Some held ≡ None = sym there ∙ (ap (held_in place) found.1 ∙ (ap (λ (s : Seat). held_in place (Some s)) it ∙ empty place)) in
+        absurd (cc)
+
     pub seated_with : Seated run (record table { session_serial = table.session_serial + 1; sessions = table.sessions ++ new ∷ []; seats = with_it }) stored gone
     seated_with = record {
       of_run = all-more (λ (session : Session). in_run session.client ≡ run) table.sessions new is.of_run of_run;
@@ -322,6 +336,10 @@ module _ (run : ℕ) (table : Table) (stored : List Stored) (gone : List (List �
           (all-mono (λ (session : Session). SeatFits table.seats session × IsBelow table.session_serial session) (SeatFits with_it) table.sessions fits_old
           (all-both (SeatFits table.seats) (IsBelow table.session_serial) table.sessions is.fits below))
           fits_new;
+      counts = all-more (SeatCounts with_it) table.sessions new
+          (all-mono (λ (session : Session). SeatCounts table.seats session × IsBelow table.session_serial session) (SeatCounts with_it) table.sessions counts_old
+          (all-both (SeatCounts table.seats) (IsBelow table.session_serial) table.sessions is.counts below))
+          counts_new;
       old = λ i one at. past_later run table.session_serial one.session (is.old i one at);
       kept = λ i one at. still_kept_with i one (is.old i one at) (is.kept i one at);
     }
@@ -341,6 +359,11 @@ freed_same seat (Some other ∷ old) new none = by_test (freed_same seat old new
         ap (λ (b : Bool). cond b (freed_between old (seated seat new)) (other.session ∷ freed_between old (seated seat new)))
         (ap is_some (seated_other seat other.session new (bytes_apart seat.session other.session (λ same. bytes_differ other.session seat.session apart (sym same)))))
         ∙ ap (λ (l : List (List ℕ)). cond (has_seat other.session new) l (other.session ∷ l)) (rest none)
+
+none_in : (count place : ℕ) → (let all : List (Option HeldReply) = replicate count None in get_or all place None ≡ None)
+none_in zero place = refl
+none_in (suc count) zero = refl
+none_in (suc count) (suc place) = none_in count place
 
 module _ (limits : SessionLimits) (stored : List Stored) (gone : List (List ℕ)) (arguments : CreateSessionArguments) (client : Client) (table : Table)
     (holds : Holds limits table) (is : Seated table.run table stored gone) (number : ℕ) (found : find (is_client number) table.clients ≡ Some client) where
@@ -384,7 +407,8 @@ module _ (limits : SessionLimits) (stored : List Stored) (gone : List (List ℕ)
       ∙ sym (length-replicate (fore_channel (limits_for limits (persists arguments client table)) arguments.fore).max_requests no_slot) in
       subst (λ (l : List (List ℕ)). Seated table.run (after_it (seated its_seat (seats_staying arguments client table))) stored (gone ++ l))
       (sym (freed_same its_seat table.seats (seats_staying arguments client table) none))
-      (seated_with table.run freed_first stored gone_first freed_is made refl its_run small first_below its_seat refl count)
+      (seated_with table.run freed_first stored gone_first freed_is made refl its_run small first_below its_seat refl count
+      (λ place. none_in (slots_given limits arguments client table) place))
   created_by_seat room false =
       let small : table.session_serial + 1 < 2 ^ 64 = omega (arith, room) in
       seated_added table.run freed_first stored gone_first freed_is made refl its_run small first_below
@@ -395,7 +419,7 @@ module _ (limits : SessionLimits) (stored : List Stored) (gone : List (List ℕ)
   seated_created (Some reason) e = seated_more table.run table stored gone (freed_between table.seats table.seats) is
   seated_created None e =
       let done = created_by_seat (serial_left limits arguments client table e) (persists arguments client table) in
-      record { of_run = done.of_run; apart = done.apart; past = done.past; fits = done.fits; old = done.old; kept = done.kept }
+      record { of_run = done.of_run; apart = done.apart; past = done.past; fits = done.fits; counts = done.counts; old = done.old; kept = done.kept }
 
   abbrev CreatedSo : CreateSessionOutcome → Type 0
   CreatedSo outcome = Seated table.run outcome.table stored (gone ++ freed_between table.seats outcome.table.seats)
@@ -459,11 +483,25 @@ module _ (id : List ℕ) (place : ℕ) (reply : List ℕ) where
       by_test true = same session
       by_test false = refl
 
-  pub finishing_mapped : (run : ℕ) (table : Table) (stored : List Stored) (gone : List (List ℕ)) → Seated run table stored gone
-      → Seated run (record table { sessions = map finishing table.sessions }) stored gone
-  finishing_mapped run table stored gone is =
-      seated_mapped finishing (by_name (λ (s : Session). s.client) (λ s. refl)) (by_name (λ (s : Session). s.serial) (λ s. refl))
-      (by_name (λ (s : Session). length s.slots) (λ s. length-set s.slots place (record (slot_at s place) { state = Kept reply }))) run table stored gone is
+  slots_still : (session : Session) → length (finishing session).slots ≡ length session.slots
+  slots_still = by_name (λ (s : Session). length s.slots) (λ s. length-set s.slots place (record (slot_at s place) { state = Kept reply }))
+
+  finishing_runs : (run : ℕ) (sessions : List Session) → AllByRecursion (λ (session : Session). in_run session.client ≡ run) sessions
+      → AllByRecursion (λ (session : Session). in_run session.client ≡ run) (map finishing sessions)
+  finishing_runs = mapped_runs finishing (by_name (λ (s : Session). s.client) (λ s. refl)) (by_name (λ (s : Session). s.serial) (λ s. refl)) slots_still
+
+  finishing_fits : (seats : Seats) (sessions : List Session) → AllByRecursion (SeatFits seats) sessions → AllByRecursion (SeatFits seats) (map finishing sessions)
+  finishing_fits = mapped_fits finishing (by_name (λ (s : Session). s.client) (λ s. refl)) (by_name (λ (s : Session). s.serial) (λ s. refl)) slots_still
+
+  none_counts : (seats : Seats) → has_seat id seats ≡ false → (session : Session) → SeatCounts seats session → SeatCounts seats (finishing session)
+  none_counts seats without session counts = by_test (is_session id session) refl
+    where
+      by_test : (b : Bool) → is_session id session ≡ b → SeatCounts seats (cond b (finished_slot place reply session) session)
+      by_test false other = counts
+      by_test true named = λ at held there.
+          let its = id_of id session named in
+          let seat = seat_holds (id_in session) at seats held there in
+          absurd (true≢false (sym (ap is_some (ap (λ (i : List ℕ). seat_of i seats) (sym its) ∙ seat.1)) ∙ without))
 
   finishing_still : (session : Session) → is_session id (finishing session) ≡ is_session id session
   finishing_still session = by_name (is_session id) (λ s. refl) session
@@ -472,18 +510,19 @@ module _ (id : List ℕ) (place : ℕ) (reply : List ℕ) where
       → Seated run (finish id place reply table) (stored ++ option_to_list (stored_by (finish id place reply table) (Some (id, place)))) gone
   unfolding finish
   finished_unseated run table stored gone none is =
-      let mapped = finishing_mapped run table stored gone is in
       let new = finish id place reply table in
       let seats = sym (same_seats id place reply table none) in
       let all : stored ≡ stored ++ option_to_list (stored_by new (Some (id, place)))
       = sym (append-nil stored) ∙ ap (λ (o : Option Stored). stored ++ option_to_list o) (sym (nothing_stored id place reply table none)) in
       subst (λ (l : List Stored). Seated run new l gone) all (record {
-        of_run = mapped.of_run;
-        apart = subst SeatsApart seats mapped.apart;
-        past = λ name has. mapped.past name (ap (has_seat name) seats ∙ has);
-        fits = subst (λ (s : Seats). AllByRecursion (SeatFits s) new.sessions) seats mapped.fits;
-        old = mapped.old;
-        kept = λ i one at. subst (λ (s : Seats). IsKept s stored gone i one) seats (mapped.kept i one at);
+        of_run = finishing_runs run table.sessions is.of_run;
+        apart = subst SeatsApart seats is.apart;
+        past = λ name has. is.past name (ap (has_seat name) seats ∙ has);
+        fits = subst (λ (s : Seats). AllByRecursion (SeatFits s) new.sessions) seats (finishing_fits table.seats table.sessions is.fits);
+        counts = subst (λ (s : Seats). AllByRecursion (SeatCounts s) new.sessions) seats
+            (all-mapped (SeatCounts table.seats) (SeatCounts table.seats) finishing table.sessions (none_counts table.seats none) is.counts);
+        old = is.old;
+        kept = λ i one at. subst (λ (s : Seats). IsKept s stored gone i one) seats (is.kept i one at);
       })
 
   module _ (run : ℕ) (table : Table) (stored : List Stored) (gone : List (List ℕ)) (is : Seated run table stored gone) (session : Session)
@@ -589,41 +628,122 @@ module _ (id : List ℕ) (place : ℕ) (reply : List ℕ) where
         | inr last ↦ subst (λ (s : Stored). IsPast run table.session_serial s.session) (sym last.1) (is.past id has)
       ]
 
-      finished_with : Seated run (finish id place reply table) all_stored gone
+      -- of its own session the seat holds the slot's last from now on, and what it held of the others
+      its_counts : SeatCounts table.seats session → is_session id session ≡ true → SeatCounts its_seats (finished_slot place reply session)
+      its_counts counts named at held there = by_place (at == place) refl
+        where
+          name : id_in session ≡ id
+          name = id_of id session named
+
+          there_by : held_at id at its_seats ≡ Some held
+          there_by = ap (λ (i : List ℕ). held_at i at its_seats) (sym name) ∙ there
+
+          by_place : (b : Bool) → (at == place) ≡ b → CountsAt (slot_at (finished_slot place reply session) at) held
+          by_place true same =
+              let here : at ≡ place = eqb-true at place same in
+              let its : Some its_held ≡ Some held = sym held_now ∙ (ap (λ (p : ℕ). held_at id p its_seats) (sym here) ∙ there_by) in
+              let held_is : its_held ≡ held = cc in
+              let slot : slot_at (finished_slot place reply session) at ≡ record (slot_at session place) { state = Kept reply }
+              = ap (λ (p : ℕ). slot_at (finished_slot place reply session) p) here
+              ∙ get_or-set_same session.slots place (record (slot_at session place) { state = Kept reply }) no_slot within in
+              subst (λ (s : Slot). CountsAt s held) (sym slot) (ap (λ (h : HeldReply). h.number) (sym held_is))
+          by_place false apart =
+              let other : at ≡ place → ⊥ = λ same. true≢false (sym (eq-eqb at place same) ∙ apart) in
+              let before : held_at id at table.seats ≡ Some held = sym (held_other id place its_held id at table.seats (λ _ same. other same)) ∙ there_by in
+              let slot : slot_at (finished_slot place reply session) at ≡ slot_at session at
+              = get_or-set_other session.slots place at (record (slot_at session place) { state = Kept reply }) no_slot other in
+              subst (λ (s : Slot). CountsAt s held) (sym slot) (counts at held (ap (λ (i : List ℕ). held_at i at table.seats) name ∙ before))
+
+      counts_now : (other : Session) → SeatCounts table.seats other × (is_session id other ≡ true → other ≡ session) → SeatCounts its_seats (finishing other)
+      counts_now other both = by_test (is_session id other) refl
+        where
+          by_test : (b : Bool) → is_session id other ≡ b → SeatCounts its_seats (cond b (finished_slot place reply other) other)
+          by_test true named =
+              let same : session ≡ other = sym (both.1 named) in
+              subst (λ (s : Session). SeatCounts its_seats (finished_slot place reply s)) same
+              (its_counts (subst (SeatCounts table.seats) (sym same) both.0) (subst (λ (s : Session). is_session id s ≡ true) (sym same) named))
+          by_test false apart = λ at held there.
+              both.0 at held
+              (sym (held_other id place its_held (id_in other) at table.seats (λ same _. bytes_differ (id_in other) id apart same)) ∙ there)
+
+      finished_with : length (filter (is_session id) table.sessions) ≤ 1 → Seated run (finish id place reply table) all_stored gone
       unfolding finish
-      finished_with =
-          let mapped = finishing_mapped run table stored gone is in
+      finished_with few =
           let new = finish id place reply table in
           let seats = sym seats_are in
           record {
-            of_run = mapped.of_run;
+            of_run = finishing_runs run table.sessions is.of_run;
             apart = subst SeatsApart seats (apart_holding id place its_held table.seats is.apart);
             past = λ name there. is.past name (sym (has_holding id place its_held name table.seats) ∙ (ap (has_seat name) seats ∙ there));
             fits = subst (λ (s : Seats). AllByRecursion (SeatFits s) new.sessions) seats
                 (all-mono (SeatFits table.seats) (SeatFits its_seats) new.sessions
                 (λ other fits seat there.
                 let was = holding_was id place its_held (id_in other) table.seats seat there in
-                was.2 ∙ fits was.0 was.1) mapped.fits);
+                was.2 ∙ fits was.0 was.1) (finishing_fits table.seats table.sessions is.fits));
+            counts = subst (λ (s : Seats). AllByRecursion (SeatCounts s) new.sessions) seats
+                (all-mapped (λ (other : Session). SeatCounts table.seats other × (is_session id other ≡ true → other ≡ session)) (SeatCounts its_seats) finishing
+                table.sessions counts_now
+                (all-both (SeatCounts table.seats) (λ (other : Session). is_session id other ≡ true → other ≡ session) table.sessions is.counts
+                (only_found (is_session id) table.sessions session few found)));
             old = old_now;
             kept = λ i one at. subst (λ (s : Seats). IsKept s all_stored gone i one) seats (kept_now i one at);
           }
 
-      pub finished_seated : Seated run (finish id place reply table) (stored ++ option_to_list (stored_by (finish id place reply table) (Some (id, place)))) gone
-      finished_seated =
-          subst (λ (o : Option Stored). Seated run (finish id place reply table) (stored ++ option_to_list o) gone) (sym stored_is) finished_with
+      pub finished_seated : length (filter (is_session id) table.sessions) ≤ 1 → Seated run (finish id place reply table) (stored ++ option_to_list (stored_by (finish id place reply table) (Some (id, place)))) gone
+      finished_seated few =
+          subst (λ (o : Option Stored). Seated run (finish id place reply table) (stored ++ option_to_list o) gone) (sym stored_is) (finished_with few)
 
 -- SEQUENCE
 
+-- the number that runs is another than the last
+other_number : (last : ℕ) → last ≡ next_number last → ⊥
+other_number last same = omega (arith, same)
+
 pub seated_started : (run uid : ℕ) (arguments : SequenceArguments) (table : Table) (stored : List Stored) (gone : List (List ℕ)) → Seated run table stored gone
+    → length (filter (is_session arguments.session) table.sessions) ≤ 1 → RunsOn arguments (find (is_session arguments.session) table.sessions)
     → Seated run (started uid arguments table) stored gone
 unfolding started
-seated_started run uid arguments table stored gone is =
+seated_started run uid arguments table stored gone is few runs =
     seated_mapped (λ session. cond (is_session arguments.session session) (with_slot arguments.slot slot session) session)
     (by_test (λ (s : Session). s.client) (λ s. refl)) (by_test (λ (s : Session). s.serial) (λ s. refl))
     (by_test (λ (s : Session). length s.slots) (λ s. length-set s.slots arguments.slot slot)) run table stored gone is
+    (all-mapped (λ (session : Session). SeatCounts table.seats session × (is_session arguments.session session ≡ true → session ≡ runs.session)) (SeatCounts table.seats)
+    (λ session. cond (is_session arguments.session session) (with_slot arguments.slot slot session) session) table.sessions counts_now
+    (all-both (SeatCounts table.seats) (λ (session : Session). is_session arguments.session session ≡ true → session ≡ runs.session) table.sessions is.counts
+    (only_found (is_session arguments.session) table.sessions runs.session few runs.is)))
   where
     slot : Slot
     slot = record { last = arguments.sequence; uid = uid; state = Running }
+
+    -- what is held of the slot is of its last request, and what runs now is the next one
+    its_counts : SeatCounts table.seats runs.session → SeatCounts table.seats (with_slot arguments.slot slot runs.session)
+    its_counts counts place held there = by_place (place == arguments.slot) refl
+      where
+        by_place : (b : Bool) → (place == arguments.slot) ≡ b → CountsAt (slot_at (with_slot arguments.slot slot runs.session) place) held
+        by_place true same =
+            let here : place ≡ arguments.slot = eqb-true place arguments.slot same in
+            let before : CountsAt (slot_at runs.session arguments.slot) held
+            = subst (λ (p : ℕ). CountsAt (slot_at runs.session p) held) here (counts place held there) in
+            let last : held.number ≡ (slot_at runs.session arguments.slot).last
+            = subst (λ (b : Bool). CountsSo b (slot_at runs.session arguments.slot).last held.number) runs.rests before in
+            let now : slot_at (with_slot arguments.slot slot runs.session) place ≡ slot
+            = ap (λ (p : ℕ). slot_at (with_slot arguments.slot slot runs.session) p) here
+            ∙ get_or-set_same runs.session.slots arguments.slot slot no_slot runs.within in
+            subst (λ (s : Slot). CountsAt s held) (sym now)
+            (λ number. other_number (slot_at runs.session arguments.slot).last (sym last ∙ (number ∙ runs.next)))
+        by_place false apart =
+            let other : place ≡ arguments.slot → ⊥ = λ same. true≢false (sym (eq-eqb place arguments.slot same) ∙ apart) in
+            subst (λ (s : Slot). CountsAt s held) (sym (get_or-set_other runs.session.slots arguments.slot place slot no_slot other)) (counts place held there)
+
+    counts_now : (session : Session) → SeatCounts table.seats session × (is_session arguments.session session ≡ true → session ≡ runs.session)
+        → SeatCounts table.seats (cond (is_session arguments.session session) (with_slot arguments.slot slot session) session)
+    counts_now session both = by_is (is_session arguments.session session) refl
+      where
+        by_is : (b : Bool) → is_session arguments.session session ≡ b → SeatCounts table.seats (cond b (with_slot arguments.slot slot session) session)
+        by_is true named =
+            let same : runs.session ≡ session = sym (both.1 named) in
+            subst (λ (s : Session). SeatCounts table.seats (with_slot arguments.slot slot s)) same (its_counts (subst (SeatCounts table.seats) (sym same) both.0))
+        by_is false other = both.0
 
     by_test : {A : Type 0} (told : Session → A) → ((session : Session) → told (with_slot arguments.slot slot session) ≡ told session) → (session : Session)
         → told (cond (is_session arguments.session session) (with_slot arguments.slot slot session) session) ≡ told session

@@ -15,7 +15,7 @@ use Rattle.model.specs.Sessions.SessionRuns as calls
 use Rattle.model.specs.Sessions.SlotsHeld.{runs_at, is_slot_running, is_on, is_busy_on}
 use Rattle.model.specs.Sessions.StateIds.{has_opens}
 use Rattle.model.specs.Server.World.{ServerLimits, World, InProgress, HasRun, Gives, Replays, Entry, exchanged, created_by, tabled, started_in, begun, reclaimed, run, Turned, with_result, result_of, kept_by, is_to_hold, closes, behind, is_last, one}
-use Rattle.model.proofs.Sessions.SlotLaw.{SameSessions, exchange_same, destroy_client_same, reclaim_same}
+use Rattle.model.proofs.Sessions.SlotLaw.{SameSessions, RunsOn, begin_runs, exchange_same, destroy_client_same, reclaim_same}
 use Rattle.model.proofs.Sessions.SlotRuns.{told_by}
 use Rattle.model.proofs.Sessions.SlotsHeld.{Held}
 use Rattle.model.proofs.Sessions.TableCalls.{Holds, either, ids_differ}
@@ -69,22 +69,25 @@ module _ (limits : ServerLimits) (world : World) (held : Held limits world) (its
   reclaimed_seated request None = stays
   reclaimed_seated request (Some reason) = stays
 
-  started_so : (request : InProgress) (arguments : SequenceArguments) → Goes (sessions.started request.context.cred.uid arguments world.table)
+  started_so : (request : InProgress) (arguments : SequenceArguments) → RunsOn arguments (find (is_session arguments.session) world.table.sessions)
+      → Goes (sessions.started request.context.cred.uid arguments world.table)
   unfolding sessions.started
-  started_so request arguments = (
+  started_so request arguments runs = (
     seated_more its_run (sessions.started request.context.cred.uid arguments world.table) stored gone (freed_between world.table.seats world.table.seats)
-        (seated_started its_run request.context.cred.uid arguments world.table stored gone is),
+        (seated_started its_run request.context.cred.uid arguments world.table stored gone is
+        (ids_differ limits.sessions world.table.session_serial world.table.sessions held.holds.1 arguments.session) runs),
     run_is,
   )
 
-  begun_seated : (request : InProgress) (arguments : SequenceArguments) (b : sessions.Begun) → RanSeated its_run world stored gone (begun world request arguments b)
-  begun_seated request arguments (sessions.Refuses reason) = stays
-  begun_seated request arguments (sessions.Replays reply) = tt
-  begun_seated request arguments sessions.Runs = by_session (find (is_session arguments.session) world.table.sessions)
+  begun_seated : (request : InProgress) (arguments : SequenceArguments) (b : sessions.Begun)
+      → sessions.begin request.context.cred.uid request.count arguments world.table ≡ b → RanSeated its_run world stored gone (begun world request arguments b)
+  begun_seated request arguments (sessions.Refuses reason) is_so = stays
+  begun_seated request arguments (sessions.Replays reply) is_so = tt
+  begun_seated request arguments sessions.Runs is_so = by_session (find (is_session arguments.session) world.table.sessions)
     where
       by_session : (known : Option Session) → RanSeated its_run world stored gone (started_in world request arguments known)
       by_session None = stays
-      by_session (Some session) = started_so request arguments
+      by_session (Some session) = started_so request arguments (begin_runs request.context.cred.uid request.count arguments world.table is_so)
 
   created_so : (request : InProgress) (arguments : _) → Goes (sessions.create_session world.limits.sessions request.context.cred.uid arguments world.table).table
   created_so request arguments = (
@@ -113,7 +116,7 @@ module _ (limits : ServerLimits) (world : World) (held : Held limits world) (its
   run_seated request now (Argument.DestroyClientId client) =
       tabled_seated request _ _ _ (same _ (destroy_client_same (has_opens world.opens) client world.table)
       (same_run world.limits.sessions (calls.DestroysClient (has_opens world.opens) client) world.table its_run run_is))
-  run_seated request now (Argument.Sequence arguments) = begun_seated request arguments _
+  run_seated request now (Argument.Sequence arguments) = begun_seated request arguments _ refl
   run_seated request now (Argument.ReclaimComplete true) = reclaimed_seated request _
   run_seated request now (Argument.ReclaimComplete false) =
       tabled_seated request _ _ _ (same _ (reclaim_same request.context.client world.table)
@@ -160,6 +163,7 @@ module _ (limits : ServerLimits) (world : World) (held : Held limits world) (its
       pub session : Session
       pub found : find (is_session id) world.table.sessions ≡ Some session
       pub within : place < length session.slots
+      pub runs : is_running_state (slot_at session place).state ≡ true
 
     some_found : (list : List Session) → list_any (runs_at id place) list ≡ true → (session : Session) × (find (is_session id) list ≡ Some session)
     some_found [] any = absurd (false≢true any)
@@ -182,12 +186,13 @@ module _ (limits : ServerLimits) (world : World) (held : Held limits world) (its
         let found = some_found world.table.sessions running in
         let few = ids_differ limits.sessions world.table.session_serial world.table.sessions held.holds.1 id in
         let state = sym (told_by id place world.table.sessions found.0 few found.1) ∙ running in
-        record { session = found.0; found = found.1; within = inside found.0 state }
+        record { session = found.0; found = found.1; within = inside found.0 state; runs = state }
 
     stored_so : (result : List ℕ) → (b : Bool) → has_seat id world.table.seats ≡ b
         → Seated its_run (sessions.finish id place result world.table) (stored ++ option_to_list (stored_by (sessions.finish id place result world.table) (Some (id, place)))) gone
     stored_so result true has =
         finished_seated id place result its_run world.table stored gone is runs_there.session runs_there.found runs_there.within has
+        (ids_differ limits.sessions world.table.session_serial world.table.sessions held.holds.1 id)
     stored_so result false none = finished_unseated id place result its_run world.table stored gone none is
 
   kept_running : (slot : Option (List ℕ × ℕ)) (result : List ℕ) → ((id : List ℕ) (place : ℕ) → is_on slot id place ≡ true → is_slot_running id place world.table ≡ true)

@@ -15,7 +15,8 @@ use Rattle.model.specs.Sessions.StateIds.{has_opens}
 use Rattle.model.specs.Server.World.{ServerLimits, World, InProgress, HasRun, Gives, Replays, Entry, exchanged, created_by, tabled, started_in, begun, reclaimed, run, Turned, with_result, result_of, kept_by, is_to_hold, closes, behind, is_last, one, arrives, takes, connects, hangs_up}
 use Rattle.model.proofs.Sessions.SeatLaws.{seat_found, freed_seat, stays_or_goes, had_seat, seated_other, holding_seat, has_holding}
 use Rattle.model_tree.proofs.Facts.BytesLaws.{bytes_apart}
-use Rattle.model.proofs.Sessions.SeatTables.{Seated, id_in, in_run, id_of_run, client_in_run, all-found}
+use Rattle.model.proofs.Sessions.AllOf.{all-found}
+use Rattle.model.proofs.Sessions.SeatTables.{Seated, id_in, in_run, id_of_run, client_in_run}
 use Rattle.model.proofs.Sessions.StoringTurns.{same_seats}
 use Rattle.model.proofs.Server.ServedOnceLaws.{arrives_table, takes_table, connects_table, hangs_up_table}
 use Rattle.model.proofs.Sessions.SlotLaw.{id_of, exchange_same, destroy_client_same, reclaim_same}

@@ -13,7 +13,7 @@ use Rattle.model_tree.specs.declared.status.Status.TheVariants as status
 use Rattle.model_tree.specs.Refusals.Refusal.{Refusals, first_refusal}
 use Rattle.model.specs.Operations.Operation.{ExchangeIdArguments, CreateSessionArguments, SequenceArguments}
 use Rattle.model.specs.Operations.Answer.{CreateSessionAnswer}
-use Rattle.model.specs.Sessions.Session.{SessionLimits, Client, Slot, Session, Table, Begun, Refuses, Replays, Runs, Free, Running, Kept, SlotState, session_id, is_session, slot_at, no_slot, empty_table, has_state, without_unconfirmed, without_client, is_full_of_clients, new_record, exchange_by, exchange_id, is_confirmed_of, exchange_flags, has_only, create_refusals, create_unless, create_again, create_by, create_session, new_session, staying, is_of_clients, replaced_by, is_full_of_sessions, fore_channel, CreateSessionOutcome, next_number, destroy_by, destroy_session, is_running, destroy_client_by, destroy_client_id, is_client, reclaim_by, reclaim_complete, begin_new, begin_slot, begin_by, begin, with_slot, started, finished_slot, finish, without_where, limits_for, persists, begin_held, begin_dead, yielding}
+use Rattle.model.specs.Sessions.Session.{SessionLimits, Client, Slot, Session, Table, Begun, Refuses, Replays, Runs, Free, Running, Kept, SlotState, is_running_state, session_id, is_session, slot_at, no_slot, empty_table, has_state, without_unconfirmed, without_client, is_full_of_clients, new_record, exchange_by, exchange_id, is_confirmed_of, exchange_flags, has_only, create_refusals, create_unless, create_again, create_by, create_session, new_session, staying, is_of_clients, replaced_by, is_full_of_sessions, fore_channel, CreateSessionOutcome, next_number, destroy_by, destroy_session, is_running, destroy_client_by, destroy_client_id, is_client, reclaim_by, reclaim_complete, begin_new, begin_slot, begin_by, begin, with_slot, started, finished_slot, finish, without_where, limits_for, persists, begin_held, begin_dead, yielding}
 use Rattle.model.specs.Sessions.SessionRuns.{Call, Exchanges, Creates, Destroys, DestroysClient, Reclaims, Begins, Finishes, after, runs_on, number_on, started_by, numbers_on, CountsFrom, OthersBetween, EverySlot}
 use Rattle.model_tree.proofs.Facts.BooleanLaws.{second_of_neither}
 use Rattle.model.proofs.Operations.RefusalLaws.{none_in_front}
@@ -345,10 +345,18 @@ slot_runs uid count arguments session slot (Kept reply) e = kept_runs (arguments
     kept_runs true e = absurd (cond_never (uid == slot.uid) (Replays reply) (Refuses status.SeqFalseRetry) (replays_not reply) (refuses_not status.SeqFalseRetry) e)
     kept_runs false e = new_runs count arguments session slot e
 
+slot_rests : (uid count : ℕ) (arguments : SequenceArguments) (session : Session) (slot : Slot) (state : SlotState)
+    → begin_slot uid count arguments session slot state ≡ Runs → is_running_state state ≡ false
+slot_rests uid count arguments session slot Free e = refl
+slot_rests uid count arguments session slot Running e =
+    absurd (cond_never (arguments.sequence == slot.last) (Refuses status.Delay) (Refuses status.SeqMisordered) (refuses_not status.Delay) (refuses_not status.SeqMisordered) e)
+slot_rests uid count arguments session slot (Kept reply) e = refl
+
 pub record RunsOn (arguments : SequenceArguments) (known : Option Session) : Type 0 where
   pub session : Session
   pub is : known ≡ Some session
   pub within : arguments.slot < length session.slots
+  pub rests : is_running_state (slot_at session arguments.slot).state ≡ false
   pub next : arguments.sequence ≡ next_number (slot_at session arguments.slot).last
 
 held_never : (uid : ℕ) (arguments : SequenceArguments) (held : Option HeldReply) → begin_held uid arguments held ≡ Runs → ⊥
@@ -369,6 +377,7 @@ by_runs uid count arguments seats (Some session) e =
       session = session;
       is = refl;
       within = ltb-true arguments.slot (length session.slots) tested.0;
+      rests = slot_rests uid count arguments session (slot_at session arguments.slot) (slot_at session arguments.slot).state tested.1;
       next = slot_runs uid count arguments session (slot_at session arguments.slot) (slot_at session arguments.slot).state tested.1;
     }
 

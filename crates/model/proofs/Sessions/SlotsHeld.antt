@@ -10,7 +10,7 @@ use Rattle.model.specs.Operations.Operation.{Argument, SequenceArguments, operat
 use Rattle.model.specs.Wire.Record.{Front, Partial, Whole}
 use Rattle.model.specs.Wire.Record as marks
 use Rattle.model.specs.Wire.Rpc.{CallRead, NoCall, OtherVersion, Calls, VersionRefused, read_call, is_call_read, Request, Answers, Runs, request_of, Success, reply_text}
-use Rattle.model.specs.Server.Runs.{Serving, RunHistory, IsRun, mounted, Event, Arrives, Turns, HangsUp, Connects, Takes, effect_of, Begins, Goes_on, Fails_at, Stays_down}
+use Rattle.model.specs.Server.Runs.{Serving, RunHistory, IsRun, mounted, Event, Arrives, Turns, HangsUp, Connects, Takes, effect_of, Begins, Goes_on, Fails_at, Stays_down, Flushed}
 use Rattle.model.specs.Sessions.Session as sessions
 use Rattle.model.specs.Sessions.Session.{Session, Table, is_session}
 use Rattle.model.specs.Sessions.SessionRuns as calls
@@ -615,6 +615,8 @@ run_held limits run start seats serving history (Fails_at {old = old} {new = new
     subst (Held limits) (sym fails.world) (run_held limits run start seats old earlier is_run)
 run_held limits run start seats serving history (Stays_down {old = old} {new = new} {history = earlier} connection is_run stays) =
     subst (Held limits) (sym stays.world) (event_held limits old.world (Takes connection) (run_held limits run start seats old earlier is_run))
+run_held limits run start seats serving history (Flushed {old = old} {new = new} is_run flushes) =
+    subst (Held limits) (sym flushes.world) (run_held limits run start seats old history is_run)
 
 pub every_running_slot : EveryRunningSlot
 every_running_slot limits run start seats serving history is_run = (run_held limits run start seats serving history is_run).law

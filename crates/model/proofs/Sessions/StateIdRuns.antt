@@ -15,7 +15,7 @@ use Rattle.model.specs.Sessions.Opens.{Opens, Open}
 use Rattle.model.specs.Operations.Operation.{Argument, OpenArguments, SequenceArguments, StateId, operation_of}
 use Rattle.model.specs.Wire.Record.{framed}
 use Rattle.model.specs.Wire.Rpc.{Success, reply_text}
-use Rattle.model.specs.Server.Runs.{Serving, RunHistory, IsRun, mounted, Event, Arrives, Turns, HangsUp, Connects, Takes, effect_of, executed_of, executed_by, executed, Begins, Goes_on, Fails_at, Stays_down, history_after}
+use Rattle.model.specs.Server.Runs.{Serving, RunHistory, IsRun, mounted, Event, Arrives, Turns, HangsUp, Connects, Takes, effect_of, executed_of, executed_by, executed, Begins, Goes_on, Fails_at, Stays_down, Flushed, history_after}
 use Rattle.model.specs.Sessions.Session as sessions
 use Rattle.model.specs.Sessions.Session.{Session, Table, is_session}
 use Rattle.model.specs.Sessions.StateIds.{by_seqid, Names, found, upgraded, next_seqid, opened, without_clients, open_stateid}
@@ -297,6 +297,8 @@ module _ (run : ℕ) (small_run : run < 2 ^ 32) where
       subst (Numbered run) (sym fails.world) (run_numbered begin first old earlier is_run)
   run_numbered begin first serving history (Stays_down {old = old} {new = new} {history = earlier} connection is_run stays) =
       subst (Numbered run) (sym stays.world) (event_goes old.world (Takes connection) (run_numbered begin first old earlier is_run)).0
+  run_numbered begin first serving history (Flushed {old = old} {new = new} is_run flushes) =
+      subst (Numbered run) (sym flushes.world) (run_numbered begin first old history is_run)
 
   -- What has ended stays so
 
@@ -327,6 +329,8 @@ module _ (run : ℕ) (small_run : run < 2 ^ 32) where
   run_gone begin first serial gone serving history (Stays_down {old = old} {new = new} {history = earlier} connection is_run stays) =
       subst (IsGone serial) (sym stays.world)
       (event_gone old.world (Takes connection) (run_numbered begin first old earlier is_run) serial (run_gone begin first serial gone old earlier is_run))
+  run_gone begin first serial gone serving history (Flushed {old = old} {new = new} is_run flushes) =
+      subst (IsGone serial) (sym flushes.world) (run_gone begin first serial gone old history is_run)
 
   -- What stands is joined
 
@@ -380,6 +384,9 @@ module _ (run : ℕ) (small_run : run < 2 ^ 32) where
       (omega (arith, counts, before.0), subst (λ (d : List Entry). IsStill serial known d (effect_of old.world event).opens) (done_behind earlier old.world event) still)
   run_still begin first serial known there serving history (Fails_at event is_run fails) up = absurd (true≢false (sym fails.down ∙ up))
   run_still begin first serial known there serving history (Stays_down connection is_run stays) up = absurd (true≢false (sym stays.still_down ∙ up))
+  run_still begin first serial known there serving history (Flushed {old = old} {new = new} is_run flushes) up =
+      subst (λ (w : World). (serial ≤ w.opens.given) × IsStill serial known history.done w.opens) (sym flushes.world)
+      (run_still begin first serial known there old history is_run flushes.up)
 
   -- What is executed
 

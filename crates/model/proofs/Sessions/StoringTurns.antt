@@ -31,7 +31,7 @@ module _ (id : List ℕ) (place : ℕ) (reply : List ℕ) where
 abbrev pub StoresAlone : Turned → Type 0
 StoresAlone t = (t.executed ≡ None) ⊎ (stored_by t.world.table t.keeps ≡ None)
 
-unseated : (slot : Option (List ℕ × ℕ)) (result : List ℕ) (table : Table) → is_to_hold slot table.seats ≡ false
+pub unseated : (slot : Option (List ℕ × ℕ)) (result : List ℕ) (table : Table) → is_to_hold slot table.seats ≡ false
     → stored_by (kept_by slot result table) slot ≡ None
 unseated None result table none = refl
 unseated (Some slot) result table none = nothing_stored slot.0 slot.1 result table none

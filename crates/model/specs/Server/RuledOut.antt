@@ -12,7 +12,7 @@ use Rattle.model.specs.Sessions.Session.{Table, Session, Kept, Runs, Replays, be
 use Rattle.model_tree.specs.Trees.Tree.{Tree}
 use Rattle.model_tree.specs.declared.status.Status.{Status}
 use Rattle.model.specs.Server.World.{World, ServerLimits, Entry, InProgress, in_progress, Connection, Waiting, Busy, Replied, Next, Refuses, Reads, next_operation, state_of, outcome_text, status_of, Turned, one, ends, reply_with, hangs_up, hung_up, is_busy}
-use Rattle.model.specs.Server.Runs.{Event, Turns, HangsUp, effect_of, before, IsDurable, is_durable, is_done, RunHistory, Serving, Left, left_after, mounted, executed, MayLeave, Happens, IsRun, IsGoodPrefix, done_with, tree_after}
+use Rattle.model.specs.Server.Runs.{Event, Turns, HangsUp, Takes, StaysDown, MayBeTaken, effect_of, before, IsDurable, is_durable, is_done, RunHistory, Serving, Left, left_after, mounted, executed, MayLeave, Happens, IsRun, IsGoodPrefix, done_with, tree_after}
 
 -- One that keeps a later change and skips an unstable write before it: the tree left is the one
 -- after both.
@@ -21,13 +21,15 @@ NoSkip = (start : Tree) (write change : Entry) (tree : Tree) → IsDurable chang
     → IsGoodPrefix start (write ∷ change ∷ []) (1 ∷ []) tree → tree ≡ change.after
 
 -- One that gives a reply before its change is kept: after the turn the tree before it is none that
--- a crash may leave.
-abbrev pub NoEarlyReply : Type 0
-NoEarlyReply =
-    (old new : Serving) (event : Event) (entry : Entry) → Happens old event new
-    → executed old event ≡ Some entry
-    → is_durable entry ≡ true → before entry ≢ entry.after
-    → (left : Left) → IsAmong new.left left → left.tree ≢ before entry
+-- a crash may leave, or the change waits. While anything waits no reply is given.
+pub record NoEarlyReply : Type 0 where
+  pub kept : (old new : Serving) (event : Event) (entry : Entry) → Happens old event new
+      → executed old event ≡ Some entry → is_durable entry ≡ true → before entry ≢ entry.after
+      → (left : Left) → IsAmong new.left left → left.tree ≡ before entry → new.waits ≡ true
+  pub waits : (old new : Serving) (event : Event) → Happens old event new → old.waits ≡ true
+      → new.waits ≡ true
+  pub given : (old new : Serving) (connection : ℕ) → old.waits ≡ true
+      → Happens old (Takes connection) new ⊎ StaysDown old connection new → ⊥
 
 -- One that takes an answered change away, and may put it back within a later call: whatever was
 -- handed out as the i-th operation is in each tree that may be left at any later moment.
@@ -216,8 +218,8 @@ HangUpIsEvents = (world : World) (number now : ℕ)
     × (hung_up world number now ≡ effect_of (after_turns k world number now) (HangsUp number))
 
 -- What they do not rule out: a server that flushes each change at once. So every list of events is
--- one of a run.
+-- one of a run, but that no reply is taken while something waits.
 abbrev pub EachEventHappens : Type 0
 EachEventHappens =
-    (old : Serving) (event : Event) → old.is_down ≡ false
+    (old : Serving) (event : Event) → old.is_down ≡ false → MayBeTaken old.waits event
     → (new : Serving) × Happens old event new × IsAmong new.left (left_after new.world)

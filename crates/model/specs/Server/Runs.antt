@@ -2,12 +2,12 @@
 -- sections 18.3 (COMMIT), 18.32 (WRITE) and 2.10.6.2 (replies). A machine goes from event to event
 -- and may crash at any moment; a crash leaves the tree that a good prefix of what was executed
 -- gives.
-use Rattle.std.specs.Prelude.{◌≡◌, ◌≢◌, ℕ, ◌+◌, ◌<◌, ◌≤◌, ◌⊎◌, Bool, true, false, not, ◌&&◌, ◌||◌, ◌==◌, List, [], ◌∷◌, ◌++◌, length, take, find, slice_get, option_to_list, Option, None, Some, if◌then◌else◌, bytes_eq}
+use Rattle.std.specs.Prelude.{◌≡◌, ◌≢◌, ℕ, ◌+◌, ◌<◌, ◌≤◌, ◌^◌, ◌⊎◌, Bool, true, false, not, ◌&&◌, ◌||◌, ◌==◌, List, [], ◌∷◌, ◌++◌, length, take, find, slice_get, option_to_list, Option, None, Some, if◌then◌else◌, bytes_eq}
 use Rattle.std.specs.List.{IsAmong}
 use Rattle.model.specs.Operations.Answer.{Outcome}
 use Rattle.model_tree.specs.Trees.Keyed.{at}
 use Rattle.model.specs.Operations.Operation.{Argument}
-use Rattle.model_tree.specs.Seats.Seats.{HeldReply, Seats, has_seat, held_at}
+use Rattle.model_tree.specs.Seats.Seats.{HeldReply, Seats, SeatsApart, run_of, has_seat, held_at}
 use Rattle.model.specs.Sessions.Session.{Slot, SlotState, Free, Running, Kept, Session, Table, is_session, slot_at, held_reply}
 use Rattle.model_tree.specs.Trees.Stamp.{stamp, next_stamp}
 use Rattle.model.specs.Operations.Step.{alters, permitted}
@@ -252,16 +252,20 @@ pub record Left : Type 0 where
 
 -- `left` is what a crash may leave now, as the volume keeps it: what was flushed last, and what
 -- there was after each later change
+-- `waits` is whether something that has to last may wait for the next flush: no reply is given
+-- then
 pub record Serving : Type 0 where
   pub world : World
   pub left : List Left
   pub is_down : Bool
+  pub waits : Bool
 
 abbrev pub mounted : ServerLimits → (run : ℕ) → Tree → Seats → Serving
 mounted limits run start seats = record {
   world = mounted_world limits run start seats;
   left = record { tree = start; seats = seats } ∷ [];
   is_down = false;
+  waits = false;
 }
 
 -- what is down executes nothing
@@ -296,28 +300,58 @@ abbrev pub MayHoldSeats : Serving → Event → Seats → Type 0
 MayHoldSeats serving event seats =
     (tree : Tree) × MayBeLeft serving event (record { tree = tree; seats = seats })
 
+-- while something waits no reply is taken
+abbrev pub TakesNone : Event → Type 0
+TakesNone (Takes connection) = ⊥
+TakesNone event = Unit {0}
+
+abbrev pub MayBeTaken : (waits : Bool) → Event → Type 0
+MayBeTaken false event = Unit {0}
+MayBeTaken true event = TakesNone event
+
 -- an event happens; then, of a durable operation only the tree after it may be left, and only the
--- seats after it: where these change, nothing from before
+-- seats after it: where these change, nothing from before. Where the event defers, a durable
+-- operation need not be kept yet: it waits for the next flush.
 pub record Happens (old : Serving) (event : Event) (new : Serving) : Type 0 where
   pub up : old.is_down ≡ false
   pub world : new.world ≡ effect_of old.world event
   pub still_up : new.is_down ≡ false
   pub no_others : (left : Left) → IsAmong new.left left → MayBeLeft old event left
-  pub durable : (entry : Entry) → executed old event ≡ Some entry → is_durable entry ≡ true
+  pub defers : Bool
+  pub durable : defers ≡ false → (entry : Entry) → executed old event ≡ Some entry
+      → is_durable entry ≡ true
       → (left : Left) → IsAmong new.left left → left.tree ≡ entry.after
+  pub deferred : defers ≡ true → (entry : Entry) → executed old event ≡ Some entry
+      → is_durable entry ≡ true → new.waits ≡ true
+  pub waits_on : old.waits ≡ true → new.waits ≡ true
+  pub at_once : defers ≡ false → new.waits ≡ old.waits
+  pub taken : MayBeTaken old.waits event
   pub seats : (left : Left) → IsAmong new.left left → left.seats ≡ new.world.table.seats
 
+-- A flush of all that waits: of what a crash might leave it leaves only the newest. It is no event,
+-- since a client can tell nothing of it.
+pub record Flushes (old new : Serving) : Type 0 where
+  pub up : old.is_down ≡ false
+  pub world : new.world ≡ old.world
+  pub still_up : new.is_down ≡ false
+  pub none_waits : new.waits ≡ false
+  pub newest : (left : Left) → IsAmong new.left left → left ≡ left_after old.world
+
 -- the device fails in it: the server is down from now on, and no reply tells of the operation under
--- way
+-- way, nor of one that waits
 pub record DeviceFails (old : Serving) (event : Event) (new : Serving) : Type 0 where
   pub up : old.is_down ≡ false
   pub world : new.world ≡ old.world
   pub down : new.is_down ≡ true
+  pub waits : new.waits ≡ old.waits
   pub no_others : (left : Left) → IsAmong new.left left → MayBeLeft old event left
 
--- a server that is down gives the replies that it has, and does nothing else
+-- a server that is down gives the replies that it has, unless something waited when it failed, and
+-- does nothing else
 pub record StaysDown (old : Serving) (connection : ℕ) (new : Serving) : Type 0 where
   pub down : old.is_down ≡ true
+  pub none_waits : old.waits ≡ false
+  pub waits : new.waits ≡ old.waits
   pub world : new.world ≡ takes old.world connection
   pub still_down : new.is_down ≡ true
   pub no_others : (left : Left) → IsAmong new.left left → IsAmong old.left left
@@ -343,6 +377,8 @@ pub data IsRun (start : Serving) : Serving → RunHistory → Type 0 where
   Stays_down : {old new : Serving} {history : RunHistory} (connection : ℕ) → IsRun start old history
       → StaysDown old connection new
       → IsRun start new (history_after history old.world (Takes connection))
+  Flushed : {old new : Serving} {history : RunHistory} → IsRun start old history → Flushes old new
+      → IsRun start new history
 
 -- Good prefixes
 
@@ -388,6 +424,16 @@ EveryRun = (limits : ServerLimits) (run : ℕ) (start : Tree) (seats : Seats) (s
 
 -- What a held reply names is kept
 
+-- seats that a run may begin with: of sessions of earlier runs
+pub record AreSeats (run : ℕ) (seats : Seats) : Type 0 where
+  pub apart : SeatsApart seats
+  pub earlier : (id : List ℕ) → has_seat id seats ≡ true → run_of id < run
+
+-- Every run that a mount begins does so. In another a seat might be of a session that is yet to be
+-- made, and hold its reply before that is stored.
+abbrev pub BeginsSeated : (run : ℕ) → Seats → Type 0
+BeginsSeated run seats = (run < 2 ^ 32) × AreSeats run seats
+
 -- each operation that a reply in these seats names and that has to last is among the first k
 abbrev pub HasAllHeld : List Entry → (replies : List (Stored × List ℕ)) → Seats → ℕ → Type 0
 HasAllHeld done replies seats k =
@@ -406,7 +452,8 @@ abbrev pub EveryHeldIsKept : Type 0
 EveryHeldIsKept =
     (limits : ServerLimits) (run : ℕ) (start : Tree) (seats : Seats) (serving : Serving)
     (history : RunHistory)
-    → IsRun (mounted limits run start seats) serving history → (event : Event) (left : Left)
+    → IsRun (mounted limits run start seats) serving history
+    → (serving.waits ≡ true → BeginsSeated run seats) → (event : Event) (left : Left)
     → MayBeLeft serving event left
     → KeepsHeld start (done_with history (executed serving event)) history.handed_out
     (replies_with history serving.world event serving.is_down) left

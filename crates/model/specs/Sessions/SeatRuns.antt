@@ -9,18 +9,14 @@ use Rattle.model_tree.specs.Trees.Keyed.{at}
 use Rattle.model.specs.Operations.Operation.{Argument, CreateSessionArguments, SequenceArguments}
 use Rattle.model.specs.Wire.Record.{framed}
 use Rattle.model.specs.Wire.Rpc.{Success, reply_text}
+pub use Rattle.model.specs.Server.Runs.{AreSeats}
 use Rattle.model.specs.Server.Runs.{Event, effect_of, executed_of, is_done, Stored, RunHistory, Serving, Left, mounted, executed, done_with, stored_by, stored_of, freed_of, MayHoldSeats, IsRun}
-use Rattle.model_tree.specs.Seats.Seats.{HeldReply, Seat, Seats, SeatsApart, run_of, seat_of, has_seat, held_at}
+use Rattle.model_tree.specs.Seats.Seats.{HeldReply, Seat, Seats, run_of, seat_of, has_seat, held_at}
 use Rattle.model.specs.Server.ServedOnce.{numbers_in}
 use Rattle.model.specs.Sessions.Session.{Client, Table, is_client, gives_way, begin, Refuses, Replays, Runs}
 use Rattle.model.specs.Sessions.SessionRuns.{CountsFrom, OthersBetween}
 use Rattle.model_tree.specs.Trees.Tree.{Tree}
 use Rattle.model.specs.Server.World.{ServerLimits, InProgress, Entry, Connection, Turned, Busy, one, reply_at}
-
--- seats that a run may begin with: of sessions of earlier runs
-pub record AreSeats (run : ℕ) (seats : Seats) : Type 0 where
-  pub apart : SeatsApart seats
-  pub earlier : (id : List ℕ) → has_seat id seats ≡ true → run_of id < run
 
 -- A run that ended in a crash, and the seats that the crash left
 

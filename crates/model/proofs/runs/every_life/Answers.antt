@@ -1,4 +1,4 @@
-use Rattle.model.proofs.Server.Headline.{every_held_is_kept}
+use Rattle.model.proofs.Server.HeldLaws.{every_held_is_kept}
 use Rattle.model.proofs.Sessions.SeatLives.{every_seat_stays, every_run_can_follow, every_number_once, every_reply_stays_held}
 use Rattle.model.proofs.Sessions.SeatRunLaws.{every_reply_is_held, every_dead_session}
 use Rattle.model.proofs.Sessions.SeatReplies.{every_reply_is_stored}
