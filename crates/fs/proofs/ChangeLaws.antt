@@ -1,6 +1,7 @@
 -- What calls do to a file system.
-use Rattle.std.proofs.Common.{◌≡◌, ◌⊎◌, ℕ, Bool, true, false, inl, inr, ⊎_elim, refl, arith}
+use Rattle.std.proofs.Common.{◌≡◌, ◌⊎◌, ℕ, Bool, true, false, not, ◌&&◌, ◌||◌, inl, inr, ⊎_elim, refl, sym, ap, ◌∙◌, subst, arith, true≢false}
 use Rattle.std.specs.Prelude.{Result, Ok, Err, IfErr, IsErrOf}
+use Rattle.disk.specs.Moments.{AddsOnly}
 use Rattle.disk.proofs.MomentLemmas.{AddsOnly-same}
 use Rattle.layout.specs.Stands.{Kept}
 use Rattle.model.specs.declared.not_done.NotDone.{NotDone}
@@ -9,39 +10,259 @@ use Rattle.model.specs.Operations.Operation.{Argument}
 use Rattle.model.specs.Operations.Step.{State}
 use Rattle.fs.specs.declared.fault.FsFault.{FsFault}
 use Rattle.fs.specs.declared.fault.FsFault.TheVariants as fault
-use Rattle.fs.specs.Changes.{FsChanges, fs_ending}
+use Rattle.fs.specs.Changes.{FsChanges, FsFlushes, HasToLast, LetsWait, deferred, fs_ending}
+use Rattle.model_tree.specs.Trees.Tree.{Tree}
+use Rattle.model_tree.specs.Seats.Seats.{Seats}
 use Rattle.fs.specs.FileSystem.{FileSystem}
 use Rattle.fs.specs.Operations.{IsNotDone}
-use Rattle.fs.specs.Refusals.{MindsRoom, fault_of}
-use Rattle.volume.specs.Changes.{Given, Ending, Done, Nothing, Broken, EndsAs}
+use Rattle.fs.specs.Refusals.{MindsRoom, fault_of, volume_fault}
+use Rattle.volume.specs.Changes.{Given, Ending, Done, Nothing, Broken, EndsAs, IsTree, IsSeats, Stays, VolumeChanges, ending_of}
+use Rattle.volume.specs.declared.fault.VolumeFault.{VolumeFault}
+use Rattle.volume.specs.declared.fault.VolumeFault.TheVariants as volumes
+use Rattle.volume.specs.VolumeState.{VolumeState, IsRecent, StandsForOne, MayAdd, with_tree}
 use Rattle.volume.specs.Shown.{ShowsAs}
 
 -- what the definition says may be said otherwise
+
 module _ (keeps_word : Type 0) (given other : Given) (weaker : (after : Kept) (lasts : Bool) → other after lasts → given after lasts)
-    (old new : FileSystem) (before after : ℕ) where
-  ends_by : (ending : Ending) → EndsAs keeps_word given old.volume new.volume before after ending → EndsAs keeps_word other old.volume new.volume before after ending
+    (old new : VolumeState) (before after : ℕ) where
+  ends_by : (ending : Ending) → EndsAs keeps_word given old new before after ending → EndsAs keeps_word other old new before after ending
   ends_by Done ends = record { still_up = ends.still_up; seats = λ keeps kept lasts is. ends.seats keeps kept lasts (weaker kept lasts is); leaves = λ keeps kept lasts is. ends.leaves keeps kept lasts (weaker kept lasts is) }
   ends_by Nothing ends = ends
   ends_by Broken ends = record {
     down = ends.down;
     cause = ends.cause;
     shows = ⊎_elim
-        (λ (same : ShowsAs old.volume.tree new.volume.tree). inl same)
-        (λ (each : (kept : Kept) (lasts : Bool) → given kept lasts → ShowsAs kept.tree new.volume.tree). inr (λ kept lasts is. each kept lasts (weaker kept lasts is)))
+        (λ (same : ShowsAs old.tree new.tree). inl same)
+        (λ (each : (kept : Kept) (lasts : Bool) → given kept lasts → ShowsAs kept.tree new.tree). inr (λ kept lasts is. each kept lasts (weaker kept lasts is)))
         ends.shows;
   }
 
-  pub changes_by : (ending : Ending) → FsChanges keeps_word given old new before after ending → FsChanges keeps_word other old new before after ending
-  changes_by ending changes = record {
-    volume_changes = record {
-      same = changes.volume_changes.same;
-      later = changes.volume_changes.later;
-      none = changes.volume_changes.none;
-      moments = λ keeps kept lasts is. changes.volume_changes.moments keeps kept lasts (weaker kept lasts is);
-      ends = ends_by ending changes.volume_changes.ends;
-    };
-    no_count = changes.no_count;
+  pub volume_by : (ending : Ending) → VolumeChanges keeps_word given old new before after ending → VolumeChanges keeps_word other old new before after ending
+  volume_by ending changes = record {
+    same = changes.same;
+    later = changes.later;
+    none = changes.none;
+    moments = λ keeps kept lasts is. changes.moments keeps kept lasts (weaker kept lasts is);
+    ends = ends_by ending changes.ends;
   }
+
+-- and so where it is deferred
+deferred_by : (held : VolumeState) (defers : Bool) (given other : Given) → ((after : Kept) (lasts : Bool) → other after lasts → given after lasts)
+    → (after : Kept) (lasting : Bool) → deferred held defers other after lasting → deferred held defers given after lasting
+deferred_by held defers given other weaker after lasting is = (is.0, weaker after is.0 is.1, is.2)
+
+pub waits_by : (keeps_word : Type 0) (given other : Given) → (keeps_word → (after : Kept) (lasts : Bool) → other after lasts → given after lasts) → (old new : FileSystem) (ending : Ending)
+    → LetsWait keeps_word given old new ending → LetsWait keeps_word other old new ending
+waits_by keeps_word given other weaker old new ending lets = record {
+  mode = lets.mode;
+  waits_on = lets.waits_on;
+  at_once = lets.at_once;
+  undone = lets.undone;
+  waits = λ keeps done defers after is. lets.waits keeps done defers after (weaker keeps after true is);
+}
+
+pub changes_by : (keeps_word : Type 0) (given other : Given) (weaker : (after : Kept) (lasts : Bool) → other after lasts → given after lasts) (old new : FileSystem) (before after : ℕ) (ending : Ending)
+    → FsChanges keeps_word given old new before after ending → FsChanges keeps_word other old new before after ending
+changes_by keeps_word given other weaker old new before after ending changes = record {
+  volume_changes = volume_by keeps_word (deferred old.volume old.defers given) (deferred old.volume old.defers other)
+      (deferred_by old.volume old.defers given other weaker) old.volume new.volume before after ending
+      changes.volume_changes;
+  no_count = changes.no_count;
+  lets_wait = waits_by keeps_word given other (λ keeps. weaker) old new ending changes.lets_wait;
+}
+
+-- What has to last where the seats stay, and where it is deferred
+
+pub seats_stay : (held : VolumeState) (durable lasting : Bool) (after : Kept) → HasToLast held durable after lasting → after.seats ≡ held.seats → lasting ≡ durable
+seats_stay held durable lasting after last stay = elim last [
+  | inl is ↦ is
+  | inr differ ↦ absurd (differ stay)
+]
+
+and_false : (b : Bool) → (b && false) ≡ false
+and_false true = refl
+and_false false = refl
+
+tree_only : (held : VolumeState) (edited : Tree) (after : Kept) → after ≡ with_tree held edited → after.seats ≡ held.seats
+tree_only held edited after is = ap (λ (k : Kept). k.seats) is
+
+module _ (held : VolumeState) (lasts defers lasting : Bool) (after : Kept) (last : HasToLast held (lasts && not defers) after lasting) (stay : after.seats ≡ held.seats) where
+  pub none_and : lasts ≡ false → lasting ≡ false
+  none_and none = seats_stay held _ lasting after last stay ∙ ap (λ (b : Bool). b && not defers) none
+
+  pub and_none : defers ≡ true → lasting ≡ false
+  and_none at = seats_stay held _ lasting after last stay ∙ (ap (λ (b : Bool). lasts && not b) at ∙ and_false lasts)
+
+-- the same file system, but for its volume and for what was counted
+pub lets_nothing_wait : (keeps_word : Type 0) (given : Given) (old new : FileSystem) (ending : Ending) → new.defers ≡ old.defers → new.waits ≡ old.waits
+    → (old.defers ≡ true → (after : Kept) → given after true → ⊥) → LetsWait keeps_word given old new ending
+lets_nothing_wait keeps_word given old new ending mode same none = record {
+  mode = mode;
+  waits_on = λ waits. same ∙ waits;
+  at_once = λ at. same;
+  undone = λ not_done. same;
+  waits = λ keeps done defers after is. absurd (none defers after is);
+}
+
+never_true : (b : Bool) → b ≡ true → b ≡ false → ⊥
+never_true b one other = true≢false (sym one ∙ other)
+
+-- edits that are kept at once, or may be lost until the next flush
+
+module _ (keeps_word : Type 0) (old new : FileSystem) (before after : ℕ) (ending : Ending) (edited : Tree) (no_count : (ending ≡ Done → ⊥) → new.changes ≡ old.changes)
+    (mode : new.defers ≡ old.defers) where
+  abbrev Loses : Given
+  Loses kept lasts = (kept ≡ with_tree old.volume edited) × (lasts ≡ false)
+
+  -- an unstable one
+  pub unstable : new.waits ≡ old.waits → VolumeChanges keeps_word Loses old.volume new.volume before after ending
+      → FsChanges keeps_word Loses old new before after ending
+  unstable same changes = record {
+    volume_changes = volume_by keeps_word Loses (deferred old.volume old.defers Loses)
+        (λ kept lasting is. (is.1.0, none_and old.volume is.0 old.defers lasting kept is.2 (tree_only old.volume edited kept is.1.0) is.1.1)) old.volume new.volume before after ending changes;
+    no_count = no_count;
+    lets_wait = lets_nothing_wait keeps_word Loses old new ending mode same (λ defers kept is. true≢false is.1);
+  }
+
+  -- one that is kept
+  pub at_once : old.defers ≡ false → new.waits ≡ old.waits → VolumeChanges keeps_word (IsTree old.volume edited) old.volume new.volume before after ending
+      → FsChanges keeps_word (IsTree old.volume edited) old new before after ending
+  at_once keeps same changes = record {
+    volume_changes = volume_by keeps_word (IsTree old.volume edited) (deferred old.volume old.defers (IsTree old.volume edited))
+        (λ kept lasting is. is.1) old.volume new.volume before after ending changes;
+    no_count = no_count;
+    lets_wait = lets_nothing_wait keeps_word (IsTree old.volume edited) old new ending mode same (λ defers kept is. never_true old.defers defers keeps);
+  }
+
+  -- one that waits
+  pub later : old.defers ≡ true → new.waits ≡ true → ending ≡ Done → VolumeChanges keeps_word Loses old.volume new.volume before after ending
+      → FsChanges keeps_word (IsTree old.volume edited) old new before after ending
+  later defers waits done changes = record {
+    volume_changes = volume_by keeps_word Loses (deferred old.volume old.defers (IsTree old.volume edited))
+        (λ kept lasting is. (is.1, and_none old.volume is.0 old.defers lasting kept is.2 (tree_only old.volume edited kept is.1) defers)) old.volume new.volume before after ending changes;
+    no_count = no_count;
+    lets_wait = record {
+      mode = mode;
+      waits_on = λ was. waits;
+      at_once = λ at. absurd (never_true old.defers defers at);
+      undone = λ not_done. absurd (not_done done);
+      waits = λ keeps is_done deferring kept is. waits;
+    };
+  }
+
+  -- one that was refused
+  pub refused_later : old.defers ≡ true → new.waits ≡ old.waits → (ending ≡ Done → ⊥) → VolumeChanges keeps_word Loses old.volume new.volume before after ending
+      → FsChanges keeps_word (IsTree old.volume edited) old new before after ending
+  refused_later defers same not_done changes = record {
+    volume_changes = volume_by keeps_word Loses (deferred old.volume old.defers (IsTree old.volume edited))
+        (λ kept lasting is. (is.1, and_none old.volume is.0 old.defers lasting kept is.2 (tree_only old.volume edited kept is.1) defers)) old.volume new.volume before after ending changes;
+    no_count = no_count;
+    lets_wait = record {
+      mode = mode;
+      waits_on = λ waits. same ∙ waits;
+      at_once = λ at. same;
+      undone = λ undone. same;
+      waits = λ keeps done deferring kept is. absurd (not_done done);
+    };
+  }
+
+-- seats that were put, in either mode
+
+module _ (keeps_word : Type 0) (old new : FileSystem) (before after : ℕ) (seats : Seats) where
+  pub seats_put : (ending : Ending) → ((ending ≡ Done → ⊥) → new.changes ≡ old.changes) → new.defers ≡ old.defers → (ending ≡ Done → new.waits ≡ (old.waits || old.defers))
+      → ((ending ≡ Done → ⊥) → new.waits ≡ old.waits) → (ending ≡ Done ⊎ (ending ≡ Done → ⊥))
+      → VolumeChanges keeps_word (IsSeats old.volume seats) old.volume new.volume before after ending
+      → FsChanges keeps_word (IsSeats old.volume seats) old new before after ending
+  seats_put ending no_count mode waits undone either changes = record {
+    volume_changes = volume_by keeps_word (IsSeats old.volume seats) (deferred old.volume old.defers (IsSeats old.volume seats))
+        (λ kept lasting is. is.1) old.volume new.volume before after ending changes;
+    no_count = no_count;
+    lets_wait = record {
+      mode = mode;
+      waits_on = λ was. ⊎_elim (λ (done : ending ≡ Done). waits done ∙ ap (λ (b : Bool). b || old.defers) was) (λ (not_done : ending ≡ Done → ⊥). undone not_done ∙ was) either;
+      at_once = λ at. ⊎_elim (λ (done : ending ≡ Done). waits done ∙ (ap (λ (b : Bool). old.waits || b) at ∙ or_false old.waits)) (λ (not_done : ending ≡ Done → ⊥). undone not_done) either;
+      undone = undone;
+      waits = λ keeps done defers kept is. waits done ∙ (ap (λ (b : Bool). old.waits || b) defers ∙ or_true old.waits);
+    };
+  }
+    where
+      or_false : (b : Bool) → (b || false) ≡ b
+      or_false true = refl
+      or_false false = refl
+
+      or_true : (b : Bool) → (b || true) ≡ true
+      or_true true = refl
+      or_true false = refl
+
+-- how the volume's fault is told
+
+same_ending : (fault : VolumeFault) → fs_ending {T = Unit {0}} (Err (volume_fault fault)) ≡ ending_of {T = Unit {0}} (Err fault)
+same_ending volumes.NoSpace = refl
+same_ending volumes.Memory = refl
+same_ending volumes.Device = refl
+same_ending volumes.Down = refl
+
+pub not_done : (fault : VolumeFault) → ending_of {T = Unit {0}} (Err fault) ≡ Done → ⊥
+not_done volumes.NoSpace is = cc
+not_done volumes.Memory is = cc
+not_done volumes.Device is = cc
+not_done volumes.Down is = cc
+
+pub told_so : (keeps_word : Type 0) (given : Given) (old new : FileSystem) (before after : ℕ) (fault : VolumeFault)
+    → FsChanges keeps_word given old new before after (ending_of {T = Unit {0}} (Err fault))
+    → FsChanges keeps_word given old new before after (fs_ending {T = Unit {0}} (Err (volume_fault fault)))
+told_so keeps_word given old new before after fault changes =
+    subst (FsChanges keeps_word given old new before after) (sym (same_ending fault)) changes
+
+-- a flush that is refused
+pub flush_refused : (keeps_word : Type 0) (old new : FileSystem) (before after : ℕ) (fault : VolumeFault) → new.changes ≡ old.changes → new.defers ≡ old.defers → new.waits ≡ old.waits
+    → VolumeChanges keeps_word (IsTree old.volume old.volume.tree) old.volume new.volume before after (ending_of {T = Unit {0}} (Err fault))
+    → FsFlushes keeps_word old new before after (Err (volume_fault fault))
+flush_refused keeps_word old new before after fault counts mode waits changes = record {
+  volume_changes = subst (VolumeChanges keeps_word (IsTree old.volume old.volume.tree) old.volume new.volume before after) (sym (same_ending fault)) changes;
+  no_count = counts;
+  mode = mode;
+  waits = waits;
+}
+
+-- a checkpoint
+pub stays : (keeps_word : Type 0) (old new : FileSystem) (before after : ℕ) (ending : Ending) → ((ending ≡ Done → ⊥) → new.changes ≡ old.changes) → new.defers ≡ old.defers → new.waits ≡ old.waits
+    → VolumeChanges keeps_word (Stays old.volume) old.volume new.volume before after ending → FsChanges keeps_word (Stays old.volume) old new before after ending
+stays keeps_word old new before after ending no_count mode same changes = record {
+  volume_changes = volume_by keeps_word (Stays old.volume) (deferred old.volume old.defers (Stays old.volume))
+      (λ kept lasting is. (is.1.0, none_and old.volume is.0 old.defers lasting kept is.2 (ap (λ (k : Kept). k.seats) is.1.0) is.1.1)) old.volume new.volume before after ending changes;
+  no_count = no_count;
+  lets_wait = lets_nothing_wait keeps_word (Stays old.volume) old new ending mode same (λ defers kept is. true≢false is.1);
+}
+
+-- nothing was done yet
+pub waiting : (keeps_word : Type 0) (old new : FileSystem) (failed : ℕ) → new.volume ≡ old.volume → new.changes ≡ old.changes → new.defers ≡ old.defers → old.volume.is_down ≡ false
+    → old.defers ≡ true → new.waits ≡ true → FsChanges keeps_word (IsTree old.volume old.volume.tree) old new failed failed Done
+waiting keeps_word old new failed same counts mode up defers waits = later keeps_word old new failed failed Done old.volume.tree (λ undone. counts) mode defers waits refl (record {
+  same = record {
+    sectors = ap (λ (h : VolumeState). h.sectors) same;
+    limits = ap (λ (h : VolumeState). h.limits) same;
+    run = ap (λ (h : VolumeState). h.run) same;
+  };
+  later = omega arith;
+  none = λ other. refl;
+  moments = λ keeps after lasts is recent ready.
+      subst (λ (h : VolumeState). AddsOnly (StandsForOne old.volume (MayAdd old.volume recent after)) old.volume.history h.history) (sym same) (AddsOnly-same _ old.volume.history);
+  ends = record {
+    still_up = ap (λ (h : VolumeState). h.is_down) same ∙ up;
+    seats = λ keeps kept lasts is. ap (λ (h : VolumeState). h.seats) same ∙ sym (ap (λ (k : Kept). k.seats) is.0);
+    leaves = λ keeps kept lasts is recent ready. (
+      recent,
+      record {
+        ready = subst (λ (h : VolumeState). IsRecent h recent) (sym same) ready;
+        seats = ap (λ (h : VolumeState). h.seats) same ∙ sym (ap (λ (k : Kept). k.seats) is.0);
+        no_others = λ one among. inl among;
+        durable = λ durable one among. absurd (never_true lasts durable is.1);
+      },
+    );
+  };
+})
 
 -- a call that ends before its change leaves all as it was
 module _ (keeps_word : Type 0) (given : Given) (fs : FileSystem) (failed : ℕ) where
@@ -55,7 +276,17 @@ module _ (keeps_word : Type 0) (given : Given) (fs : FileSystem) (failed : ℕ) 
       ends = refl;
     };
     no_count = λ other. refl;
+    lets_wait = record {
+      mode = refl;
+      waits_on = λ waits. waits;
+      at_once = λ at. refl;
+      undone = λ undone. refl;
+      waits = λ keeps done defers after is. absurd (nothing_is_done done);
+    };
   }
+    where
+      nothing_is_done : Nothing ≡ Done → ⊥
+      nothing_is_done is = cc
 
   pub left_by : (refused : NotDone) → FsChanges keeps_word given fs fs failed failed (fs_ending {T = Unit {0}} (Err (fault_of refused)))
   left_by (refusal.Status reason) = left

@@ -27,6 +27,7 @@ pub mod OpenTests
 pub mod PlacedLaws
 pub mod ReadingLaws
 pub mod ReadLaws
+pub mod ReadsOnly
 pub mod RefusedLaws
 pub mod RemovalPlans
 pub mod RemovedLaws

@@ -9,7 +9,12 @@ use Rattle.volume.specs.MountAnswers.{MountServes}
 use Rattle.volume.specs.Views.{volume_state, volume_failures}
 
 unfoldable pub fs_of : {D : _} {g : _} → Fs D g → FileSystem
-fs_of fs = record { volume = volume_state fs.volume; changes = fs.changes }
+fs_of fs = record {
+  volume = volume_state fs.volume;
+  changes = fs.changes;
+  defers = fs.defers;
+  waits = fs.waits;
+}
 
 -- how often its device has failed
 unfoldable pub fs_failures : {D : _} {g : _} → Fs D g → ℕ

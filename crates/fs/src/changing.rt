@@ -1,6 +1,6 @@
 //! Changes of the tree: the edits that they are made of, and keeping them.
 
-ghost use Rattle.std.specs.Prelude.{◌≡◌, ◌⊎◌, ◌+◌, ◌<◌, false, IfOk, IfErr, OnOk, MatchOption, ◌≤◌, ◌^◌};
+ghost use Rattle.std.specs.Prelude.{◌≡◌, ◌⊎◌, ◌+◌, ◌<◌, true, false, IfOk, IfErr, OnOk, MatchOption, ◌≤◌, ◌^◌};
 ghost use Rattle.tree_transaction.specs.Nodes.{shown_of};
 ghost use Rattle.fs.specs.Planned.{shown_by};
 ghost use Rattle.fs.specs.Forms.{edits_by, resizing};
@@ -243,7 +243,7 @@ impl<D: Device> Fs<D> {
         Ok(())
     }
 
-    /// Keeps a change, and counts it.
+    /// Keeps a change, and counts it; or it waits for the next flush.
     pub(crate) fn change_stable(&mut self, edits: &[Edit<'_>]) -> Result<(), FsFault>
         // A change that may be made
         requires up { (fs_of self.old).volume.is_down ≡ false }
@@ -260,8 +260,57 @@ impl<D: Device> Fs<D> {
         ensures only { IfErr result (λ fault.
             (fault ≡ FsFault.Memory) ⊎ (fault ≡ FsFault.Device)) }
     {
+        if self.defers {
+            self.change_later(edits)
+        } else {
+            self.change_at_once(edits)
+        }
+    }
+
+    /// Keeps a change, and counts it.
+    fn change_at_once(&mut self, edits: &[Edit<'_>]) -> Result<(), FsFault>
+        // A change that may be made
+        requires up { (fs_of self.old).volume.is_down ≡ false }
+        requires planned { IsPlanned (fs_of self.old) edits.now }
+        requires at_once { (fs_of self.old).defers ≡ false }
+        // In any case
+        ensures volume { AltersFs self.old self.new
+            (IsTree (fs_of self.old).volume
+            (edited_by (fs_of self.old).volume edits.now)) (fs_ending result) }
+        // Done
+        ensures shows { OnOk result (ShowsTree D.keeps_word
+            (edited_by (fs_of self.old).volume edits.now) (fs_of self.new).volume.tree) }
+        ensures counted { OnOk result ((fs_of self.new).changes ≡ (fs_of self.old).changes + 1) }
+        // Refused
+        ensures only { IfErr result (λ fault.
+            (fault ≡ FsFault.Memory) ⊎ (fault ≡ FsFault.Device)) }
+    {
         self.volume.keep_fitting(edits)?;
         self.changes += 1;
+        Ok(())
+    }
+
+    /// Makes a change that the next flush is to keep, and counts it.
+    fn change_later(&mut self, edits: &[Edit<'_>]) -> Result<(), FsFault>
+        // A change that may be made
+        requires up { (fs_of self.old).volume.is_down ≡ false }
+        requires planned { IsPlanned (fs_of self.old) edits.now }
+        requires defers { (fs_of self.old).defers ≡ true }
+        // In any case
+        ensures volume { AltersFs self.old self.new
+            (IsTree (fs_of self.old).volume
+            (edited_by (fs_of self.old).volume edits.now)) (fs_ending result) }
+        // Done
+        ensures shows { OnOk result (ShowsTree D.keeps_word
+            (edited_by (fs_of self.old).volume edits.now) (fs_of self.new).volume.tree) }
+        ensures counted { OnOk result ((fs_of self.new).changes ≡ (fs_of self.old).changes + 1) }
+        // Refused
+        ensures only { IfErr result (λ fault.
+            (fault ≡ FsFault.Memory) ⊎ (fault ≡ FsFault.Device)) }
+    {
+        self.volume.change_fitting(edits)?;
+        self.changes += 1;
+        self.waits = true;
         Ok(())
     }
 }

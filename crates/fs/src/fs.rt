@@ -1,4 +1,4 @@
-//! The file system: a volume, and how many changes this run had.
+//! The file system: a volume, how many changes this run had, and whether one waits for a flush.
 
 ghost use Rattle.std.specs.Prelude.{◌<◌, ◌^◌};
 ghost use Rattle.fs.specs.Ready.{IsFsReady, IsFsReady-prop};
@@ -18,6 +18,10 @@ pub struct Fs<D: Device> {
     pub(crate) alloc: Global,
     pub(crate) volume: Volume<D>,
     pub(crate) changes: u32,
+    /// Whether what has to last waits for the next flush.
+    pub(crate) defers: bool,
+    /// Whether something does.
+    pub(crate) waits: bool,
     ghost counted: { changes < 2 ^ 32 },
     ghost ready: { IsFsReady (volume_state volume) changes } by { IsFsReady-prop (volume_state volume) changes },
 }
@@ -31,8 +35,8 @@ pub struct Mounted<D: Device> {
 
 #[tactic(auto, unfolding(crate::specs::Views::fs_of, crate::specs::Views::fs_failures))]
 impl<D: Device> Fs<D> {
-    ghost use Rattle.std.specs.Prelude.{◌≡◌, ◌⊎◌, ◌↔◌, true, IfOk, IfErr, OnOk, IsErrOf};
-    ghost use Rattle.fs.specs.Changes.{fs_ending};
+    ghost use Rattle.std.specs.Prelude.{◌≡◌, ◌⊎◌, ◌↔◌, true, false, IfOk, IfErr, OnOk, IsErrOf};
+    ghost use Rattle.fs.specs.Changes.{fs_ending, FsFlushes};
     ghost use Rattle.fs.specs.Views.{fs_of, fs_failures, AltersFs, MountsFs};
     ghost use Rattle.fs.specs.Formatting.{Formats};
     ghost use Rattle.volume.specs.Checks.{Checks};
@@ -66,6 +70,8 @@ impl<D: Device> Fs<D> {
     pub fn mount(alloc: Global, device: D) -> Result<Fs<D>, Unmounted<D>>
         ensures serves { IfOk result (MountsFs device) }
         ensures no_change { IfOk result (λ fs. (fs_of fs).changes ≡ 0) }
+        ensures at_once { IfOk result (λ fs. (fs_of fs).defers ≡ false) }
+        ensures none_waits { IfOk result (λ fs. (fs_of fs).waits ≡ false) }
         ensures gives_back { IfErr result (MountGivesBack D.keeps_word D.size D.failed D.history
             device) }
     {
@@ -85,6 +91,8 @@ impl<D: Device> Fs<D> {
     ) -> Result<Fs<D>, Unmounted<D>>
         ensures serves { IfOk result (MountsFs device) }
         ensures no_change { IfOk result (λ fs. (fs_of fs).changes ≡ 0) }
+        ensures at_once { IfOk result (λ fs. (fs_of fs).defers ≡ false) }
+        ensures none_waits { IfOk result (λ fs. (fs_of fs).waits ≡ false) }
         ensures gives_back { IfErr result (MountGivesBack D.keeps_word D.size D.failed D.history
             device) }
     {
@@ -109,6 +117,8 @@ impl<D: Device> Fs<D> {
         ensures seats { IfOk result (λ mounted. FindsSeats D.keeps_word (fs_of mounted.fs).volume
             (seats_view mounted.seats)) }
         ensures no_change { IfOk result (λ mounted. (fs_of mounted.fs).changes ≡ 0) }
+        ensures at_once { IfOk result (λ mounted. (fs_of mounted.fs).defers ≡ false) }
+        ensures none_waits { IfOk result (λ mounted. (fs_of mounted.fs).waits ≡ false) }
         ensures gives_back { IfErr result (MountGivesBack D.keeps_word D.size D.failed D.history
             device) }
     {
@@ -118,6 +128,8 @@ impl<D: Device> Fs<D> {
                 alloc,
                 volume: mounted.volume,
                 changes: 0,
+                defers: false,
+                waits: false,
             },
             seats: mounted.seats,
         })
@@ -190,6 +202,43 @@ impl<D: Device> Fs<D> {
         self.volume.is_down()
     }
 
+    /// Whether from now on what has to last waits for [`Fs::flush`], and a crash before that may
+    /// take it away. Otherwise, as after a mount, it is on the device before the call returns.
+    pub fn set_deferring(&mut self, later: bool)
+        ensures fs { fs_of self.new ≡ record (fs_of self.old) { defers = later } }
+        ensures failures { fs_failures self.new ≡ fs_failures self.old }
+    {
+        self.defers = later;
+    }
+
+    /// Whether something that has to last waits for [`Fs::flush`].
+    pub fn waits(&self) -> bool
+        ensures { result ≡ (fs_of self.now).waits }
+    {
+        self.waits
+    }
+
+    /// Keeps all changes so far: after `Ok` no crash loses one, and nothing waits. After an error
+    /// what waited still waits.
+    ///
+    /// # Errors
+    ///
+    /// Device where the device failed, and Down from then on.
+    pub fn flush(&mut self) -> Result<(), FsFault>
+        ensures flushes { FsFlushes D.keeps_word (fs_of self.old) (fs_of self.new)
+            (fs_failures self.old) (fs_failures self.new) result }
+        ensures shows { OnOk result (ShowsTree D.keeps_word (fs_of self.old).volume.tree
+            (fs_of self.new).volume.tree) }
+        // Refused
+        ensures down { IsErrOf result FsFault.Down ↔ ((fs_of self.old).volume.is_down ≡ true) }
+        ensures refuses { IfErr result (λ fault.
+            (fault ≡ FsFault.Device) ⊎ (fault ≡ FsFault.Down)) }
+    {
+        self.volume.flush()?;
+        self.waits = false;
+        Ok(())
+    }
+
     /// Makes a checkpoint of the journal: `Volume::checkpoint`. It is no change, and keeps none.
     ///
     /// # Errors
@@ -203,6 +252,7 @@ impl<D: Device> Fs<D> {
         ensures recent { D.keeps_word → OnOk result
             (KeepsRecent (fs_of self.old).volume (fs_of self.new).volume) }
         ensures changes { (fs_of self.new).changes ≡ (fs_of self.old).changes }
+        ensures waits { (fs_of self.new).waits ≡ (fs_of self.old).waits }
         // Refused
         ensures down { IsErrOf result FsFault.Down ↔ ((fs_of self.old).volume.is_down ≡ true) }
         ensures refuses { IfErr result (λ fault.
@@ -213,7 +263,7 @@ impl<D: Device> Fs<D> {
     }
 
     /// Edits the seats of persistent sessions: `Volume::put_seats`. It is no change of the tree,
-    /// and keeps each one so far.
+    /// and keeps each one so far, also of those that wait.
     ///
     /// # Errors
     ///
@@ -234,6 +284,7 @@ impl<D: Device> Fs<D> {
             ⊎ ((fault ≡ FsFault.Device) ⊎ (fault ≡ FsFault.Down))) }
     {
         self.volume.put_seats(edits)?;
+        self.waits |= self.defers;
         Ok(())
     }
 }

@@ -71,7 +71,7 @@ impl<D: Device> Fs<D> {
     ghost use Rattle.volume.specs.Nodes.{IsNodeOf};
 
     /// CREATE of a directory (RFC 8881, section 18.4), by this caller at this moment, in
-    /// nanoseconds since 1970. It is kept on the device before the answer; `has_room` says whether
+    /// nanoseconds since 1970. It is kept or waits ([`Fs::set_deferring`]); `has_room` says whether
     /// the reply has room for that.
     ///
     /// # Errors

@@ -62,7 +62,7 @@ impl<D: Device> Fs<D> {
 
     /// REMOVE of a name in the directory of this number (RFC 8881, section 18.25), by this caller
     /// at this moment, in nanoseconds since 1970: the name is gone, and the node that it led to. It
-    /// is kept on the device before the answer; `has_room` says whether the reply has room for it.
+    /// is kept or waits ([`Fs::set_deferring`]); `has_room` says whether the reply has room for it.
     ///
     /// # Errors
     ///

@@ -154,7 +154,7 @@ impl<D: Device> Fs<D> {
 
     /// RENAME of what a name in one directory leads to (RFC 8881, section 18.26), by this caller at
     /// this moment, in nanoseconds since 1970: it has the new name, in the other directory or the
-    /// same. What stood under that name is gone. It is kept on the device before the answer;
+    /// same. What stood under that name is gone. It is kept or waits ([`Fs::set_deferring`]);
     /// `has_room` says whether the reply has room for that.
     ///
     /// A name that is given to itself is no change, and uses up no stamp.

@@ -15,7 +15,7 @@ pub struct Writing<'a> {
     /// Where the first of them is to stand.
     pub offset: u64,
     pub bytes: &'a [u8],
-    /// Whether they are to be on the device before the answer (not `UNSTABLE4`).
+    /// Whether they are to last (not `UNSTABLE4`).
     pub is_stable: bool,
 }
 
@@ -39,9 +39,9 @@ impl<D: Device> Fs<D> {
 
     /// WRITE (RFC 8881, section 18.32) to the file of this number, by this caller at this moment,
     /// in nanoseconds since 1970: the first bytes, as many as one WRITE takes; answers how many.
-    /// What is to be stable is kept on the device before the answer, anything else may be lost
-    /// until the next flush. No bytes are no change. `verdict` is that on the stateid, for an open
-    /// with write access; `has_room` says whether the reply has room.
+    /// What is to be stable is kept or waits ([`Fs::set_deferring`]); a crash may lose anything
+    /// else until the next flush. No bytes are no change. `verdict` is that on the stateid, for an
+    /// open with write access; `has_room` says whether the reply has room.
     ///
     /// # Errors
     ///
@@ -161,7 +161,7 @@ impl<D: Device> Fs<D> {
         Some(place)
     }
 
-    /// Makes a change, and counts it; one that is to be stable is kept.
+    /// Makes a change, and counts it; one that is to be stable is kept or waits.
     fn apply_plan(&mut self, edits: &[Edit<'_>], is_stable: bool) -> Result<(), FsFault>
         // A change that may be made
         requires up { (fs_of self.old).volume.is_down ≡ false }
@@ -185,8 +185,8 @@ impl<D: Device> Fs<D> {
     }
 
     /// COMMIT (RFC 8881, section 18.3) of the file of this number, by this caller: keeps all
-    /// changes so far, of every file. Whichever part it asks for. `has_room` says whether the reply
-    /// has room.
+    /// changes so far, of every file, or lets them wait for [`Fs::flush`]. Whichever part it asks
+    /// for. `has_room` says whether the reply has room.
     ///
     /// # Errors
     ///
@@ -206,6 +206,10 @@ impl<D: Device> Fs<D> {
         self.file(number)?;
         if !has_room {
             return Err(FsFault::NoRoom);
+        }
+        if self.defers {
+            self.waits = true;
+            return Ok(());
         }
         self.volume.flush()?;
         Ok(())

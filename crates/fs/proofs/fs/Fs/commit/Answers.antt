@@ -1,9 +1,10 @@
-use Rattle.std.proofs.Common.{ap, refl}
+use Rattle.std.proofs.Common.{ap, refl, sym, ◌∙◌}
 use Rattle.std.specs.Prelude.{Err}
-use Rattle.fs.specs.Views.{fs_of}
+use Rattle.fs.specs.Views.{fs_of, fs_failures}
 use Rattle.fs.specs.Refusals.{volume_fault}
 use Rattle.fs.specs.declared.fault.FsFault.TheVariants as fault
-use Rattle.fs.proofs.ChangeLaws.{full_room, done_room}
+use Rattle.fs.proofs.ChangeLaws.{full_room, done_room, at_once, told_so, waiting}
+use Rattle.volume.specs.Changes.{Done, IsTree}
 use Rattle.fs.proofs.ReadLaws.{commit_early, commit_goes_on, committed, commit_fails}
 use Rattle.volume.proofs.ServeLaws.{told_err}
 use Rattle.fs.proofs.fs.Fs.commit.Goals as goal
@@ -35,3 +36,30 @@ returns-then-not-has_room-clause-room g c = full_room _ _ c.is_down.result c.is_
 
 pub returns-clause-room : goal.returns-clause-room
 returns-clause-room g c = done_room _ _ c.is_down.result c.is_down.ensures c.if-is_down.false _ c.if-not-has_room.false
+
+pub returns-in_err-flush-clause-volume : goal.returns-in_err-flush-clause-volume
+unfolding fs_of fs_failures
+returns-in_err-flush-clause-volume g c =
+    let fs = fs_of c.args.self.now in
+    let fault = c.in_err-flush.field-0.0 in
+    rw (told_err c.from_residual-in_err-flush.result (volume_fault fault) c.from_residual-in_err-flush.ensures.1)
+    (told_so g.D.Device.keeps_word (IsTree fs.volume fs.volume.tree) _ _ _ _ fault
+    (at_once g.D.Device.keeps_word _ _ _ _ _ fs.volume.tree (λ undone. refl) refl c.if-self.false refl c.in_err-flush.ensures.volume))
+
+pub returns-clause-volume : goal.returns-clause-volume
+unfolding fs_of fs_failures
+returns-clause-volume g c =
+    at_once g.D.Device.keeps_word _ _ _ _ Done (fs_of c.args.self.now).volume.tree (λ undone. refl) refl c.if-self.false refl c.in_ok-flush.ensures.volume
+
+pub returns-then-self-clause-volume : goal.returns-then-self-clause-volume
+unfolding fs_of fs_failures
+returns-then-self-clause-volume g c =
+    waiting g.D.Device.keeps_word _ _ _ refl refl refl (sym c.is_down.ensures ∙ c.if-is_down.false) c.if-self.true refl
+
+pub returns-then-self-clause-step : goal.returns-then-self-clause-step
+unfolding fs_of fs_failures
+returns-then-self-clause-step g c state now arguments on keeps =
+    committed (fs_of c.args.self.now) c.args.cred.now c.args.number state now on arguments c.in_ok-file.ensures.tests _ _ refl refl
+
+pub returns-then-self-clause-room : goal.returns-then-self-clause-room
+returns-then-self-clause-room g c = done_room _ _ c.is_down.result c.is_down.ensures c.if-is_down.false _ c.if-not-has_room.false

@@ -1,4 +1,4 @@
-use Rattle.std.proofs.Common.{ap}
+use Rattle.std.proofs.Common.{ap, refl}
 use Rattle.std.specs.Prelude.{Err}
 use Rattle.fs.specs.Views.{fs_of, fs_failures}
 use Rattle.fs.specs.Reading.{part_at, read_operation}
@@ -7,6 +7,7 @@ use Rattle.fs.specs.declared.fault.FsFault.TheVariants as fault
 use Rattle.fs.proofs.ReadLaws.{read_early, read_goes, read_goes_on, read_fails}
 use Rattle.volume.proofs.ServeLaws.{told_err}
 use Rattle.fs.proofs.ChangeLaws.{left}
+use Rattle.fs.proofs.ReadsOnly.{reading_fails}
 use Rattle.fs.proofs.fs.Fs.read.Goals as goal
 
 pub returns-in_err-part-clause-volume : goal.returns-in_err-part-clause-volume
@@ -42,3 +43,11 @@ returns-in_ok-bytes-clause-step g c state now stateid on is =
 pub returns-else-part-gt0-clause-step : goal.returns-else-part-gt0-clause-step
 returns-else-part-gt0-clause-step g c state now stateid on is =
     read_goes (fs_of c.args.self.now) c.args.cred.now c.args.number state now on c.args.verdict stateid is c.args.offset c.args.count c.in_ok-part.ensures.tests c.in_ok-part.part.is_end c.in_ok-part.ensures.is_end
+
+pub returns-in_err-bytes-clause-volume : goal.returns-in_err-bytes-clause-volume
+unfolding fs_of fs_failures
+returns-in_err-bytes-clause-volume g c =
+    let fs = fs_of c.args.self.now in
+    let fault = c.in_err-bytes.field-0.0 in
+    rw (told_err c.from_residual-in_err-bytes.result (volume_fault fault) c.from_residual-in_err-bytes.ensures.1)
+    (reading_fails g.D.Device.keeps_word fs _ _ _ fs.volume.tree fault refl refl refl c.in_err-bytes.ensures.volume)
