@@ -1,5 +1,6 @@
 -- What the operations of a COMPOUND do to the file system below it, by the definition.
-use Rattle.std.specs.Prelude.{ℕ, Bool, false, List, Option, Some, None, Result, Ok, Err, ◌≡◌, ◌≢◌, ◌⊎◌}
+use Rattle.std.specs.Prelude.{ℕ, Bool, false, List, Option, Some, None, Result, Ok, Err, ◌≡◌}
+use Rattle.fs.specs.Changes.{HasToLast}
 use Rattle.fs.specs.FileSystem.{FileSystem}
 use Rattle.layout.specs.Stands.{Kept}
 use Rattle.model.specs.Operations.Operation.{Argument}
@@ -46,11 +47,6 @@ entry_by world request operation (turns.Replays reply session slot) = None
 -- what a volume is to keep of a world
 abbrev pub kept_of_world : World → Kept
 kept_of_world world = record { tree = world.tree; seats = world.table.seats }
-
--- whether what is kept has to last: where the seats change all of it, and else where `durable` says
--- so
-abbrev pub HasToLast : VolumeState → (durable : Bool) → Given
-HasToLast held durable after lasting = (lasting ≡ durable) ⊎ (after.seats ≢ held.seats)
 
 -- In some world that has this, whatever follows the operation, it leaves this tree, with the seats
 -- as they were, and has to last or not: of an operation on the tree.
