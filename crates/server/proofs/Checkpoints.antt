@@ -1,36 +1,36 @@
 -- A checkpoint between two calls: the machine is as it was, and a crash leaves what it might have left.
-use Rattle.std.proofs.Common.{◌≡◌, ◌⊎◌, ℕ, List, [], ◌∷◌, Result, Ok, Err, refl, sym, ap, ◌∙◌, subst, inl, inr, true, false, true≢false, ⊎_elim}
+use Rattle.std.proofs.Common.{◌≡◌, ◌⊎◌, ℕ, Bool, List, [], ◌∷◌, Result, Ok, Err, refl, sym, ap, ap₂, ◌∙◌, subst, inl, inr, true, false, true≢false, ⊎_elim}
 use Rattle.std.specs.List.{IsAmong}
 use Rattle.disk.specs.Moments.{History, AddsOnly}
 use Rattle.disk.proofs.MomentLemmas.{AddsOnly-weaken}
 use Rattle.compound.specs.States.{Agrees, shared}
-use Rattle.fs.specs.Changes.{FsChanges, fs_ending}
+use Rattle.fs.specs.Changes.{FsChanges, FsFlushes, fs_ending}
 use Rattle.fs.specs.FileSystem.{FileSystem}
 use Rattle.fs.specs.declared.fault.FsFault.{FsFault}
 use Rattle.fs.specs.declared.fault.FsFault.TheVariants as faults
 use Rattle.volume.proofs.FrontLaws.{among_more}
 use Rattle.layout.specs.Stands.{Kept}
-use Rattle.volume.specs.Changes.{Stays}
+use Rattle.volume.specs.Changes.{Stays, LeavesTrees}
 use Rattle.volume.specs.VolumeState.{VolumeState, IsSameVolume, IsRecent, KeepsRecent, AddsTrees, StandsForOne, IsLeft, MayAdd, kept_of}
 use Rattle.model_tree.specs.Trees.Keyed.{Keyed}
 use Rattle.model.specs.Sessions.Opens.{Opens}
-use Rattle.model.specs.Server.Runs.{Serving, Event, Left}
+use Rattle.model.specs.Server.Runs.{Serving, Event, Left, left_after}
 use Rattle.model_tree.specs.Seats.Seats.{Seats}
 use Rattle.model.specs.Sessions.Session.{Table}
 use Rattle.model_tree.specs.Trees.Tree.{Tree}
 use Rattle.model.specs.Server.World.{World, Connection}
-use Rattle.server.specs.Seen.{MayKeepDuring, left_of, Checkpoints, Breaks}
+use Rattle.server.specs.Seen.{Seen, MayKeepDuring, left_of, Checkpoints, Breaks, FlushesAll}
 use Rattle.server.specs.Views.{world_by, beside, serving_by}
-use Rattle.server.proofs.Pairs.{beside_left, ready_beside}
+use Rattle.server.proofs.Pairs.{among_beside, beside_left, ready_beside}
 use Rattle.server.proofs.Moves.{broken_leaves, leaves_now}
 use Rattle.server.proofs.ServedTurns.{broken}
 use Rattle.server.proofs.Turning.{agrees_on}
 
 -- whichever event it is taken for
-keeping_moments : (world : World) (held : VolumeState) (recent : List Tree) (new : History) → IsRecent held recent → AddsTrees held (kept_of held) new → (event : Event)
-    → AddsOnly (StandsForOne held (MayKeepDuring (serving_by world (beside held.seats recent) held.is_down) event)) held.history new
-keeping_moments world held recent new is adds event = AddsOnly-weaken
-    (StandsForOne held (MayAdd held recent (kept_of held))) (StandsForOne held (MayKeepDuring (serving_by world (beside held.seats recent) held.is_down) event)) held.history new
+keeping_moments : (world : World) (waits : Bool) (held : VolumeState) (recent : List Tree) (new : History) → IsRecent held recent → AddsTrees held (kept_of held) new → (event : Event)
+    → AddsOnly (StandsForOne held (MayKeepDuring (serving_by world (beside held.seats recent) held.is_down waits) event)) held.history new
+keeping_moments world waits held recent new is adds event = AddsOnly-weaken
+    (StandsForOne held (MayAdd held recent (kept_of held))) (StandsForOne held (MayKeepDuring (serving_by world (beside held.seats recent) held.is_down waits) event)) held.history new
     (λ image found. (
       found.0,
       inl (⊎_elim
@@ -47,7 +47,7 @@ keeping_moments world held recent new is adds event = AddsOnly-weaken
 pub agrees_still : {T : Type 0} (keeps_word : Type 0) (old new : FileSystem) (before after : ℕ) (table : Table) (result : Result T FsFault)
     → FsChanges keeps_word (Stays old.volume) old new before after (fs_ending result) → keeps_word → Agrees old table → new.volume.is_down ≡ false → Agrees new table
 agrees_still keeps_word old new before after table (Ok done) changes keeps agrees up =
-    agrees_on old new table changes.volume_changes.same.run (changes.volume_changes.ends.seats keeps (kept_of old.volume) false (refl, refl)) agrees
+    agrees_on old new table changes.volume_changes.same.run (changes.volume_changes.ends.seats keeps (kept_of old.volume) false (false, (refl, refl), inl refl)) agrees
 agrees_still keeps_word old new before after table (Err faults.Device) changes keeps agrees up =
     absurd (true≢false (sym changes.volume_changes.ends.down ∙ up))
 agrees_still keeps_word old new before after table (Err fault) changes keeps agrees up = agrees_on old new table changes.volume_changes.same.run (ap (λ (h : VolumeState). h.seats) changes.volume_changes.ends) agrees
@@ -61,8 +61,10 @@ module _ (old new : FileSystem) (table : Table) (opens : Opens) (connections : K
   pub kept_world : new.volume.tree ≡ old.volume.tree → world_by (shared new table opens) connections ≡ world_by (shared old table opens) connections
   kept_world trees = keeps_world new.volume.tree ∙ ap (λ (tree : Tree). record (world_by (shared old table opens) connections) { tree = tree }) trees
 
+module _ (old new : FileSystem) (table : Table) (opens : Opens) (connections : Keyed Connection)
+    (same : IsSameVolume old.volume new.volume) (changes : new.changes ≡ old.changes) (waits_same : new.waits ≡ old.waits) where
   abbrev serving_of : FileSystem → List Tree → Serving
-  serving_of files recent = serving_by (world_by (shared files table opens) connections) (beside files.volume.seats recent) files.volume.is_down
+  serving_of files recent = serving_by (world_by (shared files table opens) connections) (beside files.volume.seats recent) files.volume.is_down files.waits
 
   abbrev Keeps : (recent left : List Tree) → Type 0
   Keeps recent left =
@@ -73,11 +75,11 @@ module _ (old new : FileSystem) (table : Table) (opens : Opens) (connections : K
       → AddsTrees old.volume (kept_of old.volume) new.volume.history → (recent : List Tree) → IsRecent old.volume recent → Keeps recent recent
   checkpointed trees seats up still_up keeps adds recent ready = record {
     serving =
-        ap (λ (world : World). serving_by world (beside new.volume.seats recent) new.volume.is_down) (kept_world trees)
-        ∙ (ap (λ (kept : Seats). serving_by (world_by (shared old table opens) connections) (beside kept recent) new.volume.is_down) seats
-        ∙ ap (serving_by (world_by (shared old table opens) connections) (beside old.volume.seats recent)) (still_up ∙ sym up));
+        ap (λ (world : World). serving_by world (beside new.volume.seats recent) new.volume.is_down new.waits) (kept_world old new table opens connections same changes trees)
+        ∙ (ap (λ (kept : Seats). serving_by (world_by (shared old table opens) connections) (beside kept recent) new.volume.is_down new.waits) seats
+        ∙ ap₂ (serving_by (world_by (shared old table opens) connections) (beside old.volume.seats recent)) (still_up ∙ sym up) waits_same);
     moves = λ event. record {
-      moments = keeping_moments (world_by (shared old table opens) connections) old.volume recent new.volume.history ready adds event;
+      moments = keeping_moments (world_by (shared old table opens) connections) old.waits old.volume recent new.volume.history ready adds event;
       leaves = leaves_now new.volume recent (keeps recent ready).leaves;
       same = same;
     };
@@ -88,7 +90,7 @@ module _ (old new : FileSystem) (table : Table) (opens : Opens) (connections : K
   pub checkpoint_fails : old.volume.is_down ≡ false → new.volume.is_down ≡ true → AddsTrees old.volume (kept_of old.volume) new.volume.history
       → (event : Event) (recent : List Tree) → IsRecent old.volume recent → (left : List Left)
       × Breaks (record { serving = serving_of old recent; volume = old.volume }) event (record {
-        serving = serving_by (record (world_by (shared new table opens) connections) { tree = old.volume.tree }) left new.volume.is_down;
+        serving = serving_by (record (world_by (shared new table opens) connections) { tree = old.volume.tree }) left new.volume.is_down new.waits;
         volume = new.volume;
       })
   checkpoint_fails up down adds event recent ready = (
@@ -96,8 +98,9 @@ module _ (old new : FileSystem) (table : Table) (opens : Opens) (connections : K
     record {
       fails = record {
         up = up;
-        world = keeps_world old.volume.tree;
+        world = keeps_world old new table opens connections same changes old.volume.tree;
         down = down;
+        waits = waits_same;
         no_others = λ one among. inl (⊎_elim
             (λ (first : one ≡ left_of (kept_of old.volume)).
             subst (IsAmong (beside old.volume.seats recent)) (sym first) (beside_left old.volume.seats recent (left_of (kept_of old.volume)) ready.newest refl))
@@ -105,12 +108,57 @@ module _ (old new : FileSystem) (table : Table) (opens : Opens) (connections : K
             (among_more (left_of (kept_of old.volume)) (beside old.volume.seats recent) one among));
       };
       moves = record {
-        moments = keeping_moments (world_by (shared old table opens) connections) old.volume recent new.volume.history ready adds event;
+        moments = keeping_moments (world_by (shared old table opens) connections) old.waits old.volume recent new.volume.history ready adds event;
         leaves = broken_leaves old.volume new.volume (kept_of old.volume) recent ready adds same;
         same = same;
       };
     },
   )
+
+-- A flush of what waits
+
+pub agrees_flushed : (keeps_word : Type 0) (old new : FileSystem) (before after : ℕ) (table : Table) (result : Result (Unit {0}) FsFault)
+    → FsFlushes keeps_word old new before after result → keeps_word → Agrees old table → new.volume.is_down ≡ false → Agrees new table
+agrees_flushed keeps_word old new before after table (Ok done) flushes keeps agrees up =
+    agrees_on old new table flushes.volume_changes.same.run (flushes.volume_changes.ends.seats keeps (kept_of old.volume) true refl) agrees
+agrees_flushed keeps_word old new before after table (Err faults.Device) flushes keeps agrees up =
+    absurd (true≢false (sym flushes.volume_changes.ends.down ∙ up))
+agrees_flushed keeps_word old new before after table (Err fault) flushes keeps agrees up =
+    agrees_on old new table flushes.volume_changes.same.run (ap (λ (h : VolumeState). h.seats) flushes.volume_changes.ends) agrees
+
+module _ (old new : FileSystem) (table : Table) (opens : Opens) (connections : Keyed Connection)
+    (same : IsSameVolume old.volume new.volume) (changes : new.changes ≡ old.changes) where
+  abbrev seen_of : FileSystem → List Tree → Seen
+  seen_of files recent = record {
+    serving = serving_by (world_by (shared files table opens) connections) (beside files.volume.seats recent) files.volume.is_down files.waits;
+    volume = files.volume;
+  }
+
+  -- where it is done
+  pub flushed_all : new.volume.tree ≡ old.volume.tree → new.volume.seats ≡ old.volume.seats → table.seats ≡ old.volume.seats → old.volume.is_down ≡ false → new.volume.is_down ≡ false → new.waits ≡ false
+      → AddsTrees old.volume (kept_of old.volume) new.volume.history → LeavesTrees old.volume new.volume (kept_of old.volume) true
+      → (recent : List Tree) → IsRecent old.volume recent → (after : List Tree) × FlushesAll (seen_of old recent) (seen_of new after)
+  flushed_all trees seats seated up still_up none_waits adds leaves recent ready =
+      let left = leaves recent ready in (
+        left.0,
+        record {
+          flushes = record {
+            up = up;
+            world = kept_world old new table opens connections same changes trees;
+            still_up = still_up;
+            none_waits = none_waits;
+            newest = λ one among.
+                let is = among_beside new.volume.seats left.0 one among in
+                ap₂ (λ (t : Tree) (s : Seats). let l : Left = record { tree = t; seats = s } in l) (left.1.durable refl one.tree is.0) (is.1 ∙ (seats ∙ sym seated));
+          };
+          moves = λ event. record {
+            moments = keeping_moments (world_by (shared old table opens) connections) old.waits old.volume recent new.volume.history ready adds event;
+            leaves = leaves_now new.volume left.0 left.1.ready.leaves;
+            same = same;
+          };
+          ready = ready_beside new.volume new.volume.seats left.0 left.1.ready;
+        },
+      )
 
 -- a volume that was up is refused for the device
 pub only_device : (fault : FsFault) → (fault ≡ faults.Device) ⊎ (fault ≡ faults.Down) → (fault ≡ faults.Down → ⊥) → fault ≡ faults.Device

@@ -1,5 +1,5 @@
 -- The turns of a hang-up.
-use Rattle.std.proofs.Common.{◌≡◌, ◌<◌, ◌+◌, ◌-◌, ℕ, true, suc, Option, Some, None, sym, subst, arith}
+use Rattle.std.proofs.Common.{◌≡◌, ◌<◌, ◌+◌, ◌-◌, ℕ, true, false, suc, Option, Some, None, sym, subst, arith}
 use Rattle.slab.specs.Slab.{Slab}
 use Rattle.model_tree.specs.Trees.Keyed.{at}
 use Rattle.model_tree.specs.declared.status.Status.{Status}
@@ -13,13 +13,20 @@ use Rattle.server.specs.declared.stage.Stage.TheVariants as stage
 use Rattle.server.specs.Connections.{connection_view, connections_of, HasGoneOn}
 use Rattle.server.specs.Stages.{stage_view, held_record, is_ready}
 use Rattle.server.proofs.Resumptions.{some_more}
-use Rattle.server.specs.Seen.{Seen, Said, Does, IsTurned, Stays, Goes_on}
+use Rattle.server.specs.Seen.{Seen, Said, Does, IsTurned, AreAtOnce, Stays, Goes_on}
 use Rattle.server.proofs.SlabLaws.{stands_some}
 
 pub turned_on : (connection now : ℕ) (old between new : Seen) (said : Said) → IsTurned connection now old between
     → is_busy (at connection between.serving.world.connections) ≡ true → Does between (Turns connection now) said new → IsTurned connection now old new
 turned_on connection now old between new said Stays busy does = Goes_on busy does Stays
 turned_on connection now old between new said (Goes_on was first more) busy does = Goes_on was first (turned_on connection now _ between new said more busy does)
+
+pub once_on : (connection now : ℕ) (old between new : Seen) (said : Said) (turned : IsTurned connection now old between)
+    (busy : is_busy (at connection between.serving.world.connections) ≡ true) (does : Does between (Turns connection now) said new)
+    → AreAtOnce connection now old between turned → does.happens.defers ≡ false → AreAtOnce connection now old new (turned_on connection now old between new said turned busy does)
+unfolding turned_on
+once_on connection now old between new said Stays busy does all once = (once, tt)
+once_on connection now old between new said (Goes_on {between = next} was first more) busy does all once = (all.0, once_on connection now next between new said more busy does all.1 once)
 
 -- How many turns are left: one for each operation that is, and one for the reply
 

@@ -1,4 +1,5 @@
 pub mod Checkpoints
+pub mod Deferring
 pub mod HangUps
 pub mod LifeStops
 pub mod Moves

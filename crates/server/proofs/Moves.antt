@@ -18,7 +18,7 @@ use Rattle.fs.specs.FileSystem.{FileSystem}
 use Rattle.layout.specs.Stands.{Kept}
 use Rattle.volume.specs.VolumeState.{VolumeState, IsSameVolume, StandsForOne, LeavesOne, IsRecent, Holds, IsLeft, MayAdd, AddsTrees, kept_of}
 use Rattle.volume.specs.Stands.{StandsFor}
-use Rattle.model.specs.Server.Runs.{Serving, Event, executed_of, effect_of}
+use Rattle.model.specs.Server.Runs.{Serving, Event, MayBeTaken, executed_of, effect_of}
 use Rattle.model.specs.Sessions.Opens.{Opens, no_opens}
 use Rattle.model.specs.Sessions.SeatRuns.{AreSeats}
 use Rattle.model_tree.specs.Seats.Seats.{Seats}
@@ -98,17 +98,20 @@ broken_leaves held after_held after recent is adds same image left = ⊎_elim
     )
 
 -- a call that does an event without the device
-pub does_quietly : (held : VolumeState) (old new : World) (down : Bool) (event : Event) (said : Said) → executed_of old event ≡ None → down ≡ false → new ≡ effect_of old event
-    → new.table.seats ≡ held.seats → said ≡ event_told old event → (recent : List Tree) → IsRecent held recent → (after : List Tree)
-    × Does (record { serving = serving_by old (beside held.seats recent) down; volume = held }) event said (record { serving = serving_by new (beside held.seats after) down; volume = held })
-does_quietly held old new down event said none up is seated says recent ready = (
+pub does_quietly : (held : VolumeState) (old new : World) (down waits : Bool) (event : Event) (said : Said) → executed_of old event ≡ None → down ≡ false → new ≡ effect_of old event
+    → new.table.seats ≡ held.seats → said ≡ event_told old event → MayBeTaken waits event → (recent : List Tree) → IsRecent held recent → (after : List Tree)
+    × (does : Does (record { serving = serving_by old (beside held.seats recent) down waits; volume = held }) event said (record { serving = serving_by new (beside held.seats after) down waits; volume = held }))
+    × (does.happens.defers ≡ false)
+unfolding happened_quietly
+does_quietly held old new down waits event said none up is seated says taken recent ready = (
   recent,
   record {
-    happens = happened_quietly old new recent held.seats down down event none up up is seated;
+    happens = happened_quietly old new recent held.seats down down waits event none up up is seated taken;
     says = says;
     moves = moves_none _ _ event held (leaves_now held recent ready.leaves);
     ready = ready_beside held held.seats recent ready;
   },
+  refl,
 )
 
 -- the run is the restart count that the mount wrote
@@ -135,13 +138,13 @@ module _ (fs : FileSystem) (table : Table) (opens : Opens) (connections : Keyed 
   world_mounted = begun_with ∙ ap begun (sym (ap (λ (t : Table). t.seats) tables))
 
   -- and the server
-  pub mounted_by : {keeps_word : Type 0} → keeps_word → FindsSeats keeps_word fs.volume seats → fs.volume.run < 2 ^ 32 → fs.volume.is_down ≡ false → Holds fs.volume
+  pub mounted_by : {keeps_word : Type 0} → keeps_word → fs.waits ≡ false → FindsSeats keeps_word fs.volume seats → fs.volume.run < 2 ^ 32 → fs.volume.is_down ≡ false → Holds fs.volume
       → ∥ IsStart fs.volume.limits fs.volume.run fs.volume.tree ∥₁ → fs.volume.limits.aces_set + 5 ≤ fs.volume.limits.aces
-      → IsMounted settings fs.volume.run (kept_of fs.volume) (record { serving = serving_by (world_by (shared fs table opens) connections) (beside fs.volume.seats (fs.volume.tree ∷ [])) fs.volume.is_down; volume = fs.volume })
-  mounted_by keeps finds few up holds starts room = record {
+      → IsMounted settings fs.volume.run (kept_of fs.volume) (record { serving = serving_by (world_by (shared fs table opens) connections) (beside fs.volume.seats (fs.volume.tree ∷ [])) fs.volume.is_down fs.waits; volume = fs.volume })
+  mounted_by keeps none_waits finds few up holds starts room = record {
     serves =
-        ap (λ (w : World). serving_by w (beside fs.volume.seats (fs.volume.tree ∷ [])) fs.volume.is_down) (begun_with ∙ ap begun (finds.are keeps))
-        ∙ ap (λ (b : Bool). serving_by (begun fs.volume.seats) (beside fs.volume.seats (fs.volume.tree ∷ [])) b) up;
+        ap (λ (w : World). serving_by w (beside fs.volume.seats (fs.volume.tree ∷ [])) fs.volume.is_down fs.waits) (begun_with ∙ ap begun (finds.are keeps))
+        ∙ ap₂ (serving_by (begun fs.volume.seats) (beside fs.volume.seats (fs.volume.tree ∷ []))) up none_waits;
     counted = refl;
     few = few;
     begins = refl;
@@ -169,9 +172,9 @@ found_start sectors old held found limits = ∥∥₁_elim found.stood ∥∥₁
 pub limits_room : (sectors : ℕ) (held : VolumeState) → held.limits ≡ limits_of sectors held.limits.nodes → held.limits.aces_set + 5 ≤ held.limits.aces
 limits_room sectors held limits = subst (λ (l : Limits). l.aces_set + 5 ≤ l.aces) (sym limits) (omega arith)
 
-pub same_seen : (old new : World) (recent : List Tree) (old_held new_held : VolumeState) → new ≡ old → new_held ≡ old_held
-    → (let one : Seen = record { serving = serving_by old (beside old_held.seats recent) old_held.is_down; volume = old_held } in one)
-    ≡ record { serving = serving_by new (beside new_held.seats recent) new_held.is_down; volume = new_held }
-same_seen old new recent old_held new_held worlds volumes =
-    ap (λ (w : World). let one : Seen = record { serving = serving_by w (beside old_held.seats recent) old_held.is_down; volume = old_held } in one) (sym worlds)
-    ∙ ap (λ (h : VolumeState). let one : Seen = record { serving = serving_by new (beside h.seats recent) h.is_down; volume = h } in one) (sym volumes)
+pub same_seen : (old new : World) (recent : List Tree) (old_held new_held : VolumeState) (old_waits new_waits : Bool) → new ≡ old → new_held ≡ old_held → new_waits ≡ old_waits
+    → (let one : Seen = record { serving = serving_by old (beside old_held.seats recent) old_held.is_down old_waits; volume = old_held } in one)
+    ≡ record { serving = serving_by new (beside new_held.seats recent) new_held.is_down new_waits; volume = new_held }
+same_seen old new recent old_held new_held old_waits new_waits worlds volumes waits =
+    ap (λ (w : World). let one : Seen = record { serving = serving_by w (beside old_held.seats recent) old_held.is_down old_waits; volume = old_held } in one) (sym worlds)
+    ∙ ap₂ (λ (h : VolumeState) (b : Bool). let one : Seen = record { serving = serving_by new (beside h.seats recent) h.is_down b; volume = h } in one) (sym volumes) (sym waits)

@@ -2,7 +2,7 @@
 use Rattle.std.proofs.Common.{◌≡◌, ◌≢◌, ◌<◌, ◌⊎◌, inl, inr, ℕ, zero, suc, Bool, true, List, [], ◌∷◌, length, get_or, Option, None, Some, refl, sym, ap, ap₂, ◌∙◌, subst, arith}
 use Rattle.std.specs.List.{IsAmong}
 use Rattle.std.proofs.lemmas.Bool.{cases_eq}
-use Rattle.compound.specs.Volumes.{HasToLast}
+use Rattle.fs.specs.Changes.{HasToLast}
 use Rattle.layout.specs.Stands.{Kept}
 use Rattle.model.specs.Server.Runs.{Left}
 use Rattle.model_tree.specs.Seats.Seats.{HeldReply, Seat, Seats}

@@ -1,5 +1,5 @@
 -- A turn of a connection, as the turn of its server.
-use Rattle.std.proofs.Common.{◌≡◌, ℕ, List, [], ◌∷◌, subst, false, true≢false, Option, Some, Result, Ok, Err, IfOk, OnErr, refl, sym, ap, ap₂, ◌∙◌, inl, inr, Bool}
+use Rattle.std.proofs.Common.{◌≡◌, ℕ, true, not, ◌&&◌, List, subst, false, true≢false, Option, Some, Result, Ok, Err, IfOk, OnErr, refl, sym, ap, ap₂, ◌∙◌, ◌⊎◌, ◌≢◌, inl, inr, Bool}
 use Rattle.disk.specs.Moments.{History, AddsOnly}
 use Rattle.disk.proofs.MomentLemmas.{AddsOnly-weaken}
 use Rattle.compound.specs.States.{Agrees, SharedState, HasState, with_state}
@@ -8,10 +8,10 @@ use Rattle.compound.specs.declared.fault.Fault.{Fault}
 use Rattle.compound.specs.declared.fault.Fault.TheVariants as faults
 use Rattle.compound.specs.declared.step.StepError.{StepError}
 use Rattle.compound.specs.declared.step.Stepped.{Stepped}
-use Rattle.fs.specs.Changes.{FsChanges}
+use Rattle.fs.specs.Changes.{FsChanges, LetsWait, HasToLast, deferred}
 use Rattle.fs.specs.FileSystem.{FileSystem}
 use Rattle.layout.specs.Stands.{Kept}
-use Rattle.volume.specs.Changes.{Given}
+use Rattle.volume.specs.Changes.{Given, Done}
 use Rattle.volume.specs.VolumeState.{VolumeState, IsSameVolume, AddsTrees, StandsForOne, IsRecent}
 use Rattle.volume.specs.VolumeState.{MayAdd}
 use Rattle.model_tree.specs.declared.limits.Limits.{Limits}
@@ -29,7 +29,7 @@ use Rattle.server.specs.Seen.{MayKeepDuring, left_of}
 use Rattle.server.specs.Views.{world_by, server_limits, beside, serving_by}
 use Rattle.server.proofs.Persisting.{one_settings}
 use Rattle.server.proofs.Turning.{one_is, agrees_on}
-use Rattle.server.proofs.Pairs.{beside_left, same_seats, lasting_by, has_to_last}
+use Rattle.server.proofs.Pairs.{beside_left, same_seats, lasting_by, lasting_more, has_to_last}
 use Rattle.server.proofs.Worlds.{may_be_left_from}
 
 pub has_state : (state : SharedState) (connections : Keyed world.Connection) → HasState (world_by state connections) state
@@ -88,12 +88,17 @@ gone_on_at old new number before after there written further =
 abbrev pub turn_of : SharedState → Keyed world.Connection → (number now : ℕ) → world.Turned
 turn_of state connections number now = one (world_by state connections) number now
 
--- whether that has to last
+-- whether that has to last, and whether it has to now
 abbrev pub turn_lasts : SharedState → Keyed world.Connection → (number now : ℕ) → Bool
 turn_lasts state connections number now =
     lasting_by (same_seats (turn_of state connections number now).world.table.seats state.files.volume.seats) (lasts (turn_of state connections number now).executed)
 
-pub gives_one : (state : SharedState) (connections : Keyed world.Connection) (number now : ℕ) (before : world.Connection) → at number connections ≡ Some before
+abbrev pub turn_lasts_now : SharedState → Keyed world.Connection → (number now : ℕ) → Bool
+turn_lasts_now state connections number now =
+    lasting_by (same_seats (turn_of state connections number now).world.table.seats state.files.volume.seats)
+    (lasts (turn_of state connections number now).executed && not state.files.defers)
+
+gives_one : (state : SharedState) (connections : Keyed world.Connection) (number now : ℕ) (before : world.Connection) → at number connections ≡ Some before
     → TurnGives state (λ w n. world.turned w n now (Some before)) (kept_of_world (turn_of state connections number now).world) (turn_lasts state connections number now)
 gives_one state connections number now before is =
     let same = one_is (world_by state connections) number now before is in
@@ -108,10 +113,37 @@ gives_one state connections number now before is =
           (ap (λ (t : world.Turned). lasts t.executed) same);
     }
 
+-- the same by whether the file system defers
+lasts_now : (held : VolumeState) (after : Kept) (same : (after.seats ≡ held.seats) ⊎ (after.seats ≢ held.seats)) (durable defers : Bool)
+    → HasToLast held (lasting_by same durable && not defers) after (lasting_by same (durable && not defers))
+unfolding lasting_by
+lasts_now held after (inl same) durable defers = inl refl
+lasts_now held after (inr differs) durable defers = inr differs
+
+pub gives_deferred : (state : SharedState) (connections : Keyed world.Connection) (number now : ℕ) (before : world.Connection) → at number connections ≡ Some before
+    → deferred state.files.volume state.files.defers (TurnGives state (λ w n. world.turned w n now (Some before))) (kept_of_world (turn_of state connections number now).world)
+    (turn_lasts_now state connections number now)
+gives_deferred state connections number now before is = (
+  turn_lasts state connections number now,
+  gives_one state connections number now before is,
+  lasts_now state.files.volume (kept_of_world (turn_of state connections number now).world)
+      (same_seats (turn_of state connections number now).world.table.seats state.files.volume.seats) (lasts (turn_of state connections number now).executed) state.files.defers,
+)
+
+-- and what lets something wait
+pub gives_waiting : (state : SharedState) (connections : Keyed world.Connection) (number now : ℕ) (before : world.Connection) → at number connections ≡ Some before
+    → (keeps_word : Type 0) (new : FileSystem) → LetsWait keeps_word (TurnGives state (λ w n. world.turned w n now (Some before))) state.files new Done → keeps_word
+    → state.files.defers ≡ true → lasts (turn_of state connections number now).executed ≡ true → new.waits ≡ true
+gives_waiting state connections number now before is keeps_word new lets keeps defers lasting =
+    lets.waits keeps refl defers (kept_of_world (turn_of state connections number now).world)
+    (subst (λ (b : Bool). TurnGives state (λ w n. world.turned w n now (Some before)) (kept_of_world (turn_of state connections number now).world) b)
+    (lasting_more (same_seats (turn_of state connections number now).world.table.seats state.files.volume.seats) (lasts (turn_of state connections number now).executed) lasting)
+    (gives_one state connections number now before is))
+
 -- what a crash within it may leave
 
 abbrev pub serving_of : SharedState → Keyed world.Connection → List Tree → Serving
-serving_of state connections recent = serving_by (world_by state connections) (beside state.files.volume.seats recent) state.files.volume.is_down
+serving_of state connections recent = serving_by (world_by state connections) (beside state.files.volume.seats recent) state.files.volume.is_down state.files.waits
 
 pub turning_moments : (state : SharedState) (old : Keyed world.Connection) (number now : ℕ) (recent : List Tree) (new : History) → IsRecent state.files.volume recent → state.files.volume.is_down ≡ false
     → AddsTrees state.files.volume (kept_of_world (turn_of state old number now).world) new
@@ -125,7 +157,7 @@ turning_moments state old number now recent new is up moments =
     either kept (inl stays) = inl (beside_left state.files.volume.seats recent (left_of kept) stays.0 stays.1)
     either kept (inr goes) =
         subst (MayKeepDuring (serving_of state old recent) (runs.Turns number now)) (sym goes)
-        (may_be_left_from (world_by state old) (beside state.files.volume.seats recent) state.files.volume.is_down (runs.Turns number now) up)
+        (may_be_left_from (world_by state old) (beside state.files.volume.seats recent) state.files.volume.is_down state.files.waits (runs.Turns number now) up)
 
 -- The table agrees with the volume after a step too, unless that is down
 

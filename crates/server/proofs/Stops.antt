@@ -12,7 +12,8 @@ use Rattle.volume.specs.Stands.{StandsFor, IsBase}
 use Rattle.volume.specs.Superblock.{last_run}
 use Rattle.volume.proofs.FormatLaws.{fresh_stands_for}
 use Rattle.volume.proofs.OneTree.{Kept-set, one_stands}
-use Rattle.model.proofs.Server.Headline.{only_one, every_held_is_kept}
+use Rattle.model.proofs.Server.Headline.{only_one}
+use Rattle.model.proofs.Server.HeldLaws.{every_held_is_kept}
 use Rattle.model.proofs.Operations.GivenLaws.{every_stamp_is_given}
 use Rattle.model.proofs.Server.StampLaws.{every_stamp}
 use Rattle.model.specs.Server.StampRuns.{AreGiven}
@@ -26,7 +27,7 @@ use Rattle.volume.specs.Formats.{IsFresh}
 use Rattle.volume.specs.Remounts.{StandsForGood, LeavesGood}
 use Rattle.server.specs.Headline.{IsMounted, IsGoodKept, EveryStop, EveryRun, EveryFirst, IsNewVolume, Formatted, Powers, NeverLost, IsNotLost, EveryTrace, Stopped, executed_in, Follows, IsLater, Next, Then, EveryLife, EveryStamping}
 use Rattle.volume.specs.VolumeState.{StandsForOne}
-use Rattle.server.specs.Seen.{Seen, left_of, trees_of, LeavesNow, MayKeepDuring, Moves, ServerCall, IsServed, Begins, Goes_on, Fails_at, Stays_down, Keeps_on, world_after, history_of, AreTold, event_told}
+use Rattle.server.specs.Seen.{Seen, left_of, trees_of, LeavesNow, MayKeepDuring, Moves, ServerCall, IsServed, Begins, Goes_on, Fails_at, Stays_down, Keeps_on, Flushed, world_after, history_of, AreTold, event_told}
 use Rattle.server.specs.Views.{server_limits}
 use Rattle.server.proofs.Moves.{left_now}
 use Rattle.model.specs.Sessions.Session.{Settings}
@@ -99,6 +100,15 @@ joined first last calls leaves (Keeps_on {old = old} {new = new} before keeps) =
       leaves = moves.leaves;
       same = same_on first.volume old.volume new.volume was.same moves.same;
     }
+joined first last calls leaves (Flushed {old = old} {new = new} before flushes) =
+    let was = joined first old calls leaves before in
+    let moves = flushes.moves (Takes 0) in
+    record {
+      world = flushes.flushes.world ∙ was.world;
+      run = runs.Flushed was.run flushes.flushes;
+      leaves = moves.leaves;
+      same = same_on first.volume old.volume new.volume was.same moves.same;
+    }
 
 -- a server that was just mounted leaves what it begins with
 pub mounted_leaves : (settings : Settings) (run : ℕ) (start : Kept) (first : Seen) → IsMounted settings run start first → LeavesNow first
@@ -122,7 +132,7 @@ every_stop stopped image left =
     let all = joined first old stopped.calls (mounted_leaves stopped.settings stopped.run stopped.start first stopped.mounted) stopped.served in
     let found = stopped_in old stopped.new stopped.event all.leaves stopped.moves image left in
     let kept = every_held_is_kept (server_limits first.volume.limits stopped.settings) stopped.run stopped.start.tree stopped.start.seats old.serving history
-    (subst (λ (s : Serving). IsRun s old.serving history) stopped.mounted.serves all.run) stopped.event (left_of found.0) found.1 in
+    (subst (λ (s : Serving). IsRun s old.serving history) stopped.mounted.serves all.run) (λ _. (stopped.mounted.few, stopped.mounted.seats)) stopped.event (left_of found.0) found.1 in
     let stands : StandsFor first.volume.sectors first.volume.limits.nodes stopped.run found.0 image =
     subst (λ (s : ℕ). StandsFor s first.volume.limits.nodes stopped.run found.0 image) all.same.sectors
     (subst (λ (n : ℕ). StandsFor old.volume.sectors n stopped.run found.0 image) (ap (λ l. l.nodes) all.same.limits)
@@ -273,6 +283,9 @@ traced first last calls (Stays_down {calls = earlier} {old = old} {new = new} co
 traced first last calls (Keeps_on {old = old} {new = new} before keeps) =
     let was = traced first old calls before in
     (ap (λ (s : Serving). s.world) keeps.serving ∙ was.0, was.1)
+traced first last calls (Flushed {old = old} {new = new} before flushes) =
+    let was = traced first old calls before in
+    (flushes.flushes.world ∙ was.0, was.1)
 
 pub every_trace : EveryTrace
 every_trace first last calls served = traced first last calls served

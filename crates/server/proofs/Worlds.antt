@@ -1,12 +1,12 @@
--- Events of a server that keeps each change at once.
-use Rattle.std.proofs.Common.{◌≡◌, ◌+◌, ◌<◌, ◌≤◌, ℕ, Bool, true, false, List, [], ◌∷◌, ◌++◌, length, None, Some, Result, Ok, Err, IfOk, OnOk, OnErr, refl, sym, ap, ◌∙◌, subst, inl, inr, cond, arith, lt-ltb, ◌≢◌, ◌⊎◌, ap₂}
+-- Events of a server that keeps each change at once, or lets it wait for the next flush.
+use Rattle.std.proofs.Common.{◌≡◌, ◌+◌, ◌<◌, ◌≤◌, ℕ, Bool, true, false, not, ◌&&◌, List, [], ◌∷◌, ◌++◌, length, None, Some, Result, Ok, Err, IfOk, OnOk, OnErr, refl, sym, ap, ◌∙◌, subst, inl, inr, cond, arith, lt-ltb, ◌≢◌, ◌⊎◌, ap₂}
 use Rattle.std.specs.List.{IsAmong}
-use Rattle.std.proofs.lemmas.Bool.{cases_eq}
+use Rattle.std.proofs.lemmas.Bool.{cases_eq, false≢true}
 use Rattle.layout.specs.Stands.{Kept}
 use Rattle.model_tree.specs.Trees.Keyed.{Keyed, at, with, without}
 use Rattle.model.specs.Wire.Record.{RecordLimits, Front, Partial, Refused, Whole, front}
 use Rattle.model.specs.Wire.Rpc.{is_call_read, read_call}
-use Rattle.model.specs.Server.Runs.{Event, Happens, DeviceFails, StaysDown, effect_of, executed_of, executed_by, Left, left_after, MayBeLeft, IsAfterEvent, Serving}
+use Rattle.model.specs.Server.Runs.{Event, Happens, TakesNone, MayBeTaken, DeviceFails, StaysDown, effect_of, executed_of, executed_by, Left, left_after, MayBeLeft, IsAfterEvent, Serving}
 use Rattle.model_tree.specs.Seats.Seats.{Seats}
 use Rattle.model_tree.specs.Trees.Tree.{Tree}
 use Rattle.model.specs.Server.World as world
@@ -29,86 +29,117 @@ use Rattle.server.proofs.Pairs.{among_beside, beside_left, same_seats, lasting_b
 
 -- Events
 
+-- whatever waits, an event that takes no reply may happen
+pub may_be : (waits : Bool) (event : Event) → TakesNone event → MayBeTaken waits event
+may_be false event none = tt
+may_be true event none = none
+
+pub may_take : (waits : Bool) (event : Event) → waits ≡ false → MayBeTaken waits event
+may_take false event none = tt
+may_take true event none = absurd (false≢true (sym none))
+
 -- an event that executes nothing leaves what might be left
-pub happened_quietly : (old new : World) (recent : List Tree) (kept : Seats) (old_down new_down : Bool) (event : Event) → executed_of old event ≡ None → old_down ≡ false → new_down ≡ false → new ≡ effect_of old event
-    → new.table.seats ≡ kept → Happens (serving_by old (beside kept recent) old_down) event (serving_by new (beside kept recent) new_down)
-happened_quietly old new recent kept old_down new_down event none up still is seated = record {
+unfoldable pub happened_quietly : (old new : World) (recent : List Tree) (kept : Seats) (old_down new_down waits : Bool) (event : Event) → executed_of old event ≡ None → old_down ≡ false → new_down ≡ false
+    → new ≡ effect_of old event → new.table.seats ≡ kept → MayBeTaken waits event
+    → Happens (serving_by old (beside kept recent) old_down waits) event (serving_by new (beside kept recent) new_down waits)
+happened_quietly old new recent kept old_down new_down waits event none up still is seated taken = record {
   up = up;
   world = is;
   still_up = still;
   no_others = λ left among. inl among;
-  durable = λ entry e lasts left among.
+  defers = false;
+  deferred = λ defers. absurd (false≢true defers);
+  waits_on = λ was. was;
+  at_once = λ _. refl;
+  taken = taken;
+  durable = λ at_once entry e lasts left among.
       let done : executed_of old event ≡ Some entry = subst (λ (b : Bool). executed_by old event b ≡ Some entry) up e in
       let never : ⊥ = cc in absurd never;
   seats = λ left among. (among_beside kept recent left among).1 ∙ sym seated;
 }
 
 -- what there is after it may be left
-pub may_be_left_from : (old : World) (left : List Left) (down : Bool) (event : Event) → down ≡ false → MayBeLeft (serving_by old left down) event (left_after (effect_of old event))
-may_be_left_from old left down event up = inr (subst (λ (b : Bool). IsAfterEvent old event b (left_after (effect_of old event))) (sym up) refl)
+pub may_be_left_from : (old : World) (left : List Left) (down waits : Bool) (event : Event) → down ≡ false → MayBeLeft (serving_by old left down waits) event (left_after (effect_of old event))
+may_be_left_from old left down waits event up = inr (subst (λ (b : Bool). IsAfterEvent old event b (left_after (effect_of old event))) (sym up) refl)
 
 -- An event that leaves a crash some of the trees before and the one after it, and after what has to last that one alone: where the seats change, that is so
-module _ (before held : VolumeState) (old : World) (recent left : List Tree) (down : Bool) (event : Event) (up : down ≡ false)
+module _ (before held : VolumeState) (old : World) (recent left : List Tree) (down waits : Bool) (event : Event) (up : down ≡ false)
     (seats : held.seats ≡ (effect_of old event).table.seats) where
   abbrev after : Kept
   after = kept_of_world (effect_of old event)
 
   abbrev serves : Serving
-  serves = serving_by old (beside before.seats recent) down
+  serves = serving_by old (beside before.seats recent) down waits
 
   after_it : (one : Left) → one.tree ≡ after.tree → one.seats ≡ held.seats → MayBeLeft serves event one
   after_it one tree same =
       let is : one ≡ left_after (effect_of old event) = ap₂ (λ (t : Tree) (s : Seats). let l : Left = record { tree = t; seats = s } in l) tree (same ∙ seats) in
-      subst (MayBeLeft serves event) (sym is) (may_be_left_from old (beside before.seats recent) down event up)
+      subst (MayBeLeft serves event) (sym is) (may_be_left_from old (beside before.seats recent) down waits event up)
 
-  others_left : (same : (after.seats ≡ before.seats) ⊎ (after.seats ≢ before.seats)) → LeavesOnCrash held after (lasting_by same (lasts (executed_of old event))) recent left
+  pub others_left : (same : (after.seats ≡ before.seats) ⊎ (after.seats ≢ before.seats)) → (lasting : Bool) → LeavesOnCrash held after (lasting_by same lasting) recent left
       → (one : Left) → IsAmong (beside held.seats left) one → MayBeLeft serves event one
   unfolding lasting_by
-  others_left (inl same) leaves one among =
+  others_left (inl same) lasting leaves one among =
       let is = among_beside held.seats left one among in
       elim (leaves.no_others one.tree is.0) [
         | inl stays ↦ inl (beside_left before.seats recent one stays (is.1 ∙ (seats ∙ same)))
         | inr behind ↦ after_it one behind is.1
       ]
-  others_left (inr differs) leaves one among =
+  others_left (inr differs) lasting leaves one among =
       let is = among_beside held.seats left one among in
       after_it one (leaves.durable refl one.tree is.0) is.1
 
-pub happened_leaving : (before held : VolumeState) (old new : World) (recent left : List Tree) (old_down new_down : Bool) (event : Event) → old_down ≡ false → new_down ≡ false
+-- what has to last is kept at once where the call does not defer
+pub kept_at_once : (lasting defers : Bool) → lasting ≡ true → defers ≡ false → (lasting && not defers) ≡ true
+kept_at_once true false one other = refl
+kept_at_once true true one other = absurd (false≢true (sym other))
+kept_at_once false defers one other = absurd (false≢true one)
+
+unfoldable pub happened_leaving : (before held : VolumeState) (old new : World) (recent left : List Tree) (old_down new_down old_waits new_waits its_defers : Bool) (event : Event) → old_down ≡ false → new_down ≡ false
     → new ≡ effect_of old event → new.table.seats ≡ held.seats
-    → LeavesOnCrash held (kept_of_world (effect_of old event)) (lasting_by (same_seats (effect_of old event).table.seats before.seats) (lasts (executed_of old event))) recent left
-    → Happens (serving_by old (beside before.seats recent) old_down) event (serving_by new (beside held.seats left) new_down)
-happened_leaving before held old new recent left old_down new_down event up still is seated leaves = record {
+    → LeavesOnCrash held (kept_of_world (effect_of old event)) (lasting_by (same_seats (effect_of old event).table.seats before.seats) (lasts (executed_of old event) && not its_defers)) recent left
+    → MayBeTaken old_waits event → (old_waits ≡ true → new_waits ≡ true) → (its_defers ≡ false → new_waits ≡ old_waits)
+    → (its_defers ≡ true → lasts (executed_of old event) ≡ true → new_waits ≡ true)
+    → Happens (serving_by old (beside before.seats recent) old_down old_waits) event (serving_by new (beside held.seats left) new_down new_waits)
+happened_leaving before held old new recent left old_down new_down old_waits new_waits its_defers event up still is seated leaves taken waits_on at_once owes = record {
   up = up;
   world = is;
   still_up = still;
-  no_others = others_left before held old recent left old_down event up leaves.seats same leaves;
-  durable = λ entry e durable one among.
+  no_others = others_left before held old recent left old_down old_waits event up leaves.seats same (lasts (executed_of old event) && not its_defers) leaves;
+  defers = its_defers;
+  deferred = λ defers entry e durable. owes defers (ap lasts (subst (λ (b : Bool). executed_by old event b ≡ Some entry) up e) ∙ durable);
+  waits_on = waits_on;
+  at_once = at_once;
+  taken = taken;
+  durable = λ once entry e durable one among.
       let done : executed_of old event ≡ Some entry = subst (λ (b : Bool). executed_by old event b ≡ Some entry) up e in
       let fits : EntryFits old.tree (effect_of old event).tree (Some entry) = subst (EntryFits old.tree (effect_of old event).tree) done (event_fits old event) in
-      leaves.durable (lasting_more same (lasts (executed_of old event)) (ap lasts done ∙ durable)) one.tree (among_beside held.seats left one among).0 ∙ fits.1;
+      leaves.durable (lasting_more same (lasts (executed_of old event) && not its_defers) (kept_at_once (lasts (executed_of old event)) its_defers (ap lasts done ∙ durable) once)) one.tree (among_beside held.seats left one among).0 ∙ fits.1;
   seats = λ one among. (among_beside held.seats left one among).1 ∙ sym seated;
 }
   where
     same : ((effect_of old event).table.seats ≡ before.seats) ⊎ ((effect_of old event).table.seats ≢ before.seats)
     same = same_seats (effect_of old event).table.seats before.seats
 
-pub failed_from : (old new : World) (left : List Left) (old_down new_down : Bool) (event : Event) → old_down ≡ false → new_down ≡ true → new ≡ old
-    → DeviceFails (serving_by old left old_down) event (serving_by new (left_after (effect_of old event) ∷ left) new_down)
-failed_from old new left old_down new_down event up down is = record {
+pub failed_from : (old new : World) (left : List Left) (old_down new_down old_waits new_waits : Bool) (event : Event) → old_down ≡ false → new_down ≡ true → new ≡ old → new_waits ≡ old_waits
+    → DeviceFails (serving_by old left old_down old_waits) event (serving_by new (left_after (effect_of old event) ∷ left) new_down new_waits)
+failed_from old new left old_down new_down old_waits new_waits event up down is waits = record {
   up = up;
   world = is;
   down = down;
+  waits = waits;
   no_others = λ one among. elim (among_more (left_after (effect_of old event)) left one among) [
-    | inl first ↦ subst (MayBeLeft (serving_by old left old_down) event) (sym first) (may_be_left_from old left old_down event up)
+    | inl first ↦ subst (MayBeLeft (serving_by old left old_down old_waits) event) (sym first) (may_be_left_from old left old_down old_waits event up)
     | inr rest ↦ inl rest
   ];
 }
 
-pub stays_down : (old new : World) (old_down new_down : Bool) (left : List Left) (connection : ℕ) → old_down ≡ true → new_down ≡ true → new ≡ takes old connection
-    → StaysDown (serving_by old left old_down) connection (serving_by new left new_down)
-stays_down old new old_down new_down left connection was down is = record {
+pub stays_down : (old new : World) (old_down new_down waits : Bool) (left : List Left) (connection : ℕ) → old_down ≡ true → new_down ≡ true → waits ≡ false → new ≡ takes old connection
+    → StaysDown (serving_by old left old_down waits) connection (serving_by new left new_down waits)
+stays_down old new old_down new_down waits left connection was down none is = record {
   down = was;
+  none_waits = none;
+  waits = refl;
   world = is;
   still_down = down;
   no_others = λ one among. among;

@@ -1,5 +1,5 @@
 -- What a call of the server that is refused leaves.
-use Rattle.std.specs.Prelude.{ℕ, true, false, Option, Some, None, ◌≡◌, ◌⊎◌}
+use Rattle.std.specs.Prelude.{ℕ, Bool, true, false, Option, Some, None, ◌≡◌, ◌⊎◌}
 use Rattle.disk.specs.Cause.{IsCounted}
 use Rattle.disk.specs.declared.device.Device.{Ghosts}
 use Rattle.model_tree.specs.Trees.Keyed.{at}
@@ -9,25 +9,29 @@ use Rattle.server.specs.Connections.{HasGoneOn}
 use Rattle.server.specs.declared.fault.ServerFault.{ServerFault}
 use Rattle.server.specs.declared.fault.ServerFault.TheVariants as faults
 use Rattle.server.specs.declared.server.Server.{Server}
-use Rattle.server.specs.Views.{world_of, volume_of, server_failures}
+use Rattle.server.specs.Views.{world_of, volume_of, waits_of, server_failures}
 
 -- what a caller can tell of a server between two calls
 pub record View : Type 0 where
   pub world : World
   pub volume : VolumeState
   pub failures : ℕ
+  -- whether something that has to last waits for the next flush
+  pub waits : Bool
 
 abbrev pub view : {D : Type 0} {g : Ghosts D} → Server D g → View
 view server = record {
   world = world_of server;
   volume = volume_of server;
   failures = server_failures server;
+  waits = waits_of server;
 }
 
 -- all is as it was, and the device has not failed
 abbrev pub IsUntouched : (old new : View) → Type 0
 IsUntouched old new =
     (new.world ≡ old.world) × (new.volume ≡ old.volume) × (new.failures ≡ old.failures)
+    × (new.waits ≡ old.waits)
 
 abbrev pub connection_at : View → (number : ℕ) → Option Connection
 connection_at server number = at number server.world.connections

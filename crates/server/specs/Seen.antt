@@ -1,13 +1,13 @@
 -- A server as its caller sees it from call to call: the machine of the headline, and the volume
 -- below it.
-use Rattle.std.specs.Prelude.{ℕ, true, List, [], ◌∷◌, Option, Some, None, ◌≡◌, map}
+use Rattle.std.specs.Prelude.{ℕ, true, false, List, [], ◌∷◌, Option, Some, None, ◌≡◌, map}
 use Rattle.std.specs.List.{IsAmong}
 use Rattle.disk.specs.Moments.{Image, AddsOnly, Left}
 use Rattle.layout.specs.Stands.{Kept}
 use Rattle.volume.specs.VolumeState.{VolumeState, IsSameVolume, StandsForOne, IsRecent}
 use Rattle.model_tree.specs.Trees.Keyed.{at}
 use Rattle.model_tree.specs.Trees.Tree.{Tree}
-use Rattle.model.specs.Server.Runs.{Serving, Event, Arrives, Turns, HangsUp, Connects, Takes, Happens, DeviceFails, StaysDown, RunHistory, no_history, history_after, history_failing, effect_of, MayBeLeft}
+use Rattle.model.specs.Server.Runs.{Serving, Event, Arrives, Turns, HangsUp, Connects, Takes, Happens, Flushes, DeviceFails, StaysDown, RunHistory, no_history, history_after, history_failing, effect_of, MayBeLeft}
 use Rattle.model.specs.Server.Runs as runs
 use Rattle.model.specs.Server.World as world
 use Rattle.model.specs.Server.World.{World, Turn, one, taken_at, reply_at, is_busy}
@@ -97,6 +97,14 @@ pub record Checkpoints (old new : Seen) : Type 0 where
   -- so the next call can be made
   pub ready : IsRecent new.volume (trees_of new.serving.left)
 
+-- Nor is a flush of what waits one. A crash within it leaves what it might have left before, and a
+-- crash after it only the newest.
+pub record FlushesAll (old new : Seen) : Type 0 where
+  pub flushes : Flushes old.serving new.serving
+  pub moves : (event : Event) → Moves old event new
+  -- so the next call can be made
+  pub ready : IsRecent new.volume (trees_of new.serving.left)
+
 -- what was done, the newest first
 pub data ServerCall : Type 0 where
   Did : Event → Said → ServerCall
@@ -115,6 +123,8 @@ pub data IsServed (first : Seen) : List ServerCall → Seen → Type 0 where
       → IsServed first (Did (Takes connection) said ∷ calls) new
   Keeps_on : {calls : List ServerCall} {old new : Seen} → IsServed first calls old
       → Checkpoints old new → IsServed first calls new
+  Flushed : {calls : List ServerCall} {old new : Seen} → IsServed first calls old
+      → FlushesAll old new → IsServed first calls new
 
 -- By the definition
 
@@ -143,3 +153,10 @@ pub data IsTurned (connection now : ℕ) : Seen → Seen → Type 0 where
       → is_busy (at connection old.serving.world.connections) ≡ true
       → Does old (Turns connection now) said between
       → IsTurned connection now between new → IsTurned connection now old new
+
+-- none of them defers
+abbrev pub AreAtOnce : (connection now : ℕ) (old new : Seen) → IsTurned connection now old new
+    → Type 0
+AreAtOnce connection now old new Stays = Unit {0}
+AreAtOnce connection now old new (Goes_on {between = between} busy does more) =
+    (does.happens.defers ≡ false) × AreAtOnce connection now between new more

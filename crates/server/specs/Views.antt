@@ -1,5 +1,5 @@
 -- What contracts see of a server: its world, and what stands on its device.
-use Rattle.std.specs.Prelude.{ℕ, Bool, List, [], ◌∷◌, Option, ◌≡◌, map}
+use Rattle.std.specs.Prelude.{ℕ, Bool, true, false, List, Option, Result, OnErr, ◌≡◌, map}
 use Rattle.std.specs.Global.{Vec}
 use Rattle.std.specs.Option.{option_map}
 use Rattle.compound.specs.States.{SharedState, most_reply_bytes, shared_of}
@@ -17,8 +17,9 @@ use Rattle.session.specs.Limits.{served}
 use Rattle.volume.specs.MountAnswers.{MountServes}
 use Rattle.volume.specs.VolumeState.{VolumeState, IsRecent}
 use Rattle.server.specs.Connections.{connections_of}
+use Rattle.server.specs.declared.fault.ServerFault.{ServerFault}
 use Rattle.server.specs.declared.server.Server.{Server}
-use Rattle.server.specs.Seen.{Seen, LeavesNow, Said, Gave, Does, Breaks, Checkpoints, GivesDown, IsTurned}
+use Rattle.server.specs.Seen.{Seen, LeavesNow, Said, Gave, Does, Breaks, Checkpoints, FlushesAll, GivesDown, IsTurned, AreAtOnce}
 use Rattle.model.specs.Sessions.Session.{Settings}
 
 -- how many connections there may be at a time
@@ -77,18 +78,27 @@ abbrev pub MountsServer : {D : Type 0} {g : Ghosts D} → (device : D) → Serve
 MountsServer {g = g} device server = MountServes g.keeps_word g.size g.failed g.history device
     (volume_of server) (server_failures server)
 
+-- whether something that has to last waits for the next flush
+unfoldable pub waits_of : {D : Type 0} {g : Ghosts D} → Server D g → Bool
+waits_of server = (fs_of server.fs).waits
+
 -- these trees, each with these seats beside it
 abbrev pub beside : Seats → List Tree → List Left
 beside seats recent = map (λ tree. record { tree = tree; seats = seats }) recent
 
 -- the machine of the headline: a crash may leave these now
-abbrev pub serving_by : World → List Left → (is_down : Bool) → Serving
-serving_by world left is_down = record { world = world; left = left; is_down = is_down }
+abbrev pub serving_by : World → List Left → (is_down waits : Bool) → Serving
+serving_by world left is_down waits = record {
+  world = world;
+  left = left;
+  is_down = is_down;
+  waits = waits;
+}
 
 -- the server as that machine: a crash may leave these trees now, with the seats of its volume alone
 abbrev pub serving : {D : Type 0} {g : Ghosts D} → Server D g → List Tree → Serving
 serving server recent = serving_by (world_of server) (beside (volume_of server).seats recent)
-    (volume_of server).is_down
+    (volume_of server).is_down (waits_of server)
 
 -- the same with the volume below it
 abbrev pub seen_with : {D : Type 0} {g : Ghosts D} → Server D g → List Tree → Seen
@@ -98,7 +108,8 @@ seen_with server recent = record { serving = serving server recent; volume = vol
 -- tree that it had; a crash may leave any of these
 abbrev pub seen_down : {D : Type 0} {g : Ghosts D} → Server D g → Tree → List Left → Seen
 seen_down server tree left = record {
-  serving = serving_by (record (world_of server) { tree = tree }) left (volume_of server).is_down;
+  serving = serving_by (record (world_of server) { tree = tree }) left (volume_of server).is_down
+      (waits_of server);
   volume = volume_of server;
 }
 
@@ -107,10 +118,35 @@ abbrev pub gave : Option (Vec ℕ) → Said
 gave output = Gave (option_map (λ reply. reply.items) output)
 
 -- Whichever trees a crash may leave before a call: it does the event, and a crash may leave these
--- trees after it.
+-- trees after it. By whether the call defers.
+abbrev pub ServesAs : {D : Type 0} {g : Ghosts D} → (defers : Bool) → (old new : Server D g) → Event
+    → Said
+    → Type 0
+ServesAs defers old new event said = (recent : List Tree) → IsRecent (volume_of old) recent
+    → (after : List Tree)
+    × (does : Does (seen_with old recent) event said (seen_with new after))
+    × (does.happens.defers ≡ defers)
+
+-- what has to last is kept in it
 abbrev pub Serves : {D : Type 0} {g : Ghosts D} → (old new : Server D g) → Event → Said → Type 0
-Serves old new event said = (recent : List Tree) → IsRecent (volume_of old) recent
-    → (after : List Tree) × Does (seen_with old recent) event said (seen_with new after)
+Serves old new event said = ServesAs false old new event said
+
+-- the same, but that what has to last may wait for the next flush
+abbrev pub ServesLater : {D : Type 0} {g : Ghosts D} → (old new : Server D g) → Event → Said
+    → Type 0
+ServesLater old new event said = ServesAs true old new event said
+
+-- what waits waits on, and a call that is refused lets nothing more wait
+abbrev pub LetsWait : {D : Type 0} {g : Ghosts D} {T : Type 0} → (old new : Server D g)
+    → Result T ServerFault
+    → Type 0
+LetsWait old new result = (waits_of old ≡ true → waits_of new ≡ true)
+    × OnErr result (waits_of new ≡ waits_of old)
+
+-- a flush of all that waits: whichever trees a crash may leave before it, after it only the newest
+abbrev pub FlushesServer : {D : Type 0} {g : Ghosts D} → (old new : Server D g) → Type 0
+FlushesServer old new = (recent : List Tree) → IsRecent (volume_of old) recent
+    → (after : List Tree) × FlushesAll (seen_with old recent) (seen_with new after)
 
 -- a checkpoint: whichever trees a crash may leave before it, a crash may leave after it
 abbrev pub Keeps : {D : Type 0} {g : Ghosts D} → (old new : Server D g) → Type 0
@@ -131,8 +167,9 @@ GivesReply old new connection said = (tree : Tree) (left : List Left)
     → LeavesNow (seen_down old tree left)
     → GivesDown (seen_down old tree left) connection said (seen_down new tree left)
 
--- so many turns of a connection, and then what comes
+-- so many turns of a connection, none of which defers, and then what comes
 abbrev pub Turning : {D : Type 0} {g : Ghosts D} → (old : Server D g) → (connection now : ℕ)
     → (Seen → Type 0) → Type 0
 Turning old connection now then = (recent : List Tree) → IsRecent (volume_of old) recent
-    → (between : Seen) × IsTurned connection now (seen_with old recent) between × then between
+    → (between : Seen) × (turned : IsTurned connection now (seen_with old recent) between)
+    × then between × AreAtOnce connection now (seen_with old recent) between turned

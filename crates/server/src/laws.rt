@@ -11,9 +11,9 @@ ghost use Rattle.server.specs.RunLaws.{HangUpIsCalls, NeverEmpty, OnlyIdle};
 /// there in part; the prefix holds every change and COMMIT whose reply was handed out (an unstable
 /// write apart), and every change in it was permitted.
 ///
-/// `Server::mount` says that a run begins; `Server::{connect, feed, turn, hangup, take_output}`
-/// that each call is one of the run, or leaves all as it was; and a mount, served or refused, what
-/// it adds to what a crash may leave.
+/// `Server::mount` says that a run begins; `Server::{connect, feed, turn, turn_unflushed, flush,
+/// hangup, take_output}` that each call is one of the run, or leaves all as it was; and a mount,
+/// served or refused, what it adds to what a crash may leave.
 pub fn every_run()
     ensures headline { EveryRun }
     // what a crash leaves is such a tree, and no other

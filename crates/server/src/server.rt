@@ -42,7 +42,7 @@ pub struct Server<D: Device> {
         → Agrees (fs_of fs) (table_of table) },
 }
 
-#[tactic(auto, unfolding(crate::specs::Views::world_of, crate::specs::Views::files_of, crate::specs::Views::volume_of, crate::specs::Views::server_failures))]
+#[tactic(auto, unfolding(crate::specs::Views::world_of, crate::specs::Views::files_of, crate::specs::Views::volume_of, crate::specs::Views::waits_of, crate::specs::Views::server_failures))]
 impl<D: Device> Server<D> {
     ghost use Rattle.std.specs.List.{list_any, find};
     ghost use Rattle.std.specs.Option.{option_map};
@@ -55,7 +55,7 @@ impl<D: Device> Server<D> {
     ghost use Rattle.server.specs.Connections.{turn_view};
     ghost use Rattle.server.specs.Refused.{view, IsUntouched, connection_at, HasKept, HasTurned, RefusesCheckpoint, RefusesTurn, RefusesHangUp};
     ghost use Rattle.server.specs.Seen.{Does, Breaks, Took, Turned, Done};
-    ghost use Rattle.server.specs.Views.{world_of, files_of, volume_of, server_failures, most_connections, seen_with, seen_down, gave, Serves, ServerFails, GivesReply, Keeps, Turning};
+    ghost use Rattle.server.specs.Views.{world_of, files_of, volume_of, waits_of, server_failures, most_connections, seen_with, seen_down, gave, Serves, ServesLater, ServesAs, LetsWait, FlushesServer, ServerFails, GivesReply, Keeps, Turning};
 
     /// The run of this mount: the restart count that it wrote.
     pub fn restart_count(&self) -> u32
@@ -216,6 +216,77 @@ impl<D: Device> Server<D> {
             Serves self.old self.new (runs.Turns conn now) (Turned (turn_view turn))) }
         ensures turned { OnOk result
             (HasTurned D.keeps_word (view self.old) (view self.new) conn now) }
+        ensures waits { waits_of self.new ≡ waits_of self.old }
+        // The device fails in it
+        ensures fails { D.keeps_word → (volume_of self.old).is_down ≡ false
+            → IsErrOf result ServerFault.Device
+            → ServerFails self.old self.new (runs.Turns conn now) }
+        // Refused
+        ensures refused { IfErr result (RefusesTurn (view self.old) (view self.new) conn) }
+        ensures is_down { (volume_of self.old).is_down ≡ true
+            → IsErrOf result ServerFault.Device × IsUntouched (view self.old) (view self.new) }
+        ensures is_none { (volume_of self.old).is_down ≡ false
+            → connection_at (view self.old) conn ≡ None → IsErrOf result ServerFault.NoConnection }
+        ensures is_closed { (volume_of self.old).is_down ≡ false
+            → connection_at (view self.old) conn ≡ Some Closed → IsErrOf result ServerFault.Closed }
+        ensures later { server_failures self.old ≤ server_failures self.new }
+    {
+        self.defer(false);
+        self.take_turn(conn, now)
+    }
+
+    /// The same, but a change, a COMMIT and a reply that a seat is to hold may wait for
+    /// [`Server::flush`]: until then a crash may lose them. While something waits,
+    /// [`Server::take_output`] gives no reply on any connection. So one flush keeps the changes of
+    /// many connections.
+    ///
+    /// # Errors
+    /// Those of `turn`.
+    pub fn turn_unflushed(&mut self, conn: usize, now: u64) -> Result<Turn, ServerFault>
+        // Done
+        ensures ok { D.keeps_word → IfOk result (λ turn.
+            ServesLater self.old self.new (runs.Turns conn now) (Turned (turn_view turn))) }
+        ensures turned { OnOk result
+            (HasTurned D.keeps_word (view self.old) (view self.new) conn now) }
+        ensures waits { LetsWait self.old self.new result }
+        // The device fails in it
+        ensures fails { D.keeps_word → (volume_of self.old).is_down ≡ false
+            → IsErrOf result ServerFault.Device
+            → ServerFails self.old self.new (runs.Turns conn now) }
+        // Refused
+        ensures refused { IfErr result (RefusesTurn (view self.old) (view self.new) conn) }
+        ensures is_down { (volume_of self.old).is_down ≡ true
+            → IsErrOf result ServerFault.Device × IsUntouched (view self.old) (view self.new) }
+        ensures is_none { (volume_of self.old).is_down ≡ false
+            → connection_at (view self.old) conn ≡ None → IsErrOf result ServerFault.NoConnection }
+        ensures is_closed { (volume_of self.old).is_down ≡ false
+            → connection_at (view self.old) conn ≡ Some Closed → IsErrOf result ServerFault.Closed }
+        ensures later { server_failures self.old ≤ server_failures self.new }
+    {
+        self.defer(true);
+        self.take_turn(conn, now)
+    }
+
+    /// From now on what has to last may wait for a flush, or is kept at once.
+    fn defer(&mut self, later: bool)
+        ensures world { world_of self.new ≡ world_of self.old }
+        ensures volume { volume_of self.new ≡ volume_of self.old }
+        ensures waits { waits_of self.new ≡ waits_of self.old }
+        ensures defers { (files_of self.new).defers ≡ later }
+        ensures failures { server_failures self.new ≡ server_failures self.old }
+    {
+        self.fs.set_deferring(later);
+    }
+
+    /// A turn, in which what has to last is kept or waits.
+    fn take_turn(&mut self, conn: usize, now: u64) -> Result<Turn, ServerFault>
+        // Done
+        ensures ok { D.keeps_word → IfOk result (λ turn. ServesAs (files_of self.old).defers
+            self.old self.new (runs.Turns conn now) (Turned (turn_view turn))) }
+        ensures turned { OnOk result
+            (HasTurned D.keeps_word (view self.old) (view self.new) conn now) }
+        ensures waits { LetsWait self.old self.new result
+            × ((files_of self.old).defers ≡ false → waits_of self.new ≡ waits_of self.old) }
         // The device fails in it
         ensures fails { D.keeps_word → (volume_of self.old).is_down ≡ false
             → IsErrOf result ServerFault.Device
@@ -249,6 +320,47 @@ impl<D: Device> Server<D> {
         Ok(connection.turn(&mut engine)?)
     }
 
+    /// Keeps on the device all that waits, with one flush; then replies can be taken again. If
+    /// nothing waits, nothing is done.
+    ///
+    /// # Errors
+    /// Device where the file system is down, or goes down in this call: then no reply tells of what
+    /// waited.
+    pub fn flush(&mut self) -> Result<(), ServerFault>
+        // Done
+        ensures ok { D.keeps_word → waits_of self.old ≡ true
+            → OnOk result (FlushesServer self.old self.new) }
+        ensures none_waits { OnOk result (waits_of self.new ≡ false) }
+        ensures kept { OnOk result (HasKept (view self.old) (view self.new)) }
+        ensures nothing { waits_of self.old ≡ false → IsUntouched (view self.old) (view self.new) }
+        // The device fails in it
+        ensures fails { D.keeps_word → (volume_of self.old).is_down ≡ false
+            → OnErr result ((event : runs.Event) → ServerFails self.old self.new event) }
+        // Refused
+        ensures refused { IfErr result (RefusesCheckpoint (view self.old) (view self.new)) }
+        ensures waits { OnErr result (waits_of self.new ≡ waits_of self.old) }
+        ensures is_down { (volume_of self.old).is_down ≡ true
+            → IsErrOf result ServerFault.Device × IsUntouched (view self.old) (view self.new) }
+    {
+        if self.fs.is_down() {
+            return Err(ServerFault::Device);
+        }
+        if !self.fs.waits() {
+            return Ok(());
+        }
+        match self.fs.flush() {
+            Ok(()) => Ok(()),
+            Err(_) => Err(ServerFault::Device),
+        }
+    }
+
+    /// Whether something waits for [`Server::flush`].
+    pub fn waits(&self) -> bool
+        ensures { result ≡ waits_of self.now }
+    {
+        self.fs.waits()
+    }
+
     /// Drops the connection, and all that it holds. A request that has begun is run to its end
     /// first, and its slot keeps the reply, and its seat holds it.
     ///
@@ -261,6 +373,7 @@ impl<D: Device> Server<D> {
             (Turning self.old conn now (λ between. (after : List Tree)
             × Does between (runs.HangsUp conn) Done (seen_with self.new after))) }
         ensures gone { OnOk result (connection_at (view self.new) conn ≡ None) }
+        ensures waits { waits_of self.new ≡ waits_of self.old }
         // Ended within its turns: no memory for one, or the device fails in one
         ensures memory { D.keeps_word → IsErrOf result ServerFault.Memory
             → Turning self.old conn now (λ between.
@@ -327,15 +440,20 @@ impl<D: Device> Server<D> {
         }
     }
 
-    /// Hands out the connection's reply record, once; None where there is no reply. A server that
-    /// is down does so too.
+    /// Hands out the connection's reply record, once; None where there is no reply, and on every
+    /// connection while something waits for [`Server::flush`]. A server that is down does so too.
     ///
     /// # Errors
     /// NoConnection.
     pub fn take_output(&mut self, conn: usize) -> Result<Option<Vec<u8>>, ServerFault>
         ensures ok { D.keeps_word → (volume_of self.old).is_down ≡ false
+            → waits_of self.old ≡ false
             → IfOk result (λ output. Serves self.old self.new (runs.Takes conn) (gave output)) }
+        // While something waits
+        ensures none { waits_of self.old ≡ true
+            → IfOk result (λ output. (output ≡ None) × IsUntouched (view self.old) (view self.new)) }
         ensures down { D.keeps_word → (volume_of self.old).is_down ≡ true
+            → waits_of self.old ≡ false
             → IfOk result (λ output. GivesReply self.old self.new conn (gave output)) }
         // Refused
         ensures no_connection { IsErrOf result ServerFault.NoConnection
@@ -345,6 +463,13 @@ impl<D: Device> Server<D> {
         ensures volume { files_of self.new ≡ files_of self.old }
         ensures failures { server_failures self.new ≡ server_failures self.old }
     {
+        let waits = self.fs.waits();
+        if waits {
+            if self.connections.contains(conn) {
+                return Ok(None);
+            }
+            return Err(ServerFault::NoConnection);
+        }
         match self.connections.get_mut(conn) {
             Some(connection) => Ok(connection.take_output()),
             None => Err(ServerFault::NoConnection),

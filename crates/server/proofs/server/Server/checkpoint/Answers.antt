@@ -4,7 +4,7 @@ use Rattle.fs.specs.declared.fault.FsFault.TheVariants as fault
 use Rattle.opens.specs.Views.{opens_of}
 use Rattle.session.specs.Views.{table_of}
 use Rattle.server.specs.Connections.{connections_of}
-use Rattle.server.specs.Views.{world_of, volume_of, server_failures}
+use Rattle.server.specs.Views.{world_of, volume_of, waits_of, server_failures}
 use Rattle.volume.specs.VolumeState.{kept_of}
 use Rattle.server.proofs.Checkpoints.{agrees_still, checkpointed, checkpoint_fails, keeps_world, only_device}
 use Rattle.server.proofs.Worlds.{AllOfRun}
@@ -29,13 +29,14 @@ invariant_of-self g c =
     }
 
 pub returns-in-Ok-clause-ok : goal.returns-in-Ok-clause-ok
-unfolding world_of volume_of
+unfolding world_of volume_of waits_of fs_of
 returns-in-Ok-clause-ok g c = λ keeps.
     let s = c.args.self.now in
     let did = c.in-Ok.ensures in
     let volume = did.volume.volume_changes in
-    checkpointed (fs_of s.fs) (fs_of c.checkpoint.new.self) (table_of s.table) (opens_of s.opens) (connections_of s.connections) volume.same did.changes
-    (did.shows.tree_is keeps) (volume.ends.seats keeps (kept_of (fs_of s.fs).volume) false (refl, refl)) (sym c.if-is_down.ensures) volume.ends.still_up (did.recent keeps) (volume.moments keeps (kept_of (fs_of s.fs).volume) false (refl, refl))
+    checkpointed (fs_of s.fs) (fs_of c.checkpoint.new.self) (table_of s.table) (opens_of s.opens) (connections_of s.connections) volume.same did.changes did.waits
+    (did.shows.tree_is keeps) (volume.ends.seats keeps (kept_of (fs_of s.fs).volume) false (false, (refl, refl), inl refl)) (sym c.if-is_down.ensures) volume.ends.still_up (did.recent keeps)
+    (volume.moments keeps (kept_of (fs_of s.fs).volume) false (false, (refl, refl), inl refl))
 
 pub returns-in-Ok-clause-kept : goal.returns-in-Ok-clause-kept
 unfolding world_of volume_of server_failures
@@ -53,7 +54,7 @@ returns-in-Ok-clause-kept g c =
     }
 
 pub returns-in-Err-clause-fails : goal.returns-in-Err-clause-fails
-unfolding world_of volume_of
+unfolding world_of volume_of waits_of fs_of
 returns-in-Err-clause-fails g c = λ keeps up.
     let s = c.args.self.now in
     let did = c.in-Err.ensures in
@@ -61,8 +62,8 @@ returns-in-Err-clause-fails g c = λ keeps up.
     let device : c.in-Err.field-0 ≡ fault.Device = only_device c.in-Err.field-0 did.refuses
     (λ down. true≢false (sym (did.down.0 (ap Err down)) ∙ up)) in
     let failed = rw device at did.volume in
-    checkpoint_fails (fs_of s.fs) (fs_of c.checkpoint.new.self) (table_of s.table) (opens_of s.opens) (connections_of s.connections) volume.same did.changes
-    up failed.volume_changes.ends.down (volume.moments keeps (kept_of (fs_of s.fs).volume) false (refl, refl))
+    checkpoint_fails (fs_of s.fs) (fs_of c.checkpoint.new.self) (table_of s.table) (opens_of s.opens) (connections_of s.connections) volume.same did.changes did.waits
+    up failed.volume_changes.ends.down (volume.moments keeps (kept_of (fs_of s.fs).volume) false (false, (refl, refl), inl refl))
 
 pub returns-in-Err-clause-refused : goal.returns-in-Err-clause-refused
 unfolding world_of volume_of server_failures

@@ -4,12 +4,12 @@ use Rattle.compound.specs.States.{shared_of}
 use Rattle.fs.specs.Views.{fs_of}
 use Rattle.server.specs.Connections.{connections_of, connection_view, IsOfRun}
 use Rattle.server.specs.declared.fault.ServerFault.TheVariants as faults
-use Rattle.server.specs.Views.{world_of, volume_of, world_by}
+use Rattle.server.specs.Views.{waits_of, world_of, volume_of, world_by}
 use Rattle.model.specs.Server.Runs as runs
 use Rattle.server.proofs.Moves.{does_quietly}
 use Rattle.server.proofs.Refusals.{told_by}
 use Rattle.server.proofs.SlabLaws.{count_of, with_slot, stands_none, grew}
-use Rattle.server.proofs.Worlds.{quiet_of_run, can_connect_by, connected, inserted_of_run, inserted_count}
+use Rattle.server.proofs.Worlds.{may_be, quiet_of_run, can_connect_by, connected, inserted_of_run, inserted_count}
 use Rattle.server.proofs.server.Server.connect.Goals as goal
 
 pub returns-then-len-ge-MAX_CONNECTIONS-clause-full : goal.returns-then-len-ge-MAX_CONNECTIONS-clause-full
@@ -50,7 +50,7 @@ returns-clause-fresh g c =
     (omega (arith, count_of s.connections))
 
 pub returns-clause-ok : goal.returns-clause-ok
-unfolding world_of volume_of
+unfolding world_of volume_of waits_of
 returns-clause-ok g c =
     let s = c.args.self.now in
     let conn = c.in_ok-insert.field-0 in
@@ -60,10 +60,10 @@ returns-clause-ok g c =
     let can = can_connect_by (world_by (shared_of s.fs s.table s.opens) (connections_of s.connections)) conn (stands_none s.connections conn (sym vacant))
     (omega (arith, count_of s.connections)) in
     let up = sym c.if-is_down.ensures in
-    λ keeps. does_quietly (fs_of s.fs).volume _ _ _ (runs.Connects conn) _ refl up
+    λ keeps. does_quietly (fs_of s.fs).volume _ _ _ _ (runs.Connects conn) _ refl up
     (connected (shared_of s.fs s.table s.opens) (connections_of s.connections) _ conn (connection_view c.in_ok-connection.connection) can
     (with_slot s.connections c.insert.new.self conn c.in_ok-connection.connection updates) c.in_ok-connection.ensures)
-    (s.agrees keeps up).seats refl
+    (s.agrees keeps up).seats refl (may_be _ (runs.Connects conn) tt)
 
 pub returns-clause-is_full : goal.returns-clause-is_full
 unfolding world_of

@@ -5,10 +5,10 @@ use Rattle.model.specs.Server.Runs as runs
 use Rattle.rpc.specs.Assembly.{record_limits}
 use Rattle.server.specs.Connections.{IsOfRun, connections_of, connection_view}
 use Rattle.server.specs.Seen.{Took, taken_on}
-use Rattle.server.specs.Views.{world_of, volume_of, world_by}
+use Rattle.server.specs.Views.{waits_of, world_of, volume_of, world_by}
 use Rattle.server.proofs.Moves.{does_quietly}
 use Rattle.server.proofs.SlabLaws.{stands, stands_none, wrote, wrote_count}
-use Rattle.server.proofs.Worlds.{AllOfRun, all_of_run_with, arrived_of_run, fed}
+use Rattle.server.proofs.Worlds.{may_be, AllOfRun, all_of_run_with, arrived_of_run, fed}
 use Rattle.server.proofs.server.Server.feed.Goals as goal
 
 pub returns-in_default-clause-no_connection : goal.returns-in_default-clause-no_connection
@@ -31,7 +31,7 @@ invariant_of-self-2 g c =
     }
 
 pub returns-in_default-feed-clause-closed : goal.returns-in_default-feed-clause-closed
-unfolding world_of volume_of
+unfolding world_of volume_of waits_of
 returns-in_default-feed-clause-closed g c =
     let s = c.args.self.now in
     let before = c.in-Some.connection.now in
@@ -39,10 +39,10 @@ returns-in_default-feed-clause-closed g c =
     let there = stands s.connections c.args.conn before c.in-Some.ensures.value in
     let none = sym c.feed.ensures.taken ∙ c.in_default-feed.is in
     let up = sym c.if-is_down.ensures in
-    λ keeps is. does_quietly (fs_of s.fs).volume _ _ _ (runs.Arrives c.args.conn c.args.piece.now) _ refl up
+    λ keeps is. does_quietly (fs_of s.fs).volume _ _ _ _ (runs.Arrives c.args.conn c.args.piece.now) _ refl up
     (fed (shared_of s.fs s.table s.opens) (connections_of s.connections) _ c.args.conn c.args.piece.now (connection_view before) (connection_view after)
     there (wrote s.connections c.args.conn before after c.in-Some.ensures.value) c.feed.ensures.arrived)
-    (s.agrees keeps up).seats (ap Took (sym (ap (taken_on (world_by (shared_of s.fs s.table s.opens) (connections_of s.connections)) c.args.piece.now) there ∙ none)))
+    (s.agrees keeps up).seats (ap Took (sym (ap (taken_on (world_by (shared_of s.fs s.table s.opens) (connections_of s.connections)) c.args.piece.now) there ∙ none))) (may_be _ (runs.Arrives c.args.conn c.args.piece.now) tt)
 
 pub returns-in_default-feed-clause-is_none : goal.returns-in_default-feed-clause-is_none
 unfolding world_of
@@ -51,7 +51,7 @@ returns-in_default-feed-clause-is_none g c =
     λ up free. let never : ⊥ = cc in absurd never
 
 pub returns-clause-ok : goal.returns-clause-ok
-unfolding world_of volume_of
+unfolding world_of volume_of waits_of
 returns-clause-ok g c =
     let s = c.args.self.now in
     let before = c.in-Some.connection.now in
@@ -59,10 +59,10 @@ returns-clause-ok g c =
     let there = stands s.connections c.args.conn before c.in-Some.ensures.value in
     let some = sym c.feed.ensures.taken ∙ c.in-Some-feed.is in
     let up = sym c.if-is_down.ensures in
-    λ keeps. does_quietly (fs_of s.fs).volume _ _ _ (runs.Arrives c.args.conn c.args.piece.now) _ refl up
+    λ keeps. does_quietly (fs_of s.fs).volume _ _ _ _ (runs.Arrives c.args.conn c.args.piece.now) _ refl up
     (fed (shared_of s.fs s.table s.opens) (connections_of s.connections) _ c.args.conn c.args.piece.now (connection_view before) (connection_view after)
     there (wrote s.connections c.args.conn before after c.in-Some.ensures.value) c.feed.ensures.arrived)
-    (s.agrees keeps up).seats (ap Took (sym (ap (taken_on (world_by (shared_of s.fs s.table s.opens) (connections_of s.connections)) c.args.piece.now) there ∙ some)))
+    (s.agrees keeps up).seats (ap Took (sym (ap (taken_on (world_by (shared_of s.fs s.table s.opens) (connections_of s.connections)) c.args.piece.now) there ∙ some))) (may_be _ (runs.Arrives c.args.conn c.args.piece.now) tt)
 
 pub returns-clause-is_none : goal.returns-clause-is_none
 unfolding world_of

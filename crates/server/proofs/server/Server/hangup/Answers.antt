@@ -8,12 +8,12 @@ use Rattle.server.specs.declared.fault.ServerFault.TheVariants as faults
 use Rattle.server.specs.Refused.{view, IsUntouched, RefusesTurn}
 use Rattle.server.specs.Seen.{Stays}
 use Rattle.server.proofs.Refusals.{told_by, begins_on, runs_on, hang_up_refused}
-use Rattle.server.specs.Views.{world_of, volume_of, server_failures, seen_with}
-use Rattle.server.proofs.HangUps.{turned_on, fewer_left}
+use Rattle.server.specs.Views.{world_of, volume_of, waits_of, server_failures, seen_with}
+use Rattle.server.proofs.HangUps.{turned_on, once_on, fewer_left}
 use Rattle.server.proofs.Moves.{does_quietly, same_seen}
 use Rattle.server.proofs.Pairs.{recent_beside}
 use Rattle.server.proofs.SlabLaws.{stands_none, without_slot, absent, present, removed_count}
-use Rattle.server.proofs.Worlds.{AllOfRun, all_of_run_without, hung_up}
+use Rattle.server.proofs.Worlds.{AllOfRun, all_of_run_without, hung_up, may_be}
 use Rattle.server.proofs.server.Server.hangup.Goals as goal
 
 pub returns-then-is_down-clause-refused : goal.returns-then-is_down-clause-refused
@@ -21,9 +21,9 @@ unfolding volume_of
 returns-then-is_down-clause-refused g c = (inl (sym c.if-is_down.ensures), sym c.if-is_down.ensures)
 
 pub returns-then-not-contains-clause-refused : goal.returns-then-not-contains-clause-refused
-unfolding world_of volume_of server_failures
+unfolding world_of volume_of waits_of server_failures
 returns-then-not-contains-clause-refused g c =
-    (absent c.args.self.now.connections c.args.conn c.contains.result c.contains.ensures.1 c.if-not-contains.true, (refl, refl, refl))
+    (absent c.args.self.now.connections c.args.conn c.contains.result c.contains.ensures.1 c.if-not-contains.true, (refl, refl, refl, refl))
 
 pub returns-in_err-turn-clause-refused : goal.returns-in_err-turn-clause-refused
 returns-in_err-turn-clause-refused g c =
@@ -36,7 +36,7 @@ returns-in_err-turn-clause-refused g c =
 
 pub loop-self-init : goal.loop-self-init
 unfolding volume_of
-loop-self-init g c = record { is_up = sym c.if-is_down.ensures; on = begins_on (view c.args.self.now) c.args.conn (sym c.if-is_down.ensures); turned = λ keeps recent ready. (recent, Stays, ready); later = omega arith }
+loop-self-init g c = record { is_up = sym c.if-is_down.ensures; on = begins_on (view c.args.self.now) c.args.conn (sym c.if-is_down.ensures); turned = λ keeps recent ready. (recent, Stays, tt, ready); later = omega arith; waits = refl }
 
 pub loop-self-smaller : goal.loop-self-smaller
 unfolding world_of
@@ -58,9 +58,15 @@ loop-self-preserved g c =
       on = runs_on (view old) (view mid) (view new) c.args.conn c.args.now (rw c.in_ok-turn.was at c.turn.ensures.turned) inv.on;
       turned = λ keeps recent ready.
           let was = inv.turned keeps recent ready in
-          let does = made keeps was.0 was.2 in
-          (does.0, turned_on c.args.conn c.args.now (seen_with old recent) (seen_with mid was.0) (seen_with new does.0) _ was.1 (sym c.is_busy.ensures ∙ c.loop-self-test.true) does.1, recent_beside (volume_of new) (volume_of new).seats does.0 does.1.ready);
+          let does = made keeps was.0 was.3 in
+          let busy = sym c.is_busy.ensures ∙ c.loop-self-test.true in (
+            does.0,
+            turned_on c.args.conn c.args.now (seen_with old recent) (seen_with mid was.0) (seen_with new does.0) _ was.1 busy does.1,
+            once_on c.args.conn c.args.now (seen_with old recent) (seen_with mid was.0) (seen_with new does.0) _ was.1 busy does.1 was.2 does.2,
+            recent_beside (volume_of new) (volume_of new).seats does.0 does.1.ready,
+          );
       later = omega (arith, inv.later, c.turn.ensures.later);
+      waits = c.turn.ensures.waits ∙ inv.waits;
     }
 
 pub returns-in_err-turn-clause-is_none : goal.returns-in_err-turn-clause-is_none
@@ -79,18 +85,17 @@ invariant_of-self g c =
     }
 
 pub returns-clause-ok : goal.returns-clause-ok
-unfolding world_of volume_of
+unfolding world_of volume_of waits_of
 returns-clause-ok g c =
     let mid = c.loop-self.self in
     let inv = c.loop-self.invariant in
     λ keeps recent ready.
-    let was = inv.turned keeps recent ready in (
-      seen_with mid was.0,
-      was.1,
-      does_quietly (fs_of mid.fs).volume _ _ _ (runs.HangsUp c.args.conn) _ refl inv.is_up
-          (hung_up (shared_of mid.fs mid.table mid.opens) (connections_of mid.connections) _ c.args.conn (sym c.is_busy.ensures ∙ c.loop-self-test.false)
-          (without_slot mid.connections c.try_remove.new.self c.args.conn c.try_remove.ensures.updates)) (mid.agrees keeps inv.is_up).seats refl was.0 was.2,
-    )
+    let was = inv.turned keeps recent ready in
+    let does =
+    does_quietly (fs_of mid.fs).volume _ _ _ _ (runs.HangsUp c.args.conn) _ refl inv.is_up
+    (hung_up (shared_of mid.fs mid.table mid.opens) (connections_of mid.connections) _ c.args.conn (sym c.is_busy.ensures ∙ c.loop-self-test.false)
+    (without_slot mid.connections c.try_remove.new.self c.args.conn c.try_remove.ensures.updates)) (mid.agrees keeps inv.is_up).seats refl (may_be _ (runs.HangsUp c.args.conn) tt) was.0 was.3 in
+    (seen_with mid was.0, was.1, (does.0, does.1), was.2)
 
 pub returns-clause-gone : goal.returns-clause-gone
 unfolding world_of
@@ -115,8 +120,9 @@ returns-in_err-turn-clause-memory g c =
       (
         was.0,
         same_seen (world_of mid) (world_of c.turn.new.self) was.0 (volume_of mid) (volume_of c.turn.new.self)
-            same.0 same.1,
+            (waits_of mid) (waits_of c.turn.new.self) same.0 same.1 same.3,
       ),
+      was.2,
     )
 
 pub returns-in_err-turn-clause-fails : goal.returns-in_err-turn-clause-fails
@@ -128,4 +134,11 @@ returns-in_err-turn-clause-fails g c =
     λ keeps up is recent ready.
     let device : fault ≡ faults.Device = cc in
     let was = c.loop-self.invariant.turned keeps recent ready in
-    (seen_with mid was.0, was.1, c.turn.ensures.fails keeps c.loop-self.invariant.is_up (c.in_err-turn.was ∙ ap Err device) was.0 was.2)
+    (seen_with mid was.0, was.1, c.turn.ensures.fails keeps c.loop-self.invariant.is_up (c.in_err-turn.was ∙ ap Err device) was.0 was.3, was.2)
+
+pub returns-in_err-turn-clause-waits : goal.returns-in_err-turn-clause-waits
+returns-in_err-turn-clause-waits g c = c.turn.ensures.waits ∙ c.loop-self.invariant.waits
+
+pub returns-clause-waits : goal.returns-clause-waits
+unfolding waits_of
+returns-clause-waits g c = c.loop-self.invariant.waits

@@ -6,20 +6,20 @@ use Rattle.volume.proofs.ServeLaws.{told_err}
 use Rattle.model_tree.specs.Seats.SeatViews.{seats_view}
 use Rattle.session.specs.Views.{table_of, settings_of}
 use Rattle.server.specs.Connections.{connections_of}
-use Rattle.server.specs.Views.{world_of, volume_of, server_failures}
+use Rattle.server.specs.Views.{world_of, volume_of, waits_of, server_failures}
 use Rattle.opens.specs.Views.{opens_of}
 use Rattle.server.proofs.Moves.{loaded, few_runs, mounted_by, world_mounted, found_start, limits_room}
 use Rattle.server.proofs.server.Server.mount_with.Goals as goal
 
 pub returns-clause-begins : goal.returns-clause-begins
-unfolding world_of volume_of connections_of
+unfolding world_of volume_of waits_of connections_of
 returns-clause-begins g c =
     let found = c.in_ok-fs.ensures in
     let fs = fs_of c.in_ok-fs.field-0.fs in
     let size = g.D.Device.size c.args.device in
     λ keeps. mounted_by fs (table_of c.load-table.result) (opens_of c.new-opens.result) (connections_of c.in-Ok.connections) (settings_of c.args.settings) (seats_view c.in_ok-fs.field-0.seats)
     (loaded c.restart_count.result fs.volume.run (settings_of c.args.settings) (seats_view c.in_ok-fs.field-0.seats) c.restart_count.ensures (table_of c.load-table.result) c.load-table.ensures)
-    c.new-opens.ensures (rw c.in-Ok.ensures.empty refl) found.no_change keeps found.seats
+    c.new-opens.ensures (rw c.in-Ok.ensures.empty refl) found.no_change keeps found.none_waits found.seats
     (few_runs c.restart_count.result fs.volume.run c.restart_count.ensures c.restart_count.type_inv) found.serves.new.is_up (found.serves.mounted keeps).holds
     (found_start size (g.D.Device.history c.args.device) fs.volume (found.serves.mounted keeps).found found.serves.new.limits)
     (limits_room size fs.volume found.serves.new.limits)
