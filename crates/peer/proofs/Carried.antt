@@ -1,5 +1,5 @@
 -- What a step of a peer carries, part by part.
-use Rattle.std.proofs.Common.{◌≡◌, ℕ, List, [], ◌∷◌, ◌++◌, take, drop, Option, Some, None, Result, Ok, Err, IfErr, Bool, true, false, not, if◌then◌else◌, inl, inr, refl, ap, sym, subst, ◌∙◌, append-nil, length-append, arith}
+use Rattle.std.proofs.Common.{◌≡◌, ℕ, List, [], ◌∷◌, ◌++◌, take, drop, Option, Some, None, Result, Ok, Err, IfOk, IfErr, Bool, true, false, not, if◌then◌else◌, inl, inr, refl, ap, sym, subst, ◌∙◌, append-nil, length-append, arith}
 use Rattle.std.proofs.lemmas.List.{take-append-drop}
 use Rattle.std.specs.Global.{Vec}
 use Rattle.std.specs.Io.KnownBytes.{Appends, Consumes, Keeps}
@@ -15,7 +15,7 @@ use Rattle.server.specs.declared.fault.ServerFault.TheVariants as faults
 use Rattle.server.specs.declared.server.Server.{Server}
 use Rattle.peer.specs.Calls.{Goes, IsNone, IsOne, IsEnd, RefusesBytes, RefusesOutput}
 use Rattle.peer.specs.Partings.{parting_of}
-use Rattle.peer.specs.Steps.{AreAll, Tally, IsTallied, Carries, HasWorked, Turned, Wrote, Read_broken, Write_broken, Reason, Dismissed, Read_over, Write_over, Closes, Was_closed, Has_none, Parts, Advances, Runs, GivesNoTurn, Sends, EndsPeer, unsent}
+use Rattle.peer.specs.Steps.{AreAll, Tally, IsTallied, Carries, HasWorked, Turned, Asked, Wrote, Read_broken, Write_broken, Reason, Dismissed, Read_over, Write_over, Closes, Was_closed, Has_none, Parts, Advances, Runs, GivesNoTurn, Sends, EndsPeer, WaitsToWrite, IsStuck, To_write, unsent}
 use Rattle.peer.specs.Streams.{IsOver}
 use Rattle.peer.specs.declared.pace.Pace.{Pace}
 use Rattle.peer.specs.declared.pace.Pace.TheVariants as paces
@@ -161,16 +161,17 @@ refused_bytes peer faults.Full refuses = absurd refuses
 
 works_after : {S : Type 0} {h : stream.Ghosts S} (a b : Tally) (peer : Peer S h) → HasWorked peer b → HasWorked peer (joined a b)
 works_after a b peer (Turned some) = Turned (omega arith)
+works_after a b peer (Asked some) = Asked (omega arith)
 works_after a b peer (Wrote some) = Wrote (simp length-append (omega arith))
 works_after a b peer (Read_broken is) = Read_broken is
 works_after a b peer (Write_broken is) = Write_broken is
 
 -- calls alone are made: no byte comes, and none is written
 carries_calls : {D S : Type 0} {g : Ghosts D} {h : stream.Ghosts S} {keeps : Type 0} {moments : ℕ → Type 0} {old new : Server D g} (before after : Peer S h)
-    (shown : List (List ℕ)) (taken : List ℕ) (turns : ℕ) → Goes keeps old new (IsTallied moments before.conn (record nothing { shown = shown; taken = taken; turns = turns }))
+    (shown : List (List ℕ)) (taken : List ℕ) (turns takes : ℕ) → Goes keeps old new (IsTallied moments before.conn (record nothing { shown = shown; taken = taken; turns = turns; takes = takes }))
     → taken ++ after.inbox ≡ before.inbox → after.stream ≡ before.stream → after.conn ≡ before.conn → unsent after.stage ≡ unsent before.stage
-    → (after.stage ≡ stages.Ends → ⊥) → Carries keeps moments old new before after (record nothing { shown = shown; taken = taken; turns = turns })
-carries_calls {h = h} before after shown taken turns calls fed same conn left stays = record {
+    → (after.stage ≡ stages.Ends → ⊥) → Carries keeps moments old new before after (record nothing { shown = shown; taken = taken; turns = turns; takes = takes })
+carries_calls {h = h} before after shown taken turns takes calls fed same conn left stays = record {
   calls = calls;
   consumed = rw same (consumes_none (h.coming before.stream));
   fed = fed ∙ sym (append-nil before.inbox);
@@ -190,7 +191,7 @@ bytes_then {keeps = keeps} {moments = moments} {old = old} {between = between} {
     let first : Tally = record nothing { shown = before.inbox ∷ []; taken = take count before.inbox } in
     let rest : Tally = runs.advances.tally in
     let took : Carries keeps moments old between before mid first =
-    carries_calls before mid (before.inbox ∷ []) (take count before.inbox) 0 (tally_taken before.conn before.inbox count one)
+    carries_calls before mid (before.inbox ∷ []) (take count before.inbox) 0 0 (tally_taken before.conn before.inbox count one)
     (rw inbox (take-append-drop count before.inbox)) same conn left stays in
     let all : before.inbox ≡ before.inbox ++ rest.came = sym (append-nil before.inbox) ∙ ap (λ came. before.inbox ++ came) (sym runs.unread) in
     record {
@@ -207,7 +208,7 @@ turn_carries : {D S : Type 0} {g : Ghosts D} {h : stream.Ghosts S} {keeps : Type
     → after.stream ≡ before.stream → after.inbox ≡ before.inbox → after.conn ≡ before.conn → unsent after.stage ≡ unsent before.stage
     → (after.stage ≡ stages.Ends → ⊥) → Carries keeps moments old new before after (record nothing { turns = 1 })
 turn_carries before after now said shows one same inbox conn left stays =
-    carries_calls before after [] [] 1 (tally_turn before.conn now said shows one) inbox same conn left stays
+    carries_calls before after [] [] 1 0 (tally_turn before.conn now said shows one) inbox same conn left stays
 
 -- a turn, and the reply that it made
 pub reply_then : {D S : Type 0} {g : Ghosts D} {h : stream.Ghosts S} {keeps : Type 0} {moments : ℕ → Type 0} {old between new : Server D g} (before mid after : Peer S h) (now : ℕ) (said : Said)
@@ -310,6 +311,12 @@ sends_on {h = h} server before after result sends =
       parts = over_parts tally server after result sends.over;
     }
 
+-- it sleeps until the stream has room
+pub stuck_on_write : {D S : Type 0} {g : Ghosts D} {h : stream.Ghosts S} (server : Server D g) (peer : Peer S h) (result : Result Pace Parting)
+    → IfOk result (λ pace. pace ≡ paces.Sleeps → WaitsToWrite peer) → IfOk result (λ pace. pace ≡ paces.Sleeps → IsStuck server peer)
+stuck_on_write server peer (Ok pace) stuck = λ is. To_write (stuck is)
+stuck_on_write server peer (Err parting) stuck = tt
+
 -- a reply that was taken, and begins to go out
 pub gives_then : {D S : Type 0} {g : Ghosts D} {h : stream.Ghosts S} {keeps : Type 0} {old new : Server D g} (before mid after : Peer S h) (reply : Vec ℕ)
     (result : Result Pace Parting) → Goes keeps old new (IsOne (Did (Takes before.conn) (gave (Some reply))))
@@ -317,7 +324,7 @@ pub gives_then : {D S : Type 0} {g : Ghosts D} {h : stream.Ghosts S} {keeps : Ty
     → unsent before.stage ≡ [] → unsent mid.stage ≡ reply.items
     → Sends mid after result → GivesNoTurn keeps old new before after result
 gives_then {S = S} {h = h} {new = new} before mid after reply result one same inbox conn none left sends =
-    let tally : Tally = record nothing { given = reply.items; written = sends.written } in
+    let tally : Tally = record nothing { takes = 1; given = reply.items; written = sends.written } in
     record {
       tally = tally;
       carries = record {
@@ -332,6 +339,7 @@ gives_then {S = S} {h = h} {new = new} before mid after reply result one same in
       unread = refl;
       unshown = refl;
       unturned = refl;
+      works = λ is. Asked (omega arith);
       parts = over_parts tally new after result sends.over;
     }
 
@@ -341,11 +349,12 @@ pub gives_none : {D S : Type 0} {g : Ghosts D} {h : stream.Ghosts S} {keeps : Ty
     → after.stream ≡ before.stream → after.inbox ≡ before.inbox → after.conn ≡ before.conn → unsent after.stage ≡ unsent before.stage
     → (after.stage ≡ stages.Ends → ⊥) → GivesNoTurn keeps old new before after (Ok paces.Goes)
 gives_none before after one same inbox conn left stays = record {
-  tally = nothing;
-  carries = carries_calls before after [] [] 0 (tally_given before.conn None [] one) inbox same conn left stays;
+  tally = record nothing { takes = 1 };
+  carries = carries_calls before after [] [] 0 1 (tally_given before.conn None [] one) inbox same conn left stays;
   unread = refl;
   unshown = refl;
   unturned = refl;
+  works = λ is. Asked (omega arith);
   parts = tt;
 }
 
@@ -361,7 +370,33 @@ refuses_reply {h = h} {old = old} {new = new} before after fault refuses same in
   unread = refl;
   unshown = refl;
   unturned = refl;
+  works = λ is. let never : ⊥ = cc in absurd never;
   parts = output_parts old new after nothing fault (rw conn refuses);
+}
+
+-- nothing is asked for yet
+pub gives_later : {D S : Type 0} {g : Ghosts D} {h : stream.Ghosts S} {keeps : Type 0} (server : Server D g) (peer : Peer S h)
+    → GivesNoTurn keeps server server peer peer (Ok paces.Sleeps)
+gives_later server peer = record {
+  tally = nothing;
+  carries = carries_same peer (not_called server);
+  unread = refl;
+  unshown = refl;
+  unturned = refl;
+  works = λ is. let never : ⊥ = cc in absurd never;
+  parts = tt;
+}
+
+-- a step that gives no turn
+pub gives_on : {D S : Type 0} {g : Ghosts D} {h : stream.Ghosts S} {keeps : Type 0} {moments : ℕ → Type 0} {old new : Server D g} (before after : Peer S h)
+    (result : Result Pace Parting) → GivesNoTurn keeps old new before after result → Advances keeps moments old new before after result
+gives_on {moments = moments} before after result gives = record {
+  tally = gives.tally;
+  carries = carries_any (λ (now : ℕ). ⊥) moments before after gives.tally (λ now never. absurd never) gives.carries;
+  shown = subst (λ (shown : List (List ℕ)). AreAll (before.inbox ++ gives.tally.came) shown) (sym gives.unshown) tt;
+  few = omega (arith, gives.unturned);
+  works = gives.works;
+  parts = gives.parts;
 }
 
 -- Reads

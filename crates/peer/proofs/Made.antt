@@ -8,7 +8,7 @@ use Rattle.server.specs.Connections.{turn_view}
 use Rattle.server.specs.Refused.{IsUntouched, HasTurned, RefusesTurn, RefusesHangUp, connection_at, view}
 use Rattle.server.specs.Seen.{Seen, Said, ServerCall, Did, Done, Took, Turned, Does, IsServed, IsTurned, Stays, trees_of}
 use Rattle.server.specs.Seen as served
-use Rattle.server.specs.Views.{Serves, Turning, server_failures, files_of, gave, seen_with, volume_of, world_of}
+use Rattle.server.specs.Views.{Serves, ServesAs, Turning, server_failures, files_of, gave, seen_with, volume_of, waits_of, world_of}
 use Rattle.server.proofs.Pairs.{ready_beside, recent_beside}
 use Rattle.server.specs.declared.fault.ServerFault.{ServerFault}
 use Rattle.server.specs.declared.fault.ServerFault.TheVariants as faults
@@ -30,6 +30,8 @@ follows first between calls before (call ∷ more) new (served.Stays_down connec
     served.IsServed.Stays_down connection said (follows first between calls before more _ after) gives
 follows first between calls before more new (served.Keeps_on after keeps) =
     served.IsServed.Keeps_on (follows first between calls before more _ after) keeps
+follows first between calls before more new (served.Flushed after flushes) =
+    served.IsServed.Flushed (follows first between calls before more _ after) flushes
 
 -- first these, then those
 pub goes_on : {D : Type 0} {g : Ghosts D} {keeps : Type 0} {old between new : Server D g} {first then kind : List ServerCall → Type 0}
@@ -61,9 +63,17 @@ goes_as {old = old} {new = new} {first = first} shows goes = record {
 
 -- One call
 
+-- a call, whether or not it defers
+abbrev pub MakesCall : {D : Type 0} {g : Ghosts D} → (old new : Server D g) → Event → Said → Type 0
+MakesCall old new event said = (recent : List Tree) → IsRecent (volume_of old) recent → (after : List Tree) × Does (seen_with old recent) event said (seen_with new after)
+
+makes : {D : Type 0} {g : Ghosts D} (defers : Bool) (old new : Server D g) (event : Event) (said : Said) → ServesAs defers old new event said
+    → MakesCall old new event said
+makes defers old new event said serves = λ recent is. let done = serves recent is in (done.0, done.1)
+
 pub one_call : {D : Type 0} {g : Ghosts D} {keeps : Type 0} {old new : Server D g} (event : Event) (said : Said)
     → ((volume_of new).is_down ≡ false → (volume_of old).is_down ≡ false)
-    → (keeps → (volume_of new).is_down ≡ false → Serves old new event said)
+    → (keeps → (volume_of new).is_down ≡ false → MakesCall old new event said)
     → Goes keeps old new (IsOne (Did event said))
 one_call {old = old} {new = new} event said up serves = record {
   up = up;
@@ -84,7 +94,7 @@ pub untouched : {D : Type 0} {g : Ghosts D} {keeps : Type 0} {old new : Server D
 untouched {old = old} {new = new} same = record {
   up = λ up. rw (sym same.1) up;
   made = λ keeps up recent is.
-      let seen : seen_with old recent ≡ seen_with new recent = rw (same.0, same.1) refl in
+      let seen : seen_with old recent ≡ seen_with new recent = rw (same.0, same.1, same.3) refl in
       record {
         after = recent;
         calls = [];
@@ -103,11 +113,15 @@ failed_call down = record {
 }
 
 pub not_called : {D : Type 0} {g : Ghosts D} {keeps : Type 0} (server : Server D g) → Goes keeps server server IsNone
-not_called server = untouched {old = server} {new = server} (refl, refl, refl)
+not_called server = untouched {old = server} {new = server} (refl, refl, refl, refl)
 
 pub same_volume : {D : Type 0} {g : Ghosts D} (old new : Server D g) → files_of new ≡ files_of old → volume_of new ≡ volume_of old
 unfolding files_of volume_of
 same_volume old new files = ap (λ it. it.volume) files
+
+same_waits : {D : Type 0} {g : Ghosts D} (old new : Server D g) → files_of new ≡ files_of old → waits_of new ≡ waits_of old
+unfolding files_of waits_of
+same_waits old new files = ap (λ it. it.waits) files
 
 pub still_up : {D : Type 0} {g : Ghosts D} (old new : Server D g) → files_of new ≡ files_of old
     → (volume_of new).is_down ≡ false → (volume_of old).is_down ≡ false
@@ -120,12 +134,12 @@ pub fed : {D : Type 0} {g : Ghosts D} {keeps : Type 0} (old new : Server D g) (c
     → (keeps → IfOk result (λ count. Serves old new (Arrives connection piece) (Took (Some count))))
     → IfOk result (λ count. Goes keeps old new (IsOne (Did (Arrives connection piece) (Took (Some count)))))
 fed old new connection piece (Ok count) files serves =
-    one_call {old = old} {new = new} (Arrives connection piece) (Took (Some count)) (still_up old new files) (λ keeps up. serves keeps)
+    one_call {old = old} {new = new} (Arrives connection piece) (Took (Some count)) (still_up old new files) (λ keeps up. makes false old new (Arrives connection piece) (Took (Some count)) (serves keeps))
 fed old new connection piece (Err fault) files serves = tt
 
 untouched_by : {D : Type 0} {g : Ghosts D} (old new : Server D g) → world_of new ≡ world_of old → files_of new ≡ files_of old → server_failures new ≡ server_failures old
     → IsUntouched (view old) (view new)
-untouched_by old new world files failures = (world, same_volume old new files, failures)
+untouched_by old new world files failures = (world, same_volume old new files, failures, same_waits old new files)
 
 pub refuses_bytes : {D : Type 0} {g : Ghosts D} {keeps : Type 0} (old new : Server D g) (connection : ℕ) (piece : List ℕ) (result : Result ℕ ServerFault)
     → (keeps → IsErrOf result faults.Closed → Serves old new (Arrives connection piece) (Took None))
@@ -137,7 +151,7 @@ pub refuses_bytes : {D : Type 0} {g : Ghosts D} {keeps : Type 0} (old new : Serv
     → IfErr result (RefusesBytes keeps old new connection piece)
 refuses_bytes old new connection piece (Ok count) closes down none only same files failures = tt
 refuses_bytes old new connection piece (Err faults.Closed) closes down none only same files failures =
-    one_call {old = old} {new = new} (Arrives connection piece) (Took None) (still_up old new files) (λ keeps up. closes keeps refl)
+    one_call {old = old} {new = new} (Arrives connection piece) (Took None) (still_up old new files) (λ keeps up. makes false old new (Arrives connection piece) (Took None) (closes keeps refl))
 refuses_bytes old new connection piece (Err faults.NoConnection) closes down none only same files failures =
     (none refl, untouched_by old new (same (λ e. let never : ⊥ = cc in never)) files failures)
 refuses_bytes old new connection piece (Err faults.Device) closes down none only same files failures =
@@ -146,21 +160,23 @@ refuses_bytes old new connection piece (Err faults.Device) closes down none only
 refuses_bytes old new connection piece (Err faults.Memory) closes down none only same files failures = absurd (only.1 refl)
 refuses_bytes old new connection piece (Err faults.Full) closes down none only same files failures = absurd (only.0 refl)
 
-pub turned : {D : Type 0} {g : Ghosts D} {keeps : Type 0} (old new : Server D g) (connection now : ℕ) (result : Result Turn ServerFault)
+pub turned : {D : Type 0} {g : Ghosts D} {keeps : Type 0} (defers : Bool) (old new : Server D g) (connection now : ℕ) (result : Result Turn ServerFault)
     → OnOk result (HasTurned keeps (view old) (view new) connection now)
-    → (keeps → IfOk result (λ turn. Serves old new (Turns connection now) (Turned (turn_view turn))))
+    → (keeps → IfOk result (λ turn. ServesAs defers old new (Turns connection now) (Turned (turn_view turn))))
     → IfOk result (λ turn. Goes keeps old new (IsOne (Did (Turns connection now) (Turned (turn_view turn)))))
-turned old new connection now (Ok turn) has serves =
-    one_call {old = old} {new = new} (Turns connection now) (Turned (turn_view turn)) (λ up. has.up) (λ keeps up. serves keeps)
-turned old new connection now (Err fault) has serves = tt
+turned defers old new connection now (Ok turn) has serves =
+    one_call {old = old} {new = new} (Turns connection now) (Turned (turn_view turn)) (λ up. has.up)
+    (λ keeps up. makes defers old new (Turns connection now) (Turned (turn_view turn)) (serves keeps))
+turned defers old new connection now (Err fault) has serves = tt
 
 pub gives : {D : Type 0} {g : Ghosts D} {keeps : Type 0} (old new : Server D g) (connection : ℕ) (result : Result (Option (Vec ℕ)) ServerFault)
-    → files_of new ≡ files_of old
-    → (keeps → (volume_of old).is_down ≡ false → IfOk result (λ output. Serves old new (Takes connection) (gave output)))
+    → files_of new ≡ files_of old → waits_of old ≡ false
+    → (keeps → (volume_of old).is_down ≡ false → waits_of old ≡ false → IfOk result (λ output. Serves old new (Takes connection) (gave output)))
     → IfOk result (λ output. Goes keeps old new (IsOne (Did (Takes connection) (gave output))))
-gives old new connection (Ok output) files serves =
-    one_call {old = old} {new = new} (Takes connection) (gave output) (still_up old new files) (λ keeps up. serves keeps (still_up old new files up))
-gives old new connection (Err fault) files serves = tt
+gives old new connection (Ok output) files none serves =
+    one_call {old = old} {new = new} (Takes connection) (gave output) (still_up old new files)
+    (λ keeps up. makes false old new (Takes connection) (gave output) (serves keeps (still_up old new files up) none))
+gives old new connection (Err fault) files none serves = tt
 
 pub refuses_output : {D : Type 0} {g : Ghosts D} (old new : Server D g) (connection : ℕ) (result : Result (Option (Vec ℕ)) ServerFault)
     → (IsErrOf result faults.NoConnection ↔ (connection_at (view old) connection ≡ None))

@@ -8,7 +8,7 @@ use Rattle.server.specs.Seen.{ServerCall, Did, Failed, Said, Took}
 use Rattle.server.specs.Views.{gave}
 use Rattle.server.specs.declared.server.Server.{Server}
 use Rattle.peer.specs.Calls.{Goes, IsNone, IsOne}
-use Rattle.peer.specs.Steps.{IsOn, AreOn, all_by, count_by, shown_by, taken_by, closings_by, turns_by, given_by, bytes_of, Tally, IsTallied}
+use Rattle.peer.specs.Steps.{IsOn, AreOn, all_by, count_by, shown_by, taken_by, closings_by, turns_by, takes_by, given_by, bytes_of, Tally, IsTallied}
 use Rattle.peer.proofs.Made.{goes_as, goes_on}
 
 -- Calls
@@ -50,12 +50,13 @@ joined a b = record {
   taken = a.taken ++ b.taken;
   closings = a.closings + b.closings;
   turns = a.turns + b.turns;
+  takes = a.takes + b.takes;
   given = a.given ++ b.given;
   written = a.written ++ b.written;
 }
 
 abbrev pub nothing : Tally
-nothing = record { came = []; shown = []; taken = []; closings = 0; turns = 0; given = []; written = [] }
+nothing = record { came = []; shown = []; taken = []; closings = 0; turns = 0; takes = 0; given = []; written = [] }
 
 tallied_both : (moments : ℕ → Type 0) (connection : ℕ) (a b : Tally) (calls more : List ServerCall) → IsTallied moments connection a calls → IsTallied moments connection b more
     → IsTallied moments connection (joined a b) (more ++ calls)
@@ -65,6 +66,7 @@ tallied_both moments connection a b calls more one two = record {
   taken = rw (all-append taken_by more calls, one.taken, two.taken) refl;
   closings = rw (count-append closings_by more calls, one.closings, two.closings) refl;
   turns = rw (count-append turns_by more calls, one.turns, two.turns) refl;
+  takes = rw (count-append takes_by more calls, one.takes, two.takes) refl;
   given = rw (all-append given_by more calls, one.given, two.given) refl;
 }
 
@@ -87,6 +89,7 @@ tallies_any few many connection tally shows goes =
       taken = is.taken;
       closings = is.closings;
       turns = is.turns;
+      takes = is.takes;
       given = is.given;
     }) goes
 
@@ -97,7 +100,7 @@ pub tally_none : {D : Type 0} {g : Ghosts D} {keeps : Type 0} {moments : ℕ →
 tally_none {moments = moments} connection came written none =
     goes_as {first = IsNone} {kind = IsTallied moments connection (record nothing { came = came; written = written })}
     (λ (calls : List ServerCall) (is : calls ≡ []). subst (IsTallied moments connection (record nothing { came = came; written = written })) (sym is)
-    (record { on = tt; shown = refl; taken = refl; closings = refl; turns = refl; given = refl })) none
+    (record { on = tt; shown = refl; taken = refl; closings = refl; turns = refl; takes = refl; given = refl })) none
 
 pub tally_taken : {D : Type 0} {g : Ghosts D} {keeps : Type 0} {moments : ℕ → Type 0} {old new : Server D g} (connection : ℕ) (piece : List ℕ) (count : ℕ)
     → Goes keeps old new (IsOne (Did (Arrives connection piece) (Took (Some count))))
@@ -107,7 +110,7 @@ tally_taken {moments = moments} connection piece count one =
     {kind = IsTallied moments connection (record nothing { shown = piece ∷ []; taken = take count piece })}
     (λ (calls : List ServerCall) (is : calls ≡ Did (Arrives connection piece) (Took (Some count)) ∷ []).
     subst (IsTallied moments connection (record nothing { shown = piece ∷ []; taken = take count piece })) (sym is)
-    (record { on = (refl, tt); shown = refl; taken = refl; closings = refl; turns = refl; given = refl })) one
+    (record { on = (refl, tt); shown = refl; taken = refl; closings = refl; turns = refl; takes = refl; given = refl })) one
 
 pub tally_closes : {D : Type 0} {g : Ghosts D} {keeps : Type 0} {moments : ℕ → Type 0} {old new : Server D g} (connection : ℕ) (piece : List ℕ)
     → Goes keeps old new (IsOne (Did (Arrives connection piece) (Took None)))
@@ -117,7 +120,7 @@ tally_closes {moments = moments} connection piece one =
     {kind = IsTallied moments connection (record nothing { shown = piece ∷ []; closings = 1 })}
     (λ (calls : List ServerCall) (is : calls ≡ Did (Arrives connection piece) (Took None) ∷ []).
     subst (IsTallied moments connection (record nothing { shown = piece ∷ []; closings = 1 })) (sym is)
-    (record { on = (refl, tt); shown = refl; taken = refl; closings = refl; turns = refl; given = refl })) one
+    (record { on = (refl, tt); shown = refl; taken = refl; closings = refl; turns = refl; takes = refl; given = refl })) one
 
 pub tally_turn : {D : Type 0} {g : Ghosts D} {keeps : Type 0} {moments : ℕ → Type 0} {old new : Server D g} (connection now : ℕ) (said : Said)
     → moments now → Goes keeps old new (IsOne (Did (Turns connection now) said)) → Goes keeps old new (IsTallied moments connection (record nothing { turns = 1 }))
@@ -125,7 +128,7 @@ tally_turn {moments = moments} connection now said shows one =
     goes_as {first = IsOne (Did (Turns connection now) said)} {kind = IsTallied moments connection (record nothing { turns = 1 })}
     (λ (calls : List ServerCall) (is : calls ≡ Did (Turns connection now) said ∷ []).
     subst (IsTallied moments connection (record nothing { turns = 1 })) (sym is)
-    (record { on = ((refl, shows), tt); shown = refl; taken = refl; closings = refl; turns = refl; given = refl })) one
+    (record { on = ((refl, shows), tt); shown = refl; taken = refl; closings = refl; turns = refl; takes = refl; given = refl })) one
 
 gives-output : (connection : ℕ) (output : Option (Vec ℕ)) → given_by (Did (Takes connection) (gave output)) ≡ bytes_of output
 gives-output connection None = refl
@@ -133,13 +136,13 @@ gives-output connection (Some reply) = refl
 
 pub tally_given : {D : Type 0} {g : Ghosts D} {keeps : Type 0} {moments : ℕ → Type 0} {old new : Server D g} (connection : ℕ) (output : Option (Vec ℕ)) (written : List ℕ)
     → Goes keeps old new (IsOne (Did (Takes connection) (gave output)))
-    → Goes keeps old new (IsTallied moments connection (record nothing { given = bytes_of output; written = written }))
+    → Goes keeps old new (IsTallied moments connection (record nothing { takes = 1; given = bytes_of output; written = written }))
 tally_given {moments = moments} connection output written one =
     goes_as {first = IsOne (Did (Takes connection) (gave output))}
-    {kind = IsTallied moments connection (record nothing { given = bytes_of output; written = written })}
+    {kind = IsTallied moments connection (record nothing { takes = 1; given = bytes_of output; written = written })}
     (λ (calls : List ServerCall) (is : calls ≡ Did (Takes connection) (gave output) ∷ []).
-    subst (IsTallied moments connection (record nothing { given = bytes_of output; written = written })) (sym is)
-    (record { on = (refl, tt); shown = refl; taken = refl; closings = refl; turns = refl; given = gives-output connection output })) one
+    subst (IsTallied moments connection (record nothing { takes = 1; given = bytes_of output; written = written })) (sym is)
+    (record { on = (refl, tt); shown = refl; taken = refl; closings = refl; turns = refl; takes = refl; given = gives-output connection output })) one
 
 -- Bytes that are known
 

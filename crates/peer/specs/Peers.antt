@@ -20,6 +20,7 @@ pub record IsSame {S : Type 0} {h : stream.Ghosts S} (before after : Peer S h) :
   pub conn : after.conn ≡ before.conn
   pub stream : after.stream ≡ before.stream
   pub inbox : after.inbox ≡ before.inbox
+  pub keeping : after.keeping ≡ before.keeping
   pub has_half : after.has_half ≡ before.has_half
   pub heard : after.heard ≡ before.heard
 
@@ -37,6 +38,7 @@ abbrev pub WaitsFor : Stage → (inbox : List ℕ) → Type 0
 WaitsFor stages.Gathers inbox = inbox ≡ []
 WaitsFor (stages.Replies reply) inbox = Unit {0}
 WaitsFor stages.Runs inbox = ⊥
+WaitsFor stages.Made inbox = ⊥
 WaitsFor stages.Ends inbox = ⊥
 
 -- and has done so for that long

@@ -10,7 +10,7 @@ use Rattle.model.specs.Server.Runs.{Arrives, Turns, Takes}
 use Rattle.model.specs.Server.World.{Closed}
 use Rattle.server.specs.Refused.{connection_at, view}
 use Rattle.server.specs.Seen.{ServerCall, Did, Failed, Took, Gave}
-use Rattle.server.specs.Views.{volume_of}
+use Rattle.server.specs.Views.{volume_of, waits_of}
 use Rattle.server.specs.declared.server.Server.{Server}
 use Rattle.system.specs.declared.refused.Refused.{Refused}
 use Rattle.system.specs.declared.refused.Refused.TheVariants as refusals
@@ -59,6 +59,11 @@ abbrev pub turns_by : ServerCall → ℕ
 turns_by (Did (Turns number now) said) = 1
 turns_by _ = 0
 
+-- how often a reply was asked for
+abbrev pub takes_by : ServerCall → ℕ
+takes_by (Did (Takes number) said) = 1
+takes_by _ = 0
+
 -- the bytes of the reply that it gave
 abbrev pub given_by : ServerCall → List ℕ
 given_by (Did (Takes number) (Gave (Some reply))) = reply
@@ -80,6 +85,7 @@ pub record Tally : Type 0 where
   pub taken : List ℕ
   pub closings : ℕ
   pub turns : ℕ
+  pub takes : ℕ
   pub given : List ℕ
   pub written : List ℕ
 
@@ -91,6 +97,7 @@ pub record IsTallied (moments : ℕ → Type 0) (connection : ℕ) (tally : Tall
   pub taken : all_by taken_by calls ≡ tally.taken
   pub closings : count_by closings_by calls ≡ tally.closings
   pub turns : count_by turns_by calls ≡ tally.turns
+  pub takes : count_by takes_by calls ≡ tally.takes
   pub given : all_by given_by calls ≡ tally.given
 
 -- the bytes of a reply, and of none
@@ -103,6 +110,7 @@ abbrev pub unsent : Stage → List ℕ
 unsent (stages.Replies reply) = reply
 unsent stages.Gathers = []
 unsent stages.Runs = []
+unsent stages.Made = []
 unsent stages.Ends = []
 
 -- Bytes
@@ -126,10 +134,11 @@ abbrev pub AreAll : (waiting : List ℕ) → List (List ℕ) → Type 0
 AreAll waiting [] = Unit {0}
 AreAll waiting (piece ∷ pieces) = (piece ≡ waiting) × AreAll waiting pieces
 
--- there was a turn, or a write; or else a signal came
+-- there was a turn, or a write, or a reply was asked for; or else a signal came
 pub data HasWorked {S : Type 0} {h : stream.Ghosts S} (peer : Peer S h) (tally : Tally)
     : Type 0 where
   Turned : 0 < tally.turns → HasWorked peer tally
+  Asked : 0 < tally.takes → HasWorked peer tally
   Wrote : 0 < length tally.written → HasWorked peer tally
   Read_broken : h.read_told peer.stream (Some kinds.Interrupted) ≡ true → HasWorked peer tally
   Write_broken : h.write_told peer.stream (Some kinds.Interrupted) ≡ true → HasWorked peer tally
@@ -150,8 +159,17 @@ pub record WaitsToWrite {S : Type 0} {h : stream.Ghosts S} (peer : Peer S h) : T
   pub noted : peer.can_write ≡ false
   pub told : h.write_told peer.stream (Some kinds.WouldBlock) ≡ true
 
-abbrev pub IsStuck : {S : Type 0} {h : stream.Ghosts S} → Peer S h → Type 0
-IsStuck peer = WaitsToRead peer ⊎ WaitsToWrite peer
+-- its reply is made, and something waits for a flush
+pub record WaitsForFlush {D S : Type 0} {g : Ghosts D} {h : stream.Ghosts S} (server : Server D g)
+    (peer : Peer S h) : Type 0 where
+  pub made : peer.stage ≡ stages.Made
+  pub waits : waits_of server ≡ true
+
+pub data IsStuck {D S : Type 0} {g : Ghosts D} {h : stream.Ghosts S} (server : Server D g)
+    (peer : Peer S h) : Type 0 where
+  To_read : WaitsToRead peer → IsStuck server peer
+  To_write : WaitsToWrite peer → IsStuck server peer
+  To_flush : WaitsForFlush server peer → IsStuck server peer
 
 -- Ends
 
@@ -205,6 +223,7 @@ pub record GivesNoTurn {D S : Type 0} {g : Ghosts D} {h : stream.Ghosts S} (keep
   pub unread : tally.came ≡ []
   pub unshown : tally.shown ≡ []
   pub unturned : tally.turns ≡ 0
+  pub works : result ≡ Ok paces.Goes → HasWorked after tally
   pub parts : IfErr result (Parts tally new after)
 
 -- of its reply it sends the front, once

@@ -1,14 +1,15 @@
 //! The calls of the server that a step of a peer makes. Each says that the server made this one
 //! call and no other, or why it was refused.
 
-ghost use Rattle.std.specs.Prelude.{IfOk, IfErr, OnOk};
+ghost use Rattle.std.specs.Prelude.{◌≡◌, false, IfOk, IfErr, OnOk};
 ghost use Rattle.model.specs.Server.Runs.{Arrives, Turns, Takes};
 ghost use Rattle.server.specs.Connections.{turn_view};
 ghost use Rattle.server.specs.Refused.{RefusesTurn, RefusesHangUp, connection_at, view};
 ghost use Rattle.server.specs.Seen.{Did, Took, Turned};
-ghost use Rattle.server.specs.Views.{gave};
+ghost use Rattle.server.specs.Views.{gave, waits_of};
 ghost use Rattle.peer.specs.Calls.{Goes, IsOne, IsHangUp, IsEndAt, HasGone, RefusesBytes, RefusesOutput};
 
+use crate::keeping::Keeping;
 use disk::Device;
 use server::{Server, ServerFault, Turn};
 
@@ -27,19 +28,28 @@ pub fn feed<D: Device>(
 }
 
 /// What the connection's turn at this moment did, in nanoseconds since 1970.
-pub fn turn<D: Device>(server: &mut Server<D>, conn: usize, now: u64) -> Result<Turn, ServerFault>
+pub fn turn<D: Device>(
+    server: &mut Server<D>,
+    conn: usize,
+    now: u64,
+    keeping: Keeping,
+) -> Result<Turn, ServerFault>
     ensures ok { IfOk result (λ turn. Goes D.keeps_word server.old server.new
         (IsOne (Did (Turns conn now) (Turned (turn_view turn))))) }
     ensures refused { IfErr result (RefusesTurn (view server.old) (view server.new) conn) }
 {
-    server.turn(conn, now)
+    match keeping {
+        Keeping::AtOnce => server.turn(conn, now),
+        Keeping::Later => server.turn_unflushed(conn, now),
+    }
 }
 
-/// The connection's reply, if there is one.
+/// The connection's reply, if there is one. Nothing waits for a flush.
 pub fn take_output<D: Device>(
     server: &mut Server<D>,
     conn: usize,
 ) -> Result<Option<Vec<u8>>, ServerFault>
+    requires { waits_of server.old ≡ false }
     ensures ok { IfOk result (λ output. Goes D.keeps_word server.old server.new
         (IsOne (Did (Takes conn) (gave output)))) }
     ensures refused { IfErr result (RefusesOutput server.old server.new conn) }

@@ -4,6 +4,7 @@
 mod calls;
 mod delayed;
 mod inbox;
+mod keeping;
 mod pace;
 mod peer;
 mod ran;
@@ -13,6 +14,7 @@ mod stream;
 
 pub use delayed::{Answered, Delayed, compound_status};
 pub use inbox::Inbox;
+pub use keeping::Keeping;
 pub use pace::Pace;
 pub use peer::{Peer, Step};
 pub use ran::Ran;

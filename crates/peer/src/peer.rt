@@ -1,5 +1,5 @@
 //! A peer, step by step: its bytes go to the server piece by piece, its request has one operation
-//! run at a step, and its reply goes out as it is taken.
+//! run at a step, and its reply goes out as it is taken, once what it reports is kept.
 
 ghost use Rattle.std.specs.Prelude.{◌≡◌, true, false, Some, IfOk, IfErr, if◌then◌else◌};
 ghost use Rattle.std.specs.IoError.{error_kind};
@@ -10,6 +10,7 @@ ghost use Rattle.peer.specs.Streams.{IsOver};
 use crate::calls;
 use crate::delayed::Answered;
 use crate::inbox::Inbox;
+use crate::keeping::Keeping;
 use crate::pace::Pace;
 use crate::reply::Reply;
 use crate::stream::Stream;
@@ -32,6 +33,7 @@ pub struct Peer<S: Stream + Drop> {
     conn: usize,
     stream: S,
     inbox: Inbox,
+    keeping: Keeping,
     stage: Stage,
     /// Whether a read may give something, and a write take something.
     can_read: bool,
@@ -54,6 +56,8 @@ enum Stage {
     Gathers,
     /// The server has bytes: perhaps a whole request, which is given turns.
     Runs,
+    /// The server has a reply, which it hands out once nothing waits for a flush.
+    Made,
     /// A reply goes out. Until it is gone no byte is read.
     Replies(Reply),
     /// The connection is to be hung up.
@@ -101,18 +105,19 @@ impl<S: Stream + Drop> Peer<S> {
     ghost use Rattle.system.specs.Moments.{IsMoment};
     ghost use Rattle.peer.specs.Calls.{Goes, IsEnd};
     ghost use Rattle.peer.specs.Peers.{PeerBegins, IsSame, IsSpare, WaitsFor, quiet_nanos};
-    ghost use Rattle.peer.specs.Steps.{Advances, Runs, GivesNoTurn, Sends, IsReplying, IsStuck, ServesOn, EndsPeer, FailsBy};
+    ghost use Rattle.peer.specs.Steps.{Advances, Runs, GivesNoTurn, Sends, IsReplying, IsStuck, WaitsToWrite, ServesOn, EndsPeer, FailsBy};
 
-    /// A peer over this connection of the server.
-    pub fn new(conn: usize, stream: S, inbox: Inbox, now: Instant) -> Peer<S>
+    /// A peer over this connection of the server, of whose turns changes are kept then.
+    pub fn new(conn: usize, stream: S, inbox: Inbox, keeping: Keeping, now: Instant) -> Peer<S>
         ensures given { (result.conn ≡ conn) × (result.stream ≡ stream) × (result.inbox ≡ inbox)
-            × (result.heard ≡ now) }
+            × (result.keeping ≡ keeping) × (result.heard ≡ now) }
         ensures begins { PeerBegins result }
     {
         Peer {
             conn,
             stream,
             inbox,
+            keeping,
             stage: Stage::Gathers,
             can_read: true,
             can_write: true,
@@ -181,8 +186,15 @@ impl<S: Stream + Drop> Peer<S> {
         match self.stage {
             Stage::Gathers => self.inbox.is_empty(),
             Stage::Replies(_) => true,
-            Stage::Runs | Stage::Ends => false,
+            Stage::Runs | Stage::Made | Stage::Ends => false,
         }
+    }
+
+    /// Whether its reply waits for a flush.
+    pub fn awaits_flush(&self) -> bool
+        ensures { IsTrue result ↔ (self.now.stage ≡ Stage.Made) }
+    {
+        matches!(self.stage, Stage::Made)
     }
 
     /// Ends it with its next step.
@@ -219,7 +231,7 @@ impl<S: Stream + Drop> Peer<S> {
     where
         D: Device,
         C: WallClock,
-        ensures asleep { IfOk result (λ step. step ≡ Step.Stays Pace.Sleeps → IsStuck self.new) }
+        ensures asleep { IfOk result (λ step. step ≡ Step.Stays Pace.Sleeps → IsStuck server.new self.new) }
         // It stays, or ends
         ensures stays { (self.new.stage ≢ Stage.Ends)
             → ServesOn D.keeps_word (IsMoment (C.shows clock.now)) server.old server.new
@@ -250,7 +262,7 @@ impl<S: Stream + Drop> Peer<S> {
     where
         D: Device,
         C: WallClock,
-        ensures asleep { IfOk result (λ pace. pace ≡ Pace.Sleeps → IsStuck self.new) }
+        ensures asleep { IfOk result (λ pace. pace ≡ Pace.Sleeps → IsStuck server.new self.new) }
         ensures does { Advances D.keeps_word (IsMoment (C.shows clock.now)) server.old server.new
             self.old self.new result }
         ensures ends { self.new.stage ≡ Stage.Ends → IsErrOf result Parting.Peer }
@@ -258,6 +270,7 @@ impl<S: Stream + Drop> Peer<S> {
         match self.stage {
             Stage::Gathers => self.gather(server, clock, now),
             Stage::Runs => self.run(server, clock, now),
+            Stage::Made => self.take_reply(server, now),
             Stage::Replies(_) => self.reply(now),
             Stage::Ends => Err(Parting::Peer),
         }
@@ -274,7 +287,7 @@ impl<S: Stream + Drop> Peer<S> {
         D: Device,
         C: WallClock,
         requires { self.old.stage ≡ Stage.Gathers }
-        ensures asleep { IfOk result (λ pace. pace ≡ Pace.Sleeps → IsStuck self.new) }
+        ensures asleep { IfOk result (λ pace. pace ≡ Pace.Sleeps → IsStuck server.new self.new) }
         ensures does { Advances D.keeps_word (IsMoment (C.shows clock.now)) server.old server.new
             self.old self.new result }
     {
@@ -296,7 +309,7 @@ impl<S: Stream + Drop> Peer<S> {
         C: WallClock,
         requires empty { self.old.inbox ≡ [] }
         requires gathers { self.old.stage ≡ Stage.Gathers }
-        ensures asleep { IfOk result (λ pace. pace ≡ Pace.Sleeps → IsStuck self.new) }
+        ensures asleep { IfOk result (λ pace. pace ≡ Pace.Sleeps → IsStuck server.new self.new) }
         ensures does { Advances D.keeps_word (IsMoment (C.shows clock.now)) server.old server.new
             self.old self.new result }
     {
@@ -327,7 +340,7 @@ impl<S: Stream + Drop> Peer<S> {
         D: Device,
         C: WallClock,
         requires { self.old.stage ≡ Stage.Gathers }
-        ensures asleep { IfOk result (λ pace. pace ≡ Pace.Sleeps → IsStuck self.new) }
+        ensures asleep { IfOk result (λ pace. pace ≡ Pace.Sleeps → IsStuck server.new self.new) }
         ensures does { Advances D.keeps_word (IsMoment (C.shows clock.now)) server.old server.new
             self.old self.new result }
     {
@@ -349,34 +362,40 @@ impl<S: Stream + Drop> Peer<S> {
         D: Device,
         C: WallClock,
         requires { self.old.stage ≡ Stage.Runs }
-        ensures asleep { IfOk result (λ pace. pace ≡ Pace.Sleeps → IsStuck self.new) }
+        ensures asleep { IfOk result (λ pace. pace ≡ Pace.Sleeps → IsStuck server.new self.new) }
         ensures does { Runs D.keeps_word (IsMoment (C.shows clock.now)) server.old server.new
             self.old self.new result }
     {
         let Ok(at) = moment(clock) else {
             return Err(Parting::Clock);
         };
-        match calls::turn(server, self.conn, at)? {
+        match calls::turn(server, self.conn, at, self.keeping)? {
             Turn::Idle => {
                 self.stage = Stage::Gathers;
                 Ok(Pace::Goes)
             }
             Turn::Ran => Ok(Pace::Goes),
-            Turn::Answered => self.take_reply(server, now),
+            Turn::Answered => {
+                self.has_half = false;
+                self.stage = Stage::Made;
+                self.take_reply(server, now)
+            }
         }
     }
 
-    /// Takes the reply that a turn has made, and begins to send it.
+    /// Takes the reply that a turn has made, if nothing waits for a flush, and begins to send it.
     fn take_reply<D: Device>(
         &mut self,
         server: &mut Server<D>,
         now: Instant,
     ) -> Result<Pace, Parting>
-        requires { self.old.stage ≡ Stage.Runs }
-        ensures asleep { IfOk result (λ pace. pace ≡ Pace.Sleeps → IsStuck self.new) }
+        requires { self.old.stage ≡ Stage.Made }
+        ensures asleep { IfOk result (λ pace. pace ≡ Pace.Sleeps → IsStuck server.new self.new) }
         ensures does { GivesNoTurn D.keeps_word server.old server.new self.old self.new result }
     {
-        self.has_half = false;
+        if server.waits() {
+            return Ok(Pace::Sleeps);
+        }
         self.stage = Stage::Gathers;
         // The peer has its patience from here on to take it.
         self.heard = now;
@@ -393,7 +412,7 @@ impl<S: Stream + Drop> Peer<S> {
     /// Sends what the peer takes of its reply.
     fn reply(&mut self, now: Instant) -> Result<Pace, Parting>
         requires { IsReplying self.old.stage }
-        ensures asleep { IfOk result (λ pace. pace ≡ Pace.Sleeps → IsStuck self.new) }
+        ensures asleep { IfOk result (λ pace. pace ≡ Pace.Sleeps → WaitsToWrite self.new) }
         ensures does { Sends self.old self.new result }
     {
         let Stage::Replies(reply) = &mut self.stage else {

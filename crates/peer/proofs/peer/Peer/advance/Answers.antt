@@ -1,6 +1,6 @@
 use Rattle.std.proofs.Common.{[], refl, sym, append-nil}
 use Rattle.peer.specs.Steps.{Dismissed}
-use Rattle.peer.proofs.Carried.{quiet, sends_on}
+use Rattle.peer.proofs.Carried.{gives_on, quiet, sends_on, stuck_on_write}
 use Rattle.peer.proofs.Tallies.{consumes_none}
 use Rattle.peer.proofs.peer.Peer.advance.Goals as goal
 
@@ -12,6 +12,15 @@ returns-in-Runs-clause-does g c = c.run.ensures.does.advances
 
 pub returns-in-Runs-clause-ends : goal.returns-in-Runs-clause-ends
 returns-in-Runs-clause-ends g c = λ is. let was = c.run.ensures.does.advances.carries.ends is in let never : ⊥ = cc in absurd never
+
+pub returns-in-Made-clause-does : goal.returns-in-Made-clause-does
+returns-in-Made-clause-does g c = gives_on c.args.self.now c.take_reply.new.self c.take_reply.result c.take_reply.ensures.does
+
+pub returns-in-Made-clause-ends : goal.returns-in-Made-clause-ends
+returns-in-Made-clause-ends g c = λ is. let was = c.take_reply.ensures.does.carries.ends is in let never : ⊥ = cc in absurd never
+
+pub returns-in-Replies-clause-asleep : goal.returns-in-Replies-clause-asleep
+returns-in-Replies-clause-asleep g c = stuck_on_write c.args.server.now c.reply.new.self c.reply.result c.reply.ensures.asleep
 
 pub returns-in-Replies-clause-does : goal.returns-in-Replies-clause-does
 returns-in-Replies-clause-does g c = sends_on c.args.server.now c.args.self.now c.reply.new.self c.reply.result c.reply.ensures.does

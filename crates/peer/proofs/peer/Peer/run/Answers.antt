@@ -28,5 +28,5 @@ returns-in-Ran-clause-does g c =
 
 pub returns-in-Answered-clause-does : goal.returns-in-Answered-clause-does
 returns-in-Answered-clause-does g c =
-    reply_then c.args.self.now c.args.self.now c.take_reply.new.self _ _ c.take_reply.result c.in-Ok.ensures c.in_ok-turn.ensures.ok refl refl refl refl
-    (λ is. let was = c.requires in let never : ⊥ = cc in never) c.take_reply.ensures.does
+    reply_then c.args.self.now _ c.take_reply.new.self _ _ c.take_reply.result c.in-Ok.ensures c.in_ok-turn.ensures.ok refl refl refl (rw c.requires refl)
+    (λ is. let never : ⊥ = cc in never) c.take_reply.ensures.does

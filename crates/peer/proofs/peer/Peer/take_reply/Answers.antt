@@ -1,6 +1,6 @@
 use Rattle.std.proofs.Common.{refl}
 use Rattle.std.proofs.lemmas.Result.{err_from_is_err_and}
-use Rattle.peer.proofs.Carried.{gives_none, gives_then, refuses_reply}
+use Rattle.peer.proofs.Carried.{gives_later, gives_none, gives_then, refuses_reply, stuck_on_write}
 use Rattle.peer.proofs.peer.Peer.take_reply.Goals as goal
 
 pub returns-in_err-bytes-clause-does : goal.returns-in_err-bytes-clause-does
@@ -19,3 +19,9 @@ pub returns-in-None-clause-does : goal.returns-in-None-clause-does
 returns-in-None-clause-does g c =
     gives_none c.args.self.now _ (rw c.in-None.is at c.in_ok-bytes.ensures.ok) refl refl refl (rw c.requires refl)
     (λ is. let never : ⊥ = cc in never)
+
+pub returns-then-waits-clause-does : goal.returns-then-waits-clause-does
+returns-then-waits-clause-does g c = gives_later c.args.server.now c.args.self.now
+
+pub returns-in-Some-clause-asleep : goal.returns-in-Some-clause-asleep
+returns-in-Some-clause-asleep g c = stuck_on_write c.take_output.new.server c.reply.new.self c.reply.result c.reply.ensures.asleep
