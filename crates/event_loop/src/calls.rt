@@ -1,5 +1,5 @@
-//! The calls of the server that the loop itself makes. Each stands here once, so that what is above
-//! need not see all that they promise.
+//! The calls of the server that the loop itself makes, each once, so that what is above need not see
+//! all that they promise.
 
 use disk::Device;
 use server::{Server, Turn};
@@ -59,6 +59,11 @@ pub fn take_output<D: Device>(
 /// Ends the connection at this moment, in nanoseconds since 1970.
 pub fn hangup<D: Device>(server: &mut Server<D>, conn: usize, now: u64) -> Result<(), Refused> {
     Ok(server.hangup(conn, now)?)
+}
+
+/// Keeps what waits, all of it with one flush.
+pub fn flush<D: Device>(server: &mut Server<D>) -> Result<(), Refused> {
+    Ok(server.flush()?)
 }
 
 /// Makes a checkpoint, while no reply is due.

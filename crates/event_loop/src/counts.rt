@@ -21,7 +21,7 @@ pub struct Counts {
     pub operations: Operations,
     /// Changes of the tree.
     pub changes: u64,
-    /// Steps of peers and checkpoints in which the device was synced.
+    /// Steps of peers, flushes and checkpoints in which the device was synced.
     pub flushes: u64,
     /// When a request was answered last.
     pub last_answer: Option<Instant>,

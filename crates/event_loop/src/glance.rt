@@ -1,39 +1,34 @@
-//! What a step of a peer has done, by what is seen of the server before and after it.
+//! What a peer's steps have done, by what is seen of the server before and after them.
 
 use crate::counts::Counts;
 use crate::watched::Watched;
 use peer::{Answered, Ran};
 use server::{Server, UnderWay};
 
-/// What is seen of the server before a step of a peer.
+/// How far the COMPOUND of a connection had come when its operations were last counted.
 #[derive(Clone, Copy)]
 pub struct Glance {
-    conn: usize,
     under_way: Option<UnderWay>,
-    syncs: u64,
 }
 
 impl Glance {
-    /// What is seen before a step of this connection's peer.
-    pub fn of<D: Watched>(server: &Server<D>, conn: usize) -> Glance {
-        Glance {
-            conn,
-            under_way: server.under_way(conn),
-            syncs: syncs_of(server),
-        }
-    }
+    /// That of a connection of which nothing has run.
+    pub const FIRST: Glance = Glance { under_way: None };
 
-    /// Counts what was done since, where this is the reply that was made.
+    /// Counts the operation that ran since, if one did; `answered` is the reply, if it was taken.
+    /// An operation whose reply is made is counted once that is taken, since it has the status.
     pub fn count<D: Watched>(
-        self,
+        &mut self,
         server: &Server<D>,
+        conn: usize,
         answered: Option<Answered>,
         counts: &mut Counts,
     ) {
-        if let Some(ran) = Ran::between(self.under_way, server.under_way(self.conn), answered) {
+        let under_way = server.under_way(conn);
+        if let Some(ran) = Ran::between(self.under_way, under_way, answered) {
             counts.run(ran);
         }
-        counts.sync(self.syncs, syncs_of(server));
+        self.under_way = under_way;
     }
 }
 

@@ -2,7 +2,7 @@
 
 use crate::counts::Counts;
 use crate::door::{Arrival, Door};
-use crate::glance::{Glance, has_replayed, syncs_of};
+use crate::glance::{has_replayed, syncs_of};
 use crate::line::{Line, Listening, Session, Start};
 use crate::lines::Lines;
 use crate::page::{State, page_of};
@@ -35,6 +35,9 @@ const GLANCE_SECONDS: u64 = 1;
 
 /// How many connections are accepted before the peers have a step.
 const MAX_ARRIVALS: u32 = 16;
+
+/// How many steps each peer has before a flush, and so how many operations it may run.
+const MAX_STEPS: u32 = 16;
 
 /// Mounts the device's volume, tells the door's address on `out`, and serves until the device, the
 /// clock or the system's telling of changes fails. Where no peer has been there for as long as the
@@ -299,8 +302,9 @@ impl<D: Watched> Hub<D> {
         Ok(End::Alone)
     }
 
-    /// Waits for the system for so long at most; then connections that wait are given places, and
-    /// each peer has one step, with one operation of a request at most. Answers how soon to go on.
+    /// Waits for the system for so long at most; then connections that wait are given places, each
+    /// peer has steps, with one operation of a request at most, and what waits is flushed. Returns
+    /// how soon to go on.
     ///
     /// # Errors
     /// Device where the device fails; Io where the clock does, or the system's telling of changes;
@@ -351,7 +355,8 @@ impl<D: Watched> Hub<D> {
         Ok(())
     }
 
-    /// Connections that wait are given places, and each peer has a step.
+    /// Connections that wait are given places; each peer has steps until none goes on; then what
+    /// waits is flushed, and the replies go out.
     fn round<R, E>(&mut self, rt: &R, now: Instant, lines: &mut Lines<E>) -> Result<Pace, Refused>
     where
         R: Clock + AllocGlobal,
@@ -360,13 +365,63 @@ impl<D: Watched> Hub<D> {
         let mut pace = self.show_counts(rt.alloc(), now);
         pace = pace.or(self.receive(now, lines)?);
         pace = pace.or(self.welcome(rt, now, lines)?);
+        pace = pace.or(self.step_on(rt, now, lines)?);
+        if self.flush()? {
+            pace = pace.or(self.step_all(rt, now, lines)?);
+        }
+        Ok(pace)
+    }
+
+    /// Each peer has a step, and the same again as long as one goes on, up to `MAX_STEPS` times.
+    fn step_on<C, E>(
+        &mut self,
+        clock: &C,
+        now: Instant,
+        lines: &mut Lines<E>,
+    ) -> Result<Pace, Refused>
+    where
+        C: Clock,
+        E: Write + Drop,
+    {
+        for _ in 1..MAX_STEPS {
+            let pace = self.step_all(clock, now, lines)?;
+            if pace != Pace::Goes {
+                return Ok(pace);
+            }
+        }
+        self.step_all(clock, now, lines)
+    }
+
+    /// Each peer has a step.
+    fn step_all<C, E>(
+        &mut self,
+        clock: &C,
+        now: Instant,
+        lines: &mut Lines<E>,
+    ) -> Result<Pace, Refused>
+    where
+        C: Clock,
+        E: Write + Drop,
+    {
+        let mut pace = Pace::Sleeps;
         for key in 0..MAX_CONNECTIONS {
-            pace = pace.or(self.step(key, rt, now, lines)?);
+            pace = pace.or(self.step(key, clock, now, lines)?);
         }
         if pace == Pace::Goes {
             self.is_rested = false;
         }
         Ok(pace)
+    }
+
+    /// Keeps what waits, all of it with one flush. Whether something waited.
+    fn flush(&mut self) -> Result<bool, Refused> {
+        if !self.server.waits() {
+            return Ok(false);
+        }
+        let syncs = syncs_of(&self.server);
+        calls::flush(&mut self.server)?;
+        self.counts.sync(syncs, syncs_of(&self.server));
+        Ok(true)
     }
 
     /// Serves whoever reads the counts: one read or one write. Without memory for the page the
@@ -494,10 +549,16 @@ impl<D: Watched> Hub<D> {
             return Ok(Pace::Sleeps);
         };
         let from = place.from;
-        let before = Glance::of(&self.server, place.peer.connection());
+        let syncs = syncs_of(&self.server);
         let step = place.peer.step(&mut self.server, clock, now)?;
+        self.counts.sync(syncs, syncs_of(&self.server));
         let answered = place.peer.take_answered();
-        before.count(&self.server, answered, &mut self.counts);
+        if !place.peer.awaits_flush() {
+            let conn = place.peer.connection();
+            place
+                .glance
+                .count(&self.server, conn, answered, &mut self.counts);
+        }
         if let Some(answered) = answered {
             self.note(answered, from, now, lines);
             if let Some(news) = answered.news {

@@ -32,6 +32,6 @@ pub use door::Door;
 pub use guests::{Guests, Network};
 pub use hub::{End, Hub, serve};
 pub use lines::Lines;
-pub use peer::Pace;
+pub use peer::{Keeping, Pace};
 pub use settings::Settings;
 pub use watched::Watched;

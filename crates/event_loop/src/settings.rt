@@ -2,6 +2,7 @@
 
 use crate::admission::Admission;
 use crate::guests::Guests;
+use peer::Keeping;
 use server::{NameFault, ServerName};
 use std::alloc::Global;
 use std::net::SocketAddr;
@@ -15,6 +16,8 @@ pub struct Settings {
     pub forget_after: Option<Duration>,
     /// The name by which clients tell this server from others; the standard one if it is empty.
     pub name: Vec<u8>,
+    /// When the changes of a turn are kept on the device.
+    pub keeping: Keeping,
     /// Whether sessions may be persistent: they outlive a crash, and each of their requests waits
     /// for a sync.
     pub persistent: bool,
@@ -27,19 +30,20 @@ pub struct Settings {
     pub admission: Admission,
     /// Whose connections are served.
     pub guests: Guests,
-    /// Whether the operator is told of failures only.
+    /// Whether only failures are printed.
     pub quiet: bool,
     /// Where counts are served; None: nowhere.
     pub metrics: Option<SocketAddr>,
 }
 
 impl Settings {
-    /// Those of a server of the standard name that serves anybody and is told nothing: sessions may
-    /// be persistent, and full tables give up nothing.
+    /// Those of a server of the standard name that serves anybody and prints nothing: changes are
+    /// kept in their turn, sessions may be persistent, and full tables give up nothing.
     pub fn standard(alloc: Global) -> Settings {
         Settings {
             forget_after: None,
             name: Vec::new(alloc),
+            keeping: Keeping::AtOnce,
             persistent: true,
             free_seats: false,
             yields_when_full: false,

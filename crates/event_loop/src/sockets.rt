@@ -3,13 +3,14 @@
 use crate::admission::Admission;
 use crate::counted::{Bytes, Counted};
 use crate::door::{Arrival, Door};
+use crate::glance::Glance;
 use crate::monitor::{MONITOR, Monitor, VISITOR};
 use crate::origin::Origin;
 use crate::settings::Settings;
 use mio::event::Event;
 use mio::net::TcpStream;
 use mio::{Events, Interest, Poll, Token};
-use peer::{Inbox, Peer};
+use peer::{Inbox, Keeping, Peer};
 use server::MAX_CONNECTIONS;
 use slab::Slab;
 use std::alloc::{AllocError, Global};
@@ -34,6 +35,8 @@ pub struct Sockets {
     door: Door,
     /// Which connections are still accepted.
     admission: Admission,
+    /// When the changes of a turn are kept.
+    keeping: Keeping,
     /// Where counts are asked for.
     monitor: Option<Monitor>,
     places: Slab<Place>,
@@ -48,6 +51,8 @@ pub struct Place {
     pub from: SocketAddr,
     /// The client whose session it used last.
     pub client: Option<u64>,
+    /// What was counted of its requests.
+    pub glance: Glance,
 }
 
 impl Place {
@@ -82,6 +87,7 @@ impl Sockets {
             events: Events::with_capacity(rt.alloc(), MAX_EVENTS)?,
             door,
             admission: settings.admission,
+            keeping: settings.keeping,
             places: Slab::with_capacity(rt.alloc(), MAX_CONNECTIONS)?,
             bytes: Bytes::NONE,
         };
@@ -260,12 +266,13 @@ impl Sockets {
         let token = Token(self.places.vacant_key());
         let Arrival { stream, from } = self.door.take(number)?;
         let stream = registered(&self.poll, stream, token)?;
-        let peer = Peer::new(conn, Counted::new(stream), inbox, now);
+        let peer = Peer::new(conn, Counted::new(stream), inbox, self.keeping, now);
         // There is room, so this takes no memory.
         match self.places.insert(Place {
             peer,
             from,
             client: None,
+            glance: Glance::FIRST,
         }) {
             Ok(_) => Some(from),
             Err(_) => None,

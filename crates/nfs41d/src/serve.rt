@@ -5,7 +5,7 @@ use crate::name::default_name;
 use crate::request::Serving;
 use crate::version::RELEASE;
 use disk::{Device, FileDevice};
-use event_loop::{Admission, Door, Settings, serve};
+use event_loop::{Admission, Door, Keeping, Settings, serve};
 use layout::versions::VersionNumber;
 use std::net::SocketAddr;
 use system::{Refused, open_volume};
@@ -66,6 +66,7 @@ fn settings_of(serving: Serving<'_>, name: Vec<u8>) -> Settings {
     Settings {
         forget_after: serving.forget_after,
         name,
+        keeping: Keeping::Later,
         persistent: serving.persistent,
         free_seats: serving.free_seats,
         yields_when_full: true,
