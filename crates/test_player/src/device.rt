@@ -1,25 +1,48 @@
-//! The device of a row.
+//! The device of a row, as the loop over sockets takes it.
 
-use disk::{CallKind, CrashDevice, FaultDevice, MemDevice, Stop};
+use disk::{Device, DiskFault, SECTOR};
+use event_loop::Watched;
+use test_rows::TrialDevice;
 
-/// A call that a row does not come to.
-const NO_CALL: u64 = u64::MAX;
-
-/// A device in memory, which may crash at a step or fail in a call. Every row has this one type,
-/// since the server is compiled once for each type of device.
-pub type TrialDevice = FaultDevice<CrashDevice>;
-
-/// A device that goes on from this one.
-pub fn lasting(device: MemDevice) -> TrialDevice {
-    crashing(device, Stop::Never)
+/// A device that counts no calls.
+#[derive(Drop)]
+pub struct Uncounted<D: Device> {
+    pub inner: D,
 }
 
-/// One that crashes there.
-pub fn crashing(device: MemDevice, stop: Stop) -> TrialDevice {
-    FaultDevice::new(CrashDevice::new(device, stop), CallKind::Sync, NO_CALL)
-}
+/// Every row has this one device, since the server is compiled once for each type of device.
+pub type RowDevice = Uncounted<TrialDevice>;
 
-/// One whose call of this kind and number fails.
-pub fn failing(device: MemDevice, kind: CallKind, number: u64) -> TrialDevice {
-    FaultDevice::new(CrashDevice::new(device, Stop::Never), kind, number)
+impl<D: Device> Watched for Uncounted<D> {}
+
+impl<D: Device> Device for Uncounted<D> {
+    ghost keeps_word = { D.keeps_word };
+
+    ghost size = { λ device. D.size device.inner };
+
+    ghost failed = { λ device. D.failed device.inner };
+
+    ghost history = { λ device. D.history device.inner };
+
+    fn sectors(&self) -> u32 {
+        self.inner.sectors()
+    }
+
+    fn failures(&self) -> u64 {
+        self.inner.failures()
+    }
+
+    fn read(&mut self, n: u32, content: &mut [u8; SECTOR]) -> Result<(), DiskFault> {
+        self.inner.read(n, content)
+    }
+
+    fn write(&mut self, n: u32, content: &[u8; SECTOR]) -> Result<(), DiskFault> {
+        self.inner.write(n, content)
+    }
+
+    fn sync(&mut self) -> Result<(), DiskFault> {
+        self.inner.sync()
+    }
+
+    ghost holds_sectors = { λ keeps device n there. D.holds_sectors keeps device.inner n there };
 }

@@ -2,13 +2,11 @@
 //! the program `nfs41`.
 #![tactic(auto)]
 
-mod cases;
 mod device;
-mod difference;
-mod drivers;
-mod fault;
-mod number;
-mod rows;
+mod host;
+mod hub_loop;
+mod nfs41;
+mod refusal;
 mod run;
 
 use run::{run, run_again};

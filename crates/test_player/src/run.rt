@@ -1,11 +1,14 @@
 //! A run of the program: the files, one after the other, and a line for each row and case.
 
-use crate::cases::{self, Case};
-use crate::difference::Differs;
-use crate::rows::{self, Patience, Place, Row, Sheet, Tally};
+use crate::host::Mounted;
+use crate::hub_loop::HubLoop;
+use crate::nfs41::Nfs41;
 use anyhow::{Result, anyhow, ensure};
 use std::fs;
 use std::rt::Files;
+use test_rows::{
+    Case, Differs, Patience, Place, Row, Sheet, Tally, crash, play_case, play_row, read_cases,
+};
 
 /// How the name of a file of cases ends. Every other file has rows.
 const CASES: &str = ".cases";
@@ -48,7 +51,7 @@ pub fn run_again(rt: &HostRuntime, shared: &str, file: &str) -> Result<bool> {
     let mut as_written = true;
     for row in sheet.rows() {
         println!(rt; "{file}: {}", row.name)?;
-        let outcome = rows::play(rt, row, Place::Server, Patience::Once);
+        let outcome = play_row::<Mounted, HubLoop>(rt, row, Place::Server, Patience::Once);
         as_written &= tell_again(rt, file, row.name, outcome)?;
     }
     Ok(as_written)
@@ -77,7 +80,7 @@ fn read_rows<'a>(
 fn play_rows(rt: &HostRuntime, file: &str, rows: &[Row<'_>]) -> Result<bool> {
     let mut as_written = true;
     for row in rows {
-        if !play_row(rt, file, row)? {
+        if !play_anywhere(rt, file, row)? {
             as_written = false;
         }
     }
@@ -85,23 +88,23 @@ fn play_rows(rt: &HostRuntime, file: &str, rows: &[Row<'_>]) -> Result<bool> {
 }
 
 /// Plays a row wherever it can be played.
-fn play_row(rt: &HostRuntime, file: &str, row: &Row<'_>) -> Result<bool> {
+fn play_anywhere(rt: &HostRuntime, file: &str, row: &Row<'_>) -> Result<bool> {
     let mut as_written = true;
     for (place, told) in [(Place::Server, ""), (Place::Sockets, ", over sockets")] {
         if row.is_of(place) {
-            let outcome = rows::play(rt, row, place, Patience::None);
+            let outcome = play_row::<Mounted, HubLoop>(rt, row, place, Patience::None);
             as_written &= tell(rt, file, row.name, told, outcome.map(|_| ()))?;
         }
     }
-    if row.aftermath.trials.are_any() {
-        as_written &= tell_crashes(rt, file, row, rows::crash(rt.alloc(), row))?;
+    if row.has_trials() {
+        as_written &= tell_crashes(rt, file, row, crash::<Mounted>(rt.alloc(), row))?;
     }
     Ok(as_written)
 }
 
 /// Plays the cases of a file once the whole file has a form.
 fn run_cases(rt: &HostRuntime, file: &str, text: &str) -> Result<bool> {
-    match cases::read_sheet(rt.alloc(), text) {
+    match read_cases(rt.alloc(), text) {
         Ok(cases) => play_cases(rt, file, &cases),
         Err(misread) => Err(anyhow!("{file}:{misread}")),
     }
@@ -110,7 +113,7 @@ fn run_cases(rt: &HostRuntime, file: &str, text: &str) -> Result<bool> {
 fn play_cases(rt: &HostRuntime, file: &str, cases: &[Case<'_>]) -> Result<bool> {
     let mut as_written = true;
     for case in cases {
-        if !tell(rt, file, case.name, "", cases::play(rt, case))? {
+        if !tell(rt, file, case.name, "", play_case::<Nfs41>(rt, case))? {
             as_written = false;
         }
     }
@@ -146,11 +149,7 @@ fn tell_crashes<R: Print>(
 ) -> Result<bool> {
     match outcome {
         Ok(tally) => {
-            println!(rt;
-                "{file}: {}, {tally} of {}: ok",
-                row.name,
-                row.aftermath.states.len()
-            )?;
+            println!(rt; "{file}: {}, {tally} of {}: ok", row.name, row.states())?;
             Ok(true)
         }
         Err(differs) => tell(rt, file, row.name, ", crashed", Err(differs)),

@@ -1,0 +1,146 @@
+//! Playing a row: on the server itself, and over sockets.
+
+use crate::difference::{Difference, Differs, placed};
+use crate::direct::Direct;
+use crate::host::{Host, Unmounted};
+use crate::refusal::Refusal;
+use crate::rows::{Row, Step};
+use crate::sockets::{Loop, Sockets};
+use crate::trials::{TrialDevice, lasting};
+use disk::MemDevice;
+use std::alloc::Global;
+
+/// The volume in memory.
+const SECTORS: u32 = 256;
+
+const NODES: u32 = 16;
+
+/// How many connections a row begins with.
+pub const CONNECTIONS: usize = 3;
+
+const WHOLE: usize = usize::MAX;
+
+/// The sizes of the pieces of records that meet over sockets.
+const PIECES: [usize; 4] = [WHOLE, 64, 7, 1];
+
+/// Where a row is played.
+#[derive(Clone, Copy)]
+pub enum Place {
+    Server,
+    Sockets,
+}
+
+/// What is done where a call is refused for want of memory.
+#[derive(Clone, Copy, PartialEq, Eq)]
+pub enum Patience {
+    /// It is another answer than the row has.
+    None,
+    /// It is made once more.
+    Once,
+}
+
+/// How records that meet arrive, and how a refusal is taken.
+#[derive(Clone, Copy)]
+pub struct Arrival {
+    pub patience: Patience,
+    /// The number of their order.
+    pub order: usize,
+    /// How many bytes of one come before some of the next.
+    pub piece: usize,
+}
+
+/// A server, as a row is played on it.
+pub trait Stage: Sized + Drop {
+    /// Mounts a new volume, with the connections that a row begins with.
+    fn begin(rt: &HostRuntime, device: TrialDevice, arrival: Arrival) -> Result<Self, Difference>;
+
+    fn take(self, rt: &HostRuntime, step: &Step) -> Result<Self, Difference>;
+
+    /// Nothing is left over. How many calls came again.
+    fn end(self) -> Result<u32, Difference>;
+}
+
+/// Plays a row in each order in which records that meet arrive. How many calls came again.
+pub fn play_row<H: Host, L: Loop>(
+    rt: &HostRuntime,
+    row: &Row<'_>,
+    place: Place,
+    patience: Patience,
+) -> Result<u32, Differs> {
+    let mut again = 0_u32;
+    for order in 0..row.orders {
+        let arrival = Arrival {
+            patience,
+            order,
+            piece: WHOLE,
+        };
+        let more = match place {
+            Place::Server => play_on::<H, Direct<H>>(rt, row, arrival)?,
+            Place::Sockets => play_in_pieces::<H, L>(rt, row, arrival)?,
+        };
+        again = again.saturating_add(more);
+    }
+    Ok(again)
+}
+
+/// Plays a row over sockets, in pieces of each size where records meet.
+fn play_in_pieces<H: Host, L: Loop>(
+    rt: &HostRuntime,
+    row: &Row<'_>,
+    arrival: Arrival,
+) -> Result<u32, Differs> {
+    let mut again = 0_u32;
+    for piece in PIECES {
+        let more = play_on::<H, Sockets<L>>(rt, row, Arrival { piece, ..arrival })?;
+        again = again.saturating_add(more);
+        if row.orders == 1 {
+            break;
+        }
+    }
+    Ok(again)
+}
+
+fn play_on<H: Host, S: Stage>(
+    rt: &HostRuntime,
+    row: &Row<'_>,
+    arrival: Arrival,
+) -> Result<u32, Differs> {
+    let mut line = 0;
+    let mut stage = placed(line, begin::<H, S>(rt, arrival))?;
+    for step in row.steps.iter() {
+        line = step.line;
+        stage = placed(line, stage.take(rt, &step.step))?;
+    }
+    placed(line, stage.end())
+}
+
+fn begin<H: Host, S: Stage>(rt: &HostRuntime, arrival: Arrival) -> Result<S, Difference> {
+    S::begin(rt, new_volume::<H>(rt.alloc(), arrival.patience)?, arrival)
+}
+
+/// A new volume.
+pub fn new_volume<H: Host>(alloc: Global, patience: Patience) -> Result<TrialDevice, Difference> {
+    let device = lasting(alloc, MemDevice::new(alloc, SECTORS)?);
+    match format::<H>(alloc, device, patience) {
+        Ok(device) => Ok(device),
+        Err(unmounted) => Err(Difference::Format(unmounted.fault)),
+    }
+}
+
+fn format<H: Host>(
+    alloc: Global,
+    device: TrialDevice,
+    patience: Patience,
+) -> Result<TrialDevice, Unmounted> {
+    match H::format(alloc, device, NODES) {
+        Err(unmounted) if comes_again(unmounted.fault, patience) => {
+            H::format(alloc, unmounted.device, NODES)
+        }
+        told => told,
+    }
+}
+
+/// Whether a call that was refused so is made once more.
+pub fn comes_again(fault: Refusal, patience: Patience) -> bool {
+    fault == Refusal::Memory && patience == Patience::Once
+}
