@@ -1,11 +1,13 @@
 #!/usr/bin/env python3
 """Drives `nfs41d` and nfs-ganesha in turns, each by 1, 4 and 16 processes at once, and prints how
-many requests a second all of them make, and the 50th and the 99th percentile of their times.
+many requests a second all of them make, the 50th and the 99th percentile of their times, and how
+often `nfs41d` syncs its volume for one.
 
     scripts/many_side_by_side.py [ROUNDS] [SECONDS] [FOLDER]
 
-After `rt run` in crates/nfs41 and crates/nfs41d, as root. Needs rustc, and nfs-ganesha with its VFS
-module. First the servers keep their files in memory (/dev/shm), then in a new folder in FOLDER
+After `rt run` in crates/nfs41 and crates/nfs41d, as root; NFS41 and NFS41D in the environment name
+other programs, and PERSIST has the processes ask for persistent sessions. Needs rustc, and
+nfs-ganesha with its VFS module. First the servers keep their files in memory (/dev/shm), then in a new folder in FOLDER
 (/var/tmp), whose file system has to write what is synced to a disk. Each process has one
 connection, and makes one request at a time (scripts/nfsload.rs). Beside one process `nfs41 serve`
 takes a turn too. A figure is the median over the rounds of that round's; behind a rate stands its
@@ -13,28 +15,43 @@ ratio to nfs-ganesha's. `mkdir_rmdir` counts two requests as one; nfs-ganesha's 
 neither of them.
 """
 import collections
+import os
 import re
 import shutil
 import statistics
 import subprocess
 import sys
 import tempfile
+import urllib.request
 
 import side_by_side
 
 OPERATIONS = "null getattr read write_unstable write_sync mkdir_rmdir".split()
 PROCESSES = (1, 4, 16)
-DAEMON = side_by_side.TOP / "crates/nfs41d/out/nfs41d"
+DAEMON = os.environ.get("NFS41D") or side_by_side.TOP / "crates/nfs41d/out/nfs41d"
+DAEMON_NAME = "nfs41d"
 ALONE = "nfs41 serve"
 OTHER = "nfs-ganesha"
 
-Figures = collections.namedtuple("Figures", "rate half most")
+SYNCS = re.compile(r'nfs41_device_calls_total{call="sync"} (\d+)')
+
+Figures = collections.namedtuple("Figures", "rate half most syncs")
 
 
 def start_nfs41d(folder):
-    """Returns the process and its port."""
+    """Returns the process, its port, and where it serves metrics."""
     volume = side_by_side.format_volume(folder, "nfs41d")
-    return side_by_side.start_serving([DAEMON, volume, "127.0.0.1:0"])
+    metrics = f"127.0.0.1:{side_by_side.free_port()}"
+    words = [DAEMON, volume, "127.0.0.1:0", "--quiet", "--metrics", metrics]
+    return *side_by_side.start_serving(words), f"http://{metrics}/metrics"
+
+
+def syncs_so_far(page):
+    """Returns how often a server that has such a page has synced its volume."""
+    if not page:
+        return 0
+    with urllib.request.urlopen(page) as reply:
+        return int(SYNCS.search(reply.read().decode()).group(1))
 
 
 def percentile(times, percent):
@@ -53,8 +70,9 @@ def ask(process):
     process.stdin.flush()
 
 
-def measure(processes):
+def measure(processes, page):
     """Returns the figures of all processes together for their next kind of request."""
+    before = syncs_so_far(page)
     for process in processes:
         ask(process)
     rate, times = 0, collections.Counter()
@@ -63,17 +81,18 @@ def measure(processes):
         rate += float(re.search(r"ops_s (\d+)", told).group(1))
         for tenths, count in re.findall(r" (\d+):(\d+)", told):
             times[int(tenths)] += int(count)
-    return Figures(rate, percentile(times, 50), percentile(times, 99))
+    syncs = (syncs_so_far(page) - before) / max(1, sum(times.values()))
+    return Figures(rate, percentile(times, 50), percentile(times, 99), syncs)
 
 
-def drive(load, port, count, seconds):
+def drive(load, port, count, seconds, page=None):
     """Returns the figures of each operation for so many processes."""
     words = [load, f"127.0.0.1:{port}", "0", str(seconds), ",".join(OPERATIONS), "times"]
     pipe = subprocess.PIPE
     processes = [subprocess.Popen(words, stdin=pipe, stdout=pipe, text=True) for _ in range(count)]
     for process in processes:
         process.stdout.readline()
-    figures = {operation: measure(processes) for operation in OPERATIONS}
+    figures = {operation: measure(processes, page) for operation in OPERATIONS}
     for process in processes:
         process.communicate()
         if process.returncode != 0:
@@ -88,10 +107,11 @@ def tell(count, figures):
             name: Figures(*map(statistics.median, zip(*(it[operation] for it in rounds))))
             for name, rounds in figures.items()
         }
-        for name, (rate, half, most) in medians.items():
+        for name, (rate, half, most, syncs) in medians.items():
             ratio = rate / medians[OTHER].rate
+            counted = f"{syncs:.2f}" if name == DAEMON_NAME else ""
             print(f"| {count} | `{operation}` | {name} | {rate:.0f} ({ratio:.2f})", end="")
-            print(f" | {half:.1f} | {most:.1f} |")
+            print(f" | {half:.1f} | {most:.1f} | {counted} |")
 
 
 def compare(where, rounds, seconds):
@@ -99,19 +119,20 @@ def compare(where, rounds, seconds):
     folder = tempfile.mkdtemp(dir=where)
     load = side_by_side.build_load(folder)
     servers = {
-        "nfs41d": start_nfs41d(folder),
+        DAEMON_NAME: start_nfs41d(folder),
         ALONE: side_by_side.start_nfs41(folder, rounds),
         OTHER: side_by_side.start_ganesha(folder),
     }
     print(f"\nFiles in {where}:\n")
-    print("| processes | operation | server | a second (ratio) | half below, µs | 99 % below, µs |")
-    print("|---|---|---|---|---|---|")
+    print("| processes | operation | server | a second (ratio) | half below, µs", end="")
+    print(" | 99 % below, µs | syncs |\n|---|---|---|---|---|---|---|")
     for count in PROCESSES:
         names = [name for name in servers if count == 1 or name != ALONE]
         figures = {name: [] for name in names}
         for _ in range(rounds):
             for name in names:
-                figures[name].append(drive(load, servers[name][1], count, seconds))
+                _, port, *page = servers[name]
+                figures[name].append(drive(load, port, count, seconds, *page))
         tell(count, figures)
     side_by_side.end(servers)
     shutil.rmtree(folder, ignore_errors=True)

@@ -106,7 +106,7 @@ def keep_awake():
 
 def put_on(processor, servers):
     """Lets the servers' threads, and what this process starts from now on, run there alone."""
-    for server, _ in servers.values():
+    for server, *_ in servers.values():
         for thread in os.listdir(f"/proc/{server.pid}/task"):
             os.sched_setaffinity(int(thread), {processor})
     os.sched_setaffinity(0, {processor})
@@ -114,7 +114,7 @@ def put_on(processor, servers):
 
 def end(servers):
     """Ends the servers that the functions above started."""
-    for server, _ in servers.values():
+    for server, *_ in servers.values():
         server.terminate()
         server.wait()
 
