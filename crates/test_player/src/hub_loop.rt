@@ -2,7 +2,7 @@
 
 use crate::device::{RowDevice, Uncounted};
 use crate::refusal::refusal;
-use event_loop::{Door, Hub, Lines, Pace, Settings};
+use event_loop::{Door, Hub, Keeping, Lines, Pace, Settings};
 use std::alloc::Global;
 use std::io;
 use std::io::Sink;
@@ -81,6 +81,11 @@ fn begin(
     let mut settings = Settings::standard(rt.alloc());
     settings.persistent = choices.persistent;
     settings.yields_when_full = choices.yields;
+    settings.keeping = if choices.shared {
+        Keeping::Later
+    } else {
+        Keeping::AtOnce
+    };
     let hub = Hub::new(rt, Uncounted { inner: device }, door, settings)?;
     Ok((hub, address))
 }

@@ -13,8 +13,15 @@ use test_rows::{
 /// How the name of a file of cases ends. Every other file has rows.
 const CASES: &str = ".cases";
 
-/// Plays the files, whose rows may name the records of the file `shared`, and tells each row and
-/// case. Whether all went as written.
+/// Where rows are played, and how a line says so.
+const PLACES: [(Place, &str); 3] = [
+    (Place::Server, ""),
+    (Place::Sockets, ", over sockets"),
+    (Place::Shared, ", with shared flushes"),
+];
+
+/// Plays the files, whose rows may name the records of the file `shared`, and prints a line for each row
+/// and case. Whether all went as written.
 pub fn run(rt: &HostRuntime, shared: &str, files: &[String]) -> Result<bool> {
     let records = read_text(rt, shared)?;
     let mut as_written = true;
@@ -44,7 +51,7 @@ fn read_text<R: Files + AllocGlobal>(rt: &R, file: &str) -> Result<String> {
 }
 
 /// Plays the rows of one file, each on the server itself, with one more try of each call that is
-/// refused for want of memory. A line is told before each. Whether all went as written.
+/// refused because memory ran out. A line is printed before each. Whether all went as written.
 pub fn run_again(rt: &HostRuntime, shared: &str, file: &str) -> Result<bool> {
     let (records, text) = (read_text(rt, shared)?, read_text(rt, file)?);
     let sheet = read_rows(rt, (shared, &records), (file, &text))?;
@@ -52,7 +59,7 @@ pub fn run_again(rt: &HostRuntime, shared: &str, file: &str) -> Result<bool> {
     for row in sheet.rows() {
         println!(rt; "{file}: {}", row.name)?;
         let outcome = play_row::<Mounted, HubLoop>(rt, row, Place::Server, Patience::Once);
-        as_written &= tell_again(rt, file, row.name, outcome)?;
+        as_written &= print_again(rt, file, row.name, outcome)?;
     }
     Ok(as_written)
 }
@@ -90,14 +97,14 @@ fn play_rows(rt: &HostRuntime, file: &str, rows: &[Row<'_>]) -> Result<bool> {
 /// Plays a row wherever it can be played.
 fn play_anywhere(rt: &HostRuntime, file: &str, row: &Row<'_>) -> Result<bool> {
     let mut as_written = true;
-    for (place, told) in [(Place::Server, ""), (Place::Sockets, ", over sockets")] {
+    for (place, named) in PLACES {
         if row.is_of(place) {
             let outcome = play_row::<Mounted, HubLoop>(rt, row, place, Patience::None);
-            as_written &= tell(rt, file, row.name, told, outcome.map(|_| ()))?;
+            as_written &= print_outcome(rt, file, row.name, named, outcome.map(|_| ()))?;
         }
     }
     if row.has_trials() {
-        as_written &= tell_crashes(rt, file, row, crash::<Mounted>(rt.alloc(), row))?;
+        as_written &= print_crashes(rt, file, row, crash::<Mounted>(rt.alloc(), row))?;
     }
     Ok(as_written)
 }
@@ -113,15 +120,15 @@ fn run_cases(rt: &HostRuntime, file: &str, text: &str) -> Result<bool> {
 fn play_cases(rt: &HostRuntime, file: &str, cases: &[Case<'_>]) -> Result<bool> {
     let mut as_written = true;
     for case in cases {
-        if !tell(rt, file, case.name, "", play_case::<Nfs41>(rt, case))? {
+        if !print_outcome(rt, file, case.name, "", play_case::<Nfs41>(rt, case))? {
             as_written = false;
         }
     }
     Ok(as_written)
 }
 
-/// Tells how a row or a case went, and where it was played. Whether it went as written.
-fn tell<R: Print>(
+/// Prints how a row or a case went, and where it was played. Whether it went as written.
+fn print_outcome<R: Print>(
     rt: &R,
     file: &str,
     name: &str,
@@ -140,8 +147,8 @@ fn tell<R: Print>(
     }
 }
 
-/// Tells what was tried of a row, and how many of its states were found.
-fn tell_crashes<R: Print>(
+/// Prints what was tried of a row, and how many of its states were found.
+fn print_crashes<R: Print>(
     rt: &R,
     file: &str,
     row: &Row<'_>,
@@ -152,12 +159,12 @@ fn tell_crashes<R: Print>(
             println!(rt; "{file}: {}, {tally} of {}: ok", row.name, row.states())?;
             Ok(true)
         }
-        Err(differs) => tell(rt, file, row.name, ", crashed", Err(differs)),
+        Err(differs) => print_outcome(rt, file, row.name, ", crashed", Err(differs)),
     }
 }
 
-/// Tells how a row went, and how many calls came again. Whether it went as written.
-fn tell_again<R: Print>(
+/// Prints how a row went, and how many calls came again. Whether it went as written.
+fn print_again<R: Print>(
     rt: &R,
     file: &str,
     name: &str,
@@ -168,6 +175,6 @@ fn tell_again<R: Print>(
             println!(rt; "{file}: {name}: ok, {again} again")?;
             Ok(true)
         }
-        Err(differs) => tell(rt, file, name, "", Err(differs)),
+        Err(differs) => print_outcome(rt, file, name, "", Err(differs)),
     }
 }

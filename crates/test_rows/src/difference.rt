@@ -39,7 +39,7 @@ pub enum Difference {
         wanted: u8,
         got: u8,
     },
-    /// A command tells another text: the number of the first line of it that is another one.
+    /// A command writes another text: the number of its first line that differs.
     #[error("{stream} {line}\n  wanted {wanted}\n  got    {got}")]
     Text {
         stream: Stream,
@@ -47,8 +47,8 @@ pub enum Difference {
         wanted: Text,
         got: Text,
     },
-    /// A command tells no port.
-    #[error("no port is told")]
+    /// A command writes no port.
+    #[error("no port is written")]
     Port,
     /// A text or a file has another length.
     #[error("length\n  wanted {wanted}\n  got    {got}")]
@@ -68,9 +68,9 @@ pub enum Difference {
     /// The device did not crash where it was to.
     #[error("no crash")]
     NoCrash,
-    /// A call of the device failed, and no call of the server told so.
-    #[error("a failure that is not told")]
-    Untold,
+    /// A call of the device failed, and no call of the server failed with it.
+    #[error("a failure that no call returned")]
+    Unreturned,
     /// A mount finds a state that a crash may not leave: what it answers to the looks.
     #[error("a state that may not be left{0}")]
     State(Answers),

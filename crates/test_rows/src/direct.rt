@@ -182,7 +182,7 @@ fn turn<H: Host>(
     expect(Answer::Turned(wanted), served.turned(connection))
 }
 
-/// Runs so many operations, of which the last one gives a reply.
+/// Runs a number of operations, of which the last one gives a reply.
 pub fn run_all<H: Host>(
     served: &mut Served<H>,
     connection: usize,
@@ -194,7 +194,7 @@ pub fn run_all<H: Host>(
     turn(served, connection, Turn::Answered)
 }
 
-/// Runs so many operations, of which the last one gives this reply.
+/// Runs a number of operations, of which the last one gives this reply.
 fn end<H: Host>(
     alloc: Global,
     served: &mut Served<H>,
@@ -207,7 +207,7 @@ fn end<H: Host>(
     expect(Answer::NoReply, served.replied(connection))
 }
 
-/// Hands in a record and runs so many operations, unflushed, of which the last one gives a reply
+/// Hands in a record and runs a number of operations, unflushed, of which the last one gives a reply
 /// that is not handed out yet.
 fn defer<H: Host>(
     served: &mut Served<H>,

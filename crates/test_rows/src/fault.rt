@@ -27,7 +27,7 @@ pub enum Fault {
     /// A record has a gap that its step does not fill.
     #[error("a gap that this step does not fill")]
     Gap,
-    /// A record has not so many bytes.
+    /// A record has not that number of bytes.
     #[error("a record of fewer bytes")]
     Short,
     /// After `\` there are no two hexadecimal digits.

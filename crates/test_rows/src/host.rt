@@ -8,10 +8,10 @@ use std::alloc::Global;
 
 /// A server of the volume on a device.
 pub trait Host: Sized + Drop {
-    /// Makes a device a new volume with so many nodes. It comes back where that is refused.
+    /// Makes a device a new volume with this number of nodes. It comes back if that is refused.
     fn format(alloc: Global, device: TrialDevice, nodes: u32) -> Result<TrialDevice, Unmounted>;
 
-    /// Mounts a device. It comes back where that is refused.
+    /// Mounts a device. It comes back if that is refused.
     fn mount(alloc: Global, device: TrialDevice, choices: Choices) -> Result<Self, Unmounted>;
 
     /// Its device, as it is now.

@@ -24,13 +24,17 @@ const WHOLE: usize = usize::MAX;
 const PIECES: [usize; 4] = [WHOLE, 64, 7, 1];
 
 /// Where a row is played.
-#[derive(Clone, Copy)]
+#[derive(Clone, Copy, PartialEq, Eq)]
 pub enum Place {
+    /// On the server itself.
     Server,
+    /// Over sockets, each change kept in its turn.
     Sockets,
+    /// Over sockets, the changes of all peers kept by one flush.
+    Shared,
 }
 
-/// What is done where a call is refused for want of memory.
+/// What is done where a call is refused because memory ran out.
 #[derive(Clone, Copy, PartialEq, Eq)]
 pub enum Patience {
     /// It is another answer than the row has.
@@ -47,6 +51,8 @@ pub struct Arrival {
     pub order: usize,
     /// How many bytes of one come before some of the next.
     pub piece: usize,
+    /// Whether peers share a flush.
+    pub shared: bool,
 }
 
 /// A server, as a row is played on it.
@@ -73,10 +79,11 @@ pub fn play_row<H: Host, L: Loop>(
             patience,
             order,
             piece: WHOLE,
+            shared: place == Place::Shared,
         };
         let more = match place {
             Place::Server => play_on::<H, Direct<H>>(rt, row, arrival)?,
-            Place::Sockets => play_in_pieces::<H, L>(rt, row, arrival)?,
+            Place::Sockets | Place::Shared => play_in_pieces::<H, L>(rt, row, arrival)?,
         };
         again = again.saturating_add(more);
     }
@@ -136,7 +143,7 @@ fn format<H: Host>(
         Err(unmounted) if comes_again(unmounted.fault, patience) => {
             H::format(alloc, unmounted.device, NODES)
         }
-        told => told,
+        formatted => formatted,
     }
 }
 

@@ -1,4 +1,4 @@
-//! A server as a row is played on it, and the calls that come again for want of memory.
+//! A server as a row is played on it, and the calls that come again because memory ran out.
 
 use crate::answer::Answer;
 use crate::difference::Difference;
@@ -64,44 +64,44 @@ impl<H: Host> Served<H> {
     }
 
     pub fn connected(&mut self) -> Answer {
-        let mut told = self.host.connect();
-        if self.comes_again(told.err()) {
-            told = self.host.connect();
+        let mut outcome = self.host.connect();
+        if self.comes_again(outcome.err()) {
+            outcome = self.host.connect();
         }
-        match told {
+        match outcome {
             Ok(connection) => Answer::Connected(connection),
             Err(fault) => Answer::Refused(fault),
         }
     }
 
     pub fn hung_up(&mut self, connection: usize) -> Answer {
-        let mut told = self.host.hang_up(connection);
-        if self.comes_again(told.err()) {
-            told = self.host.hang_up(connection);
+        let mut outcome = self.host.hang_up(connection);
+        if self.comes_again(outcome.err()) {
+            outcome = self.host.hang_up(connection);
         }
-        match told {
+        match outcome {
             Ok(()) => Answer::HungUp,
             Err(fault) => Answer::Refused(fault),
         }
     }
 
     pub fn fed(&mut self, connection: usize, piece: &[u8]) -> Answer {
-        let mut told = self.host.feed(connection, piece);
-        if self.comes_again(told.err()) {
-            told = self.host.feed(connection, piece);
+        let mut outcome = self.host.feed(connection, piece);
+        if self.comes_again(outcome.err()) {
+            outcome = self.host.feed(connection, piece);
         }
-        match told {
+        match outcome {
             Ok(taken) => Answer::Took(taken),
             Err(fault) => Answer::Refused(fault),
         }
     }
 
     pub fn turned(&mut self, connection: usize) -> Answer {
-        let mut told = self.host.turn(connection);
-        if self.comes_again(told.err()) {
-            told = self.host.turn(connection);
+        let mut outcome = self.host.turn(connection);
+        if self.comes_again(outcome.err()) {
+            outcome = self.host.turn(connection);
         }
-        match told {
+        match outcome {
             Ok(done) => Answer::Turned(done),
             Err(fault) => Answer::Refused(fault),
         }
@@ -109,11 +109,11 @@ impl<H: Host> Served<H> {
 
     /// The same of a turn whose change may wait for a flush.
     pub fn turned_unflushed(&mut self, connection: usize) -> Answer {
-        let mut told = self.host.turn_unflushed(connection);
-        if self.comes_again(told.err()) {
-            told = self.host.turn_unflushed(connection);
+        let mut outcome = self.host.turn_unflushed(connection);
+        if self.comes_again(outcome.err()) {
+            outcome = self.host.turn_unflushed(connection);
         }
-        match told {
+        match outcome {
             Ok(done) => Answer::Turned(done),
             Err(fault) => Answer::Refused(fault),
         }
@@ -151,7 +151,7 @@ impl<H: Host> Served<H> {
     }
 }
 
-/// Mounts a device once more, where that was refused for want of memory and is to come again.
+/// Mounts a device once more, if that was refused because memory ran out, and is to come again.
 fn mount_again<H: Host>(
     alloc: Global,
     unmounted: Unmounted,

@@ -83,6 +83,10 @@ impl<L: Loop> Sockets<L> {
         choices: Choices,
         arrival: Arrival,
     ) -> Result<Sockets<L>, Difference> {
+        let choices = Choices {
+            shared: arrival.shared,
+            ..choices
+        };
         let mut sockets = Sockets {
             alloc: rt.alloc(),
             hub: L::begin(rt, device, choices)?,
@@ -202,7 +206,7 @@ impl<L: Loop> Sockets<L> {
         Ok(())
     }
 
-    /// The loop goes on until so many bytes came, or the connection ended. What came, and whether
+    /// The loop goes on until that number of bytes came, or the connection ended. What came, and whether
     /// it ended.
     fn receive(&mut self, connection: usize, count: usize) -> Result<(Vec<u8>, bool), Difference> {
         let mut bytes = Vec::new(self.alloc);

@@ -7,12 +7,12 @@ use super::text::Texts;
 #[derive(Drop)]
 pub struct Case<'a> {
     pub name: &'a str,
-    /// What stands in front of what each of its commands is given and tells.
+    /// What is in front of what each of its commands reads and writes.
     pub front: Texts,
     pub steps: Vec<Placed<'a>>,
 }
 
-/// A step, and the line that it stands on.
+/// A step, and its line.
 #[derive(Drop)]
 pub struct Placed<'a> {
     pub line: u32,

@@ -9,7 +9,7 @@ pub enum Line<'a> {
     Nothing,
     /// A case of this name begins.
     Case(&'a str),
-    /// A line of what a command is given or tells, or of what a file has.
+    /// A line of what a command reads or writes, or of what a file has.
     Text { stream: Stream, text: &'a str },
     /// The line of text above goes on.
     More(&'a str),

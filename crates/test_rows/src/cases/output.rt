@@ -5,7 +5,7 @@ use std::io;
 use std::io::{ErrorKind, Write};
 use std::net::{Ipv4Addr, Shutdown, TcpStream};
 
-/// What a command tells on its standard output, and the peers that it serves by then.
+/// What a command writes to its standard output, and the peers that it serves by then.
 #[derive(Drop)]
 pub struct Output<'a> {
     rt: &'a HostRuntime,
@@ -15,7 +15,7 @@ pub struct Output<'a> {
 }
 
 impl<'a> Output<'a> {
-    /// Nothing is told, and nobody has connected.
+    /// Nothing is written, and nobody has connected.
     pub(crate) fn new(rt: &'a HostRuntime, way: &'a Way) -> Output<'a> {
         Output {
             rt,
@@ -46,7 +46,7 @@ impl Write for Output<'_> {
     }
 }
 
-/// The port in the line that the program tells.
+/// The port in the line that the program writes.
 pub fn port_of(line: &[u8]) -> Option<u16> {
     let digits = line.strip_prefix(b"serving ")?.strip_suffix(b"\n")?;
     str::from_utf8(digits).ok()?.parse::<u16>().ok()

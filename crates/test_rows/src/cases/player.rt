@@ -87,7 +87,7 @@ fn run<'a, P: Program>(
     expect_status(status, got)
 }
 
-/// What a command told is as its case has it.
+/// What a command wrote is as its case has it.
 fn compare_streams(
     alloc: Global,
     texts: &Texts,
@@ -133,7 +133,7 @@ fn compare(alloc: Global, stream: Stream, wanted: &[u8], got: &[u8]) -> Result<(
     expect_length(wanted.len(), got.len())
 }
 
-/// The port is told, and each peer was answered.
+/// The port was written, and each peer got its reply.
 fn compare_peers(alloc: Global, peers: &[Peer], output: &Output<'_>) -> Result<(), Difference> {
     if port_of(&output.text).is_none() {
         return Err(Difference::Port);

@@ -4,7 +4,7 @@ use std::alloc::AllocError;
 use std::io;
 use std::net::{Ipv4Addr, TcpListener};
 
-/// The word of a command that stands for such a port.
+/// The word of a command in whose place such a port goes.
 const TAKEN: &str = "<taken>";
 
 /// A port that is taken, as long as this is kept.
@@ -14,7 +14,7 @@ pub struct TakenPort {
     listener: TcpListener,
 }
 
-/// Takes a port, where one of the words stands for one.
+/// Takes a port, if one of the words is for one.
 pub fn take_port(rt: &HostRuntime, words: &[&str]) -> io::Result<Option<TakenPort>> {
     if !words.iter().any(|word| *word == TAKEN) {
         return Ok(None);
@@ -24,7 +24,7 @@ pub fn take_port(rt: &HostRuntime, words: &[&str]) -> io::Result<Option<TakenPor
     Ok(Some(TakenPort { digits, listener }))
 }
 
-/// The words of a command, with the port that one of them stands for.
+/// The words of a command, with the port in the place of that word.
 pub fn fill(
     rt: &HostRuntime,
     words: &[&str],

@@ -21,7 +21,7 @@ pub enum Step<'a> {
         file: &'a str,
         text: Vec<u8>,
     },
-    /// Makes a file of so many zeros.
+    /// Makes a file of this number of zeros.
     Zeros {
         file: &'a str,
         length: usize,
@@ -42,7 +42,7 @@ pub enum Step<'a> {
         file: &'a str,
         other: &'a str,
     },
-    /// A file has so many bytes.
+    /// A file has this number of bytes.
     Length {
         file: &'a str,
         length: usize,
@@ -82,7 +82,7 @@ pub enum Way {
     Takes,
     /// It fails.
     Fails,
-    /// It is told a port alone, to which these connect as soon as it is.
+    /// Its output takes only a port, to which these connect as soon as it is there.
     Serves(Vec<Peer>),
 }
 
@@ -149,7 +149,7 @@ fn add_words(bytes: &mut Vec<u8>, words: &str) -> Result<(), Fault> {
     Ok(())
 }
 
-/// Reads a step. What each command of its case is given and tells begins so.
+/// Reads a step. What each command of its case reads and writes begins so.
 pub fn read_step<'a>(
     alloc: Global,
     front: &Texts,

@@ -1,4 +1,4 @@
-//! Texts: what a command is given and tells, and what a file has.
+//! Texts: what a command reads and writes, and what a file has.
 
 use crate::fault::Fault;
 use crate::shown::Stream;

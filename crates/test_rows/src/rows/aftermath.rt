@@ -32,7 +32,7 @@ pub struct Trials {
 pub enum Mark {
     /// The next state too.
     Stands,
-    /// None that is older than the newest one but so many.
+    /// None that is older than the newest one but this number.
     Lasts { but: usize },
     /// The crashes begin here.
     Begins,

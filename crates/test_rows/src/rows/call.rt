@@ -11,7 +11,7 @@ pub struct Call {
     pub reply: Vec<u8>,
 }
 
-/// In how many orders so many calls arrive: in each, up to four of them.
+/// In how many orders calls arrive: in each, up to four of them.
 pub fn orders_of(count: usize) -> usize {
     match count {
         0 | 1 => 1,

@@ -9,6 +9,8 @@ pub struct Choices {
     pub persistent: bool,
     /// Full tables give up what no client holds.
     pub yields: bool,
+    /// Over sockets peers share a flush.
+    pub shared: bool,
 }
 
 impl Choices {
@@ -16,6 +18,7 @@ impl Choices {
     pub const FIRST: Choices = Choices {
         persistent: true,
         yields: false,
+        shared: false,
     };
 
     /// Reads `plain`, `yielding` or nothing.

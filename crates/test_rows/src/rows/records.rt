@@ -1,4 +1,4 @@
-//! Records by name, and what stands in them.
+//! Records by name, and what is in them.
 
 use crate::fault::Fault;
 use crate::number::{decimal, hexadecimal};
@@ -12,7 +12,7 @@ const LAST_FRAGMENT: u32 = 0x8000_0000;
 /// A part of a record as a file has it.
 #[derive(Clone, Copy)]
 pub enum Part {
-    /// A number of four bytes, so many times.
+    /// A number of four bytes, a number of times.
     Word { number: u32, times: u16 },
     /// `<length>`: the header of a last fragment, of all that follows it.
     Length,
@@ -75,7 +75,7 @@ impl<'a> Records<'a> {
         };
         for word in words.split_whitespace() {
             let part = read_part(word)?;
-            // A header stands in front of what it counts.
+            // A header is in front of what it counts.
             if matches!(part, Part::Length) && !record.parts.is_empty() {
                 return Err(Fault::Word);
             }
@@ -197,7 +197,7 @@ fn append_words(bytes: &mut Vec<u8>, words: &[Part]) -> Result<(), AllocError> {
     Ok(())
 }
 
-/// Appends a number of four bytes so many times.
+/// Appends a number of four bytes a number of times.
 fn repeat(bytes: &mut Vec<u8>, number: u32, times: u16) -> Result<(), AllocError> {
     for _ in 0..times {
         bytes.extend_from_slice(&number.to_be_bytes())?;

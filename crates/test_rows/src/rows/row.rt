@@ -12,6 +12,8 @@ use std::alloc::Global;
 pub struct Row<'a> {
     pub name: &'a str,
     pub(crate) steps: Vec<Placed>,
+    /// Whether it wants each change to be kept in its turn.
+    pub(crate) unshared: bool,
     /// How many of the steps are `tries`.
     pub(crate) tried: u32,
     /// In how many orders records that meet arrive.
@@ -20,7 +22,7 @@ pub struct Row<'a> {
     pub(crate) aftermath: Aftermath,
 }
 
-/// A step, and the line that it stands on.
+/// A step, and its line.
 #[derive(Drop)]
 pub struct Placed {
     pub line: u32,
@@ -33,6 +35,7 @@ impl<'a> Row<'a> {
         Row {
             name,
             steps: Vec::new(alloc),
+            unshared: false,
             tried: 0,
             orders: 1,
             aftermath: Aftermath::new(alloc),
@@ -41,7 +44,8 @@ impl<'a> Row<'a> {
 
     /// Whether it can be played there.
     pub fn is_of(&self, place: Place) -> bool {
-        self.steps.iter().all(|placed| placed.step.is_of(place))
+        !(self.unshared && place == Place::Shared)
+            && self.steps.iter().all(|placed| placed.step.is_of(place))
     }
 
     /// Whether its device crashes or fails.

@@ -33,13 +33,13 @@ pub enum Step {
     Runs {
         connection: usize,
     },
-    /// Runs so many operations, of which the last one gives the reply; then takes this reply.
+    /// Runs a number of operations, of which the last one gives the reply; then takes this reply.
     Ends {
         connection: usize,
         turns: u32,
         reply: Vec<u8>,
     },
-    /// Hands in a record, runs so many operations, of which the last one gives the reply, and takes
+    /// Hands in a record, runs a number of operations, of which the last one gives the reply, and takes
     /// this reply.
     Asks(Call),
     /// The same of records that arrive together.
@@ -73,7 +73,7 @@ pub enum Step {
     Restarts(Choices),
     /// As `Asks`; where the device crashes or fails, the reply is taken only then.
     Leaves(Call),
-    /// Hands in a record, and runs so many operations, whose changes may wait for a flush. The last
+    /// Hands in a record, and runs a number of operations, whose changes may wait for a flush. The last
     /// one gives a reply, which is not handed out yet.
     Defers {
         connection: usize,
@@ -97,7 +97,7 @@ impl Step {
     pub fn is_of(&self, place: Place) -> bool {
         match place {
             Place::Server => !matches!(self, Step::Waits { .. }),
-            Place::Sockets => !matches!(
+            Place::Sockets | Place::Shared => !matches!(
                 self,
                 Step::Runs { .. }
                     | Step::Lacks { .. }
@@ -128,6 +128,10 @@ pub fn add_steps(
         "meets" => row.meet(alloc, line, call_of(alloc, records, words)?),
         "looks" => add_look(alloc, records, words, &mut row.aftermath),
         "goes" => add_sequel(alloc, records, words, &mut row.aftermath),
+        "unshared" => {
+            row.unshared = true;
+            Ok(())
+        }
         "stands" => {
             add_state(alloc, records, words, &mut row.aftermath)?;
             row.add(line, Step::Marks(Mark::Stands))
@@ -261,7 +265,7 @@ fn call_of(alloc: Global, records: &Records<'_>, words: &[&str]) -> Result<Call,
     })
 }
 
-/// Adds what `tries` says so many times.
+/// Adds what `tries` says a number of times.
 fn add_repeats(
     alloc: Global,
     records: &Records<'_>,

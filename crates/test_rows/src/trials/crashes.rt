@@ -38,10 +38,9 @@ fn expect_one_mount(row: &Row<'_>) -> Result<(), Differs> {
     Ok(())
 }
 
-/// How a life ends whose device failed. A read that fails leaves what the one before it left,
-/// unless there was a write or a sync between them.
+/// What a failed read leaves: what the one before it left, unless a write or a sync is between them.
 #[derive(Clone, Copy, PartialEq)]
-struct Ends {
+struct Unread {
     /// How many steps of the device were done.
     steps: u64,
     left: Left,
@@ -53,7 +52,7 @@ struct Trial<'a> {
     alloc: Global,
     row: &'a Row<'a>,
     steps: &'a [Placed],
-    /// The volume at rest, and the states of which one stands on it.
+    /// The volume at rest, and the states of which one is on it.
     volume: CrashDevice,
     left: Left,
     tried: Tried,
@@ -166,7 +165,7 @@ impl<'a> Trial<'a> {
         let is_new = self.tried.adds(crashed, landing)?;
         let landed = crashed.landed(self.alloc, landing)?;
         if self.row.aftermath.trials.twice && is_new {
-            return self.remount::<H>(&CrashDevice::new(landed, Stop::Never), left);
+            return self.crash_again::<H>(&CrashDevice::new(landed, Stop::Never), left);
         }
         let found = find::<H>(
             self.alloc,
@@ -175,6 +174,17 @@ impl<'a> Trial<'a> {
             lasting(self.alloc, landed),
         )?;
         Ok(self.tally.count(found)?)
+    }
+
+    /// Mounts a landing, which crashes in its turn unless that goes as another mount did.
+    fn crash_again<H: Host>(&mut self, device: &CrashDevice, left: Left) -> Result<(), Difference> {
+        let remount = Remount {
+            alloc: self.alloc,
+            aftermath: &self.row.aftermath,
+            device,
+            left,
+        };
+        remount.crash_new::<H>(&mut self.tried, &mut self.tally)
     }
 
     /// Mounts the device, and crashes that in its turn.
@@ -210,11 +220,7 @@ impl<'a> Trial<'a> {
         Ok(())
     }
 
-    fn fail_each<H: Host>(
-        &mut self,
-        way: Failing,
-        sequel: Option<&Sequel>,
-    ) -> Result<(), Differs> {
+    fn fail_each<H: Host>(&mut self, way: Failing, sequel: Option<&Sequel>) -> Result<(), Differs> {
         let mut before = None;
         for number in 0..u64::MAX {
             let life = self.fail::<H>(way, number)?;
@@ -223,14 +229,11 @@ impl<'a> Trial<'a> {
             }
             self.tally.failures = self.tally.failures.saturating_add(1);
             let device = life.device.into_inner();
-            let ends = Ends {
-                steps: device.disk().steps(),
-                left: life.left,
-            };
-            if before != Some(ends) {
+            let unread = after_read(way, device.disk(), life.left);
+            if unread.is_none() || unread != before {
                 placed(0, self.come_back::<H>(&device, life.left, sequel))?;
-                before = Some(ends);
             }
+            before = unread;
         }
         Ok(())
     }
@@ -241,7 +244,7 @@ impl<'a> Trial<'a> {
         let life = self.live::<H>(self.steps, device)?;
         let has_failed = life.device.failures() > 0;
         if has_failed != life.has_failed {
-            return placed(0, Err(Difference::Untold));
+            return placed(0, Err(Difference::Unreturned));
         }
         Ok(life)
     }
@@ -264,5 +267,16 @@ impl<'a> Trial<'a> {
             left,
         };
         restart.crash::<H>(&mut self.tally)
+    }
+}
+
+/// What a failed read leaves; None if another call failed.
+fn after_read(way: Failing, disk: &CrashDevice, left: Left) -> Option<Unread> {
+    match way {
+        Failing::Call(CallKind::Read) => Some(Unread {
+            steps: disk.steps(),
+            left,
+        }),
+        _ => None,
     }
 }

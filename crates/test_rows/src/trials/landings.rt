@@ -10,6 +10,15 @@ pub struct Tried {
     /// How many syncs came before them: the same ones after as many give the same contents.
     syncs: usize,
     landings: Vec<Vec<Landed>>,
+    /// The mounts of these landings that crashed.
+    mounts: Vec<Course>,
+}
+
+/// What a mount found, and how many steps of the device it took.
+#[derive(Clone, Copy, PartialEq, Eq)]
+pub struct Course {
+    pub found: usize,
+    pub steps: u64,
 }
 
 impl Tried {
@@ -18,6 +27,7 @@ impl Tried {
             alloc,
             syncs: 0,
             landings: Vec::new(alloc),
+            mounts: Vec::new(alloc),
         }
     }
 
@@ -27,12 +37,22 @@ impl Tried {
         if syncs != self.syncs {
             self.syncs = syncs;
             self.landings.clear();
+            self.mounts.clear();
         }
-        let landed = landed_alone(self.alloc, landing)?;
+        let landed = landed_only(self.alloc, landing)?;
         if self.has(&landed) {
             return Ok(false);
         }
         self.landings.push(landed)?;
+        Ok(true)
+    }
+
+    /// Whether no mount of these landings went so. From now on one did.
+    pub fn adds_mount(&mut self, course: Course) -> Result<bool, AllocError> {
+        if self.mounts.contains(&course) {
+            return Ok(false);
+        }
+        self.mounts.push(course)?;
         Ok(true)
     }
 
@@ -57,12 +77,12 @@ pub fn count_syncs(calls: &[Call]) -> usize {
 }
 
 /// A landing without the sectors on which nothing landed.
-fn landed_alone(alloc: Global, landing: &[Landed]) -> Result<Vec<Landed>, AllocError> {
-    let mut alone = Vec::new(alloc);
+fn landed_only(alloc: Global, landing: &[Landed]) -> Result<Vec<Landed>, AllocError> {
+    let mut only = Vec::new(alloc);
     for landed in landing {
         if landed.content > 0 {
-            alone.push(*landed)?;
+            only.push(*landed)?;
         }
     }
-    Ok(alone)
+    Ok(only)
 }

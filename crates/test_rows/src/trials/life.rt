@@ -73,7 +73,7 @@ fn live_on<H: Host>(
         }
         if placed(step.line, try_step(alloc, served, &step.step, &mut left))? {
             placed(0, expect_down(served))?;
-            placed(step.line, expect_untold(served, &step.step))?;
+            placed(step.line, expect_no_reply(served, &step.step))?;
             placed(0, end(alloc, served, waits))?;
             return Ok((left, true));
         }
@@ -83,7 +83,7 @@ fn live_on<H: Host>(
 }
 
 /// If the device fails while changes wait, no reply is handed out, on any connection.
-fn expect_untold<H: Host>(served: &mut Served<H>, step: &Step) -> Result<(), Difference> {
+fn expect_no_reply<H: Host>(served: &mut Served<H>, step: &Step) -> Result<(), Difference> {
     if matches!(step, Step::Defers { .. } | Step::Flushes) {
         for connection in 0..CONNECTIONS {
             expect(Answer::NoReply, served.replied(connection))?;

@@ -37,7 +37,7 @@ pub fn find_in<H: Host>(
     }
 }
 
-/// Asks each look. The answers to those whose reply a state tells.
+/// Asks each look. The answers to those whose reply a state has.
 fn look_all<H: Host>(
     alloc: Global,
     looks: &[Look],

@@ -1,8 +1,8 @@
-//! Mounts of what a crash or a failure left, each of which crashes before and within its steps.
+//! Mounts of what a crash or a failure left, each of which crashes within its steps.
 
 use super::cached::unsynced_again;
 use super::device::{TrialDevice, crashing, disk_of, lasting};
-use super::landings::{Tried, count_syncs, landings_of};
+use super::landings::{Course, Tried, count_syncs, landings_of};
 use super::looking::find;
 use super::tally::Tally;
 use crate::difference::Difference;
@@ -22,15 +22,41 @@ pub struct Remount<'a> {
 }
 
 impl Remount<'_> {
-    /// Crashes each step of the mount. Once that has synced, the mount after it finds the state
+    /// Crashes within each step of the mount: a write that crashes lands or not, so what a crash
+    /// before it leaves is among that. Once the mount has synced, the mount after it finds the state
     /// that the whole mount finds.
     pub fn crash<H: Host>(&self, tally: &mut Tally) -> Result<(), Difference> {
+        let course = self.course::<H>(tally)?;
+        self.crash_each::<H>(course, tally)
+    }
+
+    /// The same, unless the mount goes as one whose landings were tried before.
+    pub fn crash_new<H: Host>(
+        &self,
+        before: &mut Tried,
+        tally: &mut Tally,
+    ) -> Result<(), Difference> {
+        let course = self.course::<H>(tally)?;
+        if before.adds_mount(course)? {
+            self.crash_each::<H>(course, tally)?;
+        }
+        Ok(())
+    }
+
+    /// How the whole mount goes.
+    fn course<H: Host>(&self, tally: &mut Tally) -> Result<Course, Difference> {
         let found = self.find::<H>(self.again()?)?;
         tally.count(found)?;
+        Ok(Course {
+            found,
+            steps: self.count_steps::<H>()?,
+        })
+    }
+
+    fn crash_each<H: Host>(&self, course: Course, tally: &mut Tally) -> Result<(), Difference> {
         let mut tried = Tried::new(self.alloc);
-        for step in 0..self.count_steps::<H>()? {
-            self.crash_at::<H>(Stop::Before(step), found, &mut tried, tally)?;
-            self.crash_at::<H>(Stop::Within(step), found, &mut tried, tally)?;
+        for step in 0..course.steps {
+            self.crash_at::<H>(Stop::Within(step), course.found, &mut tried, tally)?;
         }
         Ok(())
     }
