@@ -18,20 +18,24 @@ pub is_full_then : (most : ℕ) (opens : Opens) (asked : Open) → open_like ope
 is_full_then most opens asked is =
     ap (λ found. is_none found && (nat_le most (length opens.known) || nat_le (2 ^ 64 - 1) opens.given)) is
 
--- on a file whose number has more than 64 bits none is joined
+-- on a file that has another number than each entry none is joined
 
 unlike : (client owner number : Bool) → number ≡ false → (client && (owner && number)) ≡ false
 unlike true true number is = is
 unlike true false number is = refl
 unlike false owner number is = refl
 
-pub none_like : (asked : Open) → 2 ^ 64 ≤ asked.number → (entries : List Entry) → find (is_like asked) (map entry_of entries) ≡ None
-none_like asked high [] = refl
-none_like asked high (entry ∷ entries) =
-    let low = entry.state.numbered in
-    let apart : entry.state.number ≢ asked.number = omega (arith, low, high) in
-    rw (unlike (entry.state.client == asked.client) (bytes_eq entry.state.owner.items asked.owner) (entry.state.number == asked.number) (ne_eqb entry.state.number asked.number apart))
-    (none_like asked high entries)
+none_like : (asked : Open) → ((entry : Entry) → entry.state.number ≢ asked.number) → (entries : List Entry) → find (is_like asked) (map entry_of entries) ≡ None
+none_like asked apart [] = refl
+none_like asked apart (entry ∷ entries) =
+    rw (unlike (entry.state.client == asked.client) (bytes_eq entry.state.owner.items asked.owner) (entry.state.number == asked.number) (ne_eqb entry.state.number asked.number (apart entry)))
+    (none_like asked apart entries)
+
+pub none_like_0 : (asked : Open) → asked.number ≡ 0 → (entries : List Entry) → find (is_like asked) (map entry_of entries) ≡ None
+none_like_0 asked zero entries = none_like asked (λ entry. let low = entry.numbered in omega (arith, low, zero)) entries
+
+pub none_like_high : (asked : Open) → 2 ^ 64 ≤ asked.number → (entries : List Entry) → find (is_like asked) (map entry_of entries) ≡ None
+none_like_high asked high entries = none_like asked (λ entry. let low = entry.state.numbered in omega (arith, low, high)) entries
 
 pub named_at : (run serial : ℕ) (other : List ℕ) (opens : Opens) → (bytes_eq (take 4 other) (to_be_bytes w32 run) && (length other == 12)) ≡ true → serial_in other ≡ serial
     → open_named opens run other ≡ at serial opens.known

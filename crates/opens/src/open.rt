@@ -26,6 +26,8 @@ pub struct Open {
 pub struct Entry {
     pub serial: u64,
     pub state: Open,
+    // no node has the number 0
+    ghost numbered: { 0 < state.number },
 }
 
 impl Open {

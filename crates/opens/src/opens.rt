@@ -21,7 +21,7 @@ pub struct Opens {
 
 #[tactic(auto, unfolding(crate::specs::Views::opens_of, crate::specs::Views::HasMemory, model::specs::Sessions::StateIds::found, model::specs::Sessions::StateIds::opened))]
 impl Opens {
-    ghost use Rattle.std.specs.Prelude.{◌≡◌, ◌≤◌, ◌-◌, ◌^◌, ◌||◌, nat_le, None, length, map, IfOk, OnOk, IfSome, IfNone};
+    ghost use Rattle.std.specs.Prelude.{◌≡◌, ◌<◌, ◌≤◌, ◌^◌, None, length, map, IfOk, OnOk, IfSome, IfNone};
     ghost use Rattle.model.specs.Operations.Context.{Context};
     ghost use Rattle.model_tree.specs.Trees.Keyed.{at};
     ghost use Rattle.model.specs.Sessions.Opens as model;
@@ -55,26 +55,18 @@ impl Opens {
         self.list.reserve(1)
     }
 
-    /// Whether the open can't be made: `most` stand, or no serial is left. One that joins another
-    /// needs neither.
+    /// Whether the open can't be made: there are `most`, or no serial is left. One that joins
+    /// another needs neither. No file has the number 0: an open of it joins no other, as none would
+    /// on a file whose number had more than 64 bits.
     pub fn is_full(&self, most: usize, asked: &Open) -> bool
-        ensures { result ≡ is_table_full most (opens_of self.now) (open_of asked.now) }
+        ensures is { result ≡ is_table_full most (opens_of self.now) (open_of asked.now) }
+        ensures high { asked.now.number ≡ 0 → (other : model.Open) → 2 ^ 64 ≤ other.number
+            → result ≡ is_table_full most (opens_of self.now) other }
     {
         match self.position_like(asked) {
             Some(_) => false,
-            None => self.has_no_room(most),
+            None => most <= self.list.len() || u64::MAX <= self.given,
         }
-    }
-
-    /// Whether an open that joins no other can't be made: `most` stand, or no serial is left. None
-    /// is joined on a file whose number would have more than 64 bits.
-    pub fn has_no_room(&self, most: usize) -> bool
-        ensures room { result ≡ (nat_le most (length (opens_of self.now).known)
-            || nat_le (2 ^ 64 - 1) (opens_of self.now).given) }
-        ensures high { (asked : model.Open) → 2 ^ 64 ≤ asked.number
-            → result ≡ is_table_full most (opens_of self.now) asked }
-    {
-        most <= self.list.len() || u64::MAX <= self.given
     }
 
     // The first open of the same client and owner on the same file.
@@ -95,6 +87,7 @@ impl Opens {
     pub fn open(&mut self, run: u32, asked: Open) -> StateId
         requires room { HasMemory self.old }
         requires serial { CanOpen (opens_of self.old) (open_of asked) }
+        requires number { 0 < asked.number }
         ensures opens { opens_of self.new ≡ (opened (opens_of self.old) (open_of asked)).opens }
         ensures state { state_view result
             ≡ opened_stateid run (opened (opens_of self.old) (open_of asked)) }
