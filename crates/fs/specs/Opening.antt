@@ -1,5 +1,5 @@
 -- OPEN, but for the table of opens, of which a call is told whether it is full.
-use Rattle.std.specs.Prelude.{ℕ, Bool, List, [], ◌∷◌, ◌++◌, ◌+◌, Result, Ok, Err, None, MatchOption, ◌≡◌, ◌&&◌, ◌||◌, true, false, not, if◌then◌else◌}
+use Rattle.std.specs.Prelude.{ℕ, Bool, List, [], ◌∷◌, ◌++◌, ◌+◌, Result, Ok, Err, None, MatchOption, ◌≡◌, ◌<◌, ◌≤◌, ◌^◌, ◌⊎◌, ◌&&◌, ◌||◌, true, false, not, if◌then◌else◌}
 use Rattle.tree_edits.specs.declared.edit.Edit.{Edit}
 use Rattle.layout.specs.Stands.{Kept}
 use Rattle.model_tree.specs.declared.acl.Cred.{Cred}
@@ -127,6 +127,10 @@ abbrev pub IsFileToOpen : FileSystem → Opening → (number : ℕ) → Type 0
 IsFileToOpen fs asked number = (state : State) (cred : Cred) → IsOn fs cred asked.directory state
     → file_opened state (operation.Opens (type_of asked.how) (operation.ByName asked.name.now))
     ≡ number
+
+-- a number that is above 0, or 0 in place of one that has more than 64 bits
+abbrev pub IsShortNumber : (number short : ℕ) → Type 0
+IsShortNumber number short = ((short ≡ number) × (0 < short)) ⊎ ((short ≡ 0) × (2 ^ 64 ≤ number))
 
 -- which file it opened, and what it did to it
 pub record IsOpened (fs : FileSystem) (asked : Opening) (made : Opened) : Type 0 where

@@ -1,6 +1,6 @@
 //! Changes of the tree: the edits that they are made of, and keeping them.
 
-ghost use Rattle.std.specs.Prelude.{◌≡◌, ◌⊎◌, ◌+◌, ◌<◌, true, false, IfOk, IfErr, OnOk, MatchOption, ◌≤◌, ◌^◌};
+ghost use Rattle.std.specs.Prelude.{◌≡◌, ◌⊎◌, ◌+◌, ◌<◌, true, false, IfOk, IfErr, OnOk, MatchOption, ◌^◌};
 ghost use Rattle.tree_transaction.specs.Nodes.{shown_of};
 ghost use Rattle.fs.specs.Planned.{shown_by};
 ghost use Rattle.fs.specs.Forms.{edits_by, resizing};
@@ -10,6 +10,7 @@ use crate::fault::FsFault;
 use crate::fs::Fs;
 use acl_eval::NodeKind;
 use disk::Device;
+use model_tree::stamps::stamp;
 use model_tree::status::Status;
 use node_table::CachedNode;
 use std::alloc::{AllocError, Global};
@@ -150,6 +151,7 @@ impl<D: Device> Fs<D> {
     ghost use Rattle.fs.specs.Views.{fs_of, AltersFs};
     ghost use Rattle.tree_edits.specs.Measures.{AreMeasurable};
     ghost use Rattle.fs.specs.Making.{AsRoomy, room_tests};
+    ghost use Rattle.fs.specs.Opening.{IsShortNumber};
     ghost use Rattle.fs.specs.Planned.{IsPlanned};
     ghost use Rattle.model_tree.specs.Trees.Stamp.{next_stamp, is_stamp_left};
     ghost use Rattle.model_tree.specs.Trees.Tree.{Tree};
@@ -158,18 +160,16 @@ impl<D: Device> Fs<D> {
     ghost use Rattle.volume.specs.Edits.{IsEdited, edited_by};
     ghost use Rattle.volume.specs.Formed.{ShowsTree};
 
-    /// The stamp of the next change: none where it has more than 64 bits, after the last change of
-    /// the last run.
-    pub(crate) fn next_stamp(&self) -> Option<u64>
-        ensures { MatchOption result
-            (2 ^ 64 ≤ next_stamp (fs_of self.now).volume.run (fs_of self.now).changes)
-            (λ stamp. stamp ≡ next_stamp (fs_of self.now).volume.run (fs_of self.now).changes) }
+    /// The stamp of the next change: 0 where it has more than 64 bits, after the last change of the
+    /// last run.
+    pub(crate) fn next_stamp(&self) -> u64
+        ensures { IsShortNumber
+            (next_stamp (fs_of self.now).volume.run (fs_of self.now).changes) result }
     {
-        let first = u64::from(self.restart_count()) * 0x1_0000_0000;
-        first.checked_add(u64::from(self.changes) + 1)
+        stamp(self.restart_count(), self.changes).wrapping_add(1)
     }
 
-    /// The same, where the run has a stamp left.
+    /// The same: none where the run has no stamp left.
     pub(crate) fn stamp_left(&self) -> Option<u64>
         ensures { MatchOption result (is_stamp_left (fs_of self.now).changes ≡ false) (λ stamp.
             (stamp ≡ next_stamp (fs_of self.now).volume.run (fs_of self.now).changes)
@@ -178,8 +178,7 @@ impl<D: Device> Fs<D> {
         if self.changes == u32::MAX {
             return None;
         }
-        let first = u64::from(self.restart_count()) * 0x1_0000_0000;
-        Some(first + (u64::from(self.changes) + 1))
+        Some(stamp(self.restart_count(), self.changes + 1))
     }
 
     /// The stamp of a change, if the tree after it has room and a stamp is left: NOSPC, SERVERFAULT.

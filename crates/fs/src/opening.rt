@@ -127,26 +127,25 @@ pub(crate) fn may_open(cached: &CachedNode, cred: &Cred, access: u32, is_cut: bo
 
 #[tactic(auto, unfolding(crate::specs::Views::fs_of))]
 impl<D: Device> Fs<D> {
-    ghost use Rattle.std.specs.Prelude.{◌≡◌, ℕ, true, false, MatchOption, IsErrOf, OnOk, ◌≤◌, ◌^◌};
+    ghost use Rattle.std.specs.Prelude.{◌≡◌, ◌<◌, ℕ, true, false, IsErrOf, OnOk};
     ghost use Rattle.model.specs.Operations.Open.{creates};
     ghost use Rattle.model.specs.Operations.Operation.{OpenType};
     ghost use Rattle.model.specs.Operations.Step.{State};
     ghost use Rattle.fs.specs.OnTree.{IsState};
     ghost use Rattle.fs.specs.Views.{fs_of};
-    ghost use Rattle.fs.specs.Opening.{IsFileToOpen, IsOpeningCurrent, OpensCurrent, handle_tests};
+    ghost use Rattle.fs.specs.Opening.{IsFileToOpen, IsOpeningCurrent, IsShortNumber, OpensCurrent, handle_tests};
     ghost use Rattle.fs.specs.Operations.{IsOn};
 
     /// The number of the file that an OPEN by a name opens where nothing refuses it, by which a
-    /// caller tells whether the table of opens has room: that which the name leads to, or that of
-    /// the file which is made. None where that would have more than 64 bits, after the last change
-    /// of the last run.
-    pub fn file_to_open(&self, asked: Opening<'_>) -> Option<u64>
-        ensures { MatchOption result ((number : ℕ) × (2 ^ 64 ≤ number)
-            × IsFileToOpen (fs_of self.now) asked.entry number)
-            (IsFileToOpen (fs_of self.now) asked.entry) }
+    /// caller sees whether the table of opens has room: that which the name leads to, or that of
+    /// the file which is made. 0, which no file has, where that has more than 64 bits, after the
+    /// last change of the last run.
+    pub fn file_to_open(&self, asked: Opening<'_>) -> u64
+        ensures { (number : ℕ) × IsFileToOpen (fs_of self.now) asked.entry number
+            × IsShortNumber number result }
     {
         match self.named_in(asked.directory, asked.name) {
-            Some((_, number)) => Some(number),
+            Some((_, number)) => number,
             None => self.next_stamp(),
         }
     }
@@ -173,6 +172,7 @@ impl<D: Device> Fs<D> {
             → IsOpeningCurrent (fs_of self.now) state share is_create is_full arguments
             → OpensCurrent (fs_of self.now) state now number arguments result }
         ensures full { OnOk result (is_full ≡ false) }
+        ensures number { OnOk result (0 < number) }
         ensures down { (fs_of self.now).volume.is_down ≡ true → IsErrOf result FsFault.Down }
     {
         if self.is_down() {
@@ -193,11 +193,12 @@ impl<D: Device> Fs<D> {
         share: Share,
         is_create: bool,
     ) -> Result<(), Status>
-        ensures { (state : State) (arguments : OpenArguments) (how : OpenType)
+        ensures tests { (state : State) (arguments : OpenArguments) (how : OpenType)
             → IsState (fs_of self.now).volume.tree cred.now number state
             → arguments.access ≡ share.access → arguments.deny ≡ share.deny
             → creates how ≡ is_create
             → IsChecked (handle_tests state arguments how) result }
+        ensures number { OnOk result (0 < number) }
     {
         let Some(cached) = self.volume.node(number) else {
             return Err(Status::Stale);

@@ -8,14 +8,14 @@ pub returns-in_err-permit_current-clause-step : goal.returns-in_err-permit_curre
 returns-in_err-permit_current-clause-step g c state now arguments on is =
     let told = told_err c.from_residual.result (fault.Status c.in_err-permit_current.field-0.0) c.from_residual.ensures.1 in
     rw told (laws.refused_by (fs_of c.args.self.now) c.args.cred.now now c.args.number c.args.share c.args.is_create c.args.is_full state arguments on is
-    c.in_err-permit_current.field-0.0 (c.in_err-permit_current.ensures state arguments is.how on.is_state is.access_is is.deny_is is.creates_is))
+    c.in_err-permit_current.field-0.0 (c.in_err-permit_current.ensures.tests state arguments is.how on.is_state is.access_is is.deny_is is.creates_is))
 
 pub returns-then-is_full-clause-step : goal.returns-then-is_full-clause-step
 returns-then-is_full-clause-step g c state now arguments on is =
     laws.table_full (fs_of c.args.self.now) c.args.cred.now now c.args.number c.args.share c.args.is_create c.args.is_full state arguments on is
-    (c.in_ok-permit_current.ensures state arguments is.how on.is_state is.access_is is.deny_is is.creates_is) c.if-is_full.true
+    (c.in_ok-permit_current.ensures.tests state arguments is.how on.is_state is.access_is is.deny_is is.creates_is) c.if-is_full.true
 
 pub returns-clause-step : goal.returns-clause-step
 returns-clause-step g c state now arguments on is =
     laws.is_opened (fs_of c.args.self.now) c.args.cred.now now c.args.number c.args.share c.args.is_create c.args.is_full state arguments on is
-    (c.in_ok-permit_current.ensures state arguments is.how on.is_state is.access_is is.deny_is is.creates_is) c.if-is_full.false
+    (c.in_ok-permit_current.ensures.tests state arguments is.how on.is_state is.access_is is.deny_is is.creates_is) c.if-is_full.false
