@@ -1,5 +1,5 @@
 -- What an OPEN comes to that is served.
-use Rattle.std.proofs.Common.{◌≡◌, ◌+◌, ℕ, Bool, true, false, if◌then◌else◌, List, [], ◌∷◌, ◌++◌, length, nat_le, Option, Some, None, Result, Ok, Err, refl, sym, ap, ap₂, ◌∙◌, arith, length-append}
+use Rattle.std.proofs.Common.{◌≡◌, ◌<◌, ◌≤◌, ◌+◌, ◌^◌, inl, inr, ℕ, Bool, true, false, if◌then◌else◌, List, [], ◌∷◌, ◌++◌, length, nat_le, Option, Some, None, Result, Ok, Err, refl, sym, ap, ap₂, ◌∙◌, arith, length-append}
 use Rattle.std.proofs.lemmas.Bool.{and_parts, eqb-true}
 use Rattle.std.specs.Int.{w32, w64, to_be_bytes}
 use Rattle.xdr.specs.Forms.{padded, padding, trimmed_bitmap}
@@ -9,8 +9,8 @@ use Rattle.xdr.proofs.Numbers.{length-number_32, length-number_64}
 use Rattle.layout.specs.Stands.{Kept}
 use Rattle.fs.specs.Changes.{FsChanges}
 use Rattle.fs.specs.FileSystem.{FileSystem}
-use Rattle.fs.specs.Opening.{IsOpening, IsOpeningCurrent, OpensTree, after_open, open_effect, set_by, type_of}
-use Rattle.fs.specs.Operations.{IsNotDone, IsOn, IsRefused, does_on}
+use Rattle.fs.specs.Opening.{IsFileToOpen, IsOpening, IsOpeningCurrent, IsShortNumber, OpensTree, after_open, open_effect, set_by, type_of}
+use Rattle.fs.specs.Operations.{IsNotDone, IsRefused, does_on}
 use Rattle.fs.specs.Renaming.{info_of}
 use Rattle.fs.specs.declared.fault.FsFault.{FsFault}
 use Rattle.fs.specs.declared.fault.FsFault.TheVariants as fault
@@ -18,7 +18,6 @@ use Rattle.fs.specs.declared.opening.OpenEffect.TheVariants as effects
 use Rattle.fs.specs.declared.opening.Opened.{Opened}
 use Rattle.fs.specs.declared.opening.Opening.{Opening as Asked}
 use Rattle.fs.specs.declared.opening.Share.{Share}
-use Rattle.model_tree.specs.declared.acl.Cred.{Cred}
 use Rattle.model.specs.Operations.Answer.{Done}
 use Rattle.model.specs.Attributes.Attribute.{settable_at_open, trimmed}
 use Rattle.model.specs.Operations.Context.{Context, has_current, current_number}
@@ -271,9 +270,9 @@ module _ (now : ℕ) (fs : FileSystem) (request : InProgress) (arguments : OpenA
         ∙ (ap (is_table_full fs.volume.limits.opens opens) (sym is)
         ∙ (ap (λ (n : ℕ). is_table_full n opens one) (sym all) ∙ sym full))))
 
-    pub is_opening : (asked : Asked) → current_number request.context ≡ asked.directory
+    is_opening : (asked : Asked) → current_number request.context ≡ asked.directory
         → arguments.access ≡ asked.share.access → arguments.deny ≡ asked.share.deny → arguments.opening ≡ Opens_as (type_of asked.how) (ByName asked.name.now)
-        → ((state : State) (cred : Cred) → IsOn fs cred asked.directory state → file_opened state (Opens_as (type_of asked.how) (ByName asked.name.now)) ≡ number)
+        → IsFileToOpen fs asked number
         → (state : State) → IsHere fs request state → state.opens ≡ opens → IsOpening fs state asked is_full arguments
     is_opening asked at access deny opening leads state there known = record {
       access_is = access;
@@ -293,3 +292,33 @@ module _ (now : ℕ) (fs : FileSystem) (request : InProgress) (arguments : OpenA
       opening_is = opening;
       full_is = full_in state there known (ap (file_opened state) opening ∙ (ap current_number there.context_is ∙ at));
     }
+
+  -- the table is as full for the open of a short number as for that of the number
+  full_at : (opens left : Opens) (number short most : ℕ) (is_full : Bool) (one : Open) → one ≡ new_open request.context.client arguments.owner short arguments.access → left ≡ opens
+      → IsShortNumber number short → is_full ≡ is_table_full most left one
+      → (one.number ≡ 0 → (other : Open) → 2 ^ 64 ≤ other.number → is_full ≡ is_table_full most left other)
+      → is_full ≡ is_table_full most opens (new_open request.context.client arguments.owner number arguments.access)
+  full_at opens left number short most is_full one is same (inl known) full high =
+      full ∙ (ap (λ (held : Opens). is_table_full most held one) same ∙ (ap (is_table_full most opens) is
+      ∙ ap (λ (n : ℕ). is_table_full most opens (new_open request.context.client arguments.owner n arguments.access)) known.0))
+  full_at opens left number short most is_full one is same (inr past) full high =
+      let asked = new_open request.context.client arguments.owner number arguments.access in
+      high (ap (λ (it : Open). it.number) is ∙ past.0) asked past.1 ∙ ap (λ (held : Opens). is_table_full most held asked) same
+
+  -- so what is asked of the file system is what the arguments ask
+  pub named_opening : (opens left : Opens) → request.context.run ≡ fs.volume.run → has_current request.context ≡ true
+      → (number short most : ℕ) (is_full : Bool) (one : Open) → most ≡ fs.volume.limits.opens → one ≡ new_open request.context.client arguments.owner short arguments.access → left ≡ opens
+      → IsShortNumber number short → is_full ≡ is_table_full most left one
+      → (one.number ≡ 0 → (other : Open) → 2 ^ 64 ≤ other.number → is_full ≡ is_table_full most left other)
+      → (asked : Asked) → current_number request.context ≡ asked.directory
+      → arguments.access ≡ asked.share.access → arguments.deny ≡ asked.share.deny → arguments.opening ≡ Opens_as (type_of asked.how) (ByName asked.name.now)
+      → IsFileToOpen fs asked number
+      → (state : State) → IsHere fs request state → state.opens ≡ opens → IsOpening fs state asked is_full arguments
+  named_opening opens left in_run has number short most is_full one all is same at_most full high =
+      is_opening opens in_run has number most is_full (new_open request.context.client arguments.owner number arguments.access) all refl
+      (full_at opens left number short most is_full one is same at_most full high)
+
+-- a file that is open has a number that is not short for another
+pub opened_short : (number short made : ℕ) → IsShortNumber number short → number ≡ made → made < 2 ^ 64 → (short ≡ made) × (0 < short)
+opened_short number short made (inl known) is fits = (known.0 ∙ is, known.1)
+opened_short number short made (inr past) is fits = absurd (omega (arith, past.1, is, fits))

@@ -1,17 +1,15 @@
 -- What the operations of a COMPOUND see of a file system, and of what is open beside it.
-use Rattle.std.specs.Prelude.{◌≡◌, ◌≤◌, ℕ, Bool, true, List, length, nat_le, Some, Result, Ok, Err}
+use Rattle.std.specs.Prelude.{◌≡◌, ℕ, Bool, List, length, nat_le, Some, Result, Ok, Err}
 use Rattle.fs.specs.FileSystem.{FileSystem}
-use Rattle.fs.specs.Opening.{has_room_for, set_by, type_of}
+use Rattle.fs.specs.Opening.{has_room_for, set_by}
 use Rattle.fs.specs.declared.opening.OpenEffect.{OpenEffect}
-use Rattle.fs.specs.declared.opening.Opening.{Opening}
 use Rattle.fs.specs.declared.opening.OpenRoom.{OpenRoom}
 use Rattle.fs.specs.Operations.{does_on}
 use Rattle.model.specs.Operations.Answer.{Answer, Done}
-use Rattle.model.specs.Operations.Context.{current_number, has_current, without_stateid}
+use Rattle.model.specs.Operations.Context.{without_stateid}
 use Rattle.model.specs.Sessions.Opens.{Open, Opens}
-use Rattle.model.specs.Operations.Open.{at_opened, given_by, no_change_info}
-use Rattle.model.specs.Operations.Operation.{Argument, ByName, ChangeInfo, CloseArguments, OpenArguments, OpenType, StateId}
-use Rattle.model.specs.Operations.Operation as operations
+use Rattle.model.specs.Operations.Open.{at_opened, no_change_info}
+use Rattle.model.specs.Operations.Operation.{Argument, ChangeInfo, CloseArguments, OpenType, StateId}
 use Rattle.model_tree.specs.Refusals.Refusal.{first_refusal}
 use Rattle.model.specs.Operations.Step.{State, answered, refused}
 use Rattle.model.specs.Sessions.StateIds.{Found, Names, close_refusals, closed_state, opened, without_open}
@@ -73,17 +71,6 @@ has_opened_room request was_set =
 abbrev pub HasOpenRoom : InProgress → OpenType → OpenRoom → Type 0
 HasOpenRoom request how room =
     (effect : OpenEffect) → has_room_for room effect ≡ has_opened_room request (set_by effect how)
-
--- a file system is asked for what a request asks
-pub record AsksFor (request : InProgress) (arguments : OpenArguments) (of : OpenType)
-    (asked : Opening) : Type 0 where
-  pub has : has_current request.context ≡ true
-  pub at : current_number request.context ≡ asked.directory
-  pub access : arguments.access ≡ asked.share.access
-  pub deny : arguments.deny ≡ asked.share.deny
-  pub opening : arguments.opening ≡ operations.Opens (type_of asked.how) (ByName asked.name.now)
-  pub how : type_of asked.how ≡ of
-  pub few : length (given_by (type_of asked.how)).bitmap ≤ 8
 
 -- an operation comes to this open, with this change of its directory and these attributes set
 abbrev pub ComesToOpen : (now : ℕ) → (old new : SharedState) → InProgress → (asked : Open)

@@ -1,6 +1,6 @@
 //! OPEN of a file by its name (RFC 8881, section 18.16, `CLAIM_NULL`).
 
-ghost use Rattle.std.specs.Prelude.{◌≡◌, ◌≤◌, ◌<◌, ◌^◌, IsTrue, length};
+ghost use Rattle.std.specs.Prelude.{◌≡◌, ◌≤◌, IsTrue, length};
 ghost use Rattle.fs.specs.Opening.{set_by, type_of};
 ghost use Rattle.model.specs.Operations.Open.{given_by, size_alone};
 ghost use Rattle.model.specs.Operations.Operation as operations;
@@ -35,11 +35,9 @@ pub(crate) struct NamedOpen<'a> {
 }
 
 impl Running<'_> {
-    ghost use Rattle.std.specs.Prelude.{◌≡◌, ◌≤◌, ◌^◌, ℕ};
-    ghost use Rattle.fs.specs.Opening.{IsFileToOpen};
     ghost use Rattle.model.specs.Operations.Operation as operations;
     ghost use Rattle.wire.specs.ArgumentViews.{open_type_view, open_view};
-    ghost use Rattle.compound.specs.Beside.{AsksFor, HasOpenRoom};
+    ghost use Rattle.compound.specs.Beside.{HasOpenRoom};
     ghost use Rattle.compound.specs.Engines.{Changes, files_in};
     ghost use Rattle.compound.specs.States.{CanServe};
     ghost use Rattle.compound.specs.Views.{in_progress_of};
@@ -65,9 +63,7 @@ impl Running<'_> {
             share: share_of(named.arguments),
             how: how_of(named.how),
         };
-        let Some(number) = engine.fs.file_to_open(opening) else {
-            return self.refuse_last_open(engine, named, opening);
-        };
+        let number = engine.fs.file_to_open(opening);
         let asked = self.asked_open(named.arguments, number)?;
         engine.opens.reserve()?;
         let is_full = engine.opens.is_full(engine.fs.limits().opens, &asked);
@@ -87,38 +83,6 @@ impl Running<'_> {
         }
     }
 
-    /// An open of a name that leads to no file, after the last change of the last run: something
-    /// refuses it, at the latest that no stamp is left. A file that it made would have a number of
-    /// 65 bits, so it joins no other open.
-    fn refuse_last_open<D: Device>(
-        &self,
-        engine: &mut Engine<'_, D>,
-        named: NamedOpen<'_>,
-        opening: Opening<'_>,
-    ) -> Result<Executed, Fault>
-        requires ready { CanServe (files_in engine.old) (in_progress_of self.now) }
-        requires asked { AsksFor (in_progress_of self.now) (open_view named.arguments.now)
-            (open_type_view named.how.now) opening }
-        requires high { (number : ℕ) × (2 ^ 64 ≤ number)
-            × IsFileToOpen (files_in engine.old) opening number }
-        ensures { Changes engine.old engine.new (in_progress_of self.now)
-            (operations.Argument.Open (open_view named.entry.arguments.now)) result }
-    {
-        let is_full = engine.opens.has_no_room(engine.fs.limits().opens);
-        let room = self.open_room(named.how);
-        match engine
-            .fs
-            .open_file(self.cred, engine.moment, opening, is_full, room)
-        {
-            // the file that is made would have such a number
-            Ok(made) => {
-                tell_64_bits(made.number);
-                unreachable!()
-            }
-            Err(fault) => self.tell_fault(Operation::Open, fault),
-        }
-    }
-
     /// Whether the reply has room for the result, by what the open does to its file.
     fn open_room(&self, how: &OpenType<'_>) -> OpenRoom
         ensures { HasOpenRoom (in_progress_of self.now) (open_type_view how.now) result }
@@ -130,11 +94,6 @@ impl Running<'_> {
         }
     }
 }
-
-/// Says what the type of a number does.
-fn tell_64_bits(number: u64)
-    ensures { number < 2 ^ 64 }
-{}
 
 /// How the file is opened, as a file system is asked.
 fn how_of<'a>(how: &'a OpenType<'a>) -> How<'a>

@@ -36,7 +36,7 @@ pub(crate) struct OpenDone {
 }
 
 impl Running<'_> {
-    ghost use Rattle.std.specs.Prelude.{◌≡◌, true, IsTrue};
+    ghost use Rattle.std.specs.Prelude.{◌≡◌, ◌<◌, true, IsTrue};
     ghost use Rattle.model.specs.Operations.Operation as operations;
     ghost use Rattle.model.specs.Sessions.StateIds.{new_open, opened};
     ghost use Rattle.opens.specs.Views.{opens_of, open_of, CanOpen, HasMemory};
@@ -107,6 +107,7 @@ impl Running<'_> {
     pub(crate) fn give_open(&self, opens: &mut Opens, asked: Open, done: OpenDone) -> Executed
         requires room { HasMemory opens.old }
         requires serial { CanOpen (opens_of opens.old) (open_of asked) }
+        requires number { 0 < asked.number }
         requires short { true ≡ has_opened_room (in_progress_of self.now) done.was_set }
         // What it answers
         ensures gives { (now : _) (old new : SharedState) (operation : operations.Argument)

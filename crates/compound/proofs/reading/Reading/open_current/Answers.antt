@@ -1,4 +1,4 @@
-use Rattle.std.proofs.Common.{ℕ, List, [], false, refl, sym, ap, subst, ◌∙◌}
+use Rattle.std.proofs.Common.{◌<◌, ℕ, List, [], false, refl, sym, ap, subst, ◌∙◌}
 use Rattle.fs.specs.Views.{fs_of}
 use Rattle.fs.specs.Opening.{current_opened}
 use Rattle.fs.specs.Operations.{IsRefused}
@@ -55,7 +55,7 @@ status_of-requires g c =
     (c.in-Err-open_current.ensures.step (beside fs request opens) 0 arguments (is_on fs request c.in-Ok.number (beside fs request opens) c.args.self.now.ready.run c.in-Ok.ensures.ok.0 c.in-Ok.ensures.ok.1 (is_beside fs request opens))
     (is_current 0 fs request arguments opens c.args.self.now.ready.run c.in-Ok.ensures.ok.0 c.in-Ok.number c.limits.result.now.opens c.is_full-is_full.result (open_of c.in_ok-asked.asked)
     (ap (λ (limits : Limits). limits.opens) c.limits.ensures) c.in_ok-asked.ensures
-    (c.is_full-is_full.ensures ∙ ap (λ (held : Opens). is_table_full c.limits.result.now.opens held (open_of c.in_ok-asked.asked)) c.in_ok-reserve.ensures.same)
+    (c.is_full-is_full.ensures.is ∙ ap (λ (held : Opens). is_table_full c.limits.result.now.opens held (open_of c.in_ok-asked.asked)) c.in_ok-reserve.ensures.same)
     c.share_of.result (open_type_view c.args.how.now) c.creates-create.result c.in-Ok.ensures.ok.1 (sym c.share_of.ensures.access) (sym c.share_of.ensures.deny) c.requires c.creates-create.ensures (beside fs request opens) (is_beside fs request opens) refl))
 
 pub refuse-requires-in-Err-open_current : goal.refuse-requires-in-Err-open_current
@@ -71,7 +71,7 @@ refuse-requires-in-Err-open_current g c =
     (c.in-Err-open_current.ensures.step (beside fs request opens) 0 arguments (is_on fs request c.in-Ok.number (beside fs request opens) c.args.self.now.ready.run c.in-Ok.ensures.ok.0 c.in-Ok.ensures.ok.1 (is_beside fs request opens))
     (is_current 0 fs request arguments opens c.args.self.now.ready.run c.in-Ok.ensures.ok.0 c.in-Ok.number c.limits.result.now.opens c.is_full-is_full.result (open_of c.in_ok-asked.asked)
     (ap (λ (limits : Limits). limits.opens) c.limits.ensures) c.in_ok-asked.ensures
-    (c.is_full-is_full.ensures ∙ ap (λ (held : Opens). is_table_full c.limits.result.now.opens held (open_of c.in_ok-asked.asked)) c.in_ok-reserve.ensures.same)
+    (c.is_full-is_full.ensures.is ∙ ap (λ (held : Opens). is_table_full c.limits.result.now.opens held (open_of c.in_ok-asked.asked)) c.in_ok-reserve.ensures.same)
     c.share_of.result (open_type_view c.args.how.now) c.creates-create.result c.in-Ok.ensures.ok.1 (sym c.share_of.ensures.access) (sym c.share_of.ensures.deny) c.requires c.creates-create.ensures (beside fs request opens) (is_beside fs request opens) refl)))
 
 pub returns-in-Err-open_current-clause-gives : goal.returns-in-Err-open_current-clause-gives
@@ -92,7 +92,7 @@ returns-in-Err-open_current-clause-gives g c = record {
       (c.in-Err-open_current.ensures.step state now arguments (is_on fs request c.in-Ok.number state c.args.self.now.ready.run c.in-Ok.ensures.ok.0 c.in-Ok.ensures.ok.1 there)
       (is_current now fs request arguments opens c.args.self.now.ready.run c.in-Ok.ensures.ok.0 c.in-Ok.number c.limits.result.now.opens c.is_full-is_full.result (open_of c.in_ok-asked.asked)
       (ap (λ (limits : Limits). limits.opens) c.limits.ensures) c.in_ok-asked.ensures
-      (c.is_full-is_full.ensures ∙ ap (λ (held : Opens). is_table_full c.limits.result.now.opens held (open_of c.in_ok-asked.asked)) c.in_ok-reserve.ensures.same)
+      (c.is_full-is_full.ensures.is ∙ ap (λ (held : Opens). is_table_full c.limits.result.now.opens held (open_of c.in_ok-asked.asked)) c.in_ok-reserve.ensures.same)
       c.share_of.result (open_type_view c.args.how.now) c.creates-create.result c.in-Ok.ensures.ok.1 (sym c.share_of.ensures.access) (sym c.share_of.ensures.deny) c.requires c.creates-create.ensures state there known)))));
 }
 
@@ -121,12 +121,16 @@ returns-then-not-has_opened_room-clause-gives g c = record {
       (λ state there known. (c.in-Ok-open_current.ensures.step state now arguments (is_on fs request c.in-Ok.number state c.args.self.now.ready.run c.in-Ok.ensures.ok.0 c.in-Ok.ensures.ok.1 there)
       (is_current now fs request arguments opens c.args.self.now.ready.run c.in-Ok.ensures.ok.0 c.in-Ok.number c.limits.result.now.opens c.is_full-is_full.result (open_of c.in_ok-asked.asked)
       (ap (λ (limits : Limits). limits.opens) c.limits.ensures) c.in_ok-asked.ensures
-      (c.is_full-is_full.ensures ∙ ap (λ (held : Opens). is_table_full c.limits.result.now.opens held (open_of c.in_ok-asked.asked)) c.in_ok-reserve.ensures.same)
+      (c.is_full-is_full.ensures.is ∙ ap (λ (held : Opens). is_table_full c.limits.result.now.opens held (open_of c.in_ok-asked.asked)) c.in_ok-reserve.ensures.same)
       c.share_of.result (open_type_view c.args.how.now) c.creates-create.result c.in-Ok.ensures.ok.1 (sym c.share_of.ensures.access) (sym c.share_of.ensures.deny) c.requires c.creates-create.ensures state there known))))));
 }
 
 pub give_open-requires-clause-serial : goal.give_open-requires-clause-serial
-give_open-requires-clause-serial g c = (c.limits.result.now.opens, sym c.is_full-is_full.ensures ∙ c.in-Ok-open_current.ensures.full)
+give_open-requires-clause-serial g c = (c.limits.result.now.opens, sym c.is_full-is_full.ensures.is ∙ c.in-Ok-open_current.ensures.full)
+
+pub give_open-requires-clause-number : goal.give_open-requires-clause-number
+give_open-requires-clause-number g c =
+    subst (λ (n : ℕ). 0 < n) (sym (ap (λ (it : Open). it.number) c.in_ok-asked.ensures)) c.in-Ok-open_current.ensures.number
 
 pub returns-else-not-has_opened_room-clause-gives : goal.returns-else-not-has_opened_room-clause-gives
 unfolding in_progress_of
@@ -143,7 +147,7 @@ returns-else-not-has_opened_room-clause-gives g c = record {
       (λ state there known. (c.in-Ok-open_current.ensures.step state now arguments (is_on fs request c.in-Ok.number state c.args.self.now.ready.run c.in-Ok.ensures.ok.0 c.in-Ok.ensures.ok.1 there)
       (is_current now fs request arguments opens c.args.self.now.ready.run c.in-Ok.ensures.ok.0 c.in-Ok.number c.limits.result.now.opens c.is_full-is_full.result (open_of c.in_ok-asked.asked)
       (ap (λ (limits : Limits). limits.opens) c.limits.ensures) c.in_ok-asked.ensures
-      (c.is_full-is_full.ensures ∙ ap (λ (held : Opens). is_table_full c.limits.result.now.opens held (open_of c.in_ok-asked.asked)) c.in_ok-reserve.ensures.same)
+      (c.is_full-is_full.ensures.is ∙ ap (λ (held : Opens). is_table_full c.limits.result.now.opens held (open_of c.in_ok-asked.asked)) c.in_ok-reserve.ensures.same)
       c.share_of.result (open_type_view c.args.how.now) c.creates-create.result c.in-Ok.ensures.ok.1 (sym c.share_of.ensures.access) (sym c.share_of.ensures.deny) c.requires c.creates-create.ensures state there known))) in
       let same = c.in_ok-reserve.ensures.same in
       let one = open_of c.in_ok-asked.asked in
