@@ -1,4 +1,4 @@
--- The number of the next operation's result is told by the word with which its bytes begin.
+-- The word with which the next operation's bytes begin gives the number of its result.
 use Rattle.std.proofs.Common.{◌≡◌, ◌==◌, ◌&&◌, ◌||◌, not, ℕ, Bool, true, false, if◌then◌else◌, List, drop, None, Result, Ok, Err, refl, sym, ap, subst, ◌∙◌, nat_lt}
 use Rattle.std.specs.Int.{w32}
 use Rattle.xdr.specs.declared.refusal.Refusal.{Refusal}
@@ -86,7 +86,7 @@ module _ (request : InProgress) (are : IsBytes request.rest) where
   unfolding next_operation
   next_says = number_says (number_at w32 request.rest) refl
 
--- what is told of a COMPOUND of these operations, of which one comes next
+-- what is known of a COMPOUND of these operations, of which one comes next
 pub told_ahead : (asked : Asked) (progress : Progress) (operations : List ℕ) → IsBytes operations → asked.compound.operations ≡ operations → progress.ended ≡ None
     → (n : ℕ) → n ≡ number_told (number_at w32 (drop progress.position operations)) → ahead.Operation n ≡ ahead_of (resumed asked progress)
 told_ahead asked progress operations are is none n told =

@@ -28,7 +28,7 @@ use Rattle.compound.proofs.Replies.{room_length}
 use Rattle.compound.proofs.Rooms.{state_same, has_room_by}
 use Rattle.compound.proofs.Trees.{here, tree_runs}
 
--- The answer's length does not tell the change values
+-- The answer's length does not depend on the change values
 
 text_length : (before after : ℕ) (was_set : List ℕ)
     → length (outcome_text (Done (made_answer before after was_set))) ≡ 28 + length (elements (λ (n : ℕ). number w32 n) was_set)

@@ -112,7 +112,7 @@ open_status fs state now arguments fault.Down up is = gone fs.volume.is_down up 
     gone : (is_down : Bool) → is_down ≡ false → is_down ≡ true → IsStatus fault.Down
     gone is_down is other = cc
 
--- Only what was set tells its length
+-- Its length depends only on what was set
 
 other_length : (of serial : ℕ) → length (padded (to_be_bytes w32 of ++ to_be_bytes w64 serial)) ≡ 12
 unfolding number
@@ -150,7 +150,7 @@ open_number opens asked = by_like (open_like opens asked) refl
         eqb-true entry.1.number asked.number
         (and_parts _ _ (and_parts _ _ (found_passes (is_like asked) opens.known entry is)).1).1
 
--- where it leads tells what is set
+-- what is set depends on where it leads
 set_is : (is_there is_cut : Bool) (of : OpenType)
     → (if is_there then (if is_cut then size_alone else []) else trimmed (given_by of).bitmap)
     ≡ set_by (if is_there then (if is_cut then effects.Cut else effects.Nothing) else effects.Made) of

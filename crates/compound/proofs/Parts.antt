@@ -13,7 +13,7 @@ all_replaced size with_front items is = rw is (take-append_seam with_front (drop
 front_dropped : (front part : List ℕ) → length front ≡ 8 → drop 8 (front ++ part) ≡ part
 front_dropped front part is = rw (← is) (drop-append_seam front part)
 
--- what stands before the part is put over the zeros there, and zeros come after it
+-- what comes before the part is put over the zeros there, and zeros come after it
 pub part_spelled : (items front part words with_front with_pad : List ℕ) (is_end : Bool) (size capped : ℕ)
     → size ≡ length items - 8 → capped ≡ min size (2 ^ 32 - 1) → words ≡ number w32 (code_of is_end) ++ number w32 capped
     → (8 ≤ length items → with_front ≡ words ++ drop 8 items) → with_pad ≡ with_front ++ replicate (padding size) 0

@@ -22,7 +22,7 @@ pub room_length : (request : InProgress) (outcome : Outcome)
     → length (reply_with request outcome) ≡ 32 + length (counted request.tag) + length request.results + length (outcome_text outcome)
 room_length request outcome = reply_length request.xid (status_of outcome) request.tag (request.answered + 1) request.results (outcome_text outcome)
 
--- round a result stand the xid, the message type and four words
+-- round a result are the xid, the message type and four words
 pub success_length : (xid : ℕ) (result : List ℕ) → length (reply_text xid (Success result)) ≡ 24 + length result
 unfolding reply_text
 success_length xid result = simp (length-append, length-number_32) (omega arith)
@@ -31,7 +31,7 @@ pub framed_length : (bytes : List ℕ) → length (framed bytes) ≡ 4 + length 
 unfolding framed
 framed_length bytes = grind (arith, common_steps)
 
--- a result stands behind the record's header and those words
+-- a result comes after the record's header and those words
 result_behind : (xid : ℕ) (result : List ℕ) → drop 28 (framed (reply_text xid (Success result))) ≡ result
 unfolding framed reply_text number
 result_behind xid result = refl

@@ -1,4 +1,4 @@
--- What is left of an operation's bytes stands at the end of all of them.
+-- What is left of an operation's bytes is at the end of all of them.
 use Rattle.std.proofs.Common.{◌≡◌, ℕ, Bool, true, false, not, ◌&&◌, if◌then◌else◌, Result, Ok, ◌-◌, ◌≤◌, List, ◌++◌, length, take, drop, ap, sym, subst, ◌∙◌, append_assoc, arith, length-drop, length-append}
 use Rattle.std.proofs.lemmas.List.{take-append-drop, drop_at}
 use Rattle.xdr.specs.declared.refusal.Refusal.{Refusal}

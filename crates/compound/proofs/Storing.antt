@@ -40,7 +40,7 @@ all_stayed (edit.Takes seat ∷ edits) seats stay = let never : ⊥ = cc in absu
 all_stayed (edit.Holds slot held ∷ edits) seats stay = let never : ⊥ = cc in absurd never
 
 module _ (keeps_word : Type 0) (fs : FileSystem) where
-  -- nothing is put, and these seats stand there
+  -- nothing is put, and these seats are there
   pub seated_still : (failed : ℕ) (seats : Seats) → fs.volume.is_down ≡ false → (keeps_word → seats ≡ fs.volume.seats)
       → FsChanges keeps_word (IsSeated fs.volume seats) fs fs failed failed Done
   seated_still failed seats up there =
@@ -69,7 +69,7 @@ module _ (keeps_word : Type 0) (fs : FileSystem) where
     pub seats_put : (seats : Seats) → FsChanges keeps_word (IsSeats fs.volume seats) fs new before after end → FsChanges keeps_word (IsSeated fs.volume seats) fs new before after end
     seats_put seats changes = changes_by keeps_word (IsSeats fs.volume seats) (IsSeated fs.volume seats) (λ kept lasting given. given.0) fs new before after end changes
 
--- Operations that change the seats alone
+-- Operations that change only the seats
 
 given_seats : (state : SharedState) (table : Table) (opens : Opens) (request left : InProgress) (now : ℕ) (operation : Argument) (outcome : model.Outcome) → is_quiet operation ≡ true
     → GivesIn now state (shared state.files table opens) request left operation outcome

@@ -146,7 +146,7 @@ clients_run now fs before after old new request left kind outcome runs = λ worl
     runs world rest on
     ∙ ap (λ (known : World). Gives outcome (record known { table = new; opens = after }) (with_rest left rest)) (sym (state_same world (shared fs old before) on))
 
--- CREATE_SESSION and DESTROY_SESSION, where the volume keeps the seats: its tree stands as it did
+-- CREATE_SESSION and DESTROY_SESSION, where the volume keeps the seats: its tree is as it was
 
 placed : (world : World) (fs new : FileSystem) (table after : Table) (known opens : Opens) → HasState world (shared fs table known) → HasSameTree fs new
     → (let placed : World = record world { table = after; opens = opens } in placed) ≡ with_state world (shared new after opens)

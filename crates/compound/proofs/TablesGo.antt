@@ -1,4 +1,4 @@
--- What operations and turns leave of the table: it is of its run, and but for CREATE_SESSION and DESTROY_SESSION its seats stay.
+-- What operations and turns leave of the table: it is of its run, and except by CREATE_SESSION and DESTROY_SESSION its seats stay.
 use Rattle.std.proofs.Common.{◌≡◌, ℕ, Bool, true, false, ◌==◌, List, find, Option, None, Some, Result, Ok, Err, refl, bytes_eq}
 use Rattle.model_tree.specs.declared.status.Status.{Status}
 use Rattle.model.specs.Operations.Answer.{Answer, Done, Refused, ExchangeIdAnswer, CreateSessionAnswer}
@@ -20,7 +20,7 @@ leaves_seats (Argument.CreateSession arguments) = false
 leaves_seats (Argument.DestroySession id) = false
 leaves_seats operation = true
 
--- What is told of a table stays, by the calls that may change it
+-- What is known of a table stays, by the calls that may change it
 
 abbrev Stays : {A : Type 0} → (Table → A) → Table → Table → Type 0
 Stays told old new = told new ≡ told old

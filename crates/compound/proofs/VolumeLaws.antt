@@ -51,7 +51,7 @@ turn_stays state turn keeps agree after lasting gives =
     ap (λ (kept : Kept). kept.seats) (gives.kept ∙ keeps gives.world gives.number gives.has)
     ∙ (ap (λ (table : Table). table.seats) gives.has.table_is ∙ agree)
 
--- An operation that leaves the seats may be told by the tree alone
+-- For an operation that leaves the seats it is enough to speak of the tree
 
 run_tells : (state : SharedState) (request : InProgress) (now : ℕ) (operation : Argument) → leaves_seats operation ≡ true → state.table.seats ≡ state.files.volume.seats
     → (after : Kept) (lasting : Bool) → RunGives state request now operation after lasting → OperationGives state request now operation after lasting
@@ -194,7 +194,7 @@ pub quiet_changes : (keeps_word : Type 0) (state : SharedState) (failed : ℕ) (
 quiet_changes keeps_word state failed request now operation up quiet =
     answers_quietly keeps_word (OperationGives state request now operation) state.files state.files failed failed refl refl up (λ keeps. operation_stays state request now operation) (quiet_gives state request now operation quiet)
 
--- or is refused for memory alone
+-- or is refused only for memory
 pub quiet_result : {T : Type 0} (keeps_word : Type 0) (state : SharedState) (failed : ℕ) (request : InProgress) (now : ℕ) (operation : Argument) (result : Result T Fault)
     → state.files.volume.is_down ≡ false → is_quiet operation ≡ true → ((reason : Fault) → result ≡ Err reason → reason ≡ fault.Memory)
     → FsChanges keeps_word (OperationGives state request now operation) state.files state.files failed failed (ending result)
@@ -205,7 +205,7 @@ quiet_result keeps_word state failed request now operation (Err fault.Device) up
     let is : fault.Device ≡ fault.Memory = memory fault.Device refl in
     let never : ⊥ = cc in absurd never
 
--- one that is not done, for memory alone
+-- one that is not done, only for memory
 pub memory_changes : {T : Type 0} (keeps_word : Type 0) (given : Given) (fs : FileSystem) (failed : ℕ) (result : Result T Fault) (reason : Fault)
     → IsErrAnd result (λ told. told ≡ reason) → reason ≡ fault.Memory → FsChanges keeps_word given fs fs failed failed (ending result)
 memory_changes keeps_word given fs failed (Ok done) reason is memory = absurd is

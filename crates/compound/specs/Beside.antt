@@ -61,7 +61,7 @@ abbrev pub opened_answer : StateId → ChangeInfo → (was_set : List ℕ) → A
 opened_answer state change was_set =
     Answer.Open (record { state = state; change = change; flags = 0; was_set = was_set })
 
--- whether the reply has room for it, which only what was set can tell
+-- whether the reply has room for it, which depends only on what was set
 abbrev pub has_opened_room : InProgress → (was_set : List ℕ) → Bool
 has_opened_room request was_set =
     nat_le (length (reply_with request (Done (opened_answer closed_state no_change_info was_set))))

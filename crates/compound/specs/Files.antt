@@ -4,7 +4,7 @@ use Rattle.std.specs.Int.{w64, to_be_bytes}
 use Rattle.model.specs.Operations.Answer.{Answer}
 use Rattle.model.specs.Operations.Files.{committed_as}
 
--- WRITE, in this run of the server: so many bytes were taken
+-- WRITE, in this run of the server: this count of bytes was taken
 abbrev pub written_answer : (run stable count : ℕ) → Answer
 written_answer run stable count = Answer.Write (record {
   count = count;

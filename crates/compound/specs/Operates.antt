@@ -86,7 +86,7 @@ Operates now old new request operation (execution.Replays slot) =
     → run_in_room world (with_rest request rest) now operation
     ≡ turns.Replays reply slot.session slot.slot)
 
--- all stays as it was, but for its COMPOUND
+-- all stays as it was, except its COMPOUND
 abbrev pub OnlyReads : FileSystem → InProgress → Argument → Executed → Type 0
 OnlyReads files request operation done = (now : ℕ) (table : Table) (opens : Opens)
     → Operates now (shared files table opens) (shared files table opens) request operation done

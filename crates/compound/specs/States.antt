@@ -21,7 +21,7 @@ pub record SharedState : Type 0 where
 abbrev pub shared : FileSystem → Table → Opens → SharedState
 shared files table opens = record { files = files; table = table; opens = opens }
 
--- what stands in memory
+-- what is in memory
 abbrev pub shared_of : {D : _} {g : _} → Fs D g → code.Table → known.Opens → SharedState
 shared_of fs table opens = shared (fs_of fs) (table_of table) (opens_of opens)
 

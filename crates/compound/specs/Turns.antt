@@ -43,7 +43,7 @@ TurnsTo now old new request left outcome =
     × (stepped_on world number now request
     ≡ behind (with_state world new) number left outcome executed)
 
--- the same, where the next operation did this and ends where these bytes stand
+-- the same, where the next operation did this and ends where these bytes begin
 abbrev pub TurnsExecuted : (now : ℕ) → (old new : SharedState) → InProgress → (rest : List ℕ)
     → Executed
     → Type 0

@@ -76,7 +76,7 @@ may_go_on asked progress None =
 may_go_on asked progress (Some last) =
     nat_le (size_so_far asked progress) (MAX_REPLY_BYTES + MAX_REFUSAL_BYTES)
 
--- and the next one stands within their bytes
+-- and the next one begins within their bytes
 abbrev pub fits_operations : Asked → Progress → Bool
 fits_operations asked progress =
     nat_le progress.position (length asked.compound.operations)

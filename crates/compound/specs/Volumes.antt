@@ -87,7 +87,7 @@ abbrev pub IsSeated : VolumeState → Seats → Given
 IsSeated held seats after lasting =
     (after ≡ record { tree = held.tree; seats = seats }) × HasToLast held false after lasting
 
--- the tree stands as it did, and no change was counted
+-- the tree is as it was, and no change was counted
 pub record HasSameTree (old new : FileSystem) : Type 0 where
   pub tree : new.volume.tree ≡ old.volume.tree
   pub changes : new.changes ≡ old.changes

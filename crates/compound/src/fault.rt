@@ -34,7 +34,7 @@ impl<T: Drop> From<AllocFailed<T>> for Fault {
     }
 }
 
-/// Of writers alone, which are refused only for memory.
+/// Only of writers, which are refused only for memory.
 impl From<Refusal> for Fault {
     ghost from_gives = { λ _ made. made ≡ fault.Memory };
 

@@ -75,7 +75,7 @@ impl Running<'_> {
         self.read_next(alloc, number, start)
     }
 
-    /// The operation of this number that stands at `start`, where nothing refuses the number.
+    /// The operation of this number that begins at `start`, where nothing refuses the number.
     fn read_next<'a>(
         &'a self,
         alloc: Global,

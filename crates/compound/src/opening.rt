@@ -103,7 +103,7 @@ impl Running<'_> {
         )?)
     }
 
-    /// The open stands, or joins one that does, and its file is the current one.
+    /// The open is in the table, or joins one that is, and its file is the current one.
     pub(crate) fn give_open(&self, opens: &mut Opens, asked: Open, done: OpenDone) -> Executed
         requires room { HasMemory opens.old }
         requires serial { CanOpen (opens_of opens.old) (open_of asked) }
@@ -127,7 +127,7 @@ impl Running<'_> {
     }
 
     /// Whether the reply has room for the result of an OPEN that set these attributes. What else it
-    /// tells does not matter.
+    /// says does not matter.
     pub(crate) fn has_opened_room(&self, was_set: Bitmap) -> bool
         requires { IsTrue (is_trimmed was_set) }
         ensures { result ≡ has_opened_room (in_progress_of self.now) was_set }

@@ -63,7 +63,7 @@ impl Running<'_> {
     }
 }
 
-/// Memory for the values of a READ, with zeros in place of what stands before the bytes.
+/// Memory for the values of a READ, with zeros in place of what comes before the bytes.
 fn room_for(alloc: Global, count: u32) -> Result<Vec<u8>, Fault>
     ensures count { count < 2 ^ 32 }
     ensures values { OrMemory result (λ values. length values.items ≡ 8) }
@@ -74,7 +74,7 @@ fn room_for(alloc: Global, count: u32) -> Result<Vec<u8>, Fault>
     Ok(values)
 }
 
-/// Writes what stands before the bytes of the file, and the zeros after them.
+/// Writes what comes before the bytes of the file, and the zeros after them.
 fn finish(values: &mut Vec<u8>, is_end: bool) -> Result<(), Fault>
     ensures { OrMemory result (λ _. (front part : List ℕ) → values.old.items ≡ front ++ part
         → length front ≡ 8 → length part < 2 ^ 32

@@ -53,7 +53,7 @@ impl Running<'_> {
         self.has_room_for(outcome.size())
     }
 
-    /// Whether the reply has room for a result of so many bytes, if it were the last one.
+    /// Whether the reply has room for a result of this size, if it were the last one.
     #[tactic(auto, unfolding(crate::specs::Views::in_progress_of))]
     fn has_room_for(&self, result_size: usize) -> bool
         requires { result_size < 2 ^ 63 + 8 }

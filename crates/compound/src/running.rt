@@ -10,7 +10,7 @@ use rpc::Compound;
 use std::alloc::Global;
 
 /// A COMPOUND of which an operation runs next, or whose reply a seat is to hold next. Its tag and
-/// its operations stand in its record, and its caller is kept beside that.
+/// its operations are in its record, and its caller is kept beside that.
 #[derive(Drop)]
 pub struct Running<'a> {
     pub(crate) alloc: Global,

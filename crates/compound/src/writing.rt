@@ -61,7 +61,7 @@ impl Running<'_> {
         }
     }
 
-    /// Whether the reply has room for the result of a WRITE. What it tells does not matter.
+    /// Whether the reply has room for the result of a WRITE. What it says does not matter.
     fn has_written_room(&self) -> bool
         ensures { result ≡ nat_le (length (reply_with (in_progress_of self.now)
             (Done (written_answer 0 0 0)))) MAX_REPLY_BYTES }

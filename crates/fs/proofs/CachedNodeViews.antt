@@ -1,4 +1,4 @@
--- What the cached node of a node tells of it.
+-- What the cached node of a node shows of it.
 use Rattle.std.proofs.Common.{◌≡◌, ◌∙◌, ℕ, Bool, true, false, List, [], ◌∷◌, Option, Some, length, eqb, ltb, refl, sym, ap, subst, arith}
 use Rattle.std.proofs.lemmas.Bool.{lt-ltb}
 use Rattle.std.specs.Prelude.{nat_lt, ◌||◌}
@@ -24,7 +24,7 @@ stamped card fit directory = (let has = subst (λ (of : NodeKind). HasContent of
 some : {A : Type 0} (entry : A) (rest : List A) → nat_lt 0 (length (entry ∷ rest)) ≡ true
 some entry rest = lt-ltb 0 (length (entry ∷ rest)) (omega arith)
 
--- as many names stand by stamp: none only where there are none
+-- there are as many names by stamp: none only where there are none
 with_some : {A : Type 0} (entries : Keyed A) (key : ℕ) (value : A) → nat_lt 0 (length (with entries key value)) ≡ true
 with_some {A} [] key value = some {A = ℕ × A} (key, value) []
 with_some {A} (entry ∷ rest) key value = by_key (eqb key entry.0) (ltb key entry.0)
@@ -90,7 +90,7 @@ module _ (tree : Tree) (number : ℕ) (card : CachedNode) (is : IsNodeOf tree nu
   entry_at fit directory name names same found told =
       ap (λ (o : Option Node). entry_of name (names_of_node o)) is.there ∙ entry_is fit directory name names same found told
 
-  -- what stands as a directory is one by its cached node
+  -- what is a directory is one by its cached node
   pub kind_told : is_directory_at tree number ≡ true → card.fields.kind ≡ kind.Directory
   kind_told told = by_kind card.fields.kind is.content (sym (ap is_directory_node is.there) ∙ told)
     where

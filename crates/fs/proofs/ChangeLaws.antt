@@ -94,7 +94,7 @@ module _ (held : VolumeState) (lasts defers lasting : Bool) (after : Kept) (last
   pub and_none : defers ≡ true → lasting ≡ false
   and_none at = seats_stay held _ lasting after last stay ∙ (ap (λ (b : Bool). lasts && not b) at ∙ and_false lasts)
 
--- the same file system, but for its volume and for what was counted
+-- the same file system, except for its volume and what was counted
 pub lets_nothing_wait : (keeps_word : Type 0) (given : Given) (old new : FileSystem) (ending : Ending) → new.defers ≡ old.defers → new.waits ≡ old.waits
     → (old.defers ≡ true → (after : Kept) → given after true → ⊥) → LetsWait keeps_word given old new ending
 lets_nothing_wait keeps_word given old new ending mode same none = record {
@@ -195,7 +195,7 @@ module _ (keeps_word : Type 0) (old new : FileSystem) (before after : ℕ) (seat
       or_true true = refl
       or_true false = refl
 
--- how the volume's fault is told
+-- how the volume's fault is passed on
 
 same_ending : (fault : VolumeFault) → fs_ending {T = Unit {0}} (Err (volume_fault fault)) ≡ ending_of {T = Unit {0}} (Err fault)
 same_ending volumes.NoSpace = refl
@@ -292,7 +292,7 @@ module _ (keeps_word : Type 0) (given : Given) (fs : FileSystem) (failed : ℕ) 
   left_by (refusal.Status reason) = left
   left_by refusal.Memory = left
 
--- What a plan is refused for is nothing that the call itself tells.
+-- A plan is refused for nothing that the call itself reports.
 
 pub never_no_room : {T : Type 0} (refused : NotDone) → IsErrOf {T = T} (Err (fault_of refused)) fault.NoRoom → ⊥
 never_no_room (refusal.Status reason) same = cc

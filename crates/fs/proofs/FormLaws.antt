@@ -127,7 +127,7 @@ name_there tree (Writing file offset bytes shown) can = tt
 name_there tree (Setting number None shown) can = tt
 name_there tree (Setting number (Some size) shown) can = tt
 
--- What fits before the first and after the last fits after each: what lowers the charge stands first, then one edit of any kind, and then what raises it
+-- What fits before the first and after the last fits after each: what lowers the charge comes first, then one edit of any kind, and then what raises it
 
 -- where there is room after each of these edits, there was before it
 abbrev AreRaising : Limits → Tree → List model.Edit → Type 0

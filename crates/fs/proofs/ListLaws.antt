@@ -115,7 +115,7 @@ last_passed false false true k true none = absurd (cc)
 last_passed false false false true true none = absurd (cc)
 last_passed false false false false true none = absurd (cc)
 
--- whether there is no room for the first of so many entries, of which so many are shown
+-- whether there is no room for the first of a count of entries, of which a count is shown
 
 crowded_second : (all shown : ℕ) → (shown == 0) ≡ true → (shown == all) ≡ false → (nat_lt 0 all && shown == 0) ≡ true
 crowded_second all shown none short = ap₂ (λ (a b : Bool). a && b) (lt-ltb 0 all (omega (arith, eqb-true shown 0 none, eqb-false shown all short))) none

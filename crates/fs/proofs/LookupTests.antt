@@ -58,7 +58,7 @@ module _ (limits : Limits) (tree : Tree) (cred : Cred) (number : ℕ) (name : Li
   node_is : at (current state) state.tree ≡ at number tree
   node_is = ap (λ n. at n state.tree) is.current_is ∙ ap (at number) is.tree_is
 
-  -- the tests, by the node that stands there
+  -- the tests, by the node that is there
   tests_at : (found : Option Node) → at number tree ≡ found
       → first_refusal (refusals limits state (Argument.Lookup name)
       ++ change_refusals limits state (Argument.Lookup name) (effect limits state now (Argument.Lookup name)).state.tree)

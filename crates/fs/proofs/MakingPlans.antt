@@ -1,4 +1,4 @@
--- The edits that make a node and its name, as they stand in memory: they are a change that may be kept, and leave the tree that the definition says.
+-- The edits that make a node and its name, as they are in memory: they are a change that may be kept, and leave the tree that the definition says.
 use denote.Ref.{Bor}
 use Rattle.std.proofs.Common.{◌≡◌, ◌≢◌, ◌≤◌, ◌<◌, ◌+◌, ◌-◌, ◌^◌, ◌++◌, ℕ, zero, suc, false, List, [], ◌∷◌, Option, Some, None, length, replicate, refl, sym, ap, ◌∙◌, arith, subst, is_some}
 use Rattle.std.specs.Prelude.{IsTrue, nat_lt, ◌==◌}

@@ -59,7 +59,7 @@ names-dropped tree number stamp is =
     ∙ ap names_of_node (at-with_same tree number (name_dropped stamp found.0))
     ∙ sym (ap (λ (o : Option Node). without (names_of_node o) stamp) found.1)
 
--- What stands before the name goes to its place: nothing under the new name, and the old one still
+-- What is there before the name goes to its place: nothing under the new name, and the old one still
 
 pub record IsFree (limits : Limits) (own : ℕ) (tree : Tree) (from to : ℕ) (old_name new_name : List ℕ) (old : ℕ × DirEntry) : Type 0 where
   pub forest : IsForest limits tree None
@@ -137,7 +137,7 @@ module _ (limits : Limits) (tree : Tree) (well : IsWellFormed limits tree) (own 
           omega (arith, sum, one, most, same);
     }
 
--- What its edits ask of the tree, in equalities alone
+-- What its edits ask of the tree, only in equalities
 
 abbrev pub moving_edits : Renaming → (old_stamp number stamp : ℕ) → (from_shown to_shown : Shown) → List Edit
 moving_edits asked old_stamp number stamp from_shown to_shown = moving number (old_place asked old_stamp) (new_place asked stamp) from_shown to_shown

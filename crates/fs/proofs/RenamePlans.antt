@@ -1,4 +1,4 @@
--- The edits of a rename, as they stand in memory: a change that may be kept where it fits, which comes to what the definition says.
+-- The edits of a rename, as they are in memory: a change that may be kept where it fits, which comes to what the definition says.
 use Rattle.std.proofs.Common.{◌≡◌, ◌<◌, ◌+◌, ◌^◌, ℕ, true, false, List, [], ◌∷◌, ◌++◌, Option, Some, None, refl, sym, ap, ap₂, ◌∙◌, subst, inl, inr, ◌⊎◌, true≢false}
 use denote.Ref.{Bor}
 use Rattle.std.proofs.Math.Logic.{∥∥₁_elim}

@@ -97,7 +97,7 @@ module _ (fs : FileSystem) (formed : MayStand fs.volume fs.changes) where
   put_room number offset part shown = show_behind number shown (done (PutBytes number offset part) tree)
       (λ above. above_altered (λ (node : Node). with_content node (File (overwritten (bytes_of node.content) offset part))) tree number above)
 
--- what a cached node tells of a file
+-- what a cached node shows of a file
 pub file_of : (held : Tree) (number : ℕ) (card : CachedNode) → IsNodeOf held number card → card.fields.kind ≡ kind.File → is_directory_at held number ≡ false
 file_of held number card node file =
     let is : IsFile card.fields.size node.node.content = subst (λ (of : NodeKind). ShowsContent of card node.node.content) file node.content in

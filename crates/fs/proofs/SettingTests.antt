@@ -36,7 +36,7 @@ tests_are limits tree cred number verdict given stale values sized denied stale_
     (first-append own (size ++ right)
     ∙ ap₂ or_else values_are (first-append size right ∙ ap₂ or_else sized_is (ap (λ (b : Bool). refused_or b status.Access None) denied_is)))
 
--- the kind that the cached node of a node tells
+-- the kind that the cached node of a node shows
 pub kind_is : (tree : Tree) (number : ℕ) (card : CachedNode) → IsNodeOf tree number card → card.fields.kind ≡ kind_at tree number
 kind_is tree number card is = by_kind card.fields.kind is.content
   where

@@ -1,4 +1,4 @@
--- The edits of a file whose size is set, as they stand in memory: they are a change that may be kept.
+-- The edits of a file whose size is set, as they are in memory: they are a change that may be kept.
 use Rattle.std.proofs.Common.{◌≡◌, ◌≤◌, ◌<◌, ◌+◌, ◌^◌, ℕ, true, false, List, [], ◌∷◌, Some, length, sym, ap, ◌∙◌, arith, subst, is_some}
 use Rattle.std.specs.Prelude.{IsTrue, option_map}
 use Rattle.tree_transaction.specs.declared.nodes.Shown.{Shown}

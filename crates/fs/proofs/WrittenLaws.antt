@@ -159,7 +159,7 @@ puts_tree fs cred now number verdict asked edits step then lasts made = (
       made.writing.stable_is (sym made.lasting_is ∙ lasting),
 )
 
--- The edits, as they stand in memory
+-- The edits, as they are in memory
 
 module _ (fs : FileSystem) (formed : MayStand fs.volume fs.changes) (counted : fs.changes < 2 ^ 32) (limited : fs.volume.limits ≡ limits_of fs.volume.sectors fs.volume.limits.nodes)
     (cred : Cred) (now number : ℕ) (verdict : Result (Unit {0}) Status) (asked : Writing) (card : CachedNode) (node : IsNodeOf fs.volume.tree number card) (file : card.fields.kind ≡ kind.File) (fit_card : IsCard card)

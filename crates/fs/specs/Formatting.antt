@@ -7,8 +7,8 @@ use Rattle.volume.specs.Formats.{AddsFresh, LeavesFresh}
 use Rattle.volume.specs.declared.fault.FormatFault.{FormatFault}
 use Rattle.volume.specs.declared.fault.FormatFault.TheVariants as faults
 
--- A crash within it leaves what was there, no volume, or the new one, and after Ok the new one
--- alone. Size comes exactly where no volume has such numbers; after it, as without memory, nothing
+-- A crash within it leaves what was there, no volume, or the new one, and after Ok only the new
+-- one. Size comes exactly where no volume has such numbers; after it, as without memory, nothing
 -- was written. Device comes exactly where a failure was counted.
 pub record Formats {D : Type 0} (keeps_word : Type 0) (sectors failed : D → ℕ)
     (history : D → History) (nodes : ℕ) (old new : D) (result : Result (Unit {0}) FormatFault)

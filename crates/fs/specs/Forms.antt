@@ -8,7 +8,7 @@ use Rattle.model_tree.specs.declared.node.NodeKind.{NodeKind}
 use Rattle.volume.specs.Edits.{IsAboveAll}
 use Rattle.volume.specs.VolumeState.{VolumeState}
 
--- where a name stands: its directory, and the stamp and the name of its entry
+-- where a name is: its directory, and the stamp and the name of its entry
 pub record Place : Type 0 where
   pub directory : ℕ
   pub stamp : ℕ
@@ -22,7 +22,7 @@ pub data Change : Type 0 where
       → (directory : ℕ) → (name : Bor (List ℕ)) → (directory_shown : Shown) → Change
   -- a name and the node of this number are gone, and what the directory shows then
   Removing : Place → (number : ℕ) → (directory_shown : Shown) → Change
-  -- what stands under the new name is gone, where something does (its entry's stamp and number);
+  -- what has the new name is gone, where something has it (its entry's stamp and number);
   -- the old name of the node is gone, the new one is there; and what both directories show then
   Moving : (number : ℕ) → (old new : Place) → (target : Option (ℕ × ℕ))
       → (old_shown new_shown : Shown) → Change

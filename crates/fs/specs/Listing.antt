@@ -90,7 +90,7 @@ shown_entry limits tree cred hides bitmap name = record {
   attributes = shown_attributes limits cred hides bitmap name.1.number (at name.1.number tree);
 }
 
--- the page of entries that has room in so many bytes
+-- the page of entries that has room in this count of bytes
 abbrev pub page_of : (room : ℕ) → List Entry → ReadDirAnswer
 page_of room all = record {
   entries = fitting room all;

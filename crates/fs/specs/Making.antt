@@ -17,7 +17,7 @@ use Rattle.model_tree.specs.Trees.WellFormed.{IsNode}
 use Rattle.volume.specs.Nodes.{IsNodeOf}
 use Rattle.fs.specs.FileSystem.{FileSystem}
 
--- a file of so many zeros, or a directory without names
+-- a file of zeros of this size, or a directory without names
 abbrev pub first_content : NodeKind → (size : ℕ) → Content
 first_content kind.File size = File (zeros size)
 first_content kind.Directory size = Directory []
@@ -48,7 +48,7 @@ tree_with fs directory name node now = edited
     (made_edits fs.volume.tree directory name node (next_stamp fs.volume.run fs.changes) now)
     fs.volume.tree
 
--- A node may be made: it may stand in a tree of these limits, and the name in its directory
+-- A node may be made: it may be in a tree of these limits, and the name in its directory
 pub record MayBeMade (fs : FileSystem) (directory : ℕ) (name : List ℕ) (node : Node) : Type 0 where
   pub allowed : first_refusal (name_refusals fs.volume.limits name) ≡ None
   pub new : entry_of name (names_at fs.volume.tree directory) ≡ None
@@ -60,7 +60,7 @@ pub record IsSizeOf (of : NodeKind) (size : ℕ) : Type 0 where
   pub none : of ≡ kind.Directory → size ≡ 0
   pub low : size ≤ 16777216
 
--- the directory of this number, as its cached node tells
+-- the directory of this number, as its cached node shows it
 pub record IsDirectoryOf (tree : Tree) (number : ℕ) (card : CachedNode) : Type 0 where
   pub node : IsNodeOf tree number card
   pub fit : IsCard card

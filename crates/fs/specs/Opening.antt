@@ -1,4 +1,4 @@
--- OPEN, but for the table of opens, of which a call is told whether it is full.
+-- OPEN, except for the table of opens, of which a call is given whether it is full.
 use Rattle.std.specs.Prelude.{ℕ, Bool, List, [], ◌∷◌, ◌++◌, ◌+◌, Result, Ok, Err, None, MatchOption, ◌≡◌, ◌<◌, ◌≤◌, ◌^◌, ◌⊎◌, ◌&&◌, ◌||◌, true, false, not, if◌then◌else◌}
 use Rattle.tree_edits.specs.declared.edit.Edit.{Edit}
 use Rattle.layout.specs.Stands.{Kept}

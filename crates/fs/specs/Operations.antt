@@ -60,7 +60,7 @@ GetsHandle fs state now (Ok handle) =
     does_on fs state now Argument.GetFh ≡ got_handle state (Ok handle)
 GetsHandle fs state now (Err reason) = IsRefused fs state now Argument.GetFh reason
 
--- The tests of the current filehandle, which stand before all others
+-- The tests of the current filehandle, which come before all others
 
 abbrev pub current_refusal : State → Option Status
 current_refusal state = first_refusal (current_refusals state)
@@ -83,7 +83,7 @@ pub record MakesTree (fs : FileSystem) (cred : Cred) (number now : ℕ) (operati
   pub on : IsOn fs cred number state
   pub kept : after ≡ with_tree fs.volume (does_on fs state now operation).state.tree
 
--- a call that was not done: refused as the definition refuses it, done but for the room that its
+-- a call that was not done: refused as the definition refuses it, done except for the room that its
 -- reply lacks, or not known to be done
 abbrev pub IsNotDone : FileSystem → State → (now : ℕ) → Argument → FsFault → Type 0
 IsNotDone fs state now operation (fault.Status reason) =

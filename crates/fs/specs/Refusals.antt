@@ -18,7 +18,7 @@ volume_fault volumes.Memory = fault.Memory
 volume_fault volumes.Device = fault.Device
 volume_fault volumes.Down = fault.Down
 
--- A caller tells whether the reply to a change has room: only then is it done, or the device asked.
+-- A caller says whether the reply to a change has room: only then is it done, or the device asked.
 -- A file system that is down answers so.
 pub record MindsRoom {T : Type 0} (has_room is_down : Bool) (result : Result T FsFault)
     : Type 0 where

@@ -93,7 +93,7 @@ abbrev pub IsTarget : Tree → Renaming → Option (ℕ × ℕ) → Type 0
 IsTarget tree asked target = entry_of asked.new_name.now (names_at tree asked.to)
     ≡ record_under asked.new_name.now target
 
--- whether what stands there is in the way of what moves
+-- whether what is there is in the way of what moves
 abbrev pub is_in_the_way : Tree → (moves_directory : Bool) → Option (ℕ × ℕ) → Bool
 is_in_the_way tree moves_directory None = false
 is_in_the_way tree moves_directory (Some found) =
@@ -105,7 +105,7 @@ may_replace tree cred directory None = true
 may_replace tree cred directory (Some found) = granted_on (at found.1 tree) cred delete
     || granted directory.fields.acl directory.fields.owner directory.fields.group cred delete_child
 
--- Where the name stands, and where it is to stand
+-- Where the name is, and where it is to go
 
 abbrev pub old_place : Renaming → (stamp : ℕ) → Place
 old_place asked stamp = record { directory = asked.from; stamp = stamp; name = asked.old_name }

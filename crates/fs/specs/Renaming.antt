@@ -35,7 +35,7 @@ arguments_of asked = record { old_name = asked.old_name.now; new_name = asked.ne
 abbrev pub is_itself : (from to : ℕ) → RenameArguments → Bool
 is_itself from to arguments = from == to && bytes_eq arguments.old_name arguments.new_name
 
--- the number of the node that stands under a name, where there is one
+-- the number of the node that has a name, where there is one
 abbrev pub number_under : Tree → (directory : ℕ) → (name : List ℕ) → Option ℕ
 number_under tree directory name =
     option_map (λ (entry : ℕ × DirEntry). entry.1.number) (entry_of name (names_at tree directory))

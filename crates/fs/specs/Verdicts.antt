@@ -97,7 +97,7 @@ on_file opens = record {
 abbrev pub twice : State
 twice = on_file (opened (opened no_opens (asked 3)).opens (asked 3)).opens
 
--- for reading alone
+-- only for reading
 abbrev pub to_read : State
 to_read = on_file (opened no_opens (asked read_access)).opens
 

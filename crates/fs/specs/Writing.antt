@@ -35,7 +35,7 @@ pub record IsWriting (state : State) (verdict : Result (Unit {0}) Status) (asked
 abbrev pub bytes_taken : FileSystem → Writing → List ℕ
 bytes_taken fs asked = take fs.volume.limits.transfer_bytes asked.bytes.now
 
--- so many bytes were taken, the tree and the count of changes after it
+-- this count of bytes was taken, the tree and the count of changes after it
 abbrev pub after_write : Tree → (changes : ℕ) → State → WriteArguments → (count : ℕ) → Stepped
 after_write tree changes state arguments count = answered
     (record state { tree = tree; changes = changes })

@@ -21,7 +21,7 @@ impl<D: Device> Fs<D> {
     ghost use Rattle.wire_attributes.specs.NodeValues.{HasFewEntries};
 
     /// GETATTR (RFC 8881, section 18.7) of what a bitmap, of any length, asks of the node of this
-    /// number. The answer borrows the node: it tells its size, and is spelled where it is written.
+    /// number. The answer borrows the node: it gives its size, and is spelled where it is written.
     ///
     /// # Errors
     ///

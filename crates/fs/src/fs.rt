@@ -79,7 +79,8 @@ impl<D: Device> Fs<D> {
         Ok(fs)
     }
 
-    /// The same, with a journal that keeps so many sectors in memory: `Volume::mount_cached`.
+    /// The same, with a journal that keeps this count of sectors in memory:
+    /// `Volume::mount_cached`.
     ///
     /// # Errors
     ///
@@ -106,7 +107,7 @@ impl<D: Device> Fs<D> {
     /// # Errors
     ///
     /// The device comes back with the reason. NotVolume, then Worn, by the first sector, and then
-    /// nothing was written; then Damaged exactly where no tree stands; Device where the device
+    /// nothing was written; then Damaged exactly where there is no tree; Device where the device
     /// failed, and Memory.
     pub fn mount_seated(
         alloc: Global,
@@ -135,12 +136,12 @@ impl<D: Device> Fs<D> {
         })
     }
 
-    /// Whether a tree stands on the volume of a device, which nothing is written to:
+    /// Whether there is a tree on the volume of a device, which nothing is written to:
     /// `volume::check`.
     ///
     /// # Errors
     ///
-    /// NotVolume, by the first sector, as a mount; then Damaged exactly where no tree stands;
+    /// NotVolume, by the first sector, as a mount; then Damaged exactly where there is no tree;
     /// Device where the device failed, and Memory; never Worn.
     pub fn check(alloc: Global, device: &mut D) -> Result<Checked, MountFault>
         ensures { Checks D.keeps_word D.size D.failed D.history
@@ -177,7 +178,7 @@ impl<D: Device> Fs<D> {
         self.changes
     }
 
-    /// The device, as it is now. What stands on it is the next mount's.
+    /// The device, as it is now. What is on it is the next mount's.
     pub fn into_device(self) -> D
         ensures history { D.history result ≡ (fs_of self).volume.history }
         ensures size { D.size result ≡ (fs_of self).volume.sectors }

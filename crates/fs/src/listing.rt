@@ -17,7 +17,7 @@ use std::alloc::AllocError;
 use wire_attributes::{Attribute, AttributesAnswer, ListedAttributes, ListedEntry, is_asked};
 
 /// What a page takes beside its entries: the verifier, the bool that ends them, and the one that
-/// tells the end.
+/// says whether this is the end.
 const EMPTY_PAGE: usize = 16;
 
 /// What READDIR asks (RFC 8881, section 18.23). Its dircount is not looked at.
@@ -57,7 +57,7 @@ fn must_read_lists(asked: &[u32]) -> bool
     asks_lists(asked) && !is_asked(asked, Attribute::RdattrError.number())
 }
 
-/// Whether an entry whose ACL may not be read shows rdattr_error alone: both are asked for. Where
+/// Whether an entry whose ACL may not be read shows only rdattr_error: both are asked for. Where
 /// ACLs are and rdattr_error is not, there is no such entry, since `permit_list` refused the call.
 fn hides_unreadable(asked: &[u32]) -> bool
     ensures { result ≡ (asks_lists asked.now && asks_errors asked.now) }
@@ -179,8 +179,8 @@ impl<D: Device> Fs<D> {
         true
     }
 
-    /// The page of these names that has room in so many bytes. `hides_unreadable` says whether an
-    /// entry whose ACL may not be read shows rdattr_error alone.
+    /// The page of these names that has room in `room` bytes. `hides_unreadable` says whether an
+    /// entry whose ACL may not be read shows only rdattr_error.
     fn fill<'a>(
         &'a self,
         cred: &Cred,

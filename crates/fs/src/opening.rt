@@ -1,4 +1,4 @@
-//! OPEN, but for the table of opens.
+//! OPEN, except for the table of opens.
 
 ghost use Rattle.std.specs.Prelude.{◌≡◌};
 ghost use Rattle.fs.specs.Opening.{has_room_for, may_use};
@@ -61,7 +61,7 @@ pub enum OpenEffect {
     Made,
 }
 
-/// Whether the reply has room for the result of an OPEN by a name, which tells the attributes that
+/// Whether the reply has room for the result of an OPEN by a name, which names the attributes that
 /// were set: by what it does to its file.
 #[derive(Clone, Copy)]
 pub struct OpenRoom {

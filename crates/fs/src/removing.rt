@@ -148,8 +148,8 @@ impl<D: Device> Fs<D> {
         })
     }
 
-    /// The tests before those of room and stamps: the directory that has the name, and what stands
-    /// under it.
+    /// The tests before those of room and stamps: the directory that has the name, and the
+    /// node that has it.
     fn permit_removal(
         &self,
         cred: &Cred,

@@ -85,8 +85,8 @@ fn number_of(entry: Option<(u64, u64)>) -> Option<u64>
     }
 }
 
-/// What stands under the new name is gone, where something does; what stood under the old one has
-/// the new one; and what both directories show then.
+/// What has the new name is gone, where something has it; what had the old one has the new one;
+/// and what both directories show then.
 fn renamed_edits<'a>(
     alloc: Global,
     asked: Renaming<'a>,
@@ -165,7 +165,7 @@ impl<D: Device> Fs<D> {
     /// that is none, then a new one; NOENT. Where the name is not given to itself, further by
     /// ACCESS without the rights to remove the old name, to remove the new one where it is there,
     /// and to add a file or a directory to `to`; INVAL, where a directory would go below itself;
-    /// EXIST, where one of both is a directory and not the other, or what stands there has names;
+    /// EXIST, where one of both is a directory and not the other, or what is there has names;
     /// NOSPC, and SERVERFAULT where the run has used up its stamps. Then `NoRoom`. Memory may run
     /// out before or after any of them.
     pub fn rename(
@@ -372,7 +372,7 @@ impl<D: Device> Fs<D> {
         Ok(())
     }
 
-    /// Whether something stands in the way of what moves: one of both is a directory and not the
+    /// Whether something is in the way of what moves: one of both is a directory and not the
     /// other, or it has names.
     fn cannot_replace(&self, target: Option<(u64, u64)>, moves_directory: bool) -> bool
         ensures { result ≡ is_in_the_way (fs_of self.now).volume.tree moves_directory target }
@@ -417,7 +417,7 @@ impl<D: Device> Fs<D> {
             && grants(to, cred, adding)
     }
 
-    /// Whether a caller may remove what stands under the new name, where something does.
+    /// Whether a caller may remove what has the new name, where something has it.
     fn may_replace(&self, cred: &Cred, directory: &CachedNode, target: Option<(u64, u64)>) -> bool
         ensures { result ≡ may_replace (fs_of self.now).volume.tree cred.now directory.now target }
     {

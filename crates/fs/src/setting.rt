@@ -89,7 +89,7 @@ impl<D: Device> Fs<D> {
 
     /// SETATTR (RFC 8881, section 18.30) of a node, by this caller at this moment, in nanoseconds
     /// since 1970. It is kept or waits ([`Fs::set_deferring`]); `has_room` says whether the reply
-    /// has room for that. A list that is set stands, also where a mode is set beside it.
+    /// has room for that. A list that is set stays, also where a mode is set beside it.
     ///
     /// An empty bitmap is no change, and uses up no stamp.
     ///

@@ -12,7 +12,7 @@ use tree_edits::Edit;
 /// The bytes that a caller writes to a file.
 #[derive(Clone, Copy)]
 pub struct Writing<'a> {
-    /// Where the first of them is to stand.
+    /// Where the first of them is to go.
     pub offset: u64,
     pub bytes: &'a [u8],
     /// Whether they are to last (not `UNSTABLE4`).
@@ -143,7 +143,7 @@ impl<D: Device> Fs<D> {
         &bytes[..bytes.len().min(self.volume.limits().transfer_bytes)]
     }
 
-    /// Where so many bytes are to start in a file: none where they pass the limit of one.
+    /// Where this count of bytes is to start in a file: none where they pass the limit of one.
     fn place_in_file(&self, offset: u64, len: usize) -> Option<usize>
         ensures some { IfSome result (λ place. (place ≡ offset)
             × (offset + len ≤ (fs_of self.now).volume.limits.file_bytes)) }

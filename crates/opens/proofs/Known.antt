@@ -13,7 +13,7 @@ module _ {A B : Type 0} (f : A → ℕ × B) where
       let low : entry.0 ≤ key = omega arith in
       rw (ne_eqb key entry.0 apart, le-ltb key entry.0 low)
 
-  -- a key above all others stands after them
+  -- a key above all others comes after them
   pub with-push : (xs : List A) (y : A) → ((k : ℕ) (d : A) → k < length xs → (f (get_or xs k d)).0 < (f y).0)
       → map f (xs ++ y ∷ []) ≡ with (map f xs) (f y).0 (f y).1
   with-push [] y above = refl

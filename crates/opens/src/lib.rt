@@ -1,6 +1,6 @@
 //! The opens of a run, and the stateids that name them (RFC 8881, sections 8.2, 18.2 and 18.16).
 //!
-//! `Opens` keeps who opened which file, and how. An open grants no right: it tells what an
+//! `Opens` keeps who opened which file, and how. An open grants no right: it says what an
 //! operation may use a stateid for.
 #![tactic(auto)]
 

@@ -21,7 +21,7 @@ pub struct Open {
     ghost numbered: { number < 2 ^ 64 },
 }
 
-/// An open that stands, under its serial.
+/// An open in the table, under its serial.
 #[derive(Drop)]
 pub struct Entry {
     pub serial: u64,

@@ -10,7 +10,7 @@ use model_tree::status::Status;
 use std::alloc::{AllocError, Global};
 use wire::StateId;
 
-/// The opens that stand, by rising serials, and how many serials were given in this run.
+/// The opens by rising serials, and how many serials were given in this run.
 #[derive(Drop)]
 pub struct Opens {
     given: u64,
@@ -113,7 +113,7 @@ impl Opens {
         state_id(run, serial, seqid)
     }
 
-    // The open that stands under a serial.
+    // The open that has a serial.
     fn at(&self, serial: u64) -> Option<&Entry>
         ensures some { IfSome result (λ entry. IsAt serial (opens_of self.now) entry.now) }
         ensures none { IfNone result (at serial (opens_of self.now).known ≡ None) }
