@@ -63,3 +63,15 @@ connection_stays world number c (HangsUp other) is asked apart = dropped world n
 connection_stays world number c (Connects other) is asked apart = connected world number c is other (can_connect world other) refl
 connection_stays world number c (Takes other) is asked apart =
     changed world number c is other without_reply (λ here. absurd (apart (sym here))) (at other world.connections) refl
+
+-- and one whose reply waits
+pub reply_stays : (world : World) (number : ℕ) (reply : List ℕ) (event : Event) → at number world.connections ≡ Some (Replied reply) → IsElsewhere number event
+    → at number (effect_of world event).connections ≡ Some (Replied reply)
+unfolding arrives takes connects hangs_up
+reply_stays world number reply (Arrives other piece) is apart =
+    changed world number (Replied reply) is other (arrives_at world.limits.records piece) (λ here. refl) (at other world.connections) refl
+reply_stays world number reply (Turns other now) is apart = (one_well world other now).others number (λ same. apart (sym same)) ∙ is
+reply_stays world number reply (HangsUp other) is apart = dropped world number (Replied reply) is other apart (is_busy (at other world.connections))
+reply_stays world number reply (Connects other) is apart = connected world number (Replied reply) is other (can_connect world other) refl
+reply_stays world number reply (Takes other) is apart =
+    changed world number (Replied reply) is other without_reply (λ here. absurd (apart (sym here))) (at other world.connections) refl

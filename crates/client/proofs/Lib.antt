@@ -8,5 +8,6 @@ pub mod Outcomes
 pub mod Nexts
 pub mod Elsewhere
 pub mod WholeLaws
+pub mod ProgressLaws
 pub mod Worked
 pub mod Operates

@@ -8,3 +8,4 @@ pub mod Exchanges
 pub mod Joined
 pub mod Whole
 pub mod ExchangeExample
+pub mod Progress

@@ -2,6 +2,7 @@
 
 ghost use Rattle.client.specs.ExchangeExample.{ExchangeExample};
 ghost use Rattle.client.specs.Joined.{EveryRecordIsAsked, EveryReplyIsTold};
+ghost use Rattle.client.specs.Progress.{EveryCallIsAnswered, EveryRequestIsAnswered};
 ghost use Rattle.client.specs.Whole.{EveryExchange};
 
 /// The record of a client that arrives on a quiet connection is the request of this caller with
@@ -18,4 +19,12 @@ pub fn every_exchange()
 #[tactic(auto, using(crate::proofs::Worked::worked))]
 pub fn exchange_example()
     ensures { ExchangeExample }
+{}
+
+/// A call that has come has its reply after as many turns of its connection as it has operations
+/// and one, whatever else happens between; and a request under way after as many as are left and
+/// one.
+pub fn every_request_is_answered()
+    ensures comes { EveryCallIsAnswered }
+    ensures goes_on { EveryRequestIsAnswered }
 {}

@@ -16,4 +16,4 @@ mod stream;
 
 pub use client::Client;
 pub use fault::ClientFault;
-pub use joined::{every_exchange, exchange_example};
+pub use joined::{every_exchange, every_request_is_answered, exchange_example};
