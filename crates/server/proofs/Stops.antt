@@ -14,6 +14,7 @@ use Rattle.volume.proofs.FormatLaws.{fresh_stands_for}
 use Rattle.volume.proofs.OneTree.{Kept-set, one_stands}
 use Rattle.model.proofs.Server.Headline.{only_one}
 use Rattle.model.proofs.Server.HeldLaws.{every_held_is_kept}
+use Rattle.model.proofs.Operations.AnswerLaws.{every_answer_is_permitted}
 use Rattle.model.proofs.Operations.GivenLaws.{every_stamp_is_given}
 use Rattle.model.proofs.Server.StampLaws.{every_stamp}
 use Rattle.model.specs.Server.StampRuns.{AreGiven}
@@ -25,7 +26,7 @@ use Rattle.model_tree.specs.Trees.Tree.{Tree}
 use Rattle.volume.proofs.RemountLaws.{seen_left, rests_left, lasting, served_good}
 use Rattle.volume.specs.Formats.{IsFresh}
 use Rattle.volume.specs.Remounts.{StandsForGood, LeavesGood}
-use Rattle.server.specs.Headline.{IsMounted, IsGoodKept, EveryStop, EveryRun, EveryFirst, IsNewVolume, Formatted, Powers, NeverLost, IsNotLost, EveryTrace, Stopped, executed_in, Follows, IsLater, Next, Then, EveryLife, EveryStamping}
+use Rattle.server.specs.Headline.{IsMounted, IsGoodKept, EveryStop, EveryRun, EveryFirst, IsNewVolume, Formatted, Powers, NeverLost, IsNotLost, EveryTrace, Stopped, executed_in, Follows, IsLater, Next, Then, EveryLife, EveryStamping, EveryAnswer}
 use Rattle.volume.specs.VolumeState.{StandsForOne}
 use Rattle.server.specs.Seen.{Seen, left_of, trees_of, LeavesNow, MayKeepDuring, Moves, ServerCall, IsServed, Begins, Goes_on, Fails_at, Stays_down, Keeps_on, Flushed, world_after, history_of, AreTold, event_told}
 use Rattle.server.specs.Views.{server_limits}
@@ -289,3 +290,14 @@ traced first last calls (Flushed {old = old} {new = new} before flushes) =
 
 pub every_trace : EveryTrace
 every_trace first last calls served = traced first last calls served
+
+-- Answers
+
+pub every_answer : EveryAnswer
+every_answer stopped =
+    let first = stopped.first in
+    let old = stopped.old in
+    let history = history_of first.serving.world stopped.calls in
+    let all = joined first old stopped.calls (mounted_leaves stopped.settings stopped.run stopped.start first stopped.mounted) stopped.served in
+    every_answer_is_permitted (server_limits first.volume.limits stopped.settings) stopped.run stopped.start.tree stopped.start.seats old.serving history
+    (subst (λ (s : Serving). IsRun s old.serving history) stopped.mounted.serves all.run) stopped.event

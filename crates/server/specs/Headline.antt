@@ -6,6 +6,7 @@ use Rattle.layout.specs.Stands.{Kept, bare}
 use Rattle.model_tree.specs.Trees.Fresh.{fresh_tree}
 use Rattle.model.specs.Server.Runs.{Event, IsGoodPrefix, AreStamped, mounted, executed, done_with, before, stamp_in, Stored, HasAllHeld, replies_with}
 use Rattle.model.specs.Sessions.SeatRuns.{AreSeats}
+use Rattle.model.specs.Server.AnswerRuns.{IsPermittedAnswer}
 use Rattle.model.specs.Server.SoundRuns.{IsStart}
 use Rattle.model.specs.Server.StampRuns.{AreGiven}
 use Rattle.model_tree.specs.Trees.Tree.{Tree}
@@ -195,6 +196,12 @@ pub record EveryStamping : Type 0 where
       → slice_get (executed_in old) i ≡ Some one
       → slice_get (executed_in new) j ≡ Some other → before one ≢ one.after
       → before other ≢ other.after → stamp_in old.run one < stamp_in new.run other
+
+-- Whatever was answered OK, a reading too, was permitted by the lists of the tree that it was
+-- answered from; so was the operation under way at the crash.
+abbrev pub EveryAnswer : Type 0
+EveryAnswer = (stopped : Stopped) (i : ℕ) (entry : Entry)
+    → slice_get (executed_in stopped) i ≡ Some entry → IsPermittedAnswer entry
 
 -- What a server that isn't stopped is and answers.
 abbrev pub EveryTrace : Type 0

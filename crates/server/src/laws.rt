@@ -1,6 +1,6 @@
 //! What holds of every run of a server.
 
-ghost use Rattle.server.specs.Headline.{EveryRun, EveryStop, EveryTrace, EveryLife, EveryStamping, EveryFirst, NeverLost};
+ghost use Rattle.server.specs.Headline.{EveryRun, EveryStop, EveryTrace, EveryLife, EveryStamping, EveryFirst, NeverLost, EveryAnswer};
 ghost use Rattle.server.specs.LifeLaws.{EveryHeld, EveryStays, EveryFollows, EveryDead, EveryOnce, EveryRetried, EverySits, EveryStored, EveryAsked};
 ghost use Rattle.server.specs.RunLaws.{HangUpIsCalls, NeverEmpty, OnlyIdle};
 
@@ -28,6 +28,8 @@ pub fn every_run()
     ensures life { EveryLife }
     // the stamps of a run's changes rise, lost ones too, and from run to run
     ensures stamps { EveryStamping }
+    // nobody is answered OK what the lists deny him
+    ensures answers { EveryAnswer }
     // Idle exactly where there is nothing to do
     ensures idle { OnlyIdle }
     ensures hang_up { HangUpIsCalls }

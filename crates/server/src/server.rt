@@ -53,7 +53,7 @@ impl<D: Device> Server<D> {
     ghost use Rattle.model_tree.specs.Trees.Tree.{Tree};
     ghost use Rattle.model.specs.Server.World.{Closed, is_busy, can_connect};
     ghost use Rattle.server.specs.Connections.{turn_view};
-    ghost use Rattle.server.specs.Refused.{view, IsUntouched, connection_at, HasKept, HasTurned, RefusesCheckpoint, RefusesTurn, RefusesHangUp};
+    ghost use Rattle.server.specs.Refused.{view, IsUntouched, connection_at, HasKept, HasRunOn, HasTurned, RefusesCheckpoint, RefusesTurn, RefusesHangUp};
     ghost use Rattle.server.specs.Seen.{Does, Breaks, Took, Turned, Done};
     ghost use Rattle.server.specs.Views.{world_of, files_of, volume_of, waits_of, server_failures, most_connections, seen_with, seen_down, gave, Serves, ServesLater, ServesAs, LetsWait, FlushesServer, ServerFails, GivesReply, Keeps, Turning};
 
@@ -373,6 +373,7 @@ impl<D: Device> Server<D> {
             (Turning self.old conn now (λ between. (after : List Tree)
             × Does between (runs.HangsUp conn) Done (seen_with self.new after))) }
         ensures gone { OnOk result (connection_at (view self.new) conn ≡ None) }
+        ensures on { OnOk result (HasRunOn (view self.old) (view self.new) conn) }
         ensures waits { waits_of self.new ≡ waits_of self.old }
         // Ended within its turns: no memory for one, or the device fails in one
         ensures memory { D.keeps_word → IsErrOf result ServerFault.Memory

@@ -1,5 +1,5 @@
 use Rattle.server.proofs.RunLaws.{hang_up_is_calls, never_empty, only_idle}
-use Rattle.server.proofs.Stops.{every_run_again, every_first, never_lost, every_stop, every_trace, every_life, every_stamping}
+use Rattle.server.proofs.Stops.{every_run_again, every_first, never_lost, every_stop, every_trace, every_life, every_stamping, every_answer}
 use Rattle.server.proofs.laws.every_run.Goals as goal
 
 pub returns : goal.returns
@@ -11,6 +11,7 @@ returns c = record {
   trace = every_trace;
   life = every_life;
   stamps = every_stamping;
+  answers = every_answer;
   idle = only_idle;
   hang_up = hang_up_is_calls;
   empty = never_empty;

@@ -3,6 +3,7 @@ use Rattle.compound.specs.States.{shared_of}
 use Rattle.fs.specs.Views.{fs_of}
 use Rattle.model.specs.Server.Runs as runs
 use Rattle.model_tree.specs.Trees.Keyed.{at}
+use Rattle.model_tree.proofs.Trees.KeyedLaws.{at-without_other}
 use Rattle.server.specs.Connections.{connections_of}
 use Rattle.server.specs.declared.fault.ServerFault.TheVariants as faults
 use Rattle.server.specs.Refused.{view, IsUntouched, RefusesTurn}
@@ -96,6 +97,20 @@ returns-clause-ok g c =
     (hung_up (shared_of mid.fs mid.table mid.opens) (connections_of mid.connections) _ c.args.conn (sym c.is_busy.ensures ∙ c.loop-self-test.false)
     (without_slot mid.connections c.try_remove.new.self c.args.conn c.try_remove.ensures.updates)) (mid.agrees keeps inv.is_up).seats refl (may_be _ (runs.HangsUp c.args.conn) tt) was.0 was.3 in
     (seen_with mid was.0, was.1, (does.0, does.1), was.2)
+
+pub returns-clause-on : goal.returns-clause-on
+unfolding world_of volume_of server_failures
+returns-clause-on g c =
+    let mid = c.loop-self.self in
+    let on = c.loop-self.invariant.on in
+    record {
+      still_up = on.still_up;
+      none_failed = on.none_failed;
+      same = on.same;
+      others = λ other apart.
+          ap (at other) (without_slot mid.connections c.try_remove.new.self c.args.conn c.try_remove.ensures.updates)
+          ∙ at-without_other (connections_of mid.connections) c.args.conn other apart ∙ on.others other apart;
+    }
 
 pub returns-clause-gone : goal.returns-clause-gone
 unfolding world_of
