@@ -8,6 +8,7 @@ pub mod Pairs
 pub mod Persisting
 pub mod Refusals
 pub mod Resumptions
+pub mod SeatsEnd
 pub mod ServedTurns
 pub mod RunLaws
 pub mod SlabLaws

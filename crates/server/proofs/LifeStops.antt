@@ -20,9 +20,10 @@ use Rattle.model.proofs.Sessions.SeatsSit.{every_session_sits}
 use Rattle.model.proofs.Sessions.SlotLaw.{others_between}
 use Rattle.volume.proofs.RemountLaws.{seen_left}
 use Rattle.server.specs.Headline.{Stopped, Follows, executed_in}
-use Rattle.server.specs.LifeLaws.{history_in, stored_in, freed_in, LeavesSeats, OnMap, OnMount, WasUp, EveryHeld, EveryStays, EveryFollows, EveryDead, EverySits, EveryStored, EveryAsked, AreRuns, last_of, numbers_over, EveryOnce, WasFreed, table_in, IsGivenAgain, EveryRetried}
+use Rattle.server.specs.LifeLaws.{history_in, stored_in, freed_in, LeavesSeats, OnMap, OnMount, WasUp, EveryHeld, EveryStays, EveryFollows, EveryDead, EverySits, EveryStored, EveryAsked, EveryEnded, AreRuns, last_of, numbers_over, EveryOnce, WasFreed, table_in, IsGivenAgain, EveryRetried}
 use Rattle.server.specs.Seen.{left_of}
 use Rattle.server.specs.Views.{server_limits}
+use Rattle.server.proofs.SeatsEnd.{frees_ended}
 use Rattle.server.proofs.Stops.{IsJoined, joined, mounted_leaves, every_stop, every_run_again, follows_run}
 
 -- One of the model's
@@ -112,6 +113,9 @@ every_stored stopped up = every_reply_is_stored (limits_of stopped) (stop_of sto
 
 pub every_asked : EveryAsked
 every_asked stopped up = every_freeing_is_asked (limits_of stopped) (stop_of stopped _ (now_left stopped up)) up
+
+pub every_ended : EveryEnded
+every_ended stopped up = frees_ended (limits_of stopped) (stop_of stopped _ (now_left stopped up)) up
 
 -- Numbers, over runs: those of one run alone
 

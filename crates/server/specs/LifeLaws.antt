@@ -1,20 +1,21 @@
 -- Exactly once over restarts, of a server on its device: RFC 8881, sections 2.10.6.1 and 2.10.6.5.
 -- The seats that a crash leaves hold what was answered, and a session of an earlier run runs
 -- nothing.
-use Rattle.std.specs.Prelude.{ℕ, false, true, ◌↔◌, List, [], ◌∷◌, ◌++◌, option_to_list, slice_get, Some, ◌≡◌, ◌<◌, ◌⊎◌}
+use Rattle.std.specs.Prelude.{ℕ, false, true, ◌↔◌, List, [], ◌∷◌, ◌++◌, option_to_list, slice_get, find, Option, Some, ◌≡◌, ◌<◌, ◌⊎◌}
+use Rattle.std.specs.List.{list_any}
 use Rattle.disk.specs.Moments.{Image, History}
 use Rattle.layout.specs.Stands.{Kept}
 use Rattle.model.specs.Operations.Answer.{CreateSessionAnswer}
 use Rattle.model_tree.specs.Trees.Keyed.{at}
-use Rattle.model.specs.Operations.Operation.{SequenceArguments}
-use Rattle.model.specs.Server.Runs.{Event, Stored, effect_of, executed_of}
+use Rattle.model.specs.Operations.Operation.{Argument, SequenceArguments}
+use Rattle.model.specs.Server.Runs.{Event, Stored, effect_of, executed_of, is_done}
 use Rattle.model.specs.Server.Runs as runs
 use Rattle.model.specs.Sessions.SeatRuns.{AreSeats, AnswersBySeats, GivesHeld, HoldsFrom, IsFreed, IsFreedBy, MakesSession, storing, freeing, request_in}
 use Rattle.model_tree.specs.Seats.Seats.{Seat, Seats, seat_of, has_seat}
 use Rattle.model.specs.Server.ServedOnce.{numbers_in}
-use Rattle.model.specs.Sessions.Session.{Table, Replays, begin}
+use Rattle.model.specs.Sessions.Session.{Client, Table, Replays, begin, is_client, is_session, is_done_with}
 use Rattle.model.specs.Sessions.SessionRuns.{CountsFrom, OthersBetween}
-use Rattle.model.specs.Server.World.{one}
+use Rattle.model.specs.Server.World.{Entry, one}
 use Rattle.volume.specs.VolumeState.{VolumeState}
 use Rattle.volume.specs.Remounts.{IsFound}
 use Rattle.volume.specs.Stands.{StandsFor}
@@ -94,6 +95,31 @@ EveryAsked = (stopped : Stopped) → WasUp stopped → (event : Event) (id : Lis
     → has_seat id (effect_of stopped.old.serving.world event).table.seats ≡ false
     → IsFreedBy stopped.old.serving.world.table (executed_of stopped.old.serving.world event) id
     seat
+
+-- no such session is left, and no seat of it
+abbrev pub IsNoMore : List ℕ → Table → Type 0
+IsNoMore id table =
+    (list_any (is_session id) table.sessions ≡ false) × (has_seat id table.seats ≡ false)
+
+-- What ends has no seat: the session of a DESTROY_SESSION that is done, whichever run made it; each
+-- session that was there before and is not after; and where a CREATE_SESSION makes a session, each
+-- whose seat its client is done with, also of an earlier run.
+pub record FreesEnded (old new : Table) (executed : Option Entry) : Type 0 where
+  pub destroyed : (entry : Entry) (id : List ℕ) → executed ≡ Some entry
+      → entry.operation ≡ Argument.DestroySession id → is_done entry.outcome ≡ true
+      → IsNoMore id new
+  pub ended : (id : List ℕ) → list_any (is_session id) old.sessions ≡ true
+      → list_any (is_session id) new.sessions ≡ false → has_seat id new.seats ≡ false
+  pub replaced : (answer : CreateSessionAnswer) (makes : MakesSession old new executed answer)
+      (client : Client) → find (is_client makes.arguments.client) old.clients ≡ Some client
+      → (id : List ℕ) (seat : Seat) → seat_of id old.seats ≡ Some seat
+      → is_done_with client old seat ≡ true → has_seat id new.seats ≡ false
+
+-- So a session that ends frees its seat.
+abbrev pub EveryEnded : Type 0
+EveryEnded = (stopped : Stopped) → WasUp stopped → (event : Event)
+    → FreesEnded (table_in stopped) (effect_of stopped.old.serving.world event).table
+    (executed_of stopped.old.serving.world event)
 
 -- Runs, one after another
 

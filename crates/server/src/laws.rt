@@ -1,7 +1,7 @@
 //! What holds of every run of a server.
 
 ghost use Rattle.server.specs.Headline.{EveryRun, EveryStop, EveryTrace, EveryLife, EveryStamping, EveryFirst, NeverLost, EveryAnswer};
-ghost use Rattle.server.specs.LifeLaws.{EveryHeld, EveryStays, EveryFollows, EveryDead, EveryOnce, EveryRetried, EverySits, EveryStored, EveryAsked};
+ghost use Rattle.server.specs.LifeLaws.{EveryHeld, EveryStays, EveryFollows, EveryDead, EveryOnce, EveryRetried, EverySits, EveryStored, EveryAsked, EveryEnded};
 ghost use Rattle.server.specs.RunLaws.{HangUpIsCalls, NeverEmpty, OnlyIdle};
 
 /// Whatever bytes arrive on whatever connections, and wherever the server crashes: however often
@@ -57,4 +57,6 @@ pub fn every_life()
     // no reply of a session that has a seat can be taken before the seat holds it
     ensures stored { EveryStored }
     ensures asked { EveryAsked }
+    // and a session that ends frees its seat
+    ensures ended { EveryEnded }
 {}

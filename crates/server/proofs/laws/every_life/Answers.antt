@@ -1,4 +1,4 @@
-use Rattle.server.proofs.LifeStops.{every_held, every_stays, every_follows, every_dead, every_once, every_retried, every_sits, every_stored, every_asked}
+use Rattle.server.proofs.LifeStops.{every_held, every_stays, every_follows, every_dead, every_once, every_retried, every_sits, every_stored, every_asked, every_ended}
 use Rattle.server.proofs.laws.every_life.Goals as goal
 
 pub returns-clause-held : goal.returns-clause-held
@@ -27,3 +27,6 @@ returns-clause-stored c = every_stored
 
 pub returns-clause-asked : goal.returns-clause-asked
 returns-clause-asked c = every_asked
+
+pub returns-clause-ended : goal.returns-clause-ended
+returns-clause-ended c = every_ended
