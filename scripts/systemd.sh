@@ -50,6 +50,7 @@ install_work() {
 # then.
 boot() {
     local size=0 silent
+    : > console
     qemu-system-x86_64 -machine accel=tcg -cpu max -m 1536 -display none -monitor none -no-reboot \
         -kernel kernel/boot/vmlinuz-* -initrd initrd.gz -nic none -serial file:console \
         -append 'console=ttyS0 quiet loglevel=0 systemd.show_status=0 systemd.unit=work.service' \
