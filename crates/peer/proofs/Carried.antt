@@ -13,9 +13,10 @@ use Rattle.server.specs.Views.{gave}
 use Rattle.server.specs.declared.fault.ServerFault.{ServerFault}
 use Rattle.server.specs.declared.fault.ServerFault.TheVariants as faults
 use Rattle.server.specs.declared.server.Server.{Server}
-use Rattle.peer.specs.Calls.{Goes, IsNone, IsOne, IsEnd, RefusesBytes, RefusesOutput}
+use Rattle.system.specs.declared.refused.Refused.{Refused}
+use Rattle.peer.specs.Calls.{Goes, IsNone, IsOne, RefusesBytes, RefusesOutput}
 use Rattle.peer.specs.Partings.{parting_of}
-use Rattle.peer.specs.Steps.{AreAll, Tally, IsTallied, Carries, HasWorked, Turned, Asked, Wrote, Read_broken, Write_broken, Reason, Dismissed, Read_over, Write_over, Closes, Was_closed, Has_none, Parts, Advances, Runs, GivesNoTurn, Sends, EndsPeer, WaitsToWrite, IsStuck, To_write, unsent}
+use Rattle.peer.specs.Steps.{AreAll, Tally, IsTallied, Carries, HasWorked, Turned, Asked, Wrote, Read_broken, Write_broken, Reason, Dismissed, Read_over, Write_over, Closes, Was_closed, Has_none, Parts, Advances, Runs, GivesNoTurn, Sends, EndsPeer, EndsAgain, IsEndBy, WaitsToWrite, IsStuck, To_write, unsent}
 use Rattle.peer.specs.Streams.{IsOver}
 use Rattle.peer.specs.declared.pace.Pace.{Pace}
 use Rattle.peer.specs.declared.pace.Pace.TheVariants as paces
@@ -23,6 +24,7 @@ use Rattle.peer.specs.declared.peer.Parting.{Parting}
 use Rattle.peer.specs.declared.peer.Parting.TheVariants as partings
 use Rattle.peer.specs.declared.peer.Peer.{Peer}
 use Rattle.peer.specs.declared.peer.Stage.TheVariants as stages
+use Rattle.peer.specs.declared.peer.Step.{Step}
 use Rattle.peer.specs.declared.stream.Stream as stream
 use Rattle.peer.proofs.Made.{failed_call, not_called, untouched}
 use Rattle.peer.proofs.Tallies.{appends_kept, appends_none, appends_then, consumes_none, consumes_then, in_order, joined, nothing, tallies_any, tallies_then, tally_closes, tally_given, tally_none, tally_taken, tally_turn}
@@ -437,11 +439,11 @@ quiet server before after came result consumed waits gone stage conn works parts
 
 -- The whole step
 
-pub ends_peer : {D S : Type 0} {g : Ghosts D} {h : stream.Ghosts S} {keeps : Type 0} {moments : ℕ → Type 0} {old between new : Server D g} (before left after : Peer S h)
-    → Advances keeps moments old between before left (Err partings.Peer) → Goes keeps between new (IsEnd moments left.conn)
+pub ends_peer : {D S : Type 0} {g : Ghosts D} {h : stream.Ghosts S} {keeps : Type 0} {moments : ℕ → Type 0} {old between new : Server D g} (before left after : Peer S h) (result : Result Step Refused)
+    → Advances keeps moments old between before left (Err partings.Peer) → Goes keeps between new (IsEndBy moments result left.conn)
     → (after.stream ≡ left.stream) × (after.inbox ≡ left.inbox) × (after.conn ≡ left.conn)
-    → EndsPeer keeps moments old new before after
-ends_peer {between = between} before left after advances hung same = record {
+    → EndsPeer keeps moments old new before after result
+ends_peer {between = between} before left after result advances hung same = record {
   between = between;
   left = left;
   tally = advances.tally;
@@ -451,6 +453,17 @@ ends_peer {between = between} before left after advances hung same = record {
   reason = advances.parts;
   hung = hung;
   same = same;
+}
+
+pub ends_again : {D S : Type 0} {g : Ghosts D} {h : stream.Ghosts S} {keeps : Type 0} {moments : ℕ → Type 0} {old between new : Server D g} (before left after : Peer S h) (result : Result Step Refused)
+    → left ≡ before → between ≡ old → Goes keeps between new (IsEndBy moments result left.conn)
+    → (after.stream ≡ left.stream) × (after.inbox ≡ left.inbox) × (after.conn ≡ left.conn) → after.stage ≡ stages.Ends
+    → EndsAgain keeps moments old new before after result
+ends_again {D = D} {g = g} {h = h} {keeps = keeps} {moments = moments} {between = between} {new = new} before left after result same_peer same hung kept stage = record {
+  hung = subst (λ (server : Server D g). Goes keeps server new (IsEndBy moments result before.conn)) same
+      (subst (λ (peer : Peer _ h). Goes keeps between new (IsEndBy moments result peer.conn)) same_peer hung);
+  same = subst (λ (peer : Peer _ h). (after.stream ≡ peer.stream) × (after.inbox ≡ peer.inbox) × (after.conn ≡ peer.conn)) same_peer kept;
+  stage = stage;
 }
 
 -- where it goes on at once, a signal came

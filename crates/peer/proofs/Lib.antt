@@ -1,3 +1,7 @@
 pub mod Carried
 pub mod Made
+pub mod Places
+pub mod Served
+pub mod Serving
 pub mod Tallies
+pub mod Wire

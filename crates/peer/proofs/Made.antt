@@ -15,11 +15,11 @@ use Rattle.server.specs.declared.fault.ServerFault.TheVariants as faults
 use Rattle.server.specs.declared.server.Server.{Server}
 use Rattle.server.specs.declared.turn.Turn.{Turn}
 use Rattle.volume.specs.VolumeState.{IsRecent}
-use Rattle.peer.specs.Calls.{MakesCalls, Goes, IsNone, IsOne, AreTurns, IsHangUp, IsEndAt, IsEnd, HasGone, RefusesBytes, RefusesOutput}
+use Rattle.peer.specs.Calls.{MakesCalls, Goes, IsNone, IsOne, AreTurns, IsHangUp, IsEndAt, IsEnd, AreSomeTurns, HasGone, RefusesBytes, RefusesOutput}
 
 -- Calls after calls
 
-follows : (first between : Seen) (calls : List ServerCall) → IsServed first calls between
+pub follows : (first between : Seen) (calls : List ServerCall) → IsServed first calls between
     → (more : List ServerCall) (new : Seen) → IsServed between more new → IsServed first (more ++ calls) new
 follows first between calls before [] new served.Begins = before
 follows first between calls before (call ∷ more) new (served.Goes_on event said after does) =
@@ -67,7 +67,7 @@ goes_as {old = old} {new = new} {first = first} shows goes = record {
 abbrev pub MakesCall : {D : Type 0} {g : Ghosts D} → (old new : Server D g) → Event → Said → Type 0
 MakesCall old new event said = (recent : List Tree) → IsRecent (volume_of old) recent → (after : List Tree) × Does (seen_with old recent) event said (seen_with new after)
 
-makes : {D : Type 0} {g : Ghosts D} (defers : Bool) (old new : Server D g) (event : Event) (said : Said) → ServesAs defers old new event said
+pub makes : {D : Type 0} {g : Ghosts D} (defers : Bool) (old new : Server D g) (event : Event) (said : Said) → ServesAs defers old new event said
     → MakesCall old new event said
 makes defers old new event said serves = λ recent is. let done = serves recent is in (done.0, done.1)
 
@@ -137,7 +137,7 @@ fed old new connection piece (Ok count) files serves =
     one_call {old = old} {new = new} (Arrives connection piece) (Took (Some count)) (still_up old new files) (λ keeps up. makes false old new (Arrives connection piece) (Took (Some count)) (serves keeps))
 fed old new connection piece (Err fault) files serves = tt
 
-untouched_by : {D : Type 0} {g : Ghosts D} (old new : Server D g) → world_of new ≡ world_of old → files_of new ≡ files_of old → server_failures new ≡ server_failures old
+pub untouched_by : {D : Type 0} {g : Ghosts D} (old new : Server D g) → world_of new ≡ world_of old → files_of new ≡ files_of old → server_failures new ≡ server_failures old
     → IsUntouched (view old) (view new)
 untouched_by old new world files failures = (world, same_volume old new files, failures, same_waits old new files)
 
@@ -285,6 +285,21 @@ hangs_by old new connection now (Err faults.Device) down turning stops refused =
 hangs_by old new connection now (Err faults.Closed) down turning stops refused = absurd refused
 hangs_by old new connection now (Err faults.Full) down turning stops refused = absurd refused
 
+-- one that was refused
+pub turns_by : {D : Type 0} {g : Ghosts D} {keeps : Type 0} (old new : Server D g) (connection now : ℕ) (result : Result Unit ServerFault)
+    → ((volume_of old).is_down ≡ true → IsErrOf result faults.Device × IsUntouched (view old) (view new))
+    → (keeps → IsErrOf result faults.Memory → Turning old connection now (λ between. (after : List Tree) × (between ≡ seen_with new after)))
+    → IfErr result (RefusesHangUp (view old) (view new) connection) → OnErr result (Goes keeps old new (AreTurns connection now))
+turns_by old new connection now (Ok done) down stops refused = tt
+turns_by old new connection now (Err faults.Memory) down stops refused =
+    turned_only {old = old} {new = new} connection now (up_by _ (λ was. let told = (down was).0 in let never : ⊥ = cc in never)) (λ keeps. stops keeps refl)
+turns_by old new connection now (Err faults.NoConnection) down stops refused =
+    goes_as {first = IsNone} {kind = AreTurns connection now}
+    (λ (calls : List ServerCall) (is : calls ≡ []). subst (AreTurns connection now) (sym is) tt) (untouched refused.1)
+turns_by old new connection now (Err faults.Device) down stops refused = failed_call refused.1
+turns_by old new connection now (Err faults.Closed) down stops refused = absurd refused
+turns_by old new connection now (Err faults.Full) down stops refused = absurd refused
+
 -- at one of these moments, or at none
 pub ends_at : {D : Type 0} {g : Ghosts D} {keeps : Type 0} {old new : Server D g} {moments : ℕ → Type 0} (connection now : ℕ)
     → moments now → Goes keeps old new (IsEndAt connection now) → Goes keeps old new (IsEnd moments connection)
@@ -296,6 +311,17 @@ pub ends_by_none : {D : Type 0} {g : Ghosts D} {keeps : Type 0} {old new : Serve
     → Goes keeps old new IsNone → Goes keeps old new (IsEnd moments connection)
 ends_by_none {moments = moments} connection none =
     goes_as {first = IsNone} {kind = IsEnd moments connection} (λ (calls : List ServerCall) (is : IsNone calls). inl is) none
+
+pub turns_at : {D : Type 0} {g : Ghosts D} {keeps : Type 0} {old new : Server D g} {moments : ℕ → Type 0} (connection now : ℕ)
+    → moments now → Goes keeps old new (AreTurns connection now) → Goes keeps old new (AreSomeTurns moments connection)
+turns_at {moments = moments} connection now shows goes =
+    goes_as {first = AreTurns connection now} {kind = AreSomeTurns moments connection}
+    (λ (calls : List ServerCall) (are : AreTurns connection now calls). inr (now, shows, are)) goes
+
+pub turns_by_none : {D : Type 0} {g : Ghosts D} {keeps : Type 0} {old new : Server D g} {moments : ℕ → Type 0} (connection : ℕ)
+    → Goes keeps old new IsNone → Goes keeps old new (AreSomeTurns moments connection)
+turns_by_none {moments = moments} connection none =
+    goes_as {first = IsNone} {kind = AreSomeTurns moments connection} (λ (calls : List ServerCall) (is : IsNone calls). inl is) none
 
 pub gone_by : {D : Type 0} {g : Ghosts D} (old new : Server D g) (connection : ℕ) (result : Result Unit ServerFault)
     → OnOk result (connection_at (view new) connection ≡ None)

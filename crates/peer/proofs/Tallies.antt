@@ -33,7 +33,7 @@ are-on-any few many connection shows [] on = tt
 are-on-any few many connection shows (call ∷ calls) on =
     (on-any few many connection shows call on.0, are-on-any few many connection shows calls on.1)
 
-all-append : {A : Type 0} (by : ServerCall → List A) (more calls : List ServerCall) → all_by by (more ++ calls) ≡ all_by by calls ++ all_by by more
+pub all-append : {A : Type 0} (by : ServerCall → List A) (more calls : List ServerCall) → all_by by (more ++ calls) ≡ all_by by calls ++ all_by by more
 all-append by [] calls = sym (append-nil (all_by by calls))
 all-append by (call ∷ more) calls =
     ap (λ front. front ++ by call) (all-append by more calls) ∙ append_assoc (all_by by calls) (all_by by more) (by call)

@@ -63,6 +63,11 @@ abbrev pub IsEnd : (moments : ℕ → Type 0) → (connection : ℕ) → List Se
 IsEnd moments connection calls =
     IsNone calls ⊎ ((now : ℕ) × moments now × IsEndAt connection now calls)
 
+-- turns at one of these moments, after which there was no memory, or no call at all
+abbrev pub AreSomeTurns : (moments : ℕ → Type 0) → (connection : ℕ) → List ServerCall → Type 0
+AreSomeTurns moments connection calls =
+    IsNone calls ⊎ ((now : ℕ) × moments now × AreTurns connection now calls)
+
 -- it is there no longer, unless there was no memory or the device failed
 abbrev pub HasGone : Result Unit ServerFault → Option Connection → Type 0
 HasGone (Ok done) left = left ≡ None

@@ -1,6 +1,6 @@
 -- What a step of a peer does: which bytes it takes from its stream and shows the server, which it
 -- writes, and why it sleeps or ends.
-use Rattle.std.specs.Prelude.{ℕ, ◌+◌, ◌<◌, ◌≤◌, List, [], ◌∷◌, ◌++◌, length, take, ◌≡◌, ◌⊎◌, Option, Some, None, Result, Ok, IfErr, true, false}
+use Rattle.std.specs.Prelude.{ℕ, ◌+◌, ◌<◌, ◌≤◌, List, [], ◌∷◌, ◌++◌, length, take, ◌≡◌, ◌⊎◌, Option, Some, None, Result, Ok, Err, IfErr, true, false}
 use Rattle.std.specs.Global.{Vec}
 use Rattle.std.specs.Io.KnownBytes.{Appends, Consumes}
 use Rattle.std.specs.declared.io.ErrorKind.{ErrorKind}
@@ -14,7 +14,7 @@ use Rattle.server.specs.Views.{volume_of, waits_of}
 use Rattle.server.specs.declared.server.Server.{Server}
 use Rattle.system.specs.declared.refused.Refused.{Refused}
 use Rattle.system.specs.declared.refused.Refused.TheVariants as refusals
-use Rattle.peer.specs.Calls.{Goes, IsEnd}
+use Rattle.peer.specs.Calls.{Goes, AreSomeTurns, IsEnd}
 use Rattle.peer.specs.Streams.{IsOver}
 use Rattle.peer.specs.declared.pace.Pace.{Pace}
 use Rattle.peer.specs.declared.pace.Pace.TheVariants as paces
@@ -23,6 +23,8 @@ use Rattle.peer.specs.declared.peer.Parting.TheVariants as partings
 use Rattle.peer.specs.declared.peer.Peer.{Peer}
 use Rattle.peer.specs.declared.peer.Stage.{Stage}
 use Rattle.peer.specs.declared.peer.Stage.TheVariants as stages
+use Rattle.peer.specs.declared.peer.Step.{Step}
+use Rattle.peer.specs.declared.peer.Step.TheVariants as steps
 use Rattle.peer.specs.declared.stream.Stream as stream
 
 -- The calls of a step
@@ -243,10 +245,18 @@ pub record Sends {S : Type 0} {h : stream.Ghosts S} (before after : Peer S h)
 abbrev pub IsReplying : Stage → Type 0
 IsReplying stage = (reply : List ℕ) × (stage ≡ stages.Replies reply)
 
+-- By what a step returns: a hang-up, or turns after which there was no memory, or no call
+abbrev pub IsEndBy : (moments : ℕ → Type 0) → Result Step Refused → (connection : ℕ)
+    → List ServerCall → Type 0
+IsEndBy moments (Ok steps.Ended) connection = IsEnd moments connection
+IsEndBy moments (Ok (steps.Stays pace)) connection = AreSomeTurns moments connection
+IsEndBy moments (Err refused) connection = AreSomeTurns moments connection
+
 -- A peer ends: as far as it came, for this reason, and its connection is hung up then, at one of
 -- these moments.
 pub record EndsPeer {D S : Type 0} {g : Ghosts D} {h : stream.Ghosts S} (keeps : Type 0)
-    (moments : ℕ → Type 0) (old new : Server D g) (before after : Peer S h) : Type 0 where
+    (moments : ℕ → Type 0) (old new : Server D g) (before after : Peer S h)
+    (result : Result Step Refused) : Type 0 where
   pub between : Server D g
   pub left : Peer S h
   pub tally : Tally
@@ -254,8 +264,18 @@ pub record EndsPeer {D S : Type 0} {g : Ghosts D} {h : stream.Ghosts S} (keeps :
   pub shown : AreAll (before.inbox ++ tally.came) tally.shown
   pub few : tally.turns ≤ 1
   pub reason : Reason tally between left
-  pub hung : Goes keeps between new (IsEnd moments left.conn)
+  pub hung : Goes keeps between new (IsEndBy moments result left.conn)
   pub same : (after.stream ≡ left.stream) × (after.inbox ≡ left.inbox) × (after.conn ≡ left.conn)
+
+-- One that ends already, since it was dismissed or could not be hung up before: no byte comes or
+-- goes.
+pub record EndsAgain {D S : Type 0} {g : Ghosts D} {h : stream.Ghosts S} (keeps : Type 0)
+    (moments : ℕ → Type 0) (old new : Server D g) (before after : Peer S h)
+    (result : Result Step Refused) : Type 0 where
+  pub hung : Goes keeps old new (IsEndBy moments result before.conn)
+  pub same : (after.stream ≡ before.stream) × (after.inbox ≡ before.inbox)
+      × (after.conn ≡ before.conn)
+  pub stage : after.stage ≡ stages.Ends
 
 -- a step that leaves a peer to be served on
 pub record ServesOn {D S : Type 0} {g : Ghosts D} {h : stream.Ghosts S} (keeps : Type 0)

@@ -1,13 +1,13 @@
 //! The calls of the server that a step of a peer makes. Each says that the server made this one
 //! call and no other, or why it was refused.
 
-ghost use Rattle.std.specs.Prelude.{◌≡◌, false, IfOk, IfErr, OnOk};
+ghost use Rattle.std.specs.Prelude.{◌≡◌, false, IfOk, IfErr, OnOk, OnErr};
 ghost use Rattle.model.specs.Server.Runs.{Arrives, Turns, Takes};
 ghost use Rattle.server.specs.Connections.{turn_view};
 ghost use Rattle.server.specs.Refused.{RefusesTurn, RefusesHangUp, connection_at, view};
 ghost use Rattle.server.specs.Seen.{Did, Took, Turned};
 ghost use Rattle.server.specs.Views.{gave, waits_of};
-ghost use Rattle.peer.specs.Calls.{Goes, IsOne, IsHangUp, IsEndAt, HasGone, RefusesBytes, RefusesOutput};
+ghost use Rattle.peer.specs.Calls.{Goes, IsOne, IsHangUp, IsEndAt, AreTurns, HasGone, RefusesBytes, RefusesOutput};
 
 use crate::keeping::Keeping;
 use disk::Device;
@@ -61,6 +61,7 @@ pub fn take_output<D: Device>(
 pub fn hangup<D: Device>(server: &mut Server<D>, conn: usize, now: u64) -> Result<(), ServerFault>
     ensures ok { OnOk result (Goes D.keeps_word server.old server.new (IsHangUp conn now)) }
     ensures hung { Goes D.keeps_word server.old server.new (IsEndAt conn now) }
+    ensures turns { OnErr result (Goes D.keeps_word server.old server.new (AreTurns conn now)) }
     ensures gone { HasGone result (connection_at (view server.new) conn) }
     ensures refused { IfErr result (RefusesHangUp (view server.old) (view server.new) conn) }
 {

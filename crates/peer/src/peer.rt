@@ -103,9 +103,9 @@ impl<S: Stream + Drop> Peer<S> {
     ghost use Rattle.std.specs.Duration.{as_nanos};
     ghost use Rattle.server.specs.Refused.{connection_at, view};
     ghost use Rattle.system.specs.Moments.{IsMoment};
-    ghost use Rattle.peer.specs.Calls.{Goes, IsEnd};
+    ghost use Rattle.peer.specs.Calls.{Goes};
     ghost use Rattle.peer.specs.Peers.{PeerBegins, IsSame, IsSpare, WaitsFor, quiet_nanos};
-    ghost use Rattle.peer.specs.Steps.{Advances, Runs, GivesNoTurn, Sends, IsReplying, IsStuck, WaitsToWrite, ServesOn, EndsPeer, FailsBy};
+    ghost use Rattle.peer.specs.Steps.{Advances, Runs, GivesNoTurn, Sends, IsReplying, IsStuck, WaitsToWrite, ServesOn, EndsPeer, EndsAgain, IsEndBy, FailsBy};
 
     /// A peer over this connection of the server, of whose turns changes are kept then.
     pub fn new(conn: usize, stream: S, inbox: Inbox, keeping: Keeping, now: Instant) -> Peer<S>
@@ -139,6 +139,14 @@ impl<S: Stream + Drop> Peer<S> {
         ensures { result.now ≡ self.now.stream }
     {
         &self.stream
+    }
+
+    /// The same, where it is a peer no longer.
+    pub fn into_stream(self) -> S
+        ensures { result ≡ self.stream }
+    {
+        let Peer { stream, .. } = self;
+        stream
     }
 
     /// Takes what the system told of the stream.
@@ -238,7 +246,10 @@ impl<S: Stream + Drop> Peer<S> {
             self.old self.new (result ≡ Ok (Step.Stays Pace.Goes)) }
         ensures ends { self.new.stage ≡ Stage.Ends
             → EndsPeer D.keeps_word (IsMoment (C.shows clock.now)) server.old server.new
-            self.old self.new }
+            self.old self.new result }
+        ensures over { self.old.stage ≡ Stage.Ends
+            → EndsAgain D.keeps_word (IsMoment (C.shows clock.now)) server.old server.new
+            self.old self.new result }
         ensures ended { IfOk result (λ step. step ≡ Step.Ended
             → (self.new.stage ≡ Stage.Ends)
             × (connection_at (view server.new) self.new.conn ≡ None)) }
@@ -266,6 +277,8 @@ impl<S: Stream + Drop> Peer<S> {
         ensures does { Advances D.keeps_word (IsMoment (C.shows clock.now)) server.old server.new
             self.old self.new result }
         ensures ends { self.new.stage ≡ Stage.Ends → IsErrOf result Parting.Peer }
+        ensures over { self.old.stage ≡ Stage.Ends → IsErrOf result Parting.Peer
+            × (self.new ≡ self.old) × (server.new ≡ server.old) }
     {
         match self.stage {
             Stage::Gathers => self.gather(server, clock, now),
@@ -393,7 +406,8 @@ impl<S: Stream + Drop> Peer<S> {
         ensures asleep { IfOk result (λ pace. pace ≡ Pace.Sleeps → IsStuck server.new self.new) }
         ensures does { GivesNoTurn D.keeps_word server.old server.new self.old self.new result }
     {
-        if server.waits() {
+        let waits = server.waits();
+        if waits {
             return Ok(Pace::Sleeps);
         }
         self.stage = Stage::Gathers;
@@ -447,7 +461,7 @@ impl<S: Stream + Drop> Peer<S> {
         ensures same { (self.new.stream ≡ self.old.stream) × (self.new.inbox ≡ self.old.inbox)
             × (self.new.conn ≡ self.old.conn) }
         ensures hung { Goes D.keeps_word server.old server.new
-            (IsEnd (IsMoment (C.shows clock.now)) self.old.conn) }
+            (IsEndBy (IsMoment (C.shows clock.now)) result self.old.conn) }
         ensures ended { IfOk result (λ step. step ≡ Step.Ended
             → connection_at (view server.new) self.old.conn ≡ None) }
         ensures failed { IfErr result (FailsBy server.new) }

@@ -1,4 +1,4 @@
-use Rattle.peer.proofs.Made.{gone_by, hangs_by, hangs_up}
+use Rattle.peer.proofs.Made.{gone_by, hangs_by, hangs_up, turns_by}
 use Rattle.peer.proofs.calls.hangup.Goals as goal
 
 pub returns-clause-ok : goal.returns-clause-ok
@@ -11,3 +11,7 @@ returns-clause-hung g c =
 
 pub returns-clause-gone : goal.returns-clause-gone
 returns-clause-gone g c = gone_by c.args.server.now c.hangup.new.self c.args.conn c.hangup.result c.hangup.ensures.gone c.hangup.ensures.refused
+
+pub returns-clause-turns : goal.returns-clause-turns
+returns-clause-turns g c =
+    turns_by c.args.server.now c.hangup.new.self c.args.conn c.args.now c.hangup.result c.hangup.ensures.is_down c.hangup.ensures.memory c.hangup.ensures.refused

@@ -1,0 +1,175 @@
+-- A connection stays until it is hung up.
+use Rattle.std.proofs.Common.{◌≡◌, ◌≢◌, ℕ, inl, inr, Bool, true, false, not, if◌then◌else◌, List, [], ◌∷◌, ◌++◌, find, Option, None, Some, is_some, Result, Ok, Err, refl, sym, ap, subst, ◌∙◌}
+use Rattle.std.proofs.lemmas.Bool.{cases_eq}
+use Rattle.std.specs.Prelude.{◌&&◌, length, nat_lt}
+use Rattle.model_tree.specs.declared.status.Status.{Status}
+use Rattle.model_tree.specs.declared.status.Status.TheVariants as status
+use Rattle.model_tree.specs.Refusals.Refusal.{first_refusal}
+use Rattle.model_tree.specs.Trees.Keyed.{Keyed, at, is_key, with}
+use Rattle.model_tree.proofs.Trees.KeyedLaws.{at-with_same, at-with_other, at-without_other}
+use Rattle.model.specs.Operations.Answer.{Answer, Outcome, Done, Refused, ExchangeIdAnswer, CreateSessionAnswer}
+use Rattle.model.specs.Operations.Operation.{Argument, SequenceArguments, operation_of}
+use Rattle.model.specs.Operations.State.{current_refusals}
+use Rattle.model.specs.Server.Runs.{Event, Arrives, Turns, HangsUp, Connects, Takes, effect_of}
+use Rattle.model.specs.Server.World.{InProgress, Connection, Quiet, Busy, Replied, World, Entry, HasRun, Gives, Replays, Turned, exchanged, created_by, tabled, started_in, begun, reclaimed, state_of, run, with_result, result_of, behind, ends, goes_on, executed_entry, one, with_connection, without_connection, arrives, arrives_at, connection_changed, without_reply, takes, can_connect, connects, is_busy, hangs_up, is_last, closes, is_to_hold}
+use Rattle.model.specs.Sessions.Session as sessions
+use Rattle.model.specs.Sessions.Session.{Session, Table, is_session, begin}
+use Rattle.model.specs.Sessions.StateIds.{has_opens}
+use Rattle.model.specs.Wire.Record.{framed}
+use Rattle.model.specs.Wire.Rpc.{Success, reply_text}
+use Rattle.model.proofs.Server.TurnCases.{read_of, IsTurn, Idles, Says, Unread, TooBig, Gave, Repeats, turn_is, Closes}
+use Rattle.server.specs.Seen.{ServerCall, Did, Failed, world_after}
+use Rattle.peer.specs.Steps.{AreOn}
+use Rattle.peer.specs.Served.{IsThere}
+
+choose : {A : Type 0} (P : A → Type 0) (b : Bool) (x y : A) → P x → P y → P (if b then x else y)
+choose P true x y p q = p
+choose P false x y p q = q
+
+pub put : (connections : Keyed Connection) (here number : ℕ) (new : Connection) → is_some (at number connections) ≡ true
+    → is_some (at number (with connections here new)) ≡ true
+put connections here number new there = elim (cases_eq number here) [
+  | inl same ↦ ap is_some (ap (λ (n : ℕ). at n (with connections here new)) same ∙ at-with_same connections here new)
+  | inr apart ↦ ap is_some (at-with_other connections here number new apart) ∙ there
+]
+
+-- What an operation leaves
+
+abbrev Keeps : World → HasRun → Type 0
+Keeps world (Gives outcome after left) = after.connections ≡ world.connections
+Keeps world (Replays result session slot) = Unit {0}
+
+module _ (world : World) (request : InProgress) where
+  exchanged_keeps : (r : Result ExchangeIdAnswer Status × Table) → Keeps world (exchanged world request r)
+  exchanged_keeps (Err reason, table) = refl
+  exchanged_keeps (Ok answer, table) = refl
+
+  created_keeps : (o : sessions.CreateSessionOutcome) (answer : Result CreateSessionAnswer Status) → Keeps world (created_by world request o answer)
+  created_keeps o (Err reason) = refl
+  created_keeps o (Ok answer) = refl
+
+  tabled_keeps : (operation : ℕ) (answer : Answer) (r : Option Status × Table) → Keeps world (tabled world request operation answer r)
+  tabled_keeps operation answer (Some reason, table) = refl
+  tabled_keeps operation answer (None, table) = refl
+
+  started_keeps : (arguments : SequenceArguments) (known : Option Session) → Keeps world (started_in world request arguments known)
+  started_keeps arguments None = refl
+  started_keeps arguments (Some session) = refl
+
+  begun_keeps : (arguments : SequenceArguments) (b : sessions.Begun) → Keeps world (begun world request arguments b)
+  begun_keeps arguments (sessions.Refuses reason) = refl
+  begun_keeps arguments (sessions.Replays reply) = tt
+  begun_keeps arguments sessions.Runs = started_keeps arguments (find (is_session arguments.session) world.table.sessions)
+
+  reclaimed_keeps : (refusal : Option Status) → Keeps world (reclaimed world request refusal)
+  reclaimed_keeps None = refl
+  reclaimed_keeps (Some reason) = refl
+
+  run_keeps : (now : ℕ) (operation : Argument) → Keeps world (run world request now operation)
+  unfolding run
+  run_keeps now (Argument.ExchangeId arguments) =
+      exchanged_keeps (sessions.exchange_id world.limits.sessions (has_opens world.opens) request.context.cred.uid arguments world.table)
+  run_keeps now (Argument.CreateSession arguments) =
+      created_keeps (sessions.create_session world.limits.sessions request.context.cred.uid arguments world.table) _
+  run_keeps now (Argument.DestroySession id) = tabled_keeps 44 Answer.DestroySession (sessions.destroy_session id world.table)
+  run_keeps now (Argument.DestroyClientId client) =
+      tabled_keeps 57 Answer.DestroyClientId (sessions.destroy_client_id (has_opens world.opens) client world.table)
+  run_keeps now (Argument.Sequence arguments) = begun_keeps arguments (begin request.context.cred.uid request.count arguments world.table)
+  run_keeps now (Argument.ReclaimComplete true) = reclaimed_keeps (first_refusal (current_refusals (state_of world request)))
+  run_keeps now (Argument.ReclaimComplete false) = tabled_keeps 58 Answer.ReclaimComplete (sessions.reclaim_complete request.context.client world.table)
+  run_keeps now operation = refl
+
+-- A turn
+
+module _ (world : World) (here number : ℕ) (there : IsThere number world) where
+  module _ (after : World) (same : after.connections ≡ world.connections) (executed : Option Entry) where
+    still : is_some (at number after.connections) ≡ true
+    still = ap (λ (c : Keyed Connection). is_some (at number c)) same ∙ there
+
+    ended : (left : InProgress) (last : Status) → IsThere number (ends after here left last executed).world
+    ended left last = put after.connections here number (Replied (framed (reply_text left.xid (Success (result_of left last))))) still
+
+    gone_on : (left : InProgress) → IsThere number (goes_on after here left executed).world
+    gone_on left = put after.connections here number (Busy left) still
+
+    closed : (left : InProgress) (last : Status) → IsThere number (closes after here left last executed).world
+    closed left last =
+        choose (λ (t : Turned). IsThere number t.world) (is_to_hold left.slot after.table.seats)
+        (goes_on after here (record left { ended = Some last }) executed) (ends after here left last executed)
+        (gone_on (record left { ended = Some last })) (ended left last)
+
+    went : (left : InProgress) (outcome : Outcome) → IsThere number (behind after here left outcome executed).world
+    went left (Refused operation reason) = closed (with_result left (Refused operation reason)) reason
+    went left (Done answer) =
+        choose (λ (t : Turned). IsThere number t.world) (is_last left)
+        (closes after here (with_result left (Done answer)) status.Ok executed) (goes_on after here (with_result left (Done answer)) executed)
+        (closed (with_result left (Done answer)) status.Ok) (gone_on (with_result left (Done answer)))
+
+  turned : (now : ℕ) (t : Turned) → IsTurn world here now t → IsThere number t.world
+  turned now _ Idles = there
+  turned now _ (Says bytes xid reply is) = put world.connections here number (Replied (framed (reply_text xid reply))) there
+  turned now _ (Closes request last is done) = ended world refl None request last
+  turned now _ (Unread request operation reason goes) = went world refl None request (Refused operation reason)
+  turned now _ (TooBig request operation rest goes reads) =
+      went world refl (Some (executed_entry world (read_of request rest) operation (Refused (operation_of operation) status.RepTooBig) world))
+      (read_of request rest) (Refused (operation_of operation) status.RepTooBig)
+  turned now _ (Gave request operation rest outcome after left goes reads is) =
+      let same : Keeps world (Gives outcome after left) = subst (Keeps world) is (run_keeps world (read_of request rest) now operation) in
+      went after same (Some (executed_entry world (read_of request rest) operation outcome after)) left outcome
+  turned now _ (Repeats request operation rest result session slot goes reads is) =
+      put world.connections here number (Replied (framed (reply_text request.xid (Success result)))) there
+
+  changed : (change : Connection → Connection) (connection : Option Connection) → IsThere number (connection_changed world here change connection)
+  changed change None = there
+  changed change (Some connection) = put world.connections here number (change connection) there
+
+-- Each event but its hang-up
+
+abbrev pub Spares : ℕ → Event → Type 0
+Spares number (HangsUp connection) = number ≢ connection
+Spares number event = Unit {0}
+
+pub event_keeps : (world : World) (number : ℕ) (event : Event) → Spares number event → IsThere number world → IsThere number (effect_of world event)
+unfolding arrives takes connects hangs_up
+event_keeps world number (Arrives connection piece) spares there =
+    changed world connection number there (arrives_at world.limits.records piece) (at connection world.connections)
+event_keeps world number (Turns connection now) spares there =
+    turned world connection number there now (one world connection now) (turn_is world connection now)
+event_keeps world number (HangsUp connection) spares there =
+    choose (IsThere number) (is_busy (at connection world.connections)) world (without_connection world connection) there
+    (ap is_some (at-without_other world.connections connection number spares) ∙ there)
+event_keeps world number (Connects connection) spares there =
+    choose (IsThere number) (can_connect world connection) (with_connection world connection (Quiet [])) world
+    (put world.connections connection number (Quiet []) there) there
+event_keeps world number (Takes connection) spares there =
+    changed world connection number there without_reply (at connection world.connections)
+
+pub calls_keep : (moments : ℕ → Type 0) (start : World) (number connection : ℕ) (more calls : List ServerCall) → AreOn moments connection more
+    → IsThere number (world_after start calls) → IsThere number (world_after start (more ++ calls))
+calls_keep moments start number connection [] calls on there = there
+calls_keep moments start number connection (Did (Arrives other piece) said ∷ more) calls on there =
+    event_keeps (world_after start (more ++ calls)) number (Arrives other piece) tt (calls_keep moments start number connection more calls on.1 there)
+calls_keep moments start number connection (Did (Turns other now) said ∷ more) calls on there =
+    event_keeps (world_after start (more ++ calls)) number (Turns other now) tt (calls_keep moments start number connection more calls on.1 there)
+calls_keep moments start number connection (Did (Takes other) said ∷ more) calls on there =
+    event_keeps (world_after start (more ++ calls)) number (Takes other) tt (calls_keep moments start number connection more calls on.1 there)
+calls_keep moments start number connection (Did (HangsUp other) said ∷ more) calls on there = absurd on.0
+calls_keep moments start number connection (Did (Connects other) said ∷ more) calls on there = absurd on.0
+calls_keep moments start number connection (Failed event ∷ more) calls on there = absurd on.0
+
+-- a new connection is there, and was not before
+
+pub connected : (world : World) (connection : ℕ) → can_connect world connection ≡ true → IsThere connection (effect_of world (Connects connection))
+unfolding connects
+connected world connection can =
+    let after : connects world connection ≡ with_connection world connection (Quiet []) =
+    ap (λ (b : Bool). if b then with_connection world connection (Quiet []) else world) can in
+    ap (λ (w : World). is_some (at connection w.connections)) after ∙ ap is_some (at-with_same world.connections connection (Quiet []))
+
+not-and : (a b : Bool) → a ≡ true → (not a && b) ≡ true → ⊥
+not-and true b is can = cc
+not-and false b is can = cc
+
+pub apart_from : (world : World) (connection number : ℕ) → can_connect world connection ≡ true → IsThere number world → number ≢ connection
+apart_from world connection number can there same =
+    not-and (is_key connection world.connections) (nat_lt (length world.connections) world.limits.connections) (ap (λ (n : ℕ). is_some (at n world.connections)) (sym same) ∙ there) can

@@ -1,0 +1,8 @@
+use Rattle.slab.specs.Slab.{get}
+use Rattle.peer.proofs.Serving.{kept_further, none_further}
+use Rattle.peer.proofs.peers.Peers.checkpoint.Goals as goal
+
+pub returns : goal.returns
+returns g c = λ first streams so_far.
+    none_further streams (get c.args.self.now.peers)
+    (kept_further {old = c.args.self.now.server} {new = c.checkpoint.new.self} c.checkpoint.result c.checkpoint.ensures.ok c.checkpoint.ensures.kept c.checkpoint.ensures.refused) so_far
