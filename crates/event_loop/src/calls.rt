@@ -60,13 +60,3 @@ pub fn take_output<D: Device>(
 pub fn hangup<D: Device>(server: &mut Server<D>, conn: usize, now: u64) -> Result<(), Refused> {
     Ok(server.hangup(conn, now)?)
 }
-
-/// Keeps what waits, all of it with one flush.
-pub fn flush<D: Device>(server: &mut Server<D>) -> Result<(), Refused> {
-    Ok(server.flush()?)
-}
-
-/// Makes a checkpoint, while no reply is due.
-pub fn checkpoint<D: Device>(server: &mut Server<D>) -> Result<(), Refused> {
-    Ok(server.checkpoint()?)
-}

@@ -39,6 +39,12 @@ impl Counted {
             bytes: Bytes::NONE,
         }
     }
+
+    /// The socket, over which no byte came or went.
+    pub fn into_socket(self) -> TcpStream {
+        let Counted { stream, .. } = self;
+        stream
+    }
 }
 
 impl Stream for Counted {

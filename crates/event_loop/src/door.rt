@@ -156,6 +156,13 @@ impl Door {
             None
         }
     }
+
+    /// Has a connection that was taken wait on, under the number that it had. There is room for it.
+    pub fn put_back(&mut self, number: usize, arrival: Arrival) {
+        if number <= self.waiting.len() {
+            let _ = self.waiting.insert(number, arrival);
+        }
+    }
 }
 
 /// Whether the environment has this number under the name. A process inherits the variables of the

@@ -1,5 +1,6 @@
 //! A mounted volume, its peers, and the loop over them.
 
+use crate::counted::Counted;
 use crate::counts::Counts;
 use crate::door::{Arrival, Door};
 use crate::glance::{has_replayed, syncs_of};
@@ -13,8 +14,8 @@ use crate::told::Told;
 use crate::watched::Watched;
 use crate::{calls, seating};
 use model_tree::status::Status;
-use peer::{Answered, Pace, SessionNews, Step};
-use server::{MAX_CONNECTIONS, Server};
+use peer::{Answered, NotAdmitted, Pace, Peers, SessionNews, Step, Stepped};
+use server::{MAX_CONNECTIONS, Server, ServerFault};
 use std::alloc::Global;
 use std::env::Env;
 use std::io::Write;
@@ -62,8 +63,7 @@ where
     E: Write + AsRawFd + Drop,
 {
     let mut lines = Lines::to(rt, err, settings.quiet);
-    let mut hub = Hub::new(rt, device, door, settings)?;
-    hub.begin(rt, title, &mut lines)?;
+    let hub = Hub::new(rt, device, door, settings)?.begin(rt, title, &mut lines)?;
     writeln!(out, "serving {}", hub.address()?)?;
     out.flush()?;
     tell_ready(rt);
@@ -103,7 +103,7 @@ pub enum End {
 /// A mounted volume, and the peers that it is served to.
 #[derive(Drop)]
 pub struct Hub<D: Watched> {
-    server: Server<D>,
+    peers: Peers<D, Counted>,
     sockets: Sockets,
     told: Told,
     counts: Counts,
@@ -145,7 +145,7 @@ impl<D: Watched> Hub<D> {
         R: Net + AllocGlobal,
     {
         let sockets = Sockets::new(rt, door, &settings)?;
-        Ok(Hub::with(server, sockets, settings))
+        Hub::with(rt.alloc(), server, sockets, settings)
     }
 
     fn over(
@@ -155,12 +155,17 @@ impl<D: Watched> Hub<D> {
         settings: Settings,
     ) -> Result<Hub<D>, Refused> {
         let server = calls::mounted(alloc, device, settings.of_server(alloc)?)?;
-        Ok(Hub::with(server, sockets, settings))
+        Hub::with(alloc, server, sockets, settings)
     }
 
-    fn with(server: Server<D>, sockets: Sockets, settings: Settings) -> Hub<D> {
-        Hub {
-            server,
+    fn with(
+        alloc: Global,
+        server: Server<D>,
+        sockets: Sockets,
+        settings: Settings,
+    ) -> Result<Hub<D>, Refused> {
+        Ok(Hub {
+            peers: Peers::new(alloc, server, settings.keeping)?,
             sockets,
             told: Told::new(),
             counts: Counts::new(),
@@ -169,12 +174,12 @@ impl<D: Watched> Hub<D> {
             has_seat: true,
             alone_since: None,
             settings,
-        }
+        })
     }
 
     /// How often the volume was mounted.
     pub fn restart_count(&self) -> u32 {
-        calls::restart_count(&self.server)
+        calls::restart_count(self.peers.server())
     }
 
     /// Where the door listens.
@@ -185,59 +190,61 @@ impl<D: Watched> Hub<D> {
     /// What was counted since the start.
     pub fn counts(&self) -> Counts {
         let mut counts = self.counts;
-        counts.bytes = self.sockets.bytes();
-        counts.change(self.server.change_count());
+        counts.bytes = self.sockets.bytes(&self.peers);
+        counts.change(self.peers.server().change_count());
         counts
     }
 
     /// What there is, now.
     fn state(&self) -> State {
+        let server = self.peers.server();
         State {
             run: self.restart_count(),
-            connections: self.server.connection_count(),
-            clients: self.server.client_count(),
-            sessions: self.server.session_count(),
-            opens: self.server.open_count(),
-            seats: seating::count(&self.server),
-            room: self.server.room(),
-            calls: self.server.device().calls(),
+            connections: server.connection_count(),
+            clients: server.client_count(),
+            sessions: server.session_count(),
+            opens: server.open_count(),
+            seats: seating::count(server),
+            room: server.room(),
+            calls: server.device().calls(),
         }
     }
 
     /// The device, as it is now: peers are gone, and what was not kept is lost.
     pub fn into_device(self) -> D {
-        let Hub { server, .. } = self;
-        server.into_device()
+        let Hub { peers, .. } = self;
+        peers.into_server().into_device()
     }
 
     /// Tells what is served, and frees the seats of earlier runs if the settings say so.
     ///
     /// # Errors
     /// Device and Memory, where seats are freed; Io where the clock fails.
-    pub fn begin<R, E>(&mut self, rt: &R, title: &str, lines: &mut Lines<E>) -> Result<(), Refused>
+    pub fn begin<R, E>(self, rt: &R, title: &str, lines: &mut Lines<E>) -> Result<Hub<D>, Refused>
     where
         R: Clock + AllocGlobal,
         E: Write + Drop,
     {
         let now = Instant::now(rt)?;
         let run = self.restart_count();
-        let replayed = has_replayed(&self.server);
+        let replayed = has_replayed(self.peers.server());
         let start = Start {
             title,
             run,
             replayed,
         };
         lines.tell(&Line::Begins(start), now);
-        if self.settings.free_seats {
-            self.free_seats(rt, lines)?;
+        let mut hub = self;
+        if hub.settings.free_seats {
+            hub = hub.free_seats(rt, lines)?;
         }
-        seating::tell_seats(&self.server, lines, now);
+        seating::tell_seats(hub.peers.server(), lines, now);
         let listening = Listening {
-            address: self.address()?,
-            metrics: self.sockets.metrics_address()?,
+            address: hub.address()?,
+            metrics: hub.sockets.metrics_address()?,
         };
         lines.tell(&Line::Listens(listening), now);
-        Ok(())
+        Ok(hub)
     }
 
     /// The same without a client, a session, a seat or an open: a new run on the same device.
@@ -250,13 +257,14 @@ impl<D: Watched> Hub<D> {
         E: Write + Drop,
     {
         let Hub {
-            server,
+            peers,
             sockets,
             told,
             counts,
             settings,
             ..
         } = self;
+        let server = peers.into_server();
         let mut counts = counts;
         counts.change(server.change_count());
         let mut hub = Hub::over(rt.alloc(), server.into_device(), sockets, settings)?;
@@ -264,20 +272,33 @@ impl<D: Watched> Hub<D> {
         hub.counts = counts;
         let now = Instant::now(rt)?;
         lines.tell(&Line::Run(hub.restart_count()), now);
-        hub.free_seats(rt, lines)?;
-        seating::tell_seats(&hub.server, lines, now);
+        let hub = hub.free_seats(rt, lines)?;
+        seating::tell_seats(hub.peers.server(), lines, now);
         Ok(hub)
     }
 
-    /// Frees the seats that earlier runs have left.
-    fn free_seats<R, E>(&mut self, rt: &R, lines: &mut Lines<E>) -> Result<(), Refused>
+    /// Frees the seats that earlier runs have left, before there is a peer.
+    fn free_seats<R, E>(self, rt: &R, lines: &mut Lines<E>) -> Result<Hub<D>, Refused>
     where
         R: Clock + AllocGlobal,
         E: Write + Drop,
     {
         let at = moment(rt)?;
         let now = Instant::now(rt)?;
-        seating::free_dead_seats(rt.alloc(), &mut self.server, at, lines, now)
+        let Hub {
+            peers,
+            sockets,
+            told,
+            counts,
+            settings,
+            ..
+        } = self;
+        let mut server = peers.into_server();
+        seating::free_dead_seats(rt.alloc(), &mut server, at, lines, now)?;
+        let mut hub = Hub::with(rt.alloc(), server, sockets, settings)?;
+        hub.told = told;
+        hub.counts = counts;
+        Ok(hub)
     }
 
     /// Serves until no peer has been there for as long as was given, or all have been served.
@@ -319,7 +340,7 @@ impl<D: Watched> Hub<D> {
         R: Clock + AllocGlobal,
         E: Write + Drop,
     {
-        let was_told = self.sockets.hear(timeout)?;
+        let was_told = self.sockets.hear(&mut self.peers, timeout)?;
         if self.pace == Pace::Sleeps && !was_told {
             self.rest()?;
         }
@@ -347,9 +368,9 @@ impl<D: Watched> Hub<D> {
     /// Makes a checkpoint, if something has changed since the last one.
     fn rest(&mut self) -> Result<(), Refused> {
         if !self.is_rested {
-            let syncs = syncs_of(&self.server);
-            calls::checkpoint(&mut self.server)?;
-            self.counts.sync(syncs, syncs_of(&self.server));
+            let syncs = syncs_of(self.peers.server());
+            self.peers.checkpoint()?;
+            self.counts.sync(syncs, syncs_of(self.peers.server()));
             self.is_rested = true;
         }
         Ok(())
@@ -415,13 +436,10 @@ impl<D: Watched> Hub<D> {
 
     /// Keeps what waits, all of it with one flush. Whether something waited.
     fn flush(&mut self) -> Result<bool, Refused> {
-        if !self.server.waits() {
-            return Ok(false);
-        }
-        let syncs = syncs_of(&self.server);
-        calls::flush(&mut self.server)?;
-        self.counts.sync(syncs, syncs_of(&self.server));
-        Ok(true)
+        let syncs = syncs_of(self.peers.server());
+        let waited = self.peers.flush()?;
+        self.counts.sync(syncs, syncs_of(self.peers.server()));
+        Ok(waited)
     }
 
     /// Serves whoever reads the counts: one read or one write. Without memory for the page the
@@ -493,7 +511,7 @@ impl<D: Watched> Hub<D> {
         if !self.sockets.are_full() {
             return self.admit(rt, number, now, lines);
         }
-        match self.sockets.make_way(number, now) {
+        match self.sockets.make_way(&mut self.peers, number, now) {
             Some((from, to)) => {
                 lines.tell(&Line::GivesWay { from, to }, now);
                 Ok(Pace::Goes)
@@ -515,23 +533,42 @@ impl<D: Watched> Hub<D> {
         R: Clock + AllocGlobal,
         E: Write + Drop,
     {
-        let Ok(inbox) = self.sockets.make_room(rt.alloc()) else {
+        let Ok(inbox) = self.peers.make_room(rt.alloc()) else {
             return Ok(Pace::Pauses);
         };
-        let conn = match calls::connect(&mut self.server) {
-            Ok(conn) => conn,
-            Err(Refused::Memory) => return Ok(Pace::Pauses),
-            Err(refused) => return Err(refused),
+        let Some(arrival) = self.sockets.take_waiting(number, self.peers.next_key()) else {
+            return Ok(Pace::Goes);
         };
-        if let Some(from) = self.sockets.take_in(number, conn, inbox, now) {
-            self.alone_since = None;
-            self.counts.accept();
-            let taken = self.sockets.taken();
-            lines.tell(&Line::Comes { from, taken }, now);
-        } else {
-            calls::hangup(&mut self.server, conn, moment(rt)?)?;
+        let Arrival { stream, from } = arrival;
+        match self.peers.admit(inbox, Counted::new(stream), now) {
+            Ok(key) => {
+                self.sockets.settle(key, from);
+                self.note_peer(from, now, lines);
+                Ok(Pace::Goes)
+            }
+            Err(
+                NotAdmitted {
+                    fault: ServerFault::Memory,
+                    stream,
+                },
+            ) => {
+                let stream = stream.into_socket();
+                self.sockets.give_back(number, Arrival { stream, from });
+                Ok(Pace::Pauses)
+            }
+            Err(refused) => Err(refused.fault.into()),
         }
-        Ok(Pace::Goes)
+    }
+
+    /// Counts a peer that came, and tells of it.
+    fn note_peer<E>(&mut self, from: SocketAddr, now: Instant, lines: &mut Lines<E>)
+    where
+        E: Write + Drop,
+    {
+        self.alone_since = None;
+        self.counts.accept();
+        let taken = self.sockets.taken();
+        lines.tell(&Line::Comes { from, taken }, now);
     }
 
     fn step<C, E>(
@@ -545,31 +582,68 @@ impl<D: Watched> Hub<D> {
         C: Clock,
         E: Write + Drop,
     {
-        let Some(place) = self.sockets.place(key) else {
+        let Some(conn) = self.connection(key) else {
             return Ok(Pace::Sleeps);
         };
+        let syncs = syncs_of(self.peers.server());
+        let Some(stepped) = self.peers.step(key, clock, now)? else {
+            return Ok(Pace::Sleeps);
+        };
+        self.counts.sync(syncs, syncs_of(self.peers.server()));
+        let Stepped {
+            step,
+            answered,
+            closed,
+        } = stepped;
+        self.note_step(key, conn, answered, now, lines);
+        match step {
+            Step::Stays(pace) => Ok(pace),
+            Step::Ended => {
+                self.remove(key, closed, now, lines);
+                Ok(Pace::Goes)
+            }
+        }
+    }
+
+    /// The number of a peer's connection.
+    fn connection(&self, key: usize) -> Option<usize> {
+        Some(self.peers.get(key)?.connection())
+    }
+
+    /// Whether a peer's reply waits for a flush.
+    fn awaits_flush(&self, key: usize) -> bool {
+        match self.peers.get(key) {
+            Some(peer) => peer.awaits_flush(),
+            None => false,
+        }
+    }
+
+    /// Counts what a peer's step did, by its connection and its reply, and tells of it.
+    fn note_step<E>(
+        &mut self,
+        key: usize,
+        conn: usize,
+        answered: Option<Answered>,
+        now: Instant,
+        lines: &mut Lines<E>,
+    )
+    where
+        E: Write + Drop,
+    {
+        let awaits_flush = self.awaits_flush(key);
+        let Some(place) = self.sockets.place(key) else {
+            return;
+        };
         let from = place.from;
-        let syncs = syncs_of(&self.server);
-        let step = place.peer.step(&mut self.server, clock, now)?;
-        self.counts.sync(syncs, syncs_of(&self.server));
-        let answered = place.peer.take_answered();
-        if !place.peer.awaits_flush() {
-            let conn = place.peer.connection();
+        if !awaits_flush {
             place
                 .glance
-                .count(&self.server, conn, answered, &mut self.counts);
+                .count(self.peers.server(), conn, answered, &mut self.counts);
         }
         if let Some(answered) = answered {
             self.note(answered, from, now, lines);
             if let Some(news) = answered.news {
                 self.note_session(key, news, now, lines);
-            }
-        }
-        match step {
-            Step::Stays(pace) => Ok(pace),
-            Step::Ended => {
-                self.remove(key, now, lines);
-                Ok(Pace::Goes)
             }
         }
     }
@@ -586,7 +660,7 @@ impl<D: Watched> Hub<D> {
             lines.tell(&Line::ComesAgain { operation, from }, now);
         }
         if answered.status == Some(Status::NoSpc.code()) && self.told.no_space.is_due(now) {
-            lines.tell(&Line::NoSpace(self.server.room()), now);
+            lines.tell(&Line::NoSpace(self.peers.server().room()), now);
         }
         self.note_seats(now, lines);
     }
@@ -604,7 +678,7 @@ impl<D: Watched> Hub<D> {
             SessionNews::Used { client } => place.client = Some(client),
             SessionNews::Created { client, persistent } => {
                 place.client = Some(client);
-                let owner = owner_of(&self.server, Some(client));
+                let owner = owner_of(self.peers.server(), Some(client));
                 let session = Session {
                     owner,
                     from,
@@ -613,7 +687,7 @@ impl<D: Watched> Hub<D> {
                 lines.tell(&Line::SessionBegins(session), now);
             }
             SessionNews::Ended => {
-                let owner = owner_of(&self.server, place.client);
+                let owner = owner_of(self.peers.server(), place.client);
                 lines.tell(&Line::SessionEnds { owner, from }, now);
             }
         }
@@ -625,7 +699,7 @@ impl<D: Watched> Hub<D> {
         E: Write + Drop,
     {
         let had_seat = self.has_seat;
-        self.has_seat = !seating::are_in_use(&self.server);
+        self.has_seat = !seating::are_in_use(self.peers.server());
         let is_new = had_seat && !self.has_seat && self.settings.persistent;
         if is_new && self.told.no_seat.is_due(now) {
             lines.tell(&Line::NoSeat, now);
@@ -633,11 +707,11 @@ impl<D: Watched> Hub<D> {
     }
 
     /// Its stream is closed with it, and another connection may have its place.
-    fn remove<E>(&mut self, key: usize, now: Instant, lines: &mut Lines<E>)
+    fn remove<E>(&mut self, key: usize, closed: Option<Counted>, now: Instant, lines: &mut Lines<E>)
     where
         E: Write + Drop,
     {
-        if let Some(from) = self.sockets.remove(key) {
+        if let Some(from) = self.sockets.remove(key, closed) {
             self.counts.close();
             let taken = self.sockets.taken();
             lines.tell(&Line::Goes { from, taken }, now);

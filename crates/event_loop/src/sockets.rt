@@ -1,4 +1,4 @@
-//! The sockets of a server: the door, its peers, and what the system tells of them.
+//! The sockets of a server: the door, and what the system tells of it and of the peers.
 
 use crate::admission::Admission;
 use crate::counted::{Bytes, Counted};
@@ -7,13 +7,12 @@ use crate::glance::Glance;
 use crate::monitor::{MONITOR, Monitor, VISITOR};
 use crate::origin::Origin;
 use crate::settings::Settings;
+use disk::Device;
 use mio::event::Event;
 use mio::net::TcpStream;
 use mio::{Events, Interest, Poll, Token};
-use peer::{Inbox, Keeping, Peer};
+use peer::Peers;
 use server::MAX_CONNECTIONS;
-use slab::Slab;
-use std::alloc::{AllocError, Global};
 use std::io;
 use std::net::{Net, SocketAddr};
 use std::time::{Duration, Instant};
@@ -35,19 +34,17 @@ pub struct Sockets {
     door: Door,
     /// Which connections are still accepted.
     admission: Admission,
-    /// When the changes of a turn are kept.
-    keeping: Keeping,
     /// Where counts are asked for.
     monitor: Option<Monitor>,
-    places: Slab<Place>,
+    /// Those of the peers, by their keys.
+    places: Vec<Option<Place>>,
     /// The bytes of the connections that are gone.
     bytes: Bytes,
 }
 
-/// A peer in its place.
+/// What is known of a peer besides its connection.
 #[derive(Drop)]
 pub struct Place {
-    pub peer: Peer<Counted>,
     pub from: SocketAddr,
     /// The client whose session it used last.
     pub client: Option<u64>,
@@ -87,10 +84,12 @@ impl Sockets {
             events: Events::with_capacity(rt.alloc(), MAX_EVENTS)?,
             door,
             admission: settings.admission,
-            keeping: settings.keeping,
-            places: Slab::with_capacity(rt.alloc(), MAX_CONNECTIONS)?,
+            places: Vec::with_capacity(rt.alloc(), MAX_CONNECTIONS)?,
             bytes: Bytes::NONE,
         };
+        for _ in 0..MAX_CONNECTIONS {
+            sockets.places.push(None)?;
+        }
         sockets.door.register(&sockets.poll, DOOR)?;
         Ok(sockets)
     }
@@ -110,13 +109,17 @@ impl Sockets {
 
     /// Waits for the system, and tells the door and the peers what it told of them. Whether it told
     /// anything.
-    pub fn hear(&mut self, timeout: Option<Duration>) -> Result<bool, Refused> {
+    pub fn hear<D: Device>(
+        &mut self,
+        peers: &mut Peers<D, Counted>,
+        timeout: Option<Duration>,
+    ) -> Result<bool, Refused> {
         self.poll.poll(&mut self.events, timeout)?;
         for event in &self.events {
             if event.token() == DOOR {
                 self.door.wake();
-            } else if let Some(place) = self.places.get_mut(event.token().0) {
-                wake_peer(place, event);
+            } else if event.token().0 < MAX_CONNECTIONS {
+                wake_peer(peers, event);
             } else if let Some(monitor) = &mut self.monitor {
                 wake_monitor(monitor, event.token());
             }
@@ -161,7 +164,7 @@ impl Sockets {
 
     /// How many connections are served or wait for a place.
     fn count(&self) -> usize {
-        self.places.len().saturating_add(self.door.waiting().len())
+        self.taken().saturating_add(self.door.waiting().len())
     }
 
     /// Whether all connections that were to be served have been.
@@ -197,8 +200,10 @@ impl Sockets {
     /// How many places the address has.
     fn places_of(&self, origin: Origin) -> usize {
         let mut count = 0usize;
-        for (_, place) in self.places.iter() {
-            if place.origin() == origin {
+        for place in &self.places {
+            if let Some(place) = place
+                && place.origin() == origin
+            {
                 count = count.saturating_add(1);
             }
         }
@@ -207,40 +212,44 @@ impl Sockets {
 
     /// How many places are taken.
     pub fn taken(&self) -> usize {
-        self.places.len()
+        self.places.iter().filter(|place| place.is_some()).count()
     }
 
     /// Whether no connection more has a place.
     pub fn are_full(&self) -> bool {
-        self.places.len() >= MAX_CONNECTIONS
+        self.taken() >= MAX_CONNECTIONS
     }
 
     /// Ends the peer that gives way to the connection of this number, if one does: its sessions live
     /// on, and its client connects again. Tells both addresses.
-    pub fn make_way(&mut self, number: usize, now: Instant) -> Option<(SocketAddr, SocketAddr)> {
+    pub fn make_way<D: Device>(
+        &mut self,
+        peers: &mut Peers<D, Counted>,
+        number: usize,
+        now: Instant,
+    ) -> Option<(SocketAddr, SocketAddr)> {
         let to = self.door.waiting().get(number)?.from;
-        let key = self.gives_way(Origin::of(to.ip()), now)?;
-        let place = self.places.get_mut(key)?;
-        place.peer.dismiss();
-        Some((place.from, to))
+        let key = self.gives_way(peers, Origin::of(to.ip()), now)?;
+        let from = self.place(key)?.from;
+        peers.dismiss(key);
+        Some((from, to))
     }
 
     /// Which peer gives way to a connection of this address: one of an address that has two places
     /// more, or one that was quiet for long; of these one of the address that has most places, and
     /// there the one that was quiet longest.
-    fn gives_way(&self, to: Origin, now: Instant) -> Option<usize> {
+    fn gives_way<D: Device>(
+        &self,
+        peers: &Peers<D, Counted>,
+        to: Origin,
+        now: Instant,
+    ) -> Option<usize> {
         let enough = self.places_of(to).saturating_add(AHEAD);
         let mut found = None;
-        for (key, place) in self.places.iter() {
-            let places = self.places_of(place.origin());
-            if places < enough && place.peer.quiet_for(now).is_none() {
-                continue;
-            }
-            let rank = Rank {
-                places,
-                quiet: place.peer.unheard_for(now),
-            };
-            if is_first(&found, rank) {
+        for key in 0..MAX_CONNECTIONS {
+            if let Some(rank) = self.rank(peers, key, enough, now)
+                && is_first(&found, rank)
+            {
                 found = Some((key, rank));
             }
         }
@@ -248,54 +257,76 @@ impl Sockets {
         Some(key)
     }
 
-    /// Has memory for one more peer, whose bytes the answer takes.
-    pub fn make_room(&mut self, alloc: Global) -> Result<Inbox, AllocError> {
-        self.places.reserve(1)?;
-        Inbox::new(alloc)
+    /// How soon the peer of this key gives way, if it may: its address has enough places, or it was
+    /// quiet for long.
+    fn rank<D: Device>(
+        &self,
+        peers: &Peers<D, Counted>,
+        key: usize,
+        enough: usize,
+        now: Instant,
+    ) -> Option<Rank> {
+        let place = self.places.get(key)?.as_ref()?;
+        let peer = peers.get(key)?;
+        let places = self.places_of(place.origin());
+        if places < enough && peer.quiet_for(now).is_none() {
+            return None;
+        }
+        Some(Rank {
+            places,
+            quiet: peer.unheard_for(now),
+        })
     }
 
-    /// Makes the connection of this number that waits a peer, for whom there is room; if the system
-    /// does not tell of its changes, it is closed. Tells its address if there is one more.
-    pub fn take_in(
-        &mut self,
-        number: usize,
-        conn: usize,
-        inbox: Inbox,
-        now: Instant,
-    ) -> Option<SocketAddr> {
-        let token = Token(self.places.vacant_key());
+    /// The connection of this number that waits, which is the caller's from now on, and of which the
+    /// system tells changes by this key; if it does not, the connection is closed.
+    pub fn take_waiting(&mut self, number: usize, key: usize) -> Option<Arrival> {
         let Arrival { stream, from } = self.door.take(number)?;
-        let stream = registered(&self.poll, stream, token)?;
-        let peer = Peer::new(conn, Counted::new(stream), inbox, self.keeping, now);
-        // There is room, so this takes no memory.
-        match self.places.insert(Place {
-            peer,
-            from,
-            client: None,
-            glance: Glance::FIRST,
-        }) {
-            Ok(_) => Some(from),
-            Err(_) => None,
+        let stream = registered(&self.poll, stream, Token(key))?;
+        Some(Arrival { stream, from })
+    }
+
+    /// Has a connection that was taken wait on. If the system tells of its changes nonetheless, it
+    /// is closed.
+    pub fn give_back(&mut self, number: usize, arrival: Arrival) {
+        let Arrival { mut stream, from } = arrival;
+        if self.poll.registry().deregister(&mut stream).is_ok() {
+            self.door.put_back(number, Arrival { stream, from });
         }
     }
 
-    /// What has this place.
+    /// The peer of this key came from there.
+    pub fn settle(&mut self, key: usize, from: SocketAddr) {
+        if let Some(place) = self.places.get_mut(key) {
+            *place = Some(Place {
+                from,
+                client: None,
+                glance: Glance::FIRST,
+            });
+        }
+    }
+
+    /// What is known of the peer of this key.
     pub fn place(&mut self, key: usize) -> Option<&mut Place> {
-        self.places.get_mut(key)
+        self.places.get_mut(key)?.as_mut()
     }
 
     /// A peer's stream is closed, and another connection may have its place. Tells its address.
-    pub fn remove(&mut self, key: usize) -> Option<SocketAddr> {
-        let place = self.places.try_remove(key)?;
-        self.bytes = self.bytes.and(place.peer.stream().bytes);
+    pub fn remove(&mut self, key: usize, closed: Option<Counted>) -> Option<SocketAddr> {
+        if let Some(stream) = closed {
+            self.bytes = self.bytes.and(stream.bytes);
+        }
+        let place = self.places.get_mut(key)?.take()?;
         Some(place.from)
     }
 
     /// How many bytes came and went over all connections.
-    pub fn bytes(&self) -> Bytes {
+    pub fn bytes<D: Device>(&self, peers: &Peers<D, Counted>) -> Bytes {
         let mut bytes = self.bytes;
-        for (_, place) in self.places.iter() {
-            bytes = bytes.and(place.peer.stream().bytes);
+        for key in 0..MAX_CONNECTIONS {
+            if let Some(peer) = peers.get(key) {
+                bytes = bytes.and(peer.stream().bytes);
+            }
         }
         bytes
     }
@@ -323,9 +354,10 @@ fn registered(poll: &Poll, mut stream: TcpStream, token: Token) -> Option<TcpStr
 }
 
 /// Tells a peer what the system told of its stream.
-fn wake_peer(place: &mut Place, event: &Event) {
+fn wake_peer<D: Device>(peers: &mut Peers<D, Counted>, event: &Event) {
     let is_broken = is_broken(event);
-    place.peer.wake(
+    peers.wake(
+        event.token().0,
         event.is_readable() || is_broken,
         event.is_writable() || is_broken,
     );
