@@ -27,12 +27,12 @@ unfolding places_in
 places_in-at bytes count i d h = get_or-map-range_with_len (λ i. is_one (bit_of bytes i)) 0 count i i d h (zero-add i)
 
 -- where no bit past the places is set, the bits are the marks
-pub mark-bit : (bytes : List ℕ) (count : ℕ) → IsClearFrom bytes count → (i : ℕ) → i < 65536 → bit_of bytes i ≡ mark_of (places_in bytes count) i
-mark-bit bytes count past i h = elim (cases_lt i count) [
+pub mark-bit : (bytes : List ℕ) (count : ℕ) → IsClearFrom bytes count → (i : ℕ) → bit_of bytes i ≡ mark_of (places_in bytes count) i
+mark-bit bytes count past i = elim (cases_lt i count) [
   | inl lt ↦ sym (bit_from-is_one (bit_of bytes i) (bit_of-lt bytes i)) ∙ ap bit_from (sym (places_in-at bytes count i false lt))
   | inr le ↦
       let outside : length (places_in bytes count) ≤ i = omega (arith, length-places_in bytes count) in
-      past i le h ∙ sym (ap bit_from (get_or_past (places_in bytes count) i false outside))
+      past i le ∙ sym (ap bit_from (get_or_past (places_in bytes count) i false outside))
 ]
 
 -- a part of the bytes shows the places from its first one on
@@ -64,10 +64,10 @@ bit_in-shown low high count places shown i h =
     ]
 
 -- a sector that is a part of the bytes shows the places of that part
-pub Shows-part : (bytes part : List ℕ) (count first : ℕ) → IsClearFrom bytes count → length part ≡ 4096 → ((k : ℕ) → k < 4096 → get_or part k 0 ≡ get_or bytes (first + k) 0) → first ≤ 4096 → ShowsPlaces part (places_in bytes count) (8 * first)
-Shows-part bytes part count first past len same within = record {
+pub Shows-part : (bytes part : List ℕ) (count first : ℕ) → IsClearFrom bytes count → length part ≡ 4096 → ((k : ℕ) → k < 4096 → get_or part k 0 ≡ get_or bytes (first + k) 0) → ShowsPlaces part (places_in bytes count) (8 * first)
+Shows-part bytes part count first past len same = record {
   len = len;
-  bits = λ i h. bit_of-part bytes part first i same h ∙ mark-bit bytes count past (8 * first + i) (omega arith);
+  bits = λ i h. bit_of-part bytes part first i same h ∙ mark-bit bytes count past (8 * first + i);
 }
 
 -- counting places one more at a time

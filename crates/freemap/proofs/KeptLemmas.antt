@@ -1,9 +1,9 @@
 -- What taking and giving back a place keep.
-use Rattle.std.proofs.Common.{◌≡◌, ◌≢◌, ◌<◌, ◌≤◌, ◌+◌, min, ℕ, false, List, length, set, sym, ap, ◌∙◌, arith, inl, inr}
+use Rattle.std.proofs.Common.{◌≡◌, ◌≢◌, ◌<◌, ◌≤◌, ◌+◌, ◌*◌, min, ℕ, false, List, length, set, sym, ap, ◌∙◌, arith, inl, inr}
 use Rattle.std.proofs.lemmas.List.{length-set, get_or-set_same, get_or-set_other, ext_get_or}
 use Rattle.std.proofs.lemmas.Bool.{cases_eq}
 use Rattle.freemap.specs.Places.{is_one, places_in}
-use Rattle.freemap.specs.Kept.{IsBitmap, IsSetBelow, IsClearFrom, BitBecomes}
+use Rattle.freemap.specs.Kept.{IsBitmap, IsSetBelow, IsClearFrom, BitBecomes, parts}
 use Rattle.freemap.proofs.Bits.{length-places_in, places_in-at}
 
 module _ (old new : List ℕ) (count place bit : ℕ) (becomes : BitBecomes old new place bit) (within : place < count) where
@@ -19,9 +19,9 @@ module _ (old new : List ℕ) (count place bit : ℕ) (becomes : BitBecomes old 
       ])
 
   past-set : IsClearFrom old count → IsClearFrom new count
-  past-set past i h small = let apart : i ≢ place = omega arith in becomes.others i apart ∙ past i h small
+  past-set past i h = let apart : i ≢ place = omega arith in becomes.others i apart ∙ past i h
 
-module _ (old new : List ℕ) (count place lowest : ℕ) (kept : IsBitmap old count lowest) (len : length new ≡ 8192) (within : place < count) where
+module _ (old new : List ℕ) (count place lowest : ℕ) (kept : IsBitmap old count lowest) (len : length new ≡ 4096 * parts count) (within : place < count) where
   pub IsKept-take : BitBecomes old new place 1 → (from : ℕ) → from ≤ count → IsSetBelow new from → IsBitmap new count from
   IsKept-take becomes from from_in below = record {
     len = len;

@@ -4,8 +4,8 @@ use Rattle.std.specs.List.{range_with_len}
 use Rattle.std.proofs.lemmas.List.FromFn.{length-map-range_with_len, get_or-map-range_with_len}
 use Rattle.std.proofs.lemmas.List.{length-drop, length-take}
 use Rattle.freemap.specs.Places.{bit_of, mark_of, places_in, ShowsPlaces, HaveSamePart}
-use Rattle.freemap.specs.Kept.{IsBitmap, HaveSameBits}
-use Rattle.freemap.proofs.Bits.{Shows-part, part-there}
+use Rattle.freemap.specs.Kept.{IsBitmap, HaveSameBits, parts}
+use Rattle.freemap.proofs.Bits.{Shows-part, part-there, length-places_in}
 
 -- where one sector shows a set, and another one with the same bits another set, each that shows the one shows the other
 also_shown : (low high sector : List ℕ) (a b : List Bool) (first : ℕ) → HaveSameBits low high → ShowsPlaces low a first → ShowsPlaces high b first → ShowsPlaces sector a first → ShowsPlaces sector b first
@@ -14,12 +14,19 @@ also_shown low high sector a b first same one other shown = record { len = shown
 abbrev pub part_of : List ℕ → (start end : ℕ) → List ℕ
 part_of bytes start end = take (end - start) (drop start bytes)
 
-module _ (bytes : List ℕ) (count lowest : ℕ) (kept : IsBitmap bytes count lowest) (start end : ℕ) (whole : end ≡ start + 4096) (within : end ≤ 8192) where
+module _ (bytes : List ℕ) (count lowest : ℕ) (kept : IsBitmap bytes count lowest) (start end : ℕ) (whole : end ≡ start + 4096) (within : end ≤ length bytes) where
   pub part-len : length (part_of bytes start end) ≡ 4096
-  part-len = omega (arith, length-take (end - start) (drop start bytes), length-drop start bytes, kept.len)
+  part-len = omega (arith, length-take (end - start) (drop start bytes), length-drop start bytes)
 
   pub part-shown : ShowsPlaces (part_of bytes start end) (places_in bytes count) (8 * start)
-  part-shown = Shows-part bytes (part_of bytes start end) count start kept.past part-len (λ k h. part-there bytes start end k (omega arith)) (omega arith)
+  part-shown = Shows-part bytes (part_of bytes start end) count start kept.past part-len (λ k h. part-there bytes start end k (omega arith))
+
+-- a part of the places that are shown lies within the bytes
+pub part-within : (bytes : List ℕ) (count lowest part : ℕ) (places : List Bool) → IsBitmap bytes count lowest → places_in bytes count ≡ places → part < parts (length places) → 4096 * part + 4096 ≤ length bytes
+part-within bytes count lowest part places kept shown h =
+    let count_is : length places ≡ count = sym (ap length shown) ∙ length-places_in bytes count in
+    let within : part < parts count = rw count_is at h in
+    omega (arith, within, kept.len)
 
 -- the first bytes of a list, zeros where it has none: a sector with its bits
 sector_of : List ℕ → List ℕ

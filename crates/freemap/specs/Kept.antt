@@ -1,15 +1,19 @@
--- What a `Bitmap` keeps: the bytes of the two sectors, how many of their bits are places, and where
--- to look for a free one.
-use Rattle.std.specs.Prelude.{◌≡◌, ◌≢◌, ◌<◌, ◌≤◌, ℕ, Bool, not, List, length, count_by}
+-- What a `Bitmap` keeps: the bytes of its sectors, how many of their bits are places, and where to
+-- look for a free one.
+use Rattle.std.specs.Prelude.{◌≡◌, ◌≢◌, ◌<◌, ◌≤◌, ◌+◌, ◌*◌, ◌/◌, ◌^◌, ℕ, Bool, not, List, length, count_by, max}
 use Rattle.freemap.specs.Places.{bit_of}
 
 -- how many places are free
 abbrev pub free_places : List Bool → ℕ
 free_places places = count_by not places
 
+-- how many sectors a set of this many places takes, 32,768 in each: two at least
+abbrev pub parts : (count : ℕ) → ℕ
+parts count = max 2 ((count + 32767) / 32768)
+
 -- no bit is set from this one on
 abbrev pub IsClearFrom : List ℕ → ℕ → Type 0
-IsClearFrom bytes first = (i : ℕ) → first ≤ i → i < 65536 → bit_of bytes i ≡ 0
+IsClearFrom bytes first = (i : ℕ) → first ≤ i → bit_of bytes i ≡ 0
 
 -- each bit below this one is set
 abbrev pub IsSetBelow : List ℕ → ℕ → Type 0
@@ -26,8 +30,8 @@ pub record BitBecomes (old new : List ℕ) (place bit : ℕ) : Type 0 where
 
 -- the bits are the sectors', none is set past the last place, and no place below `lowest` is free
 pub record IsBitmap (bytes : List ℕ) (count lowest : ℕ) : Type 0 where
-  pub len : length bytes ≡ 8192
-  pub fits : count ≤ 65536
+  pub len : length bytes ≡ 4096 * parts count
+  pub fits : count < 2 ^ 32
   pub past : IsClearFrom bytes count
   pub lowest_in : lowest ≤ count
   pub below : IsSetBelow bytes lowest

@@ -2,7 +2,7 @@
 
 ghost use Rattle.std.specs.Prelude.{◌≡◌, ◌<◌, ◌≤◌, ◌*◌, ◌↔◌, Bool, true, false, List, length, replicate, slice_index_or, slice_get, slice_set, All, IfOk, OnErr, IsTrue};
 ghost use Rattle.freemap.specs.Places.{ShowsPlaces, HaveSamePart, OneSet, OneSpelling};
-ghost use Rattle.freemap.specs.Kept.{free_places};
+ghost use Rattle.freemap.specs.Kept.{free_places, parts};
 
 use crate::fault::Full;
 use crate::sectors::{self, SECTOR_PLACES};
@@ -10,8 +10,8 @@ use sector::SIZE;
 use std::alloc::{AllocError, Global};
 use std::marker::Model;
 
-/// Which places are used: the two bitmap sectors as they lie on the device, end to end, and where
-/// to look for a free place.
+/// Which places are used: the bitmap sectors as they lie on a device, end to end, two at least, and
+/// where to look for a free place.
 ///
 /// Contracts see a list of booleans, true where the place is used.
 #[derive(Drop)]
@@ -35,15 +35,11 @@ impl Model for Bitmap {
 }
 
 impl Bitmap {
-    /// The most places of a set.
-    pub const MAX_PLACES: u32 = 65536;
-
     /// A set of `count` places, all free.
     pub fn new(alloc: Global, count: u32) -> Result<Bitmap, AllocError>
-        requires { count ≤ Bitmap.MAX_PLACES }
         ensures { IfOk result (λ places. places ≡ replicate count false) }
     {
-        let bits = vec![in alloc; 0; sectors::BYTES]?;
+        let bits = vec![in alloc; 0; SIZE * parts_of(count)]?;
         Ok(Bitmap {
             bits,
             count,
@@ -62,18 +58,19 @@ impl Bitmap {
         })
     }
 
-    /// Writes bitmap sector `part`, 0 or 1, which shows the places from `32768 * part` on.
+    /// Writes bitmap sector `part`, which shows the places from `32768 * part` on.
     pub fn to_sector(&self, part: u32, sector: &mut [u8; SIZE])
-        requires { part < 2 }
+        requires { part < parts (length self.now) }
         ensures { ShowsPlaces sector.new self.now (SECTOR_PLACES * part) }
     {
         let first = SIZE * part as usize;
         sector.copy_from_slice(&self.bits[first..first + SIZE]);
     }
 
-    /// Whether bitmap sector `part`, 0 or 1, is the same of both sets.
+    /// Whether bitmap sector `part` is the same of both sets.
     pub fn has_same_part(&self, other: &Bitmap, part: u32) -> bool
-        requires { part < 2 }
+        requires own { part < parts (length self.now) }
+        requires other { part < parts (length other.now) }
         ensures { IsTrue result ↔ HaveSamePart self.now other.now (SECTOR_PLACES * part) }
     {
         let start = part as usize * SIZE;
@@ -139,6 +136,13 @@ impl Bitmap {
         sectors::clear_bit(&mut self.bits, place);
         self.lowest = self.lowest.min(place);
     }
+}
+
+/// How many sectors a set of this many places takes.
+fn parts_of(count: u32) -> usize
+    ensures { result ≡ parts count }
+{
+    (count as usize).div_ceil(SECTOR_PLACES as usize).max(2)
 }
 
 /// Two sectors show one set of so many places at most, and a set is shown by one pair of sectors.

@@ -1,4 +1,4 @@
-//! The set of used places of a volume's data region, and the two sectors that it is kept in.
+//! The set of used places of a volume's data region, and the sectors that it is kept in.
 #![tactic(auto)]
 
 mod bitmap;

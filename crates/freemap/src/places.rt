@@ -1,7 +1,8 @@
 //! A bitmap that copies share.
 
-ghost use Rattle.std.specs.Prelude.{◌≡◌, ◌<◌, ◌*◌, ◌↔◌, Some, false, true, slice_index_or, slice_get, slice_set, All, IfOk, IsErrOf, OnOk, OnErr, IsTrue};
+ghost use Rattle.std.specs.Prelude.{◌≡◌, ◌<◌, ◌*◌, ◌↔◌, Some, false, true, length, slice_index_or, slice_get, slice_set, All, IfOk, IsErrOf, OnOk, OnErr, IsTrue};
 ghost use Rattle.freemap.specs.Places.{ShowsPlaces, HaveSamePart};
+ghost use Rattle.freemap.specs.Kept.{parts};
 
 use crate::bitmap::Bitmap;
 use crate::fault::TakeFault;
@@ -48,17 +49,18 @@ impl SharedBitmap {
         })
     }
 
-    /// Writes bitmap sector `part`, 0 or 1, which shows the places from `32768 * part` on.
+    /// Writes bitmap sector `part`, which shows the places from `32768 * part` on.
     pub fn to_sector(&self, part: u32, sector: &mut [u8; SIZE])
-        requires { part < 2 }
+        requires { part < parts (length self.now) }
         ensures { ShowsPlaces sector.new self.now (SECTOR_PLACES * part) }
     {
         self.set.to_sector(part, sector);
     }
 
-    /// Whether bitmap sector `part`, 0 or 1, is the same of both.
+    /// Whether bitmap sector `part` is the same of both.
     pub fn has_same_part(&self, other: &SharedBitmap, part: u32) -> bool
-        requires { part < 2 }
+        requires own { part < parts (length self.now) }
+        requires other { part < parts (length other.now) }
         ensures { IsTrue result ↔ HaveSamePart self.now other.now (SECTOR_PLACES * part) }
     {
         self.set.has_same_part(&other.set, part)

@@ -1,6 +1,6 @@
-//! Bits of the two bitmap sectors, end to end.
+//! Bits of the bitmap sectors, end to end.
 
-ghost use Rattle.std.specs.Prelude.{◌≡◌, ◌<◌, ◌≤◌, ◌↔◌, IsTrue, IfSome, IfNone, length};
+ghost use Rattle.std.specs.Prelude.{◌≡◌, ◌<◌, ◌≤◌, ◌↔◌, ◌*◌, ◌^◌, IsTrue, IfSome, IfNone, length};
 ghost use Rattle.freemap.specs.Places.{bit_from, bit_of, places_in};
 ghost use Rattle.freemap.specs.Kept.{free_places, IsSetBelow, HaveSameBits, BitBecomes};
 
@@ -10,10 +10,8 @@ use sector::SIZE;
 /// The places that a sector shows, one for each bit.
 pub const SECTOR_PLACES: u32 = 32768;
 
-/// The bytes of the two sectors, and the places that they show.
-pub(crate) const BYTES: usize = 2 * SIZE;
-
-pub(crate) const PLACES: usize = 65536;
+/// The most bytes of all sectors: 2^32 places.
+pub(crate) const MAX_BYTES: usize = 536_870_912;
 
 /// The bytes of a word, and its places.
 const WORD_BYTES: usize = 8;
@@ -22,8 +20,8 @@ const WORD_PLACES: usize = 64;
 
 /// Whether the bit of a place is set.
 pub(crate) fn is_set(bits: &[u8], place: usize) -> bool
-    requires len { length bits.now ≡ BYTES }
-    requires within { place < PLACES }
+    requires few { length bits.now ≤ MAX_BYTES }
+    requires within { place < 8 * length bits.now }
     ensures { bit_from result ≡ bit_of bits.now place }
 {
     (bits[place / 8] >> (7 - place % 8)) % 2 == 1
@@ -31,8 +29,8 @@ pub(crate) fn is_set(bits: &[u8], place: usize) -> bool
 
 /// Sets the bit of a place.
 pub(crate) fn set_bit(bits: &mut [u8], place: usize)
-    requires len { length bits.old ≡ BYTES }
-    requires within { place < PLACES }
+    requires few { length bits.old ≤ MAX_BYTES }
+    requires within { place < 8 * length bits.old }
     ensures { BitBecomes bits.old bits.new place 1 }
 {
     bits[place / 8] |= 1 << (7 - place % 8);
@@ -40,8 +38,8 @@ pub(crate) fn set_bit(bits: &mut [u8], place: usize)
 
 /// Clears the bit of a place.
 pub(crate) fn clear_bit(bits: &mut [u8], place: usize)
-    requires len { length bits.old ≡ BYTES }
-    requires within { place < PLACES }
+    requires few { length bits.old ≤ MAX_BYTES }
+    requires within { place < 8 * length bits.old }
     ensures { BitBecomes bits.old bits.new place 0 }
 {
     bits[place / 8] &= !(1 << (7 - place % 8));
@@ -58,8 +56,9 @@ pub(crate) fn have_same_bits(a: &[u8], b: &[u8]) -> bool
 
 /// How many of the first places are free.
 pub(crate) fn count_free(bits: &[u8], count: usize) -> u32
-    requires len { length bits.now ≡ BYTES }
-    requires within { count ≤ PLACES }
+    requires few { length bits.now ≤ MAX_BYTES }
+    requires within { count ≤ 8 * length bits.now }
+    requires fits { count < 2 ^ 32 }
     ensures { result ≡ free_places (places_in bits.now count) }
 {
     let mut free = 0;
@@ -73,14 +72,15 @@ pub(crate) fn count_free(bits: &[u8], count: usize) -> u32
 
 /// A place from `from` on below which all bits are set: no word between the two has a clear one.
 fn skip_words(bits: &[u8], from: usize) -> usize
-    requires len { length bits.now ≡ BYTES }
+    requires few { length bits.now ≤ MAX_BYTES }
     requires below { IsSetBelow bits.now from }
-    requires within { from ≤ PLACES }
-    ensures within { result ≤ PLACES }
+    requires within { from ≤ 8 * length bits.now }
+    ensures within { result ≤ 8 * length bits.now }
     ensures below { IsSetBelow bits.now result }
 {
+    let words = bits.len() / WORD_BYTES;
     let mut word = from / WORD_PLACES;
-    while word < BYTES / WORD_BYTES && is_full(&bits[WORD_BYTES * word..]) {
+    while word < words && is_full(&bits[WORD_BYTES * word..]) {
         word += 1;
     }
     from.max(WORD_PLACES * word)
@@ -96,14 +96,15 @@ fn is_full(bytes: &[u8]) -> bool
 
 /// The same as `skip_words`, byte by byte.
 fn skip_bytes(bits: &[u8], from: usize) -> usize
-    requires len { length bits.now ≡ BYTES }
+    requires few { length bits.now ≤ MAX_BYTES }
     requires below { IsSetBelow bits.now from }
-    requires within { from ≤ PLACES }
-    ensures within { result ≤ PLACES }
+    requires within { from ≤ 8 * length bits.now }
+    ensures within { result ≤ 8 * length bits.now }
     ensures below { IsSetBelow bits.now result }
 {
+    let bytes = bits.len();
     let mut byte = from / 8;
-    while byte < BYTES && bits[byte] == 0xff {
+    while byte < bytes && bits[byte] == 0xff {
         byte += 1;
     }
     from.max(8 * byte)
@@ -111,9 +112,9 @@ fn skip_bytes(bits: &[u8], from: usize) -> usize
 
 /// The first clear bit below the one of place `count`, where none below `from` is clear.
 pub(crate) fn first_clear(bits: &[u8], from: usize, count: usize) -> Option<usize>
-    requires len { length bits.now ≡ BYTES }
-    requires within { count ≤ PLACES }
-    requires begins { from ≤ PLACES }
+    requires few { length bits.now ≤ MAX_BYTES }
+    requires within { count ≤ 8 * length bits.now }
+    requires begins { from ≤ 8 * length bits.now }
     requires below { IsSetBelow bits.now from }
     // What it finds
     ensures found { IfSome result (λ place. (place < count) × (bit_of bits.now place ≡ 0)) }

@@ -1,9 +1,9 @@
-use Rattle.std.proofs.Common.{◌≡◌, ◌+◌, length, List, ℕ, Bool, true, false, Some, All, set, ◌<◌, ◌≤◌, ap, sym, subst, ◌∙◌, arith}
+use Rattle.std.proofs.Common.{◌≡◌, ◌+◌, ◌*◌, length, List, ℕ, Bool, true, false, Some, All, set, ◌<◌, ◌≤◌, ap, sym, subst, ◌∙◌, arith}
 use Rattle.std.specs.Prelude.{slice_get}
 use Rattle.std.proofs.lemmas.List.{with_items_is}
 use Rattle.std.proofs.lemmas.Option.{slice_get-get_or}
 use Rattle.freemap.specs.Places.{is_one, places_in}
-use Rattle.freemap.specs.Kept.{IsBitmap, IsSetBelow, BitBecomes}
+use Rattle.freemap.specs.Kept.{IsBitmap, IsSetBelow, BitBecomes, parts}
 use Rattle.freemap.proofs.Bits.{all_used, length-places_in, places_in-at}
 use Rattle.freemap.proofs.KeptLemmas.{IsKept-take, below-more, places_in-set}
 use Rattle.freemap.proofs.bitmap.Bitmap.take.Goals as goal
@@ -22,7 +22,7 @@ invariant_of-self-2 c =
     let found = rw c.deref.ensures.value at c.in-Some.ensures.found in
     let first = subst (λ (bytes : List ℕ). IsSetBelow bytes place) c.deref.ensures.value c.in-Some.ensures.first in
     let becomes = subst (λ (bytes : List ℕ). BitBecomes bytes new place 1) c.deref_mut.ensures.value c.set_bit.ensures in
-    let len : length new ≡ 8192 = omega (arith, ap length c.deref_mut.ensures.value, c.self.invariant.len) in
+    let len : length new ≡ 4096 * parts old.count = omega (arith, ap length c.deref_mut.ensures.value, c.self.invariant.len) in
     let whole : length new ≡ old.bits.len = omega (arith, old.bits.ok.0, c.self.invariant.len) in
     let within : place + 1 ≤ old.count = omega (arith, found.0) in
     subst (λ (bytes : List ℕ). IsBitmap bytes old.count (place + 1)) (sym (with_items_is old.bits new whole))
