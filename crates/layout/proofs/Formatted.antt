@@ -11,7 +11,6 @@ use Rattle.freemap.specs.Places.{bit_of, bit_in}
 use Rattle.inode.specs.Fields.{IsInode}
 use Rattle.inode.proofs.Parts.{least_entries}
 use Rattle.model_tree.specs.Trees.Fresh.{fresh_tree}
-use Rattle.model_tree.specs.Trees.Limits.{limits_of}
 use Rattle.model_tree.specs.Trees.Stamp.{stamp}
 use Rattle.model_tree.specs.Trees.Tree.{Tree, Node}
 use Rattle.model_tree.proofs.Trees.FreshTree.{fresh}
@@ -19,7 +18,7 @@ use Rattle.layout.specs.CachedNodes.{CachedNode, tree_of, node_of}
 use Rattle.layout.specs.FreshLaws.{root_fields, IsFresh, FreshStands}
 use Rattle.layout.specs.Laid.{HoldsCard, HoldsPlace, AreNumbered}
 use Rattle.layout.specs.Marks.{named, namings_of, mark_in}
-use Rattle.layout.specs.Stands.{Version, HaveForms, IsLaid}
+use Rattle.layout.specs.Stands.{Version, Marking, InSectors, AsNamed, marked_by, HaveForms, IsLaid}
 use Rattle.layout.proofs.CachedNodeLaws.{cards-back, only_cards}
 use Rattle.layout.proofs.FileLaws.{zero_sector-at}
 use Rattle.layout.proofs.FirstLaws.{sized_parts}
@@ -125,18 +124,22 @@ module _ (version : Version) (size nodes : ℕ) (image : Image) (formatted : IsF
   unfolding namings_of
   unnamed n = omega (arith, named-nones (nodes - 1) n)
 
+  unmarked_by : (marking : Marking) (n : ℕ) → marked_by marking nodes image root_cards n ≡ 0
+  unmarked_by InSectors n = unmarked n
+  unmarked_by AsNamed n = unnamed n
+
   laid : IsLaid version size nodes image root_cards
   laid = record {
     laid = record {
       count = omega (arith, some, length-replicate {A = Option CachedNode} (nodes - 1) None);
       held = held;
       apart = apart;
-      marks = λ n. unnamed n ∙ sym (unmarked n);
-      behind = λ n some. absurd (let none = unmarked n in omega arith);
-      once = λ n. omega (arith, unmarked n);
+      marks = λ n. unnamed n ∙ sym (unmarked_by version.marking n);
+      behind = λ n some. absurd (let none = unmarked_by version.marking n in omega arith);
+      once = λ n. omega (arith, unmarked_by version.marking n);
     };
     forms = forms;
-    within = λ n h. unmarked n;
+    within = λ n h. unmarked_by version.marking n;
     spare = formatted.spare;
   }
 
@@ -149,13 +152,13 @@ pub fresh_stands : FreshStands
 fresh_stands version size nodes image formatted =
     let cards = root_cards version size nodes image formatted in
     let all = laid version size nodes image formatted in
-    let is = fresh (limits_of size nodes) in
+    let is = fresh (version.limits size nodes) in
     record {
       sized = formatted.sized;
       counted = omega arith;
       first = formatted.first;
       laid = only_cards version size nodes image cards all;
       tree_is = tree_is version size nodes image formatted ∙ ap (tree_of image) (sym (cards-back image nodes cards all.laid.count all.laid.held));
-      well_formed = ∣ is.well_formed (some version size nodes image formatted) (omega arith) ∣₁;
+      well_formed = ∣ is.well_formed formatted.a_node formatted.an_entry ∣₁;
       before = is.before (stamp 1 0) (omega arith);
     }

@@ -10,7 +10,7 @@ use Rattle.freemap.proofs.Bits.{bit_in-shown}
 use Rattle.layout.specs.CachedNodes.{CachedNode, tree_of, node_sector, cards_in}
 use Rattle.layout.specs.Laid.{AreLaid, HoldsPlace}
 use Rattle.layout.specs.MarkLaws.{EachMark, MarksLaid, LaysMarks, KeptAlone, StandsAlone}
-use Rattle.layout.specs.Stands.{Version}
+use Rattle.layout.specs.Stands.{Version, Marking, InSectors, AsNamed, marked_by}
 use Rattle.layout.specs.Superblock.{is_size}
 use Rattle.std.specs.Prelude.{IsTrue}
 use Rattle.layout.proofs.FirstLaws.{sized_parts}
@@ -130,12 +130,17 @@ module _ (nodes : ℕ) (old new : Image) (marked mark : ℕ → ℕ) (cards : Li
   pub tree_still : tree_of new cards ≡ tree_of old cards
   tree_still = tree-kept old new cards (λ i card there. node-kept old new card (λ n some. kept_all i n (rw there some)))
 
+marks_by : (marking : Marking) (nodes : ℕ) (old new : Image) (places : List Bool) (cards : List (Option CachedNode)) → AreLaid nodes old (mark_by (148 + nodes) places) cards
+    → ((i : ℕ) → bit_in (new 98) (new 99) i ≡ mark_of places i) → (n : ℕ) → marked_by marking nodes new cards n ≡ mark_by (148 + nodes) places n
+marks_by InSectors nodes old new places cards laid marked = marks_of nodes new places marked
+marks_by AsNamed nodes old new places cards laid marked = λ n. laid.marks n
+
 pub lays_marks : LaysMarks
 lays_marks version size nodes old new places cards writes =
     let laid = writes.laid in
-    let marks = marks_of nodes new places writes.marked in
+    let marks = marks_by version.marking nodes old new places cards laid writes.marked in
     record {
-      laid = laid_still nodes old new (mark_by (148 + nodes) places) (mark_in nodes new) cards laid marks (λ place h. writes.same (node_sector place) (omega arith)) (λ n some. writes.same n (let far = laid.behind n some in omega arith));
+      laid = laid_still nodes old new (mark_by (148 + nodes) places) (marked_by version.marking nodes new cards) cards laid marks (λ place h. writes.same (node_sector place) (omega arith)) (λ n some. writes.same n (let far = laid.behind n some in omega arith));
       forms = writes.forms;
       within = λ n h. marks n ∙ (let each = each_mark (148 + nodes) places 0 in each.within n (omega (arith, writes.size_is)));
       spare = λ n low high. writes.same n low ∙ writes.spare n low high;
@@ -145,7 +150,11 @@ pub mark_in-same : (nodes : ℕ) (old new : Image) → new 98 ≡ old 98 → new
 unfolding mark_in
 mark_in-same nodes old new low high n = ap₂ (λ (a b : List ℕ). if ltb n (148 + nodes) then 0 else bit_in a b (n - (148 + nodes))) low high
 
-pub below_size : (version : Version) (size nodes : ℕ) (image : Image) (cards : List (Option CachedNode)) → IsLaid version size nodes image cards → (n : ℕ) → 0 < mark_in nodes image n → n < size
+pub marked-same : (marking : Marking) (nodes : ℕ) (old new : Image) (cards : List (Option CachedNode)) → new 98 ≡ old 98 → new 99 ≡ old 99 → (n : ℕ) → marked_by marking nodes new cards n ≡ marked_by marking nodes old cards n
+marked-same InSectors nodes old new cards low high n = mark_in-same nodes old new low high n
+marked-same AsNamed nodes old new cards low high n = refl
+
+pub below_size : (version : Version) (size nodes : ℕ) (image : Image) (cards : List (Option CachedNode)) → IsLaid version size nodes image cards → (n : ℕ) → 0 < marked_by version.marking nodes image cards n → n < size
 below_size version size nodes image cards laid n some = elim (cases_lt n size) [
   | inl low ↦ low
   | inr high ↦ absurd (let none = laid.within n high in omega arith)
@@ -156,10 +165,10 @@ room size nodes sized = let parts = sized_parts size nodes sized in omega (arith
 
 pub kept_alone : KeptAlone
 kept_alone version size nodes old new cards room laid same =
-    let marks = mark_in-same nodes old new (same 98 (omega arith) (omega arith)) (same 99 (omega arith) (omega arith)) in
+    let marks = marked-same version.marking nodes old new cards (same 98 (omega arith) (omega arith)) (same 99 (omega arith) (omega arith)) in
     let at_nodes : (place : ℕ) → place < nodes → new (node_sector place) ≡ old (node_sector place) = λ place h. same (node_sector place) (omega arith) (omega arith) in
-    let at_data : (n : ℕ) → 0 < mark_in nodes old n → new n ≡ old n = λ n some. same n (let far = laid.laid.behind n some in omega arith) (below_size version size nodes old cards laid n some) in
-    let still = laid_still nodes old new (mark_in nodes old) (mark_in nodes new) cards laid.laid marks at_nodes at_data in
+    let at_data : (n : ℕ) → 0 < marked_by version.marking nodes old cards n → new n ≡ old n = λ n some. same n (let far = laid.laid.behind n some in omega arith) (below_size version size nodes old cards laid n some) in
+    let still = laid_still nodes old new (marked_by version.marking nodes old cards) (marked_by version.marking nodes new cards) cards laid.laid marks at_nodes at_data in
     record {
       laid = record {
         laid = still;
@@ -168,7 +177,7 @@ kept_alone version size nodes old new cards room laid same =
         spare = λ n low high. same n (omega arith) (omega arith) ∙ laid.spare n low high;
       };
       same_cards = cards-back new nodes cards still.count still.held ∙ sym (cards-back old nodes cards laid.laid.count laid.laid.held);
-      same_tree = tree_still nodes old new (mark_in nodes old) (mark_in nodes new) cards laid.laid marks at_nodes at_data;
+      same_tree = tree_still nodes old new (marked_by version.marking nodes old cards) (marked_by version.marking nodes new cards) cards laid.laid marks at_nodes at_data;
     }
 
 pub stands_alone : StandsAlone

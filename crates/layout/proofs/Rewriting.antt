@@ -21,7 +21,9 @@ use Rattle.layout.specs.Laid.{AreNumbered, HoldsContent, HoldsPlace}
 use Rattle.layout.specs.Marks.{mark_in, named, namings_of}
 use Rattle.layout.specs.Known.{IsNodePlace, HasContent}
 use Rattle.layout.specs.Rewriting.{in_form, in_second, all_second, second_image, AreRewritten, RewrittenStands, FormStays, IsLaidSecond, LaidSecond, KnownSecond, RewrittenCards, CurrentSecond}
-use Rattle.layout.specs.Stands.{Version, IsLaid, current_version}
+use Rattle.layout.specs.Stands.{Version, Marking, InSectors, AsNamed, marked_by, IsLaid, current_version}
+use Rattle.model_tree.specs.declared.limits.Limits.{Limits}
+use Rattle.model_tree.specs.Trees.WellFormed.{IsWellFormed}
 use Rattle.layout.proofs.CachedNodeLaws.{cards-back, zero_first, starts}
 use Rattle.layout.proofs.Changing.{named-at, tree-kept}
 use Rattle.layout.proofs.Frame.{content-held, of_runs, run_sectors-kept, node-kept}
@@ -119,12 +121,16 @@ module _ (was is : Version) (size nodes : ℕ) (old new : Image) (cards : List (
   abbrev now : List (Option CachedNode)
   now = cards_from is.form 0 cards
 
-  marks : (n : ℕ) → mark_in nodes new n ≡ mark_in nodes old n
-  marks n = mark_in-same nodes old new (rewritten.bitmap 98 (omega arith) (omega arith)) (rewritten.bitmap 99 (omega arith) (omega arith)) n
+  marks_now : (marking : Marking) (n : ℕ) → marked_by marking nodes new now n ≡ marked_by marking nodes old cards n
+  marks_now InSectors n = mark_in-same nodes old new (rewritten.bitmap 98 (omega arith) (omega arith)) (rewritten.bitmap 99 (omega arith) (omega arith)) n
+  marks_now AsNamed n = named_from n is.form 0 cards
+
+  marks : (n : ℕ) → marked_by is.marking nodes new now n ≡ marked_by was.marking nodes old cards n
+  marks n = marks_now is.marking n ∙ ap (λ (marking : Marking). marked_by marking nodes old cards n) rewritten.marking
 
   kept : (place n : ℕ) → 0 < namings_of n (get_or cards place None) → new n ≡ old n
   kept place n some =
-      let marked : 0 < mark_in nodes old n = omega (arith, some, named-at n cards place, laid.laid.marks n) in
+      let marked : 0 < marked_by was.marking nodes old cards n = omega (arith, some, named-at n cards place, laid.laid.marks n) in
       rewritten.region n (laid.laid.behind n marked) (below_size was size nodes old cards laid n marked)
 
   held_at : (place : ℕ) (card : Option CachedNode) → place < nodes → get_or cards place None ≡ card → HoldsPlace old place card → HoldsPlace new place (place_in (is.form place) card)
@@ -204,7 +210,7 @@ rewritten_stands was is size nodes run later old new tree stands no_less counted
       laid = subst (IsLaid is size nodes new) (sym back) laid;
       tree_is = stands.tree_is
           ∙ (sym (tree_now was is size nodes old new cards stands.laid below rewritten.others) ∙ ap (tree_of new) (sym back));
-      well_formed = stands.well_formed;
+      well_formed = subst (λ (limits : Limits). ∥ IsWellFormed limits tree ∥₁) (sym rewritten.limits) stands.well_formed;
       before = before_later (stamp (run + 1) 0) (stamp (later + 1) 0) tree (omega (arith, no_less)) stands.before;
     }
 
@@ -238,9 +244,10 @@ second_at (card ∷ cards) zero = refl
 second_at (card ∷ cards) (suc i) = second_at cards i
 
 module _ (version : Version) (size nodes : ℕ) (image : Image) (cards : List (Option CachedNode)) (laid : IsLaid version size nodes image cards)
-    (below : 148 + nodes ≤ size) where
+    (below : 148 + nodes ≤ size) (marking : version.marking ≡ InSectors) where
   pub then_second : AreRewritten version (current_version no_seats) size nodes image (second_image nodes image)
   then_second = record {
+    marking = sym marking;
     roomy = λ place within. inr refl;
     bitmap = λ n low high. rw (lt-leb 148 n (omega (arith, high)), lt-leb 100 n high) refl;
     spare = λ n low high. rw (lt-leb 148 n high, le-leb 100 n low) (sym (spare_none n));
@@ -258,7 +265,7 @@ module _ (version : Version) (size nodes : ℕ) (image : Image) (cards : List (O
   }
 
 pub laid_as_second : LaidSecond
-laid_as_second version size nodes image cards laid below = laid_second version size nodes image cards laid below
+laid_as_second version size nodes image cards marking laid below = laid_second version size nodes image cards laid below marking
 
 known_content : (of : NodeKind) (card : CachedNode) → HasContent of card → HasContent of (in_its_form Two card)
 known_content kind.File card has = has

@@ -29,6 +29,8 @@ root_fields = record {
 -- the root stands at place 0, the other places are free, and no sector of the data region is used
 pub record IsFresh (version : Version) (size nodes : ℕ) (image : Image) : Type 0 where
   pub sized : IsTrue (is_size size nodes)
+  pub a_node : 1 ≤ (version.limits size nodes).nodes
+  pub an_entry : 1 ≤ (version.limits size nodes).aces
   pub first : image 0 ≡ superblock version.number size nodes 0
   pub spare : (n : ℕ) → 100 ≤ n → n < 148 → image n ≡ version.spare n
   pub node : image (node_sector 0) ≡ inode_sector (version.form 0) root_fields

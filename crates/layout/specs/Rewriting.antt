@@ -11,7 +11,7 @@ use Rattle.model_tree.specs.Trees.Tree.{Tree}
 use Rattle.disk.specs.Calls.{zero_sector}
 use Rattle.layout.specs.CachedNodes.{CachedNode, node_sector, cards_in, tree_of}
 use Rattle.layout.specs.Known.{AreCards}
-use Rattle.layout.specs.Stands.{Version, HaveCurrentForms, IsLaid, TreeStands, current_version}
+use Rattle.layout.specs.Stands.{Version, InSectors, HaveCurrentForms, IsLaid, TreeStands, current_version}
 use Rattle.layout.specs.Superblock.{superblock}
 
 -- what the sector of a place becomes: the node that is there, in this form; a free place stays
@@ -22,6 +22,7 @@ in_form form sector =
 -- No form becomes one with less room. The bitmap and the data region are kept. Sectors 1 to 97, the
 -- journal's, are left open.
 pub record AreRewritten (was is : Version) (size nodes : ℕ) (old new : Image) : Type 0 where
+  pub marking : is.marking ≡ was.marking
   pub roomy : (place : ℕ) → place < nodes → (was.form place ≡ One) ⊎ (is.form place ≡ Two)
   pub bitmap : (n : ℕ) → 98 ≤ n → n < 100 → new n ≡ old n
   pub spare : (n : ℕ) → 100 ≤ n → n < 148 → new n ≡ is.spare n
@@ -32,6 +33,7 @@ pub record AreRewritten (was is : Version) (size nodes : ℕ) (old new : Image) 
 -- and its first sector has a count
 pub record IsRewritten (was is : Version) (size nodes run : ℕ) (old new : Image) : Type 0 where
   pub first : new 0 ≡ superblock is.number size nodes run
+  pub limits : is.limits size nodes ≡ was.limits size nodes
   pub others : AreRewritten was is size nodes old new
 
 -- The law: then it stands for the tree for which it stood, under the count that it has now
@@ -74,6 +76,7 @@ pub record IsLaidSecond (size nodes : ℕ) (image : Image) (cards : List (Option
 abbrev pub LaidSecond : Type 0
 LaidSecond =
     (version : Version) (size nodes : ℕ) (image : Image) (cards : List (Option CachedNode))
+    → version.marking ≡ InSectors
     → IsLaid version size nodes image cards → 148 + nodes ≤ size
     → IsLaidSecond size nodes image cards
 

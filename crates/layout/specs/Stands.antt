@@ -8,6 +8,7 @@ use Rattle.inode.specs.declared.node.Form.{Form}
 use Rattle.inode.specs.declared.node.Form.TheVariants.{One, Two}
 use Rattle.layout.specs.declared.versions.VersionNumber.{VersionNumber}
 use Rattle.layout.specs.declared.versions.VersionNumber.TheVariants as numbers
+use Rattle.model_tree.specs.declared.limits.Limits.{Limits}
 use Rattle.model_tree.specs.Trees.Limits.{limits_of}
 use Rattle.model_tree.specs.Seats.Seats.{Seats, AreOfRuns, no_seats}
 use Rattle.model_tree.specs.Trees.Stamp.{stamp}
@@ -17,13 +18,27 @@ use Rattle.seats.specs.Reading.{seats_in}
 use Rattle.seats.specs.Spelling.{ArePlaces, seats_sector}
 use Rattle.layout.specs.CachedNodes.{CachedNode, cards_in, tree_in}
 use Rattle.layout.specs.Laid.{AreLaid}
-use Rattle.layout.specs.Marks.{mark_in}
+use Rattle.layout.specs.Marks.{mark_in, named}
 use Rattle.layout.specs.Superblock.{superblock, is_size}
 
--- What versions of the layout differ in: the number in the superblock, the form of a node's sector
--- at each place of the table, and what the sectors from 100 to 147 hold
+-- What marks the used sectors of the data region: the bitmap in two sectors, or nothing but the nodes
+-- that name them
+pub data Marking : Type 0 where
+  InSectors : Marking
+  AsNamed : Marking
+
+-- how often each sector is marked
+abbrev pub marked_by : Marking → (nodes : ℕ) → Image → List (Option CachedNode) → (n : ℕ) → ℕ
+marked_by InSectors nodes image cards n = mark_in nodes image n
+marked_by AsNamed nodes image cards n = named n cards
+
+-- What versions of the layout differ in: the number in the superblock, the limits of a volume by its
+-- sectors and nodes, what marks used sectors, the form of a node's sector at each place of the table,
+-- and what the sectors from 100 to 147 hold
 pub record Version : Type 0 where
   pub number : ℕ
+  pub limits : (size nodes : ℕ) → Limits
+  pub marking : Marking
   pub form : (place : ℕ) → Form
   pub spare : (sector : ℕ) → List ℕ
 
@@ -53,6 +68,8 @@ moved_by (Some moved) = moved
 abbrev pub version_1 : (mark : Option ℕ) → Version
 version_1 mark = record {
   number = 1;
+  limits = limits_of;
+  marking = InSectors;
   form = λ place. if nat_le (moved_by mark) place then One else Two;
   spare = spare_by no_seats mark;
 }
@@ -61,6 +78,8 @@ version_1 mark = record {
 abbrev pub version_2 : (mark : Option ℕ) → Seats → Version
 version_2 mark seats = record {
   number = 2;
+  limits = limits_of;
+  marking = InSectors;
   form = λ place. Two;
   spare = spare_by seats mark;
 }
@@ -115,13 +134,13 @@ HaveForms version cards =
 abbrev pub HaveCurrentForms : List (Option CachedNode) → Type 0
 HaveCurrentForms cards = HaveForms (current_version no_seats) cards
 
--- The sectors from 98 on hold these cached nodes: the bitmap marks what they name, and nothing past
--- the last sector
+-- The sectors from 98 on hold these cached nodes: what they name is marked, and nothing past the last
+-- sector is
 pub record IsLaid (version : Version) (size nodes : ℕ) (image : Image)
     (cards : List (Option CachedNode)) : Type 0 where
-  pub laid : AreLaid nodes image (mark_in nodes image) cards
+  pub laid : AreLaid nodes image (marked_by version.marking nodes image cards) cards
   pub forms : HaveForms version cards
-  pub within : (n : ℕ) → size ≤ n → mark_in nodes image n ≡ 0
+  pub within : (n : ℕ) → size ≤ n → marked_by version.marking nodes image cards n ≡ 0
   pub spare : (n : ℕ) → 100 ≤ n → n < 148 → image n ≡ version.spare n
 
 -- The sectors of a volume of so many sectors and nodes, mounted `run` times, stand for the tree:
@@ -134,7 +153,7 @@ pub record TreeStands (version : Version) (size nodes : ℕ) (image : Image) (ru
   pub first : image 0 ≡ superblock version.number size nodes run
   pub laid : IsLaid version size nodes image (cards_in nodes image)
   pub tree_is : tree ≡ tree_in nodes image
-  pub well_formed : ∥ IsWellFormed (limits_of size nodes) tree ∥₁
+  pub well_formed : ∥ IsWellFormed (version.limits size nodes) tree ∥₁
   pub before : IsBefore (stamp (run + 1) 0) tree
 
 -- What a volume keeps: its tree, and the seats beside it
