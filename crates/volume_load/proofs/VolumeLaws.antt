@@ -9,7 +9,8 @@ use Rattle.layout.specs.CachedNodes.{CachedNode}
 use Rattle.layout.specs.Known.{AreCards}
 use Rattle.layout.specs.Laid.{AreLaid, AreNumbered}
 use Rattle.layout.specs.Marks.{named, mark_in, mark_by}
-use Rattle.layout.specs.Stands.{HoldSeats, Version, AreKept, HaveForms, IsLaid, IsMark, MayHaveSeats, mark_held, version_by}
+use Rattle.layout.specs.declared.versions.VersionNumber.TheVariants.{One, Two}
+use Rattle.layout.specs.Stands.{Marking, InSectors, marked_by, HoldSeats, Version, AreKept, HaveForms, IsLaid, IsMark, MayHaveSeats, mark_held, version_by}
 use Rattle.layout.specs.declared.versions.VersionNumber.{VersionNumber}
 use Rattle.model_tree.specs.Seats.Seats.{Seats, no_seats}
 use Rattle.layout.proofs.CachedNodeLaws.{cards-back}
@@ -22,6 +23,11 @@ use Rattle.volume_load.proofs.MigrationLaws.{mark_fits, one_mark, mark_there, sa
 use Rattle.volume_load.proofs.MigrationLaws.{spare_there}
 use Rattle.volume_load.proofs.TableLaws.{place_held, place_known, place_found, one_place}
 
+-- in versions one and two the marks stand in sectors
+pub version_marking : (number : VersionNumber) (mark : Option ℕ) (seats : Seats) → (version_by number mark seats).marking ≡ InSectors
+version_marking One mark seats = refl
+version_marking Two mark seats = refl
+
 -- Cached nodes that are laid can be held
 
 pub laid_can : (word : Type 0) (number : VersionNumber) (mark : Option ℕ) (seats : Seats) (image : Image) (size nodes count : ℕ) (cards : List (Option CachedNode)) → size ≡ 148 + nodes + count → IsLaid (version_by number mark seats) size nodes image cards → AreFew cards
@@ -30,7 +36,7 @@ laid_can word number mark seats image size nodes count cards sized laid few = re
   many = laid.laid.count;
   each = λ place h. place_found word ((version_by number mark no_seats).form place) image place (get_or cards place None) (λ card is. laid.forms place card is ∙ ap (λ (f : ℕ → Form). f place) (same-form number mark seats no_seats)) (λ card is. few place card is)
       (laid.laid.held place h);
-  once = λ n. elim (cases_lt 0 (mark_in nodes image n)) [
+  once = λ n. elim (cases_lt 0 (marked_by (version_by number mark seats).marking nodes image cards n)) [
     | inl some ↦
         let low = laid.laid.behind n some in
         elim (cases_lt n size) [
@@ -87,10 +93,10 @@ module _ (nodes : ℕ) (image : Image) (places : List Bool) (marks : (n : ℕ) �
   part_bits (suc (suc part)) h = absurd (omega arith)
 
 -- of cached nodes that are laid the marks that were made are those of the bitmap
-pub same_marks : (word : Type 0) (version : Version) (form : ℕ → Form) (image : Image) (size nodes count : ℕ) (cards others : List (Option CachedNode)) (places : List Bool) → word → IsFound word form image nodes count cards places → CanHold word form image nodes count others → IsLaid version size nodes image others
+pub same_marks : (word : Type 0) (version : Version) (form : ℕ → Form) (image : Image) (size nodes count : ℕ) (cards others : List (Option CachedNode)) (places : List Bool) → word → IsFound word form image nodes count cards places → CanHold word form image nodes count others → version.marking ≡ InSectors → IsLaid version size nodes image others
     → (n : ℕ) → mark_in nodes image n ≡ mark_by (148 + nodes) places n
-same_marks word version form image size nodes count cards others places w found can laid n =
-    sym (laid.laid.marks n) ∙ ap (named n) (sym (one_table word form image nodes count cards others places w found can)) ∙ sym (found.marks n)
+same_marks word version form image size nodes count cards others places w found can marking laid n =
+    sym (laid.laid.marks n ∙ ap (λ (m : Marking). marked_by m nodes image others n) marking) ∙ ap (named n) (sym (one_table word form image nodes count cards others places w found can)) ∙ sym (found.marks n)
 
 -- What is found of all is read
 
@@ -149,9 +155,9 @@ module _ (word : Type 0) (number : VersionNumber) (run : ℕ) (mark : Option ℕ
     few = few;
     size_is = sized ∙ ap (λ (n : ℕ). 148 + nodes + n) (sym found.len);
     laid = λ w. record {
-      laid = laid w;
+      laid = subst (λ (m : Marking). AreLaid nodes image (marked_by m nodes image cards) cards) (sym (version_marking number mark seats)) (laid w);
       forms = forms;
-      within = λ n h. same w n ∙ (let each = each_mark (148 + nodes) places 0 in each.within n (omega (arith, found.len)));
+      within = λ n h. ap (λ (m : Marking). marked_by m nodes image cards n) (version_marking number mark seats) ∙ same w n ∙ (let each = each_mark (148 + nodes) places 0 in each.within n (omega (arith, found.len)));
       spare = spare_there number mark seats image may keeps.places.five (there w) (holds w) (spare w);
     };
     read = λ w. let all = laid w in sym (cards-back image nodes cards found.many all.held);

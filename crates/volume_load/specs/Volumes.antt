@@ -33,7 +33,9 @@ pub record IsRead (word : Type 0) (size nodes : ℕ) (number : VersionNumber) (r
   pub laid : word → IsLaid (version_by number mark seats) size nodes image cards
   pub read : word → cards ≡ cards_in nodes image
 
--- where a volume stands for a tree, the cached nodes that are read of it are so few
+-- If a volume encodes a tree, and its version's files have at most 16 MiB, the cached nodes that are
+-- read of it have few blocks
 abbrev pub StandsIsFew : Type 0
 StandsIsFew = (version : Version) (size nodes : ℕ) (image : Image) (run : ℕ) (tree : Tree)
+    → (version.limits size nodes).file_bytes ≤ 16777216
     → TreeStands version size nodes image run tree → AreFew (cards_in nodes image)

@@ -15,7 +15,7 @@ use Rattle.volume_load.specs.Sectors.{AreBits, AreSpare}
 use Rattle.volume_load.specs.Volumes.{IsRead}
 use Rattle.volume_load.proofs.MigrationLaws.{mark_there, front_there, seats_there}
 use Rattle.volume_load.proofs.SectorLaws.{same_fault}
-use Rattle.volume_load.proofs.VolumeLaws.{laid_can, laid_here, one_table, same_marks, part_bits}
+use Rattle.volume_load.proofs.VolumeLaws.{laid_can, laid_here, one_table, same_marks, part_bits, version_marking}
 use Rattle.volume_load.proofs.VolumeLaws.{is_read}
 use Rattle.volume_load.proofs.volume.read_volume.Goals as goal
 
@@ -65,7 +65,7 @@ returns-in_err-check_marks-clause-damaged g c = λ word is other seats cards one
     let here = laid_here c.args.number mark other seats image c.args.size c.args.nodes cards (omega (arith, parts.few)) c.in_ok-mark.ensures.marked stands one may moved in
     let count : length c.in_ok-places.places ≡ c.args.size - 148 - c.args.nodes = ap (λ (l : List Bool). length l) c.in_ok-places.ensures ∙ length-replicate (c.args.size - 148 - c.args.nodes) false in
     let can = laid_can g.S.Sectors.keeps_word c.args.number mark seats image c.args.size c.args.nodes (length c.in_ok-places.places) cards (omega (arith, parts.room)) here.laid few in
-    let marks = same_marks g.S.Sectors.keeps_word version form image c.args.size c.args.nodes (length c.in_ok-places.places) c.in_ok-cards.cards.items cards c.read_table.new.places word c.in_ok-cards.ensures.found can here.laid in
+    let marks = same_marks g.S.Sectors.keeps_word version form image c.args.size c.args.nodes (length c.in_ok-places.places) c.in_ok-cards.cards.items cards c.read_table.new.places word c.in_ok-cards.ensures.found can (version_marking c.args.number mark seats) here.laid in
     c.in_err-check_marks.ensures.damaged word (ap (λ (e : ScanFault). Err e) (same_fault c.from_residual-in_err-check_marks.result c.in_err-check_marks.field-0.0 c.from_residual-in_err-check_marks.ensures.1 is))
     (subst (λ kept. AreBits (g.S.Sectors.image kept 98) c.read_table.new.places 0) (sym c.in_ok-cards.ensures.kept) (part_bits c.args.nodes image c.read_table.new.places marks 0 (omega arith)))
 
@@ -81,7 +81,7 @@ returns-in_err-check_marks-2-clause-damaged g c = λ word is other seats cards o
     let here = laid_here c.args.number mark other seats image c.args.size c.args.nodes cards (omega (arith, parts.few)) c.in_ok-mark.ensures.marked stands one may moved in
     let count : length c.in_ok-places.places ≡ c.args.size - 148 - c.args.nodes = ap (λ (l : List Bool). length l) c.in_ok-places.ensures ∙ length-replicate (c.args.size - 148 - c.args.nodes) false in
     let can = laid_can g.S.Sectors.keeps_word c.args.number mark seats image c.args.size c.args.nodes (length c.in_ok-places.places) cards (omega (arith, parts.room)) here.laid few in
-    let marks = same_marks g.S.Sectors.keeps_word version form image c.args.size c.args.nodes (length c.in_ok-places.places) c.in_ok-cards.cards.items cards c.read_table.new.places word c.in_ok-cards.ensures.found can here.laid in
+    let marks = same_marks g.S.Sectors.keeps_word version form image c.args.size c.args.nodes (length c.in_ok-places.places) c.in_ok-cards.cards.items cards c.read_table.new.places word c.in_ok-cards.ensures.found can (version_marking c.args.number mark seats) here.laid in
     c.in_err-check_marks-2.ensures.damaged word (ap (λ (e : ScanFault). Err e) (same_fault c.from_residual-in_err-check_marks-2.result c.in_err-check_marks-2.field-0.0 c.from_residual-in_err-check_marks-2.ensures.1 is))
     (subst (λ kept. AreBits (g.S.Sectors.image kept 99) c.read_table.new.places 32768) (sym (c.in_ok-check_marks.ensures.kept ∙ c.in_ok-cards.ensures.kept)) (part_bits c.args.nodes image c.read_table.new.places marks 1 (omega arith)))
 
