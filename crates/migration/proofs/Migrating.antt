@@ -95,7 +95,9 @@ module _ (mark : Option ℕ) (size nodes run : ℕ) (image : Image) (tree : Tree
   clears : IsRewritten (version_2 mark no_seats) (current_version no_seats) size nodes run image without
   clears = record {
     first = others 0 (λ e. omega arith) ∙ stands.first;
+    limits = refl;
     others = record {
+      marking = refl;
       roomy = λ place within. inr refl;
       bitmap = λ n low high. others n (λ e. omega arith);
       spare = λ n low high. ⊎_elim

@@ -114,7 +114,9 @@ module _ (size run : ℕ) (tree : Tree) (cards : List (Option CachedNode)) (move
   rewrites : IsRewritten was is size (length cards) run image new
   rewrites = record {
     first = far_stays cards moved count image 0 (λ e. omega arith) (inl (omega arith)) ∙ reached.stands.first;
+    limits = refl;
     others = record {
+      marking = refl;
       roomy = roomy;
       bitmap = λ n low high. far_stays cards moved count image n (λ e. omega arith) (inl (omega arith));
       spare = spare_is;
