@@ -40,6 +40,8 @@ module _ (sectors nodes : ℕ) (size : IsTrue (is_size sectors nodes)) where
   is_fresh : IsFresh (current_version no_seats) sectors nodes (new_volume sectors nodes)
   is_fresh = record {
     sized = size;
+    a_node = (let parts = sized sectors nodes size in omega (arith, parts.some));
+    an_entry = omega arith;
     first = refl;
     spare = λ n above below. zeros_at sectors nodes n (omega arith) (λ e. omega (arith, e)) ∙ sym (spare_none n);
     node = refl;

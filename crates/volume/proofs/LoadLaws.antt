@@ -18,7 +18,10 @@ use Rattle.layout.specs.Stands as layout
 use Rattle.inode.specs.declared.node.Form.TheVariants.{Two}
 use Rattle.layout.specs.Known.{AreCards}
 use Rattle.layout.specs.Rewriting.{all_second, in_second, second_image, IsLaidSecond}
-use Rattle.layout.specs.Stands.{Kept, MayHaveSeats, Version, IsLaid, IsMark, current_version, version_by}
+use Rattle.layout.specs.Stands.{Kept, MayHaveSeats, Version, Marking, marked_by, IsVersion, By, IsLaid, IsMark, current_version, version_by}
+use Rattle.layout.specs.declared.versions.VersionNumber.TheVariants as numbers
+use Rattle.model_tree.specs.Seats.Seats.{Seats}
+use Rattle.volume_load.proofs.VolumeLaws.{version_marking}
 use Rattle.layout.specs.Superblock.{is_size}
 use Rattle.layout.specs.declared.versions.VersionNumber.{VersionNumber}
 use Rattle.layout.proofs.FirstLaws.{sized_parts}
@@ -46,12 +49,20 @@ use Rattle.volume.specs.Known.{AreKnownNodes}
 use Rattle.volume.specs.Stands.{VolumeStands}
 use Rattle.volume.specs.Superblock.{superblock}
 
+-- the limits of versions one and two are one
+pub version_limits : (number : VersionNumber) (mark : Option ℕ) (seats : Seats) → (version_by number mark seats).limits ≡ limits_of
+version_limits numbers.One mark seats = refl
+version_limits numbers.Two mark seats = refl
+
+pub any_limits : (nodes : ℕ) (version : Version) (seats : Seats) → IsVersion nodes version seats → version.limits ≡ limits_of
+any_limits nodes _ _ (By number mark seats is may) = version_limits number mark seats
+
 abbrev HoldsSectors : (size : ℕ) → Image → Type 0
 HoldsSectors size image = (n : ℕ) → n < size → IsSector (image n)
 
 -- bytes are where a place of the data region is marked
 marked_bytes : (version : Version) (size nodes : ℕ) (image : Image) (cards : List (Option CachedNode)) → IsLaid version size nodes image cards
-    → (bytes : (n : ℕ) → 148 + nodes ≤ n → n < size → IsSector (image n)) → HoldBytes image (mark_in nodes image)
+    → (bytes : (n : ℕ) → 148 + nodes ≤ n → n < size → IsSector (image n)) → HoldBytes image (marked_by version.marking nodes image cards)
 marked_bytes version size nodes image cards laid bytes n marked = elim (cases_lt n size) [
   | inl within ↦ (bytes n (laid.laid.behind n marked) within).bytes
   | inr past ↦ absurd (omega (arith, marked, laid.within n past))
@@ -68,11 +79,11 @@ module _ (number : VersionNumber) (mark : Option ℕ) (seats : Seats) (size node
   second = all_second cards
 
   as_second : IsLaidSecond size nodes image cards
-  as_second = laid_as_second (version_by number mark seats) size nodes image cards laid below
+  as_second = laid_as_second (version_by number mark seats) size nodes image cards (version_marking number mark seats) laid below
 
   second_bytes : HoldBytes (second_image nodes image) (mark_in nodes (second_image nodes image))
   second_bytes = marked_bytes (current_version no_seats) size nodes (second_image nodes image) second as_second.laid
-      (λ n behind within. subst IsSector (sym ((then_second (version_by number mark seats) size nodes image cards laid below).region n behind within)) (sectors n within))
+      (λ n behind within. subst IsSector (sym ((then_second (version_by number mark seats) size nodes image cards laid below (version_marking number mark seats)).region n behind within)) (sectors n within))
 
   same_tree : tree_of (second_image nodes image) second ≡ tree_of image second
   same_tree = as_second.tree ∙ sym as_second.shown
@@ -92,7 +103,7 @@ module _ (number : VersionNumber) (mark : Option ℕ) (seats : Seats) (size node
         first = first ∙ sym (first_number number mark seats size nodes run);
         laid = subst (IsLaid (version_by number mark seats) size nodes image) read laid;
         tree_is = as_second.shown ∙ ap (tree_of image) read;
-        well_formed = ∣ subst (IsWellFormed (limits_of size nodes)) same_tree both.0 ∣₁;
+        well_formed = ∣ subst (λ (f : ℕ → ℕ → Limits). IsWellFormed (f size nodes) (tree_of image second)) (sym (version_limits number mark seats)) (subst (IsWellFormed (limits_of size nodes)) same_tree both.0) ∣₁;
         before = subst (IsBefore (stamp (run + 1) 0)) same_tree both.1;
       }
 
@@ -100,7 +111,8 @@ module _ (number : VersionNumber) (mark : Option ℕ) (seats : Seats) (size node
   pub none_stands : (kept : Kept) → (AreWellFormed (limits_of size nodes) (stamp (run + 1) 0) second → ⊥) → VolumeStands size nodes image run kept → ⊥
   none_stands kept never stands = ∥∥₁_elim stands.stands.well_formed (Prim.hlevel props) (λ well_formed.
       let same : kept.tree ≡ tree_of (second_image nodes image) second = stands.stands.tree_is ∙ (ap (tree_of image) (sym read) ∙ sym as_second.tree) in
-      never (each.1 (subst (IsWellFormed (limits_of size nodes)) same well_formed, subst (IsBefore (stamp (run + 1) 0)) same stands.stands.before)))
+      let well = subst (λ (f : ℕ → ℕ → Limits). IsWellFormed (f size nodes) kept.tree) (any_limits nodes stands.version kept.seats stands.is_version) well_formed in
+      never (each.1 (subst (IsWellFormed (limits_of size nodes)) same well, subst (IsBefore (stamp (run + 1) 0)) same stands.stands.before)))
 
 -- what stands is laid in the version that the first sector tells
 pub laid_told : (number : VersionNumber) (size nodes run : ℕ) (image : Image) (kept : Kept) → image 0 ≡ superblock number size nodes run → VolumeStands size nodes image run kept
@@ -178,9 +190,10 @@ pub stands_few : (size nodes run : ℕ) (image : Image) (kept : Kept) → HoldsS
 stands_few size nodes run image kept sectors stands never = ∥∥₁_elim stands.stands.well_formed (Prim.hlevel props) (λ well_formed.
     let cards = cards_in nodes image in
     let bytes = marked_bytes stands.version size nodes image cards stands.stands.laid (λ n behind within. sectors n within) in
-    let are = (each_tree nodes image (mark_in nodes image) cards stands.stands.laid.laid bytes (limits_of size nodes) (omega arith) (stamp (run + 1) 0)).1
-    (subst (IsWellFormed (limits_of size nodes)) stands.stands.tree_is well_formed, subst (IsBefore (stamp (run + 1) 0)) stands.stands.tree_is stands.stands.before) in
-    never (allowed_few size nodes image (mark_in nodes image) cards stands.stands.laid.laid are.nodes))
+    let well = subst (λ (f : ℕ → ℕ → Limits). IsWellFormed (f size nodes) kept.tree) (any_limits nodes stands.version kept.seats stands.is_version) well_formed in
+    let are = (each_tree nodes image (marked_by stands.version.marking nodes image cards) cards stands.stands.laid.laid bytes (limits_of size nodes) (omega arith) (stamp (run + 1) 0)).1
+    (subst (IsWellFormed (limits_of size nodes)) stands.stands.tree_is well, subst (IsBefore (stamp (run + 1) 0)) stands.stands.tree_is stands.stands.before) in
+    never (allowed_few size nodes image (marked_by stands.version.marking nodes image cards) cards stands.stands.laid.laid are.nodes))
 
 -- how a refusal that is handed on was named below
 pub only_damaged : (fault : ScanFault) → mount_fault fault ≡ mounts.Damaged → fault ≡ scans.Damaged

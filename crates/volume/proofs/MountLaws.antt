@@ -23,6 +23,9 @@ use Rattle.model_tree.specs.Trees.Tree.{Tree}
 use Rattle.volume.specs.Mounts.{AllHaveMoved, IsRaisedTo, StandsForEither, StandsIn}
 use Rattle.volume.specs.Superblock.{superblock}
 use Rattle.volume.specs.declared.mount.Superblock.{Superblock}
+use Rattle.model_tree.specs.declared.limits.Limits.{Limits}
+use Rattle.volume.proofs.LoadLaws.{version_limits}
+use Rattle.volume_load.proofs.VolumeLaws.{version_marking}
 use Rattle.volume.proofs.StandLaws.{cards_same, sized, tree_same}
 
 abbrev pub first_update : (sectors nodes run : ℕ) → Update
@@ -76,7 +79,9 @@ module _ (found : Superblock) (base : Image) (counted : found.run + 1 < 2 ^ 32) 
     is_rewritten : IsRewritten was is found.sectors found.nodes (found.run + 1) base raised
     is_rewritten = record {
       first = put_same base (first_update found.sectors found.nodes (found.run + 1)) 0 refl;
+      limits = ap (λ (f : ℕ → ℕ → Limits). f found.sectors found.nodes) (sym (version_limits found.version mark kept.seats));
       others = record {
+        marking = sym (version_marking found.version mark kept.seats);
         roomy = λ place within. inr refl;
         bitmap = λ n low high. others n low;
         spare = λ n low high. others n (omega (arith, low)) ∙ (stands.laid.spare n low high ∙ version_spare found.version mark kept.seats n stood.may);

@@ -101,7 +101,9 @@ module _ (nodes run : ℕ) (log : Log) (cards : List (Option CachedNode)) (edits
   rewrites : IsRewritten (current_version was) (current_version is) log.size nodes run image now
   rewrites = record {
     first = are.others image 0 (inl (omega arith)) ∙ stands.first;
+    limits = refl;
     others = record {
+      marking = refl;
       roomy = λ place within. inr refl;
       bitmap = λ n low high. are.others image n (inl high);
       spare = spare_is;

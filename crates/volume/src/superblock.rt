@@ -6,7 +6,6 @@ ghost use Rattle.layout.specs.Stands.{number_of_version};
 ghost use Rattle.volume.specs.Superblock.{is_volume, mount_verdict, version_in, superblock, word};
 
 use disk::SECTOR;
-use freemap::Bitmap;
 pub use journal::MIN_SECTORS;
 use layout::places::NODES;
 use layout::versions::VersionNumber;
@@ -14,7 +13,7 @@ use node_table::Table;
 use sector::{put_bytes, put_u32, put_zeros, u32_at};
 
 /// The most sectors of a volume.
-pub const MAX_SECTORS: u32 = Bitmap::MAX_PLACES;
+pub const MAX_SECTORS: u32 = 65_536;
 
 /// The fewest nodes of a volume.
 pub const MIN_NODES: u32 = 2;
