@@ -10,6 +10,7 @@ pub mod SlotsHeld
 pub mod KeptLaws
 pub mod SeatLaws
 pub mod AllOf
+pub mod AlteredRuns
 pub mod StoringTurns
 pub mod SeatTables
 pub mod SeatsFreed
@@ -19,7 +20,7 @@ pub mod SeatReplies
 pub mod SeatWorlds
 pub mod SeatLives
 pub mod SeatRunLaws
-pub mod SeatFresh
+pub mod SeatStored
 pub mod OpensSteps
 pub mod OpensGoOn
 pub mod OpensJoined

@@ -6,6 +6,7 @@
 #![tactic(auto)]
 
 pub mod attributes;
+pub mod holding;
 pub mod not_done;
 pub mod rpc;
 pub mod runs;

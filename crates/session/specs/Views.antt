@@ -67,7 +67,7 @@ name_of name = name.bytes.items
 abbrev pub settings_of : Settings → model.Settings
 settings_of settings = record {
   name = name_of settings.name;
-  persistent = settings.persistent;
+  holding = settings.holding;
   yields_when_full = settings.yields_when_full;
 }
 

@@ -1,10 +1,10 @@
 //! The replies that slots keep, and those that seats hold.
 
-ghost use Rattle.std.specs.Prelude.{◌≡◌, ◌≤◌, false, length, IfOk, IfSome};
+ghost use Rattle.std.specs.Prelude.{◌≡◌, ◌≤◌, true, false, length, IfOk, IfSome};
 ghost use Rattle.std.specs.List.{find};
 ghost use Rattle.std.specs.Option.{option_map};
 ghost use Rattle.model_tree.specs.Seats.SeatEdits.{edited_all, edits_view};
-ghost use Rattle.model_tree.specs.Seats.Seats.{seat_of, has_seat};
+ghost use Rattle.model_tree.specs.Seats.Seats.{seat_of};
 ghost use Rattle.model.specs.Sessions.Session.{is_session, held_by, finish};
 ghost use Rattle.session.specs.Plans.{IsHoldPlanned};
 ghost use Rattle.session.specs.Seating.{reply_held, has_held_slot};
@@ -44,11 +44,10 @@ impl Table {
 
     /// The slot keeps the reply, whatever it held, and the memory of the reply before comes back.
     /// Where no session has this id, or the session no such slot, nothing changes, and the reply's
-    /// own comes back. A session that has a seat takes `finish_held`.
+    /// own comes back. No seat holds the reply: for that there is `finish_held`.
     pub fn finish(&mut self, id: &[u8; 16], slot: u32, reply: Vec<u8>) -> Option<Vec<u8>>
-        requires small { length reply.items ≤ MAX_RECORD_BYTES }
-        requires unseated { has_seat id.now (table_of self.old).seats ≡ false }
-        ensures { table_of self.new ≡ finish id.now slot reply.items (table_of self.old) }
+        requires { length reply.items ≤ MAX_RECORD_BYTES }
+        ensures { table_of self.new ≡ finish id.now slot false reply.items (table_of self.old) }
     {
         self.sessions.keep(id, slot, reply)
     }
@@ -99,7 +98,7 @@ impl Table {
         requires planned { edited_all (edits_view edits) (table_of self.old).seats
             ≡ held_by id.now slot reply.items (table_of self.old).seats
             (find (is_session id.now) (table_of self.old).sessions) }
-        ensures { table_of self.new ≡ finish id.now slot reply.items (table_of self.old) }
+        ensures { table_of self.new ≡ finish id.now slot true reply.items (table_of self.old) }
     {
         let former = self.sessions.keep(id, slot, reply);
         edit_seats(&mut self.seats, edits);

@@ -7,7 +7,7 @@ ghost use Rattle.std.specs.Option.{option_map, option_copied};
 ghost use Rattle.model_tree.specs.Seats.SeatEdits.{edit_view, edits_view, CanEdit};
 ghost use Rattle.model_tree.specs.Seats.Seats.{Seat as KnownSeat, seat_of, has_seat, held_in};
 ghost use Rattle.model_tree.specs.Seats.SeatViews.{held_view, seat_view, place_view, seats_view};
-ghost use Rattle.model.specs.Sessions.Session.{is_session, staying, is_done_with, is_oldest_dead, is_dead_before, is_dead, asks_seat, lacks_seat, id_number};
+ghost use Rattle.model.specs.Sessions.Session.{is_session, staying, is_done_with, is_oldest_dead, is_dead_before, is_dead, asks_seat, lacks_seat, id_number, holds_reply};
 ghost use Rattle.wire.specs.ArgumentViews.{create_session_view};
 ghost use Rattle.session.specs.Seating.{EditsOne, is_place_of, freeing, is_left_free, gives_way_if, place_for, seat_with, edits_with};
 ghost use Rattle.session.specs.Views.{table_of, client_of};
@@ -28,6 +28,14 @@ impl Table {
         ensures { result ≡ has_seat id.now (table_of self.now).seats }
     {
         find_seat(&self.seats, id).is_some()
+    }
+
+    /// Whether the reply to such a request is held: one that made a change which has to last, or
+    /// none.
+    pub fn holds(&self, altered: bool) -> bool
+        ensures { result ≡ holds_reply (table_of self.now).settings.holding altered }
+    {
+        self.settings.holding.holds(altered)
     }
 
     // Whether the seat gives way to a session of the client: the oldest dead one if that lacks a
@@ -90,7 +98,7 @@ impl Table {
         ensures { result ≡ asks_seat (create_session_view arguments.now) (table_of self.now) }
     {
         let flags = SessionFlags::from_bits_retain(arguments.flags);
-        self.settings.persistent && flags.contains(SessionFlags::PERSIST)
+        self.settings.holding.may_persist() && flags.contains(SessionFlags::PERSIST)
     }
 
     /// Whether it is to have one, none is free for it, and the oldest dead one may give way.

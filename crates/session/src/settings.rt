@@ -3,6 +3,7 @@
 ghost use Rattle.std.specs.Prelude.{◌≡◌, ◌≤◌, length};
 ghost use Rattle.session.specs.declared.settings.NameFault.TheVariants.{Memory};
 
+use model::holding::Holding;
 use std::alloc::{AllocError, Global};
 use thiserror::Error;
 
@@ -18,8 +19,8 @@ pub struct Settings {
     /// The major id and the scope that EXCHANGE_ID returns: servers of different names are
     /// different servers.
     pub name: ServerName,
-    /// Whether a new session may be persistent.
-    pub persistent: bool,
+    /// Which replies are held, and so whether a new session may be persistent.
+    pub holding: Holding,
     /// Whether a full table gives up what no client holds: its oldest unconfirmed client record, or
     /// the dead seat of the oldest run.
     pub yields_when_full: bool,
@@ -118,7 +119,7 @@ impl Settings {
     {
         Ok(Settings {
             name: self.name.try_clone(alloc)?,
-            persistent: self.persistent,
+            holding: self.holding,
             yields_when_full: self.yields_when_full,
         })
     }

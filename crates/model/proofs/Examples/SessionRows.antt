@@ -4,6 +4,7 @@ use Rattle.model_tree.specs.declared.status.Status.TheVariants as status
 use Rattle.model.specs.Operations.Operation.{Channel, ExchangeIdArguments, CreateSessionArguments, SequenceArguments}
 use Rattle.model.specs.Operations.Answer.{CreateSessionAnswer}
 use Rattle.model_tree.specs.Seats.Seats.{Seat, no_seats}
+use Rattle.model.specs.declared.holding.Holding.TheVariants as holdings
 use Rattle.model.specs.Sessions.Session.{SessionLimits, Table, plain_settings, loaded_table, empty_table, client_number, exchange_id, exchange_answer, create_session, destroy_session, begin, started, finish, session_id, Refuses, Replays, Runs}
 
 abbrev limits : SessionLimits
@@ -113,7 +114,7 @@ seat_in run = record { session = session_id (client_number run 1) 1; owner = cod
 
 abbrev all_dead : Bool → Table
 all_dead yields =
-    loaded_table 7 (record plain_settings { persistent = true; yields_when_full = yields })
+    loaded_table 7 (record plain_settings { holding = holdings.All; yields_when_full = yields })
     (Some (seat_in 4) ∷ Some (seat_in 2) ∷ Some (seat_in 3) ∷ Some (seat_in 5) ∷ Some (seat_in 6) ∷ [])
 
 abbrev sits_in : Bool → Table
@@ -138,7 +139,7 @@ abbrev running : Table
 running = started 7 (request 0 1) opened
 
 abbrev done : Table
-done = finish id 0 (codes "reply") running
+done = finish id 0 true (codes "reply") running
 
 runs : begin 7 4 (request 0 1) opened ≡ Runs
 unfolding exchange_id create_session session_id begin

@@ -19,6 +19,7 @@ use Rattle.model.specs.Wire.Record.{front_from, fragment, behind_header, framed}
 use Rattle.model.specs.Wire.Rpc.{words, read_call, request_of, reply_text, compound_text}
 use Rattle.model.specs.Wire.WireArguments.{arguments_at}
 use Rattle.model_tree.specs.Seats.Seats.{Seat, Seats, no_seats}
+use Rattle.model.specs.declared.holding.Holding.TheVariants as holdings
 use Rattle.model.specs.Sessions.Session.{plain_settings, exchange_id, create_session, destroy_session, destroy_client_id, reclaim_complete, begin, started, finish, session_id}
 use Rattle.model.specs.Sessions.StateIds as stateids
 use Rattle.model.specs.Operations.Step.{does, effect, refusals, permitted}
@@ -31,7 +32,7 @@ limits = record {
   sessions = record { clients = 64; sessions = 32; slots = 8; seat_slots = 2; operations = 16; record_bytes = 16384 };
   records = record { bytes = 16384; fragments = 64 };
   connections = 16;
-  settings = record plain_settings { persistent = true };
+  settings = record plain_settings { holding = holdings.All };
   reply_bytes = 16368;
 }
 

@@ -14,7 +14,7 @@ use Rattle.model.specs.Sessions.Session as sessions
 use Rattle.model.specs.Sessions.Session.{Table, Session}
 use Rattle.model.specs.Operations.Step.{State, does, permitted}
 use Rattle.model_tree.specs.Trees.Tree.{Tree}
-use Rattle.model.specs.Server.World.{World, ServerLimits, InProgress, Connection, Quiet, Waiting, Busy, Replied, Closed, HasRun, Gives, Replays, exchanged, created_by, tabled, started_in, begun, reclaimed, state_of, refuses, in_room, has_room, run as run_of, Turned, Entry, executed_entry, behind, ends, goes_on, with_result, is_last, has_run, operates, Next, Refuses, Reads, next_operation, requested, in_progress, called, turned, one, reply_at, closes, is_to_hold, further}
+use Rattle.model.specs.Server.World.{World, ServerLimits, InProgress, Connection, Quiet, Waiting, Busy, Replied, Closed, HasRun, Gives, Replays, exchanged, created_by, tabled, started_in, begun, reclaimed, state_of, refuses, in_room, has_room, run as run_of, Turned, Entry, executed_entry, behind, ends, goes_on, with_result, is_last, has_run, operates, Next, Refuses, Reads, next_operation, requested, in_progress, called, turned, one, reply_at, closes, is_to_hold, further, noting}
 use Rattle.model.proofs.Server.Headline.{slice_get-last}
 use Rattle.model_tree.proofs.Rights.LimitLaws.{modes_keep_limits, inheritance_keeps_limits}
 use Rattle.model.proofs.Server.Headline.{taken_done, done_behind}
@@ -107,8 +107,8 @@ either_permitted false x y first second = second
 closes_permitted : (world : World) (number : ℕ) (request : InProgress) (last : Status) (executed : Option Entry)
     → EntryPermitted executed → TurnPermitted (closes world number request last executed)
 closes_permitted world number request last executed permits =
-    either_permitted (is_to_hold request.slot world.table.seats) (goes_on world number (record request { ended = Some last }) executed)
-    (ends world number request last executed) permits permits
+    either_permitted (is_to_hold request world.table) (goes_on world number (record request { ended = Some last }) executed)
+    (ends world number request last false executed) permits permits
 
 behind_permitted : (world : World) (number : ℕ) (request : InProgress) (outcome : Outcome) (executed : Option Entry)
     → EntryPermitted executed → TurnPermitted (behind world number request outcome executed)
@@ -122,7 +122,7 @@ behind_permitted world number request (Outcome.Done answer) executed permits =
 has_run_permitted : (world : World) (number : ℕ) (request : InProgress) (operation : Argument) (ran : HasRun)
     → RanPermitted world request operation ran → TurnPermitted (has_run world number request operation ran)
 has_run_permitted world number request operation (Gives outcome after left) permits =
-    behind_permitted after number left outcome (Some (executed_entry world request operation outcome after)) permits
+    behind_permitted after number (noting world after operation left) outcome (Some (executed_entry world request operation outcome after)) permits
 has_run_permitted world number request operation (Replays result session slot) permits = tt
 
 operates_permitted : (world : World) (number now : ℕ) (request : InProgress) (next : Next) → TurnPermitted (operates world number now request next)

@@ -18,7 +18,7 @@ use Rattle.model.specs.Operations.Step.{State, does, alters, stamp_of}
 use Rattle.model.specs.Operations.StepLaws.{IsSound}
 use Rattle.model_tree.specs.Seats.Seats.{Seats}
 use Rattle.model_tree.specs.Trees.Tree.{Tree}
-use Rattle.model.specs.Server.World.{World, ServerLimits, InProgress, Connection, Quiet, Waiting, Busy, Replied, Closed, HasRun, Gives, Replays, exchanged, created_by, tabled, started_in, begun, reclaimed, stepped, state_of, refuses, in_room, has_room, run as run_of, Turned, Entry, executed_entry, behind, ends, goes_on, with_result, is_last, has_run, operates, Next, Refuses, Reads, next_operation, requested, in_progress, called, turned, one, reply_at, closes, is_to_hold, further}
+use Rattle.model.specs.Server.World.{World, ServerLimits, InProgress, Connection, Quiet, Waiting, Busy, Replied, Closed, HasRun, Gives, Replays, exchanged, created_by, tabled, started_in, begun, reclaimed, stepped, state_of, refuses, in_room, has_room, run as run_of, Turned, Entry, executed_entry, behind, ends, goes_on, with_result, is_last, has_run, operates, Next, Refuses, Reads, next_operation, requested, in_progress, called, turned, one, reply_at, closes, is_to_hold, further, noting}
 use Rattle.model.proofs.Server.Headline.{slice_get-last, taken_done, done_behind}
 use Rattle.model_tree.proofs.Rights.LimitLaws.{modes_keep_limits, inheritance_keeps_limits}
 use Rattle.model.proofs.Server.RunLaws.{does_lawful}
@@ -115,9 +115,9 @@ module _ (limits : ServerLimits) (run : ℕ) (room : limits.volume.aces_set + 5 
   closes_stamped : (world : World) (number : ℕ) (request : InProgress) (last : Status) (executed : Option Entry)
       → EntryStamped executed → TurnStamped (closes world number request last executed)
   closes_stamped world number request last executed stamps =
-      either_stamped (is_to_hold request.slot world.table.seats)
+      either_stamped (is_to_hold request world.table)
       (goes_on world number (record request { ended = Some last }) executed)
-      (ends world number request last executed) stamps stamps
+      (ends world number request last false executed) stamps stamps
 
   behind_stamped : (world : World) (number : ℕ) (request : InProgress) (outcome : Outcome) (executed : Option Entry)
       → EntryStamped executed → TurnStamped (behind world number request outcome executed)
@@ -131,7 +131,7 @@ module _ (limits : ServerLimits) (run : ℕ) (room : limits.volume.aces_set + 5 
   has_run_stamped : (world : World) (number : ℕ) (request : InProgress) (operation : Argument) (ran : HasRun) → request.context.run ≡ run
       → RanStamped world request ran → TurnStamped (has_run world number request operation ran)
   has_run_stamped world number request operation (Gives outcome after left) same stamps =
-      behind_stamped after number left outcome (Some (executed_entry world request operation outcome after)) (record {
+      behind_stamped after number (noting world after operation left) outcome (Some (executed_entry world request operation outcome after)) (record {
         own = same;
         given = λ differs. subst (λ (r : ℕ). IsStamped (next_stamp r world.changes) world.tree after.tree) same (stamps differs);
       })

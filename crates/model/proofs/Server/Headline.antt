@@ -327,7 +327,7 @@ AreBelow-place bound [] place i below less e = absurd (omega arith)
 AreBelow-place bound (first ∷ names) zero i below less e = let head : first < bound = below.0 in omega arith
 AreBelow-place bound (first ∷ names) (suc place) i below less e = AreBelow-place bound names place i below.1 (omega arith) e
 
-AreBelow-at : (bound : ℕ) (names : List ℕ) (i : ℕ) → AreBelow bound names → IsAmong names i → i < bound
+pub AreBelow-at : (bound : ℕ) (names : List ℕ) (i : ℕ) → AreBelow bound names → IsAmong names i → i < bound
 AreBelow-at bound names i below among = AreBelow-place bound names among.0 i below among.1.0 among.1.1
 
 AreBelow-either : (bound : ℕ) (b : Bool) (xs ys : List ℕ) → AreBelow bound xs → AreBelow bound ys → AreBelow bound (cond b xs ys)
@@ -413,7 +413,7 @@ turned_names history world connection turned settled names =
       kept = keeping_below bound history.kept turned.keeps _ all.kept these;
       handed_out = names.handed_out;
       replies = AreReplied-append bound history.replies (replies_by history world connection turned) all.replies
-          (AreReplied-named bound (stored_by turned.world.table turned.keeps) _ these);
+          (AreReplied-named bound (stored_by turned.world.table turned.keeps turned.holds) _ these);
     }
 
 -- the reply that a turn lets a seat hold names nothing that the turn executes
@@ -421,7 +421,7 @@ storing_below : (history : RunHistory) (world : World) (connection now : ℕ) (b
     → AreReplied bound (replies_by history world connection (one world connection now))
 storing_below history world connection now bound settled names = elim (one_alone world connection now) [
   | inl none ↦
-      AreReplied-named bound (stored_by turned.world.table turned.keeps) (names_after history world connection turned)
+      AreReplied-named bound (stored_by turned.world.table turned.keeps turned.holds) (names_after history world connection turned)
       (names_below history world connection turned turned.replays bound settled names
       (subst (λ (executed : Option Entry). AreBelow bound (numbers_of history executed)) (sym none) (AreBelow-none bound)))
   | inr none ↦

@@ -5,15 +5,25 @@ use Rattle.std.proofs.lemmas.Bool.{false≢true}
 use Rattle.model_tree.specs.Seats.Seats.{Seats, held_at}
 use Rattle.model_tree.specs.Trees.Tree.{Tree}
 use Rattle.model.specs.Server.World.{World, Entry, one, reply_at}
-use Rattle.model.specs.Server.Runs.{Event, Arrives, Turns, HangsUp, Connects, Takes, executed_of, RunHistory, no_history, Stored, stored_by, naming_stored, replies_of, replies_with, taken_by, history_after, Serving, Left, left_after, mounted, executed, done_with, effect_of, IsAfterEvent, MayBeLeft, Happens, DeviceFails, history_failing, IsRun, Begins, Goes_on, Fails_at, Stays_down, Flushed, IsChain, KeepsHeld, EveryHeldIsKept}
+use Rattle.model.specs.Server.Runs.{Event, Arrives, Turns, HangsUp, Connects, Takes, executed_of, RunHistory, no_history, Stored, stored_of, stored_by, naming_stored, replies_of, replies_with, taken_by, history_after, Serving, Left, left_after, mounted, executed, done_with, effect_of, IsAfterEvent, MayBeLeft, Happens, DeviceFails, history_failing, IsRun, Begins, Goes_on, Fails_at, Stays_down, Flushed, IsChain, KeepsHeld, EveryHeldIsKept}
 use Rattle.model.proofs.Server.Headline.{AllLawful, StandsFor, StandsFor-append, of_all, AreBelow, AreBelow-more, AreReplied, AreReplied-more, AreReplied-place, Holds, Joined, tree_behind, more_done, done_behind, replied, goes, goes_by, settled_on, fails_at, settled_failing, stays_down, flushed, holds, holds_at_start, only_one, still_good, all_permitted, Ended, chain_ended, lawful_ended}
 use Rattle.model.proofs.Server.RunLaws.{event_fits}
-use Rattle.model.proofs.Sessions.SeatFresh.{IsFresh, run_is_fresh}
+use Rattle.model.proofs.Sessions.SeatLaws.{among_left, either_list}
+use Rattle.model.proofs.Sessions.SeatStored.{IsListed, IsKnown, run_is_known}
+
+-- this reply was stored with such names
+record NamedBelow (level : ℕ) (replies : List (Stored × List ℕ)) (stored : Stored) : Type 0 where
+  names : List ℕ
+  among : IsAmong replies (stored, names)
+  below : AreBelow level names
+
+named_more : (level : ℕ) (replies more : List (Stored × List ℕ)) (stored : Stored) → NamedBelow level replies stored → NamedBelow level (replies ++ more) stored
+named_more level replies more stored is = record { names = is.names; among = among_left replies more (stored, is.names) is.among; below = is.below }
 
 -- what each reply names that these seats hold
 HeldBelow : ℕ → List (Stored × List ℕ) → Seats → Type 0
 HeldBelow level replies seats =
-    (stored : Stored) (names : List ℕ) → IsAmong replies (stored, names) → held_at stored.session stored.slot seats ≡ Some stored.held → AreBelow level names
+    (stored : Stored) (names : List ℕ) → IsAmong replies (stored, names) → held_at stored.session stored.slot seats ≡ Some stored.held → NamedBelow level replies stored
 
 -- its tree has each durable operation below the level, and the replies in its seats name nothing above
 record IsLevel (start : Tree) (done : List Entry) (replies : List (Stored × List ℕ)) (settled : ℕ) (left : Left) : Type 0 where
@@ -30,7 +40,8 @@ record HoldsSeats (start : Tree) (serving : Serving) (history : RunHistory) : Ty
 
 HeldBelow-all : (level : ℕ) (replies : List (Stored × List ℕ)) (seats : Seats) → AreReplied level replies → HeldBelow level replies seats
 unfolding HeldBelow
-HeldBelow-all level replies seats below stored names among there = AreReplied-place level replies among.0 (stored, names) below among.1.0 among.1.1
+HeldBelow-all level replies seats below stored names among there =
+    record { names = names; among = among; below = AreReplied-place level replies among.0 (stored, names) below among.1.0 among.1.1 }
 
 -- while nothing waits the level of each is what is settled
 seats_settled : (start : Tree) (serving : Serving) (history : RunHistory) → Holds start serving history → serving.waits ≡ false → HoldsSeats start serving history
@@ -46,46 +57,28 @@ seats_settled start serving history is none = record {
   };
 }
 
--- Of two lists
-
-either_list : {A : Type 0} (xs ys : List A) (x : A) → IsAmong (xs ++ ys) x → IsAmong xs x ⊎ IsAmong ys x
-either_list [] ys x among = inr among
-either_list {A} (first ∷ xs) ys x among = by_place (either_list xs ys x) among.0 among.1.0 among.1.1
-  where
-    by_place : (IsAmong (xs ++ ys) x → IsAmong xs x ⊎ IsAmong ys x) → (place : ℕ) → place < length ((first ∷ xs) ++ ys) → x ≡ get_or ((first ∷ xs) ++ ys) place x → IsAmong (first ∷ xs) x ⊎ IsAmong ys x
-    by_place later zero less e = inl (0, (omega arith, e))
-    by_place later (suc place) less e = elim (later (place, (omega (arith, less), e))) [
-      | inl before ↦ inl (let inside = before.1.0 in (suc before.0, (omega (arith, inside), before.1.1)))
-      | inr after ↦ inr after
-    ]
-
-HeldBelow-more : (level : ℕ) (replies more : List (Stored × List ℕ)) (seats : Seats) → HeldBelow level replies seats → HeldBelow level more seats
-    → HeldBelow level (replies ++ more) seats
-unfolding HeldBelow
-HeldBelow-more level replies more seats first second stored names among there = elim (either_list replies more (stored, names) among) [
-  | inl before ↦ first stored names before there
-  | inr after ↦ second stored names after there
-]
+-- Replies that come to others
 
 named_stored : (stored : Option Stored) (names : List ℕ) (one : Stored) (its : List ℕ) → IsAmong (naming_stored stored names) (one, its) → stored ≡ Some one
 named_stored None names one its among = absurd (let less = among.1.0 in omega (arith, less))
 named_stored (Some stored) names one its among = ap (λ (r : Stored × List ℕ). Some r.0) (sym (only_one (stored, names) (one, its) among))
 
-fresh_below : (history : RunHistory) (world : World) (event : Event) (level : ℕ) → IsFresh world event → HeldBelow level (replies_of history world event) world.table.seats
-unfolding HeldBelow
-fresh_below history world (Arrives connection piece) level fresh stored names among there = absurd (let less = among.1.0 in omega (arith, less))
-fresh_below history world (Turns connection now) level fresh stored names among there =
-    absurd (fresh stored (named_stored (stored_by (one world connection now).world.table (one world connection now).keeps) _ stored names among) there)
-fresh_below history world (HangsUp connection) level fresh stored names among there = absurd (let less = among.1.0 in omega (arith, less))
-fresh_below history world (Connects connection) level fresh stored names among there = absurd (let less = among.1.0 in omega (arith, less))
-fresh_below history world (Takes connection) level fresh stored names among there = absurd (let less = among.1.0 in omega (arith, less))
+event_stored : (history : RunHistory) (world : World) (event : Event) (stored : Stored) (names : List ℕ) → IsAmong (replies_of history world event) (stored, names)
+    → stored_of world event ≡ Some stored
+event_stored history world (Arrives connection piece) stored names among = absurd (let less = among.1.0 in omega (arith, less))
+event_stored history world (Turns connection now) stored names among =
+    let turned = one world connection now in
+    named_stored (stored_by turned.world.table turned.keeps turned.holds) _ stored names among
+event_stored history world (HangsUp connection) stored names among = absurd (let less = among.1.0 in omega (arith, less))
+event_stored history world (Connects connection) stored names among = absurd (let less = among.1.0 in omega (arith, less))
+event_stored history world (Takes connection) stored names among = absurd (let less = among.1.0 in omega (arith, less))
 
 -- An event
 
--- What may be left while an event happens, of a server that is up. Where something waits, the reply
--- that the event lets a seat hold is in none that was left before it.
+-- What may be left while an event happens, of a server that is up. While something waits, a reply
+-- that the event lets a seat hold, and that one held before it, was stored before.
 module _ (start : Tree) (serving : Serving) (event : Event) (history : RunHistory) (is : HoldsSeats start serving history) (up : serving.is_down ≡ false)
-    (fresh : serving.waits ≡ true → IsFresh serving.world event) where
+    (known : serving.waits ≡ true → IsKnown serving.world event history.replies) where
   abbrev all_done : List Entry
   all_done = Joined history.done (executed_of serving.world event)
 
@@ -100,18 +93,29 @@ module _ (start : Tree) (serving : Serving) (event : Event) (history : RunHistor
 
   -- what was left before holds the replies that it held
   before_held : (left : Left) (among : IsAmong serving.left left) → HeldBelow (is.levels left among).level all_replies left.seats
-  before_held left among = by_waits serving.waits refl
+  unfolding HeldBelow
+  before_held left left_before = by_waits serving.waits refl
     where
-      by_waits : (b : Bool) → serving.waits ≡ b → HeldBelow (is.levels left among).level all_replies left.seats
+      by_waits : (b : Bool) → serving.waits ≡ b → HeldBelow (is.levels left left_before).level all_replies left.seats
       by_waits false none =
           let told = is.base.told none in
-          let above = (is.levels left among).above in
-          HeldBelow-all (is.levels left among).level all_replies left.seats
-          (AreReplied-more is.base.bound (is.levels left among).level all_replies (omega (arith, told, above)) its_replied)
-      by_waits true waits =
-          HeldBelow-more (is.levels left among).level history.replies (replies_of history serving.world event) left.seats (is.levels left among).held
-          (subst (HeldBelow (is.levels left among).level (replies_of history serving.world event)) (sym (is.same waits up left among))
-          (fresh_below history serving.world event (is.levels left among).level (fresh waits)))
+          let above = (is.levels left left_before).above in
+          HeldBelow-all (is.levels left left_before).level all_replies left.seats
+          (AreReplied-more is.base.bound (is.levels left left_before).level all_replies (omega (arith, told, above)) its_replied)
+      by_waits true waits = λ stored names among there. elim (either_list history.replies (replies_of history serving.world event) (stored, names) among) [
+        | inl before ↦ its_before stored names before there
+        | inr new ↦
+            let seats = is.same waits up left left_before in
+            let now = ap (held_at stored.session stored.slot) (sym seats) ∙ there in
+            let listed = known waits stored (event_stored history serving.world event stored names new) now in
+            its_before stored listed.names listed.among there
+      ]
+        where
+          its_before : (stored : Stored) (names : List ℕ) → IsAmong history.replies (stored, names) → held_at stored.session stored.slot left.seats ≡ Some stored.held
+              → NamedBelow (is.levels left left_before).level all_replies stored
+          its_before stored names among there =
+              named_more (is.levels left left_before).level history.replies (replies_of history serving.world event) stored
+              ((is.levels left left_before).held stored names among there)
 
   before_level : (left : Left) → IsAmong serving.left left → IsLevel start all_done all_replies is.base.settled left
   before_level left among = record {
@@ -154,7 +158,7 @@ replies_behind history world (Takes connection) = append-nil history.replies ∙
 
 -- A run
 
-module _ (start : Tree) (old new : Serving) (event : Event) (history : RunHistory) (is : HoldsSeats start old history) (fresh : old.waits ≡ true → IsFresh old.world event) where
+module _ (start : Tree) (old new : Serving) (event : Event) (history : RunHistory) (is : HoldsSeats start old history) (known : old.waits ≡ true → IsKnown old.world event history.replies) where
   seats_go : Happens old event new → HoldsSeats start new (history_after history old.world event)
   seats_go happens = by_waits new.waits refl
     where
@@ -169,7 +173,7 @@ module _ (start : Tree) (old new : Serving) (event : Event) (history : RunHistor
             (subst (λ (done : List Entry). IsLevel start done (history_after history old.world event).replies is.base.settled left) (done_behind history old.world event)
             (subst (λ (replies : List (Stored × List ℕ)). IsLevel start (Joined history.done (executed_of old.world event)) replies is.base.settled left)
             (replies_behind history old.world event)
-            (may_level start old event history is happens.up fresh left (happens.no_others left among))));
+            (may_level start old event history is happens.up known left (happens.no_others left among))));
       }
 
   seats_fail : DeviceFails old event new → HoldsSeats start new (history_failing history old.world event)
@@ -179,17 +183,17 @@ module _ (start : Tree) (old new : Serving) (event : Event) (history : RunHistor
     levels = λ left among.
         subst (λ (settled : ℕ). IsLevel start (history_failing history old.world event).done (history_failing history old.world event).replies settled left)
         (sym (settled_failing start old new event history is.base fails))
-        (may_level start old event history is fails.up fresh left (fails.no_others left among));
+        (may_level start old event history is fails.up known left (fails.no_others left among));
   }
 
 module _ (start : Tree) (first : Serving) (begins : Holds start first no_history) (none : first.waits ≡ false)
-    (fresh : (serving : Serving) (history : RunHistory) → IsRun first serving history → serving.is_down ≡ false → (event : Event) → IsFresh serving.world event) where
+    (known : (serving : Serving) (history : RunHistory) → IsRun first serving history → serving.is_down ≡ false → (event : Event) → IsKnown serving.world event history.replies) where
   seats_hold : (serving : Serving) (history : RunHistory) → IsRun first serving history → HoldsSeats start serving history
   seats_hold serving history Begins = seats_settled start first no_history begins none
   seats_hold serving history (Goes_on {old = old} {new = new} {history = earlier} event run happens) =
-      seats_go start old new event earlier (seats_hold old earlier run) (λ _. fresh old earlier run happens.up event) happens
+      seats_go start old new event earlier (seats_hold old earlier run) (λ _. known old earlier run happens.up event) happens
   seats_hold serving history (Fails_at {old = old} {new = new} {history = earlier} event run fails) =
-      seats_fail start old new event earlier (seats_hold old earlier run) (λ _. fresh old earlier run fails.up event) fails
+      seats_fail start old new event earlier (seats_hold old earlier run) (λ _. known old earlier run fails.up event) fails
   seats_hold serving history (Stays_down {old = old} {new = new} {history = earlier} connection run stays) =
       seats_settled start new (history_after earlier old.world (Takes connection)) (stays_down start old new connection earlier (seats_hold old earlier run).base stays)
       (stays.waits ∙ stays.none_waits)
@@ -210,13 +214,15 @@ kept_of start done handed_out replies settled left chain lawful below is = recor
     permitted = all_permitted done is.stands.k lawful;
     chain = chain;
   };
-  held = λ stored names among there. still_good start done names is.level left.tree lawful (is.held stored names among there) is.stands;
+  held = λ stored names among there.
+      let its = is.held stored names among there in
+      record { names = its.names; among = its.among; below = still_good start done its.names is.level left.tree lawful its.below is.stands };
 }
 
-module _ (start : Tree) (serving : Serving) (history : RunHistory) (is : HoldsSeats start serving history) (event : Event) (fresh : serving.waits ≡ true → serving.is_down ≡ false → IsFresh serving.world event) where
+module _ (start : Tree) (serving : Serving) (history : RunHistory) (is : HoldsSeats start serving history) (event : Event) (known : serving.waits ≡ true → serving.is_down ≡ false → IsKnown serving.world event history.replies) where
   level_ended : (left : Left) → (down : Bool) → serving.is_down ≡ down → MayBeLeft serving event left
       → IsLevel start (Ended start serving history is.base event down) (replies_with history serving.world event down) is.base.settled left
-  level_ended left false up may = may_level start serving event history is up (λ waits. fresh waits up) left may
+  level_ended left false up may = may_level start serving event history is up (λ waits. known waits up) left may
   level_ended left true down may =
       subst (λ (done : List Entry). IsLevel start done history.replies is.base.settled left) (sym (append-nil history.done)) (before may)
     where
@@ -244,6 +250,6 @@ every_held_is_kept limits run start seats serving history is_run begins event le
         (seats_settled start serving history (holds start (mounted limits run start seats) serving history base is_run) none) event
         (λ waits. absurd (false≢true (sym none ∙ waits))) left serving.is_down refl may
     by_waits true waits =
-        let fresh = run_is_fresh limits run start seats (begins waits).0 (begins waits).1 in
-        kept_ended start serving history (seats_hold start (mounted limits run start seats) base refl fresh serving history is_run) event
-        (λ _ up. fresh serving history is_run up event) left serving.is_down refl may
+        let known = run_is_known limits run start seats (begins waits).0 (begins waits).1 in
+        kept_ended start serving history (seats_hold start (mounted limits run start seats) base refl known serving history is_run) event
+        (λ _ up. known serving history is_run up event) left serving.is_down refl may

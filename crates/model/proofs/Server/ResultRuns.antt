@@ -18,7 +18,7 @@ use Rattle.model.specs.Sessions.Session.{Session, Table, is_session, begin}
 use Rattle.model.specs.Sessions.StateIds.{has_opens}
 use Rattle.model.specs.Operations.State.{current_refusals}
 use Rattle.model_tree.specs.Trees.Tree.{Tree}
-use Rattle.model.specs.Server.World.{ServerLimits, InProgress, Connection, Quiet, Busy, Replied, World, Entry, HasRun, Gives, Replays, Turned, exchanged, created_by, tabled, started_in, begun, reclaimed, state_of, run, with_result, result_of, behind, ends, goes_on, executed_entry, one, with_connection, without_connection, arrives, arrives_at, connection_changed, without_reply, takes, can_connect, connects, is_busy, hangs_up, mounted_world, is_last, closes, is_to_hold}
+use Rattle.model.specs.Server.World.{ServerLimits, InProgress, Connection, Quiet, Busy, Replied, World, Entry, HasRun, Gives, Replays, Turned, exchanged, created_by, tabled, started_in, begun, reclaimed, state_of, run, with_result, result_of, behind, ends, goes_on, executed_entry, one, with_connection, without_connection, arrives, arrives_at, connection_changed, without_reply, takes, can_connect, connects, is_busy, hangs_up, mounted_world, is_last, closes, is_to_hold, noting}
 use Rattle.model_tree.proofs.Trees.KeyedLaws.{at-with_same, at-with_other, at-without_same, at-without_other}
 use Rattle.model.proofs.Wire.ResultLaws.{one_more}
 use Rattle.model.proofs.Sessions.TableCalls.{either}
@@ -34,6 +34,10 @@ record Same (world : World) (request : InProgress) (after : World) (left : InPro
   connections : after.connections ≡ world.connections
   answered : left.answered ≡ request.answered
   results : left.results ≡ request.results
+
+noted : (altered : Bool) (world : World) (request : InProgress) (after : World) (left : InProgress) → Same world request after left
+    → Same world request after (record left { altered = altered })
+noted altered world request after left same = record { connections = same.connections; answered = same.answered; results = same.results }
 
 abbrev Leaves : World → InProgress → HasRun → Type 0
 Leaves world request (Gives outcome after left) = Same world request after left
@@ -118,11 +122,11 @@ module _ (world : World) (has : AllHave world) (here : ℕ) where
       }),
     )
 
-    ended : (answered : ℕ) (results : List ℕ) (last : Status) (executed : Option Entry)
-        → AllHave (ends after here (record left { answered = answered; results = results }) last executed).world
-    ended answered results last executed =
+    ended : (answered : ℕ) (results : List ℕ) (last : Status) (holds : Bool) (executed : Option Entry)
+        → AllHave (ends after here (record left { answered = answered; results = results }) last holds executed).world
+    ended answered results last holds executed =
         let reply = framed (reply_text left.xid (Success (result_of (record left { answered = answered; results = results }) last))) in
-        replied reply (ends after here (record left { answered = answered; results = results }) last executed).world
+        replied reply (ends after here (record left { answered = answered; results = results }) last holds executed).world
         (ap (λ (c : Keyed Connection). with c here (Replied reply)) leaves.connections)
 
     abbrev further_on : Outcome → (status : Option Status) → InProgress
@@ -138,9 +142,9 @@ module _ (world : World) (has : AllHave world) (here : ℕ) where
 
     closed : (outcome : Outcome) (last : Status) (executed : Option Entry) → AllHave (closes after here (with_result left outcome) last executed).world
     closed outcome last executed =
-        either (λ (t : Turned). AllHave t.world) (is_to_hold left.slot after.table.seats) _ _
+        either (λ (t : Turned). AllHave t.world) (is_to_hold left after.table) _ _
         (λ seated. gone_on outcome (Some last) executed)
-        (λ none. ended (with_result left outcome).answered (with_result left outcome).results last executed)
+        (λ none. ended (with_result left outcome).answered (with_result left outcome).results last false executed)
 
     went : (outcome : Outcome) (executed : Option Entry) → AllHave (behind after here left outcome executed).world
     went (Refused operation reason) executed = closed (Refused operation reason) reason executed
@@ -157,17 +161,19 @@ module _ (world : World) (has : AllHave world) (here : ℕ) where
   turned now _ Idles = has
   turned now _ (Says bytes xid reply is) = replied (framed (reply_text xid reply)) (with_connection world here (Replied (framed (reply_text xid reply)))) refl
   turned now _ (Closes request last there is) =
-      ended request (has here request there) world request (same world request) request.answered request.results last None
+      ended request (has here request there) world request (same world request) request.answered request.results last true None
   turned now _ (Unread request operation reason goes) =
       went request (goes_has request goes) world request (same world request) (Refused operation reason) None
   turned now _ (TooBig request operation rest goes reads) =
-      went (read_of request rest) (read_has request rest (goes_has request goes)) world (read_of request rest) (same world (read_of request rest))
+      went (read_of request rest) (read_has request rest (goes_has request goes)) world (noting world world operation (read_of request rest))
+      (noted _ world (read_of request rest) world (read_of request rest) (same world (read_of request rest)))
       (Refused (operation_of operation) status.RepTooBig)
       (Some (executed_entry world (read_of request rest) operation (Refused (operation_of operation) status.RepTooBig) world))
   turned now _ (Gave request operation rest outcome after left goes reads is) =
       let leaves : Leaves world (read_of request rest) (Gives outcome after left) =
       subst (Leaves world (read_of request rest)) is (run_leaves world (read_of request rest) now operation) in
-      went (read_of request rest) (read_has request rest (goes_has request goes)) after left leaves outcome
+      went (read_of request rest) (read_has request rest (goes_has request goes)) after (noting world after operation left)
+      (noted _ world (read_of request rest) after left leaves) outcome
       (Some (executed_entry world (read_of request rest) operation outcome after))
   turned now _ (Repeats request operation rest result session slot goes reads is) =
       replied (framed (reply_text request.xid (Success result))) (with_connection world here (Replied (framed (reply_text request.xid (Success result))))) refl

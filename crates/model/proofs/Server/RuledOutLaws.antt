@@ -14,7 +14,7 @@ use Rattle.model.specs.Wire.Rpc.{CallRead, NoCall, OtherVersion, Calls, Request,
 use Rattle.model.specs.Sessions.Session as sessions
 use Rattle.model.specs.Sessions.Session.{Table, Session, Slot, Kept, Begun, Runs, begin, begin_by, begin_slot, begin_new, finish, finished_slot, changed_where, is_session, slot_at, next_number}
 use Rattle.model_tree.specs.Trees.Tree.{Tree}
-use Rattle.model.specs.Server.World.{ServerLimits, World, InProgress, Connection, Quiet, Waiting, Busy, Replied, Closed, HasRun, Gives, Replays, outcome_text, exchanged, created_by, session_created, tabled, started_in, begun, reclaimed, refuses, in_room, has_room, run, Turned, Entry, executed_entry, behind, ends, goes_on, reply_with, status_of, requested, in_progress, called, with_result, is_last, has_run, operates, Next, Refuses, Reads, next_operation, turned, one, without_connection, hangs_up, hung_up, turns, operations_left, is_busy, further, closes, is_to_hold}
+use Rattle.model.specs.Server.World.{ServerLimits, World, InProgress, Connection, Quiet, Waiting, Busy, Replied, Closed, HasRun, Gives, Replays, outcome_text, exchanged, created_by, session_created, tabled, started_in, begun, reclaimed, refuses, in_room, has_room, run, Turned, Entry, executed_entry, behind, ends, goes_on, reply_with, status_of, requested, in_progress, called, with_result, is_last, has_run, operates, Next, Refuses, Reads, next_operation, turned, one, without_connection, hangs_up, hung_up, turns, operations_left, is_busy, further, closes, is_to_hold, noting}
 use Rattle.model.specs.Server.Runs.{Takes, Happens, StaysDown, MayBeTaken, is_durable, tree_after, executed, executed_by, executed_of, effect_of, Event, Serving, RunHistory, IsRun, Begins, Goes_on, Fails_at, Stays_down, Flushed, mounted, left_after, Left, IsAfterEvent, is_done}
 use Rattle.model.specs.Server.RuledOut.{NoSkip, NoEarlyReply, NoTakingBack, NoReplyAlone, NoSecondRun, NoForgetting, NoGap, IsOutcome, IsBehind, IsOneFurther, OneATurn, HangsUpLast, request_by, request_in, request_at, after_turns, HangUpIsEvents, EachEventHappens, with_operations, EndsByHolding}
 use Rattle.std.proofs.Common.{get_or-set_same, length-set, lt-ltb}
@@ -136,10 +136,10 @@ finished_replays uid count arguments seats session reply within same caller =
 
 pub no_forgetting : NoForgetting
 unfolding begin finish
-no_forgetting uid count arguments table session reply known within same caller =
-    ap (begin_by uid count arguments (finish arguments.session arguments.slot reply table).seats)
+no_forgetting uid count arguments table session holds reply known within same caller =
+    ap (begin_by uid count arguments (finish arguments.session arguments.slot holds reply table).seats)
     (found_changed arguments.session (finished_slot arguments.slot reply) table.sessions session (λ one. refl) known)
-    ∙ finished_replays uid count arguments (finish arguments.session arguments.slot reply table).seats session reply within same caller
+    ∙ finished_replays uid count arguments (finish arguments.session arguments.slot holds reply table).seats session reply within same caller
 
 pub no_gap : NoGap
 no_gap uid count arguments table session known e =
@@ -162,6 +162,17 @@ record IsSameRequest (request left : InProgress) : Type 0 where
 
 same_request : (request : InProgress) → IsSameRequest request request
 same_request request = record { xid = refl; tag = refl; count = refl; answered = refl; results = refl; rest = refl; ended = refl }
+
+noted_same : (request left : InProgress) (before after : World) (operation : Argument) → IsSameRequest request left → IsSameRequest request (noting before after operation left)
+noted_same request left before after operation same = record {
+  xid = same.xid;
+  tag = same.tag;
+  count = same.count;
+  answered = same.answered;
+  results = same.results;
+  rest = same.rest;
+  ended = same.ended;
+}
 
 -- the operation is a SEQUENCE, to which this slot keeps this result
 record IsReplayed (world : World) (request : InProgress) (operation : Argument) (result session : List ℕ) (slot : ℕ) : Type 0 where
@@ -272,9 +283,9 @@ module _ (old : World) (request : InProgress) (next : Next) (number : ℕ) (goin
       }))
 
   ends_further : (left : InProgress) (world : World) (outcome : Outcome) (entry : Option Entry) → HasCome old request next left world outcome entry
-      → (is_done outcome ≡ false) ⊎ (request.answered + 1 ≡ request.count) → Further (ends world number (with_result left outcome) (status_of outcome) entry)
+      → (is_done outcome ≡ false) ⊎ (request.answered + 1 ≡ request.count) → Further (ends world number (with_result left outcome) (status_of outcome) false entry)
   ends_further left world outcome entry come why =
-      subst (IsOneFurther old request next (ends world number (with_result left outcome) (status_of outcome) entry))
+      subst (IsOneFurther old request next (ends world number (with_result left outcome) (status_of outcome) false entry))
       (sym (at-with_same world.connections number (Replied (framed (reply_with left outcome)))))
       (inl (record { outcome = outcome; executes = come.executes; last = why; says = same_reply left come.rest outcome come.same }))
 
@@ -303,7 +314,7 @@ module _ (old : World) (request : InProgress) (next : Next) (number : ℕ) (goin
   closes_further : (left : InProgress) (world : World) (outcome : Outcome) (entry : Option Entry) → HasCome old request next left world outcome entry
       → (is_done outcome ≡ false) ⊎ (request.answered + 1 ≡ request.count) → Further (closes world number (with_result left outcome) (status_of outcome) entry)
   closes_further left world outcome entry come why =
-      chosen_further (is_to_hold left.slot world.table.seats) _ _
+      chosen_further (is_to_hold left world.table) _ _
       (λ seated. waits_further left world outcome entry come why) (λ none. ends_further left world outcome entry come why)
 
   behind_further : (left : InProgress) (world : World) (outcome : Outcome) (entry : Option Entry) → HasCome old request next left world outcome entry
@@ -320,8 +331,8 @@ has_run_further : (world : World) (request : InProgress) (number : ℕ) (operati
     → Keeps world (record request { rest = rest }) operation ran
     → FurtherBy world request (Reads operation rest) number (has_run world number (record request { rest = rest }) operation ran)
 has_run_further world request number operation rest (Gives outcome after left) going keeps =
-    behind_further world request (Reads operation rest) number going left after outcome (Some (executed_entry world request operation outcome after))
-    (record { rest = rest; same = keeps; executes = refl; behind = λ done. refl })
+    behind_further world request (Reads operation rest) number going (noting world after operation left) after outcome (Some (executed_entry world request operation outcome after))
+    (record { rest = rest; same = noted_same (record request { rest = rest }) left world after operation keeps; executes = refl; behind = λ done. refl })
 has_run_further world request number operation rest (Replays result session slot) going keeps =
     let reply : List ℕ = framed (reply_text request.xid (Success result)) in
     subst (IsOneFurther world request (Reads operation rest) (has_run world number (record request { rest = rest }) operation (Replays result session slot)))
@@ -392,7 +403,7 @@ busy_turns most world number now e = ap (λ (b : Bool). cond b (turns most (one 
 
 -- after a turn, with what its further turns come to
 makes_reply : (world : World) (number now : ℕ) (request : InProgress) (last : Status) → at number world.connections ≡ Some (Busy request) → request.ended ≡ Some last
-    → one world number now ≡ ends world number request last None
+    → one world number now ≡ ends world number request last true None
 unfolding one
 makes_reply world number now request last is ended =
     ap (turned world number now) is ∙ ap (further world number now request) ended

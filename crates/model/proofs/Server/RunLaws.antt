@@ -19,7 +19,7 @@ use Rattle.model.specs.Operations.Operation.{SequenceArguments, operation_of}
 use Rattle.model.specs.Wire.Rpc.{CallRead, NoCall, OtherVersion, Calls, Request, Answers, Runs, read_call, request_of}
 use Rattle.model.specs.Sessions.Session as sessions
 use Rattle.model.specs.Sessions.Session.{Table, Session}
-use Rattle.model.specs.Server.World.{World, InProgress, Connection, Quiet, Waiting, Busy, Replied, Closed, HasRun, Gives, Replays, exchanged, created_by, session_created, tabled, started_in, begun, reclaimed, stepped, state_of, refuses, in_room, has_room, run, Turned, Entry, executed_entry, behind, ends, goes_on, with_result, is_last, has_run, operates, Next, Refuses, Reads, next_operation, requested, in_progress, called, turned, one, connection_changed, arrives, arrives_at, takes, without_reply, connects, can_connect, hangs_up, is_busy, closes, is_to_hold, further}
+use Rattle.model.specs.Server.World.{World, InProgress, Connection, Quiet, Waiting, Busy, Replied, Closed, HasRun, Gives, Replays, exchanged, created_by, session_created, tabled, started_in, begun, reclaimed, stepped, state_of, refuses, in_room, has_room, run, Turned, Entry, executed_entry, behind, ends, goes_on, with_result, is_last, has_run, operates, Next, Refuses, Reads, next_operation, requested, in_progress, called, turned, one, connection_changed, arrives, arrives_at, takes, without_reply, connects, can_connect, hangs_up, is_busy, closes, is_to_hold, further, noting}
 use Rattle.model_tree.specs.Trees.Keyed.{at}
 use Rattle.model.specs.Server.Runs.{is_done, before, Event, Arrives, Turns, HangsUp, Connects, Takes, effect_of, executed_of}
 use Rattle.model.proofs.Operations.RefusalLaws.{none_before}
@@ -167,8 +167,8 @@ either_fits old false x y first second = second
 closes_fits : (old : Tree) (world : World) (number : ℕ) (request : InProgress) (last : Status) (executed : Option Entry) → EntryFits old world.tree executed
     → TurnFits old (closes world number request last executed)
 closes_fits old world number request last executed fits =
-    either_fits old (is_to_hold request.slot world.table.seats) (goes_on world number (record request { ended = Some last }) executed)
-    (ends world number request last executed) fits fits
+    either_fits old (is_to_hold request world.table) (goes_on world number (record request { ended = Some last }) executed)
+    (ends world number request last false executed) fits fits
 
 behind_fits : (old : Tree) (world : World) (number : ℕ) (request : InProgress) (outcome : Outcome) (executed : Option Entry) → EntryFits old world.tree executed
     → TurnFits old (behind world number request outcome executed)
@@ -182,7 +182,7 @@ behind_fits old world number request (Outcome.Done answer) executed fits =
 has_run_fits : (world : World) (number : ℕ) (request : InProgress) (operation : Argument) (ran : HasRun) → RanFits world request operation ran
     → TurnFits world.tree (has_run world number request operation ran)
 has_run_fits world number request operation (Gives outcome after left) fits =
-    behind_fits world.tree after number left outcome (Some (executed_entry world request operation outcome after)) (refl, refl, fits)
+    behind_fits world.tree after number (noting world after operation left) outcome (Some (executed_entry world request operation outcome after)) (refl, refl, fits)
 has_run_fits world number request operation (Replays result session slot) fits = refl
 
 operates_fits : (world : World) (number now : ℕ) (request : InProgress) (next : Next) → TurnFits world.tree (operates world number now request next)

@@ -13,7 +13,7 @@ use Rattle.model.specs.Sessions.Session.{Table, Session, begin, is_session, next
 use Rattle.model.specs.Sessions.SessionRuns.{CountsFrom}
 use Rattle.model_tree.specs.Trees.Tree.{Tree}
 use Rattle.model.specs.Sessions.StateIds.{has_opens}
-use Rattle.model.specs.Server.World.{World, ServerLimits, InProgress, Connection, Quiet, Waiting, Busy, Replied, Closed, HasRun, Gives, Replays, exchanged, created_by, tabled, started_in, begun, reclaimed, refuses, in_room, has_room, run, Turned, Entry, executed_entry, behind, ends, goes_on, kept_by, result_of, with_result, is_last, has_run, operates, Next, Refuses, Reads, next_operation, requested, in_progress, called, turned, one, connection_changed, arrives, arrives_at, takes, without_reply, connects, can_connect, hangs_up, is_busy, reply_at, closes, is_to_hold, further}
+use Rattle.model.specs.Server.World.{World, ServerLimits, InProgress, Connection, Quiet, Waiting, Busy, Replied, Closed, HasRun, Gives, Replays, exchanged, created_by, tabled, started_in, begun, reclaimed, refuses, in_room, has_room, run, Turned, Entry, executed_entry, behind, ends, goes_on, kept_by, result_of, with_result, is_last, has_run, operates, Next, Refuses, Reads, next_operation, requested, in_progress, called, turned, one, connection_changed, arrives, arrives_at, takes, without_reply, connects, can_connect, hangs_up, is_busy, reply_at, closes, is_to_hold, further, noting}
 use Rattle.model.specs.Server.Runs.{Event, Arrives, Turns, HangsUp, Connects, Takes, effect_of, executed_of, RunHistory, Serving, mounted, IsRun, Begins, Goes_on, Fails_at, Stays_down, Flushed}
 use Rattle.model.specs.Server.ServedOnce.{number_begun, number_by, numbers_in, EveryServedSlot}
 use Rattle.model.proofs.Server.Headline.{Joined, done_behind, taken_done}
@@ -117,14 +117,15 @@ number_of id slot (Some entry) = number_by id slot entry.operation entry.outcome
 TurnGoes : List ℕ → ℕ → ℕ → Turned → Type 0
 TurnGoes id slot last turned = Goes id slot last turned.world.table (number_of id slot turned.executed)
 
-kept_stands : (id : List ℕ) (slot last : ℕ) (place : Option (List ℕ × ℕ)) (result : List ℕ) (table : Table) → Stands id slot last table → Stands id slot last (kept_by place result table)
-kept_stands id slot last None result table stands = stands
-kept_stands id slot last (Some place) result table stands = finish_stands id slot last place.0 place.1 result table stands
+kept_stands : (id : List ℕ) (slot last : ℕ) (place : Option (List ℕ × ℕ)) (holds : Bool) (result : List ℕ) (table : Table) → Stands id slot last table
+    → Stands id slot last (kept_by place holds result table)
+kept_stands id slot last None holds result table stands = stands
+kept_stands id slot last (Some place) holds result table stands = finish_stands id slot last place.0 place.1 holds result table stands
 
-kept_goes : (id : List ℕ) (slot last : ℕ) (place : Option (List ℕ × ℕ)) (result : List ℕ) (table : Table) (number : Option ℕ) → Goes id slot last table number
-    → Goes id slot last (kept_by place result table) number
-kept_goes id slot last place result table None goes = kept_stands id slot last place result table goes
-kept_goes id slot last place result table (Some number) goes = (goes.0, kept_stands id slot number place result table goes.1)
+kept_goes : (id : List ℕ) (slot last : ℕ) (place : Option (List ℕ × ℕ)) (holds : Bool) (result : List ℕ) (table : Table) (number : Option ℕ) → Goes id slot last table number
+    → Goes id slot last (kept_by place holds result table) number
+kept_goes id slot last place holds result table None goes = kept_stands id slot last place holds result table goes
+kept_goes id slot last place holds result table (Some number) goes = (goes.0, kept_stands id slot number place holds result table goes.1)
 
 either_turn : (id : List ℕ) (slot last : ℕ) (b : Bool) (x y : Turned) → TurnGoes id slot last x → TurnGoes id slot last y → TurnGoes id slot last (cond b x y)
 either_turn id slot last true x y first second = first
@@ -134,9 +135,9 @@ closes_goes : (id : List ℕ) (slot last : ℕ) (world : World) (number : ℕ) (
     → Goes id slot last world.table (number_of id slot entry) → TurnGoes id slot last (closes world number request status entry)
 unfolding TurnGoes
 closes_goes id slot last world number request status entry goes =
-    either_turn id slot last (is_to_hold request.slot world.table.seats) (goes_on world number (record request { ended = Some status }) entry)
-    (ends world number request status entry) goes
-    (kept_goes id slot last request.slot (result_of request status) world.table (number_of id slot entry) goes)
+    either_turn id slot last (is_to_hold request world.table) (goes_on world number (record request { ended = Some status }) entry)
+    (ends world number request status false entry) goes
+    (kept_goes id slot last request.slot false (result_of request status) world.table (number_of id slot entry) goes)
 
 behind_goes : (id : List ℕ) (slot last : ℕ) (world : World) (number : ℕ) (request : InProgress) (outcome : Outcome) (entry : Option Entry)
     → Goes id slot last world.table (number_of id slot entry) → TurnGoes id slot last (behind world number request outcome entry)
@@ -152,7 +153,7 @@ has_run_goes : (id : List ℕ) (slot last : ℕ) (world : World) (number : ℕ) 
     → RanGoes id slot last operation ran → TurnGoes id slot last (has_run world number request operation ran)
 unfolding TurnGoes number_of
 has_run_goes id slot last world number request operation (Gives outcome after left) stands goes =
-    behind_goes id slot last after number left outcome (Some (executed_entry world request operation outcome after)) goes
+    behind_goes id slot last after number (noting world after operation left) outcome (Some (executed_entry world request operation outcome after)) goes
 has_run_goes id slot last world number request operation (Replays result session place) stands goes = stands
 
 operates_goes : (id : List ℕ) (slot last : ℕ) (world : World) (number now : ℕ) (request : InProgress) (next : Next) → Stands id slot last world.table
@@ -182,7 +183,7 @@ further_goes : (id : List ℕ) (slot last : ℕ) (world : World) (number now : �
 unfolding TurnGoes number_of
 further_goes id slot last world number now request None stands = operates_goes id slot last world number now request (next_operation request) stands
 further_goes id slot last world number now request (Some status) stands =
-    kept_stands id slot last request.slot (result_of request status) world.table stands
+    kept_stands id slot last request.slot true (result_of request status) world.table stands
 
 turned_goes : (id : List ℕ) (slot last : ℕ) (world : World) (number now : ℕ) (connection : Option Connection) → Stands id slot last world.table
     → TurnGoes id slot last (turned world number now connection)

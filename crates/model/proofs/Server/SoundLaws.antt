@@ -22,7 +22,7 @@ use Rattle.model.specs.Operations.Step.{does}
 use Rattle.model.specs.Operations.StepLaws.{IsSound}
 use Rattle.model_tree.specs.Trees.Tree.{Tree}
 use Rattle.model_tree.specs.Trees.WellFormed.{IsWellFormed, IsBefore}
-use Rattle.model.specs.Server.World.{in_room, refuses, has_room, World, ServerLimits, InProgress, Connection, Quiet, Waiting, Busy, Replied, Closed, HasRun, Gives, Replays, with_connection, with_table, exchanged, created_by, tabled, started_in, begun, reclaimed, stepped, state_of, run as runs_operation, Turned, Entry, executed_entry, replies, behind, ends, goes_on, with_result, is_last, has_run, operates, Next, Refuses, Reads, next_operation, requested, in_progress, called, turned, one, connection_changed, arrived, arrives, arrives_at, takes, without_reply, connects, can_connect, hangs_up, is_busy, without_connection, mounted_world, closes, is_to_hold, further}
+use Rattle.model.specs.Server.World.{in_room, refuses, has_room, World, ServerLimits, InProgress, Connection, Quiet, Waiting, Busy, Replied, Closed, HasRun, Gives, Replays, with_connection, with_table, exchanged, created_by, tabled, started_in, begun, reclaimed, stepped, state_of, run as runs_operation, Turned, Entry, executed_entry, replies, behind, ends, goes_on, with_result, is_last, has_run, operates, Next, Refuses, Reads, next_operation, requested, in_progress, called, turned, one, connection_changed, arrived, arrives, arrives_at, takes, without_reply, connects, can_connect, hangs_up, is_busy, without_connection, mounted_world, closes, is_to_hold, further, noting}
 use Rattle.model.specs.Server.Runs.{Event, Arrives, Turns, HangsUp, Connects, Takes, effect_of, executed, Serving, RunHistory, IsRun, Begins, Goes_on, Fails_at, Stays_down, Flushed, Left, IsAfterEvent, MayBeLeft, mounted}
 use Rattle.model_tree.proofs.Trees.FreshTree.{fresh_well_formed, fresh_before}
 use Rattle.model_tree.proofs.Trees.KeyedLaws.{at-with_same, at-with_other, at-without_same, at-without_other, some≢none}
@@ -204,10 +204,10 @@ module _ (limits : ServerLimits) (run : ℕ) (room : limits.volume.aces_set + 5 
   no_request : (reply : List ℕ) (request : InProgress) → Replied reply ≡ Busy request → request.context.run ≡ run
   no_request reply request is = absurd (cc)
 
-  ends_sound : (world : World) (number : ℕ) (request : InProgress) (last : Status) (executed : Option Entry) → IsSoundWorld limits run world
-      → SoundTurned (ends world number request last executed)
+  ends_sound : (world : World) (number : ℕ) (request : InProgress) (last : Status) (holds : Bool) (executed : Option Entry) → IsSoundWorld limits run world
+      → SoundTurned (ends world number request last holds executed)
   unfolding SoundTurned
-  ends_sound world number request last executed sound =
+  ends_sound world number request last holds executed sound =
       connected (with_table world _) number (Replied _) (kept world _ world.opens sound.opened sound) (no_request _)
 
   goes_on_sound : (world : World) (number : ℕ) (request : InProgress) (executed : Option Entry) → IsSoundWorld limits run world
@@ -223,10 +223,10 @@ module _ (limits : ServerLimits) (run : ℕ) (room : limits.volume.aces_set + 5 
   closes_sound : (world : World) (number : ℕ) (request : InProgress) (last : Status) (executed : Option Entry) → IsSoundWorld limits run world
       → request.context.run ≡ run → SoundTurned (closes world number request last executed)
   closes_sound world number request last executed sound same =
-      either_sound (is_to_hold request.slot world.table.seats) (goes_on world number (record request { ended = Some last }) executed)
-      (ends world number request last executed)
+      either_sound (is_to_hold request world.table) (goes_on world number (record request { ended = Some last }) executed)
+      (ends world number request last false executed)
       (goes_on_sound world number (record request { ended = Some last }) executed sound same)
-      (ends_sound world number request last executed sound)
+      (ends_sound world number request last false executed sound)
 
   behind_sound : (world : World) (number : ℕ) (request : InProgress) (outcome : Outcome) (executed : Option Entry) → IsSoundWorld limits run world
       → request.context.run ≡ run → SoundTurned (behind world number request outcome executed)
@@ -242,7 +242,7 @@ module _ (limits : ServerLimits) (run : ℕ) (room : limits.volume.aces_set + 5 
       → SoundRan ran → SoundTurned (has_run world number request operation ran)
   unfolding SoundRan SoundTurned
   has_run_sound world number request operation (Gives outcome after left) sound ran =
-      behind_sound after number left outcome (Some (executed_entry world request operation outcome after)) ran.0 ran.1
+      behind_sound after number (noting world after operation left) outcome (Some (executed_entry world request operation outcome after)) ran.0 ran.1
   has_run_sound world number request operation (Replays result session slot) sound ran = connected world number (Replied _) sound (no_request _)
 
   operates_sound : (world : World) (number now : ℕ) (request : InProgress) (next : Next) → IsSoundWorld limits run world
@@ -273,7 +273,7 @@ module _ (limits : ServerLimits) (run : ℕ) (room : limits.volume.aces_set + 5 
   further_sound : (world : World) (number now : ℕ) (request : InProgress) (ended : Option Status) → IsSoundWorld limits run world
       → request.context.run ≡ run → SoundTurned (further world number now request ended)
   further_sound world number now request None sound same = operates_sound world number now request (next_operation request) sound same
-  further_sound world number now request (Some last) sound same = ends_sound world number request last None sound
+  further_sound world number now request (Some last) sound same = ends_sound world number request last true None sound
 
   turned_sound : (world : World) (number now : ℕ) (connection : Option Connection) → at number world.connections ≡ connection
       → IsSoundWorld limits run world → SoundTurned (turned world number now connection)

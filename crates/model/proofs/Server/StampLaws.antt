@@ -19,7 +19,7 @@ use Rattle.model.specs.Operations.Files.{has_bytes, write}
 use Rattle.model.specs.Operations.Open.{cuts, cut_or_not, with_file, makes_file, cuts_file, opening_done}
 use Rattle.model.specs.Operations.SetAttr.{sets, set_attributes}
 use Rattle.model.specs.Operations.Step.{State, Stepped, current, is_name_there, rename, alters, effect, refusals, change_refusals, unless_refused, does}
-use Rattle.model.specs.Server.World.{World, ServerLimits, InProgress, Connection, Quiet, Waiting, Busy, Replied, Closed, HasRun, Gives, Replays, exchanged, created_by, session_created, tabled, started_in, begun, reclaimed, stepped, state_of, refuses, in_room, has_room, run, Turned, Entry, executed_entry, behind, ends, goes_on, with_result, is_last, has_run, operates, Next, Refuses, Reads, next_operation, requested, in_progress, called, turned, one, connection_changed, arrives, arrives_at, takes, without_reply, connects, can_connect, hangs_up, is_busy, closes, is_to_hold, further}
+use Rattle.model.specs.Server.World.{World, ServerLimits, InProgress, Connection, Quiet, Waiting, Busy, Replied, Closed, HasRun, Gives, Replays, exchanged, created_by, session_created, tabled, started_in, begun, reclaimed, stepped, state_of, refuses, in_room, has_room, run, Turned, Entry, executed_entry, behind, ends, goes_on, with_result, is_last, has_run, operates, Next, Refuses, Reads, next_operation, requested, in_progress, called, turned, one, connection_changed, arrives, arrives_at, takes, without_reply, connects, can_connect, hangs_up, is_busy, closes, is_to_hold, further, noting}
 use Rattle.model.proofs.Server.Headline.{slice_get-append, slice_get-within, slice_get-last, done_behind}
 use Rattle.model.proofs.Operations.RefusalLaws.{none_in_front, none_after}
 use Rattle.model_tree.proofs.Facts.BooleanLaws.{second_held}
@@ -29,7 +29,7 @@ Differs entry = before entry ≢ entry.after
 
 -- One operation: where the tree differs, it was counted, and a stamp was left
 
-abbrev Counts : (old new : ℕ) → (differs : Type 0) → Type 0
+abbrev pub Counts : (old new : ℕ) → (differs : Type 0) → Type 0
 Counts old new differs = (old ≤ new) × (differs → (new ≡ old + 1) × (old + 1 < 2 ^ 32))
 
 abbrev StateCounts : State → Stepped → Type 0
@@ -100,7 +100,7 @@ does_counts limits state now operation =
     let last = none_in_front (alters state operation && not (fits limits after)) status.NoSpc _ changes in
     second_held (alters state operation) (is_stamp_left state.changes) (none_in_front (alters state operation && not (is_stamp_left state.changes)) status.ServerFault None last.1).0 is))
 
-abbrev RanCounts : World → HasRun → Type 0
+abbrev pub RanCounts : World → HasRun → Type 0
 RanCounts world (Gives outcome after left) = Counts world.changes after.changes (world.tree ≢ after.tree)
 RanCounts world (Replays result session slot) = Unit {0}
 
@@ -135,7 +135,7 @@ reclaimed_counts : (world : World) (request : InProgress) (refusal : Option Stat
 reclaimed_counts world request None = same_counts world
 reclaimed_counts world request (Some reason) = same_counts world
 
-run_counts : (world : World) (request : InProgress) (now : ℕ) (operation : Argument) → RanCounts world (run world request now operation)
+pub run_counts : (world : World) (request : InProgress) (now : ℕ) (operation : Argument) → RanCounts world (run world request now operation)
 unfolding run
 run_counts world request now (Argument.ExchangeId arguments) = exchanged_counts world request _
 run_counts world request now (Argument.CreateSession arguments) = created_counts world request _
@@ -172,8 +172,8 @@ chosen_counts old false x y first second = second
 closes_counts : (old world : World) (number : ℕ) (request : InProgress) (last : Status) (executed : Option Entry) → EntryCounts old.changes world.changes executed
     → TurnCounts old (closes world number request last executed)
 closes_counts old world number request last executed counts =
-    chosen_counts old (is_to_hold request.slot world.table.seats) (goes_on world number (record request { ended = Some last }) executed)
-    (ends world number request last executed) counts counts
+    chosen_counts old (is_to_hold request world.table) (goes_on world number (record request { ended = Some last }) executed)
+    (ends world number request last false executed) counts counts
 
 behind_counts : (old world : World) (number : ℕ) (request : InProgress) (outcome : Outcome) (executed : Option Entry) → EntryCounts old.changes world.changes executed
     → TurnCounts old (behind world number request outcome executed)
@@ -186,7 +186,7 @@ behind_counts old world number request (Outcome.Done answer) executed counts =
 
 has_run_counts : (world : World) (number : ℕ) (request : InProgress) (operation : Argument) (ran : HasRun) → RanCounts world ran → TurnCounts world (has_run world number request operation ran)
 has_run_counts world number request operation (Gives outcome after left) counts =
-    behind_counts world after number left outcome (Some (executed_entry world request operation outcome after)) (refl, counts)
+    behind_counts world after number (noting world after operation left) outcome (Some (executed_entry world request operation outcome after)) (refl, counts)
 has_run_counts world number request operation (Replays result session slot) counts = refl
 
 operates_counts : (world : World) (number now : ℕ) (request : InProgress) (next : Next) → TurnCounts world (operates world number now request next)

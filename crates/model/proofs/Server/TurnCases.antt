@@ -10,7 +10,7 @@ use Rattle.model_tree.specs.Trees.Keyed.{at}
 use Rattle.model.specs.Operations.Operation.{Argument, operation_of}
 use Rattle.model.specs.Wire.Record.{RecordLimits, Front, Partial, Refused as BadRecord, Whole, front, framed}
 use Rattle.model.specs.Wire.Rpc.{CallRead, NoCall, OtherVersion, Calls, VersionRefused, read_call, is_call_read, Call, Request, Answers, Runs, request_of, by_head, by_cred, compound_request, is_empty, cred_of, compound_head, Compound, Reply, Success, reply_text}
-use Rattle.model.specs.Server.World.{World, InProgress, Connection, Quiet, Waiting, Busy, Replied, Closed, HasRun, Gives, Replays, Next, Refuses, Reads, next_operation, run, has_room, in_room, Turned, Answered, idle, replies, behind, has_run, operates, executed_entry, ends, further, in_progress, requested, called, turned, one, with_connection, arrived, arrives_at, without_reply}
+use Rattle.model.specs.Server.World.{World, InProgress, Connection, Quiet, Waiting, Busy, Replied, Closed, HasRun, Gives, Replays, Next, Refuses, Reads, next_operation, run, has_room, in_room, Turned, Answered, idle, replies, behind, noting, has_run, operates, executed_entry, ends, further, in_progress, requested, called, turned, one, with_connection, arrived, arrives_at, without_reply}
 
 -- the request that a turn of this connection goes on with: one that has begun, or that begins
 pub data GoesWith (world : World) (here : ℕ) : InProgress → Type 0 where
@@ -26,15 +26,15 @@ pub data IsTurn (world : World) (here now : ℕ) : Turned → Type 0 where
   Idles : IsTurn world here now (idle world)
   Says : (bytes : List ℕ) (xid : ℕ) (reply : Reply) → at here world.connections ≡ Some (Waiting bytes) → IsTurn world here now (replies world here xid reply)
   Closes : (request : InProgress) (last : Status) → at here world.connections ≡ Some (Busy request) → request.ended ≡ Some last
-      → IsTurn world here now (ends world here request last None)
+      → IsTurn world here now (ends world here request last true None)
   Unread : (request : InProgress) (operation : ℕ) (reason : Status) → GoesWith world here request
       → IsTurn world here now (behind world here request (Refused operation reason) None)
   TooBig : (request : InProgress) (operation : Argument) (rest : List ℕ) → GoesWith world here request → next_operation request ≡ Reads operation rest
-      → IsTurn world here now (behind world here (read_of request rest) (Refused (operation_of operation) status.RepTooBig)
+      → IsTurn world here now (behind world here (noting world world operation (read_of request rest)) (Refused (operation_of operation) status.RepTooBig)
       (Some (executed_entry world (read_of request rest) operation (Refused (operation_of operation) status.RepTooBig) world)))
   Gave : (request : InProgress) (operation : Argument) (rest : List ℕ) (outcome : Outcome) (after : World) (left : InProgress) → GoesWith world here request
       → next_operation request ≡ Reads operation rest → run world (read_of request rest) now operation ≡ Gives outcome after left
-      → IsTurn world here now (behind after here left outcome (Some (executed_entry world (read_of request rest) operation outcome after)))
+      → IsTurn world here now (behind after here (noting world after operation left) outcome (Some (executed_entry world (read_of request rest) operation outcome after)))
   Repeats : (request : InProgress) (operation : Argument) (rest result session : List ℕ) (slot : ℕ) → GoesWith world here request
       → next_operation request ≡ Reads operation rest → run world (read_of request rest) now operation ≡ Replays result session slot
       → IsTurn world here now (record {
@@ -42,6 +42,7 @@ pub data IsTurn (world : World) (here now : ℕ) : Turned → Type 0 where
         world = with_connection world here (Replied (framed (reply_text request.xid (Success result))));
         executed = None;
         keeps = None;
+        holds = false;
         replays = Some (session, slot);
       })
 

@@ -343,17 +343,17 @@ module _ (uid : ℕ) (arguments : SequenceArguments) (table : Table) where
   unfolding started
   started_stays id session found = slotted_stays arguments.session arguments.slot begins table id session found
 
-module _ (name : List ℕ) (here : ℕ) (reply : List ℕ) (table : Table) where
+module _ (name : List ℕ) (here : ℕ) (holds : Bool) (reply : List ℕ) (table : Table) where
   abbrev keeps : Session → Slot
   keeps session = record (slot_at session here) { state = Kept reply }
 
-  pub finish_lives : (opens : Opens) → Lives table opens → Lives (finish name here reply table) opens
+  pub finish_lives : (opens : Opens) → Lives table opens → Lives (finish name here holds reply table) opens
   unfolding finish
   finish_lives opens lives =
       let slotted = slotted_lives name here keeps table opens lives in
       record { of_opens = slotted.of_opens; of_sessions = slotted.of_sessions }
 
-  pub finish_stays : (id : List ℕ) (session : Session) → find (is_session id) table.sessions ≡ Some session → StaysFor id session.client (finish name here reply table)
+  pub finish_stays : (id : List ℕ) (session : Session) → find (is_session id) table.sessions ≡ Some session → StaysFor id session.client (finish name here holds reply table)
   unfolding finish
   finish_stays id session found =
       let slotted = slotted_stays name here keeps table id session found in

@@ -29,7 +29,7 @@ use Rattle.model.specs.Sessions.Session.{SessionLimits, Client, Slot, Session, T
 use Rattle.model.specs.Sessions.StateIds.{has_opens}
 use Rattle.model_tree.specs.Refusals.Status.{code_of}
 use Rattle.model.specs.Wire.WireAnswers.{behind_refusal}
-use Rattle.model.specs.Server.World.{ServerLimits, InProgress, Connection, Quiet, Waiting, Busy, Replied, Closed, World, Entry, HasRun, Gives, Replays, Next, Refuses, Reads, Turned, next_operation, exchanged, created_by, tabled, started_in, begun, reclaimed, run, outcome_text, reply_with, has_room, in_room, status_of, with_result, result_of, kept_by, ends, goes_on, behind, has_run, operates, in_progress, requested, called, turned, with_connection, executed_entry, refuses, one, arrived, arrives_at, connection_changed, arrives, without_reply, takes, can_connect, connects, is_busy, without_connection, hangs_up, operations_left, turns, hung_up, is_last, further, closes, is_to_hold}
+use Rattle.model.specs.Server.World.{ServerLimits, InProgress, Connection, Quiet, Waiting, Busy, Replied, Closed, World, Entry, HasRun, Gives, Replays, Next, Refuses, Reads, Turned, next_operation, exchanged, created_by, tabled, started_in, begun, reclaimed, run, outcome_text, reply_with, has_room, in_room, status_of, with_result, result_of, kept_by, ends, goes_on, behind, has_run, operates, in_progress, requested, called, turned, with_connection, executed_entry, refuses, one, arrived, arrives_at, connection_changed, arrives, without_reply, takes, can_connect, connects, is_busy, without_connection, hangs_up, operations_left, turns, hung_up, is_last, further, closes, is_to_hold, noting}
 use Rattle.model.specs.Sessions.KeptReplies.{reply_so_far, max_kept, is_short_state, keeps_short, IsShort, HasReplyRoom, KeepsShort, IsShortSoFar}
 use Rattle.model_tree.proofs.Trees.KeyedLaws.{at-with_same, at-with_other, at-without_same, at-without_other}
 use Rattle.model.proofs.Sessions.SlotLaw.{exchange_same, destroy_client_same, reclaim_same}
@@ -200,6 +200,17 @@ pub record Leaves (world : World) (request : InProgress) (after : World) (left :
   pub results : left.results ≡ request.results
   pub ended : left.ended ≡ request.ended
 
+noted : (altered : Bool) (world : World) (request : InProgress) (after : World) (left : InProgress) → Leaves world request after left
+    → Leaves world request after (record left { altered = altered })
+noted altered world request after left leaves = record {
+  limits = leaves.limits;
+  connections = leaves.connections;
+  short = leaves.short;
+  tag = leaves.tag;
+  results = leaves.results;
+  ended = leaves.ended;
+}
+
 abbrev HasLeft : World → InProgress → HasRun → Type 0
 HasLeft world request (Gives outcome after left) = Leaves world request after left
 HasLeft world request (Replays result session slot) = Unit {0}
@@ -316,11 +327,11 @@ module _ (world : World) (short : IsShort world) (here : ℕ) where
       never : (request : InProgress) → Replied reply ≡ Busy request → ⊥
       never request wrong = cc
 
-  kept_short : (slot : Option (List ℕ × ℕ)) (result : List ℕ) (table : Table) → length result ≤ max_kept limits → AllShort (max_kept limits) table.sessions
-      → AllShort (max_kept limits) (kept_by slot result table).sessions
+  kept_short : (slot : Option (List ℕ × ℕ)) (holds : Bool) (result : List ℕ) (table : Table) → length result ≤ max_kept limits → AllShort (max_kept limits) table.sessions
+      → AllShort (max_kept limits) (kept_by slot holds result table).sessions
   unfolding finish
-  kept_short None result table fits kept = kept
-  kept_short (Some slot) result table fits kept =
+  kept_short None holds result table fits kept = kept
+  kept_short (Some slot) holds result table fits kept =
       slotted_short (max_kept limits) slot.0 slot.1 (λ s. record (slot_at s slot.1) { state = sessions.Kept result })
       (λ s. le-leb (length result) (max_kept limits) fits) table.sessions kept
 
@@ -331,15 +342,15 @@ module _ (world : World) (short : IsShort world) (here : ℕ) where
         ∙ ap (λ (results : List ℕ). 32 + length (counted request.tag) + length results) leaves.results
 
     ended : (outcome : Outcome) (last : Status) → weight request + length (outcome_text outcome) ≤ limits.reply_bytes + 12
-        → Bounded limits (ends after here (with_result left outcome) last None).world
+        → Bounded limits (ends after here (with_result left outcome) last false None).world
     ended outcome last fits =
         let size = result_length last left.tag (left.answered + 1) (left.results ++ outcome_text outcome) in
         let most : length (result_of (with_result left outcome) last) ≤ max_kept limits =
         omega (arith, size, with_length left outcome, same_weight, fits) in
         replied (marks.framed (reply_text left.xid (Success (result_of (with_result left outcome) last))))
-        (ends after here (with_result left outcome) last None).world leaves.limits
+        (ends after here (with_result left outcome) last false None).world leaves.limits
         (ap (λ (c : Keyed Connection). with c here (Replied (marks.framed (reply_text left.xid (Success (result_of (with_result left outcome) last)))))) leaves.connections)
-        (kept_short left.slot (result_of (with_result left outcome) last) after.table most leaves.short)
+        (kept_short left.slot false (result_of (with_result left outcome) last) after.table most leaves.short)
 
     -- the reply is to be held
     waits : (outcome : Outcome) (last : Status) → weight request + length (outcome_text outcome) ≤ limits.reply_bytes + 12
@@ -358,7 +369,7 @@ module _ (world : World) (short : IsShort world) (here : ℕ) where
     closed : (outcome : Outcome) (last : Status) (executed : Option Entry) → weight request + length (outcome_text outcome) ≤ limits.reply_bytes + 12
         → Bounded limits (closes after here (with_result left outcome) last executed).world
     closed outcome last executed fits =
-        either (λ (t : Turned). Bounded limits t.world) (is_to_hold left.slot after.table.seats) _ _
+        either (λ (t : Turned). Bounded limits t.world) (is_to_hold left after.table) _ _
         (λ seated. waits outcome last fits) (λ none. ended outcome last fits)
 
     gone_on : (outcome : Outcome) → weight request + length (outcome_text outcome) ≤ limits.reply_bytes
@@ -386,18 +397,18 @@ module _ (world : World) (short : IsShort world) (here : ℕ) where
   fits_behind : (request : InProgress) → weight request ≤ limits.reply_bytes → request.ended ≡ None → (operation : Argument) (before : InProgress) → (ran : HasRun)
       → HasLeft world request ran → Bounded limits (has_run world here before operation (in_room world request (operation_of operation) ran)).world
   fits_behind request light goes operation before (Gives (Refused number reason) after left) leaves =
-      refused_behind request after left leaves light goes number reason (Some (executed_entry world before operation (Refused number reason) after))
+      refused_behind request after (noting world after operation left) (noted _ world request after left leaves) light goes number reason (Some (executed_entry world before operation (Refused number reason) after))
   fits_behind request light goes operation before (Gives (Done answer) after left) leaves = by_room (has_room world request (Done answer)) refl
     where
       too_big : Bounded limits (has_run world here before operation (refuses world request (operation_of operation) status.RepTooBig)).world
-      too_big = refused_behind request world request (leaves_same world request short.kept) light goes (operation_of operation) status.RepTooBig
+      too_big = refused_behind request world (noting world world operation request) (noted _ world request world request (leaves_same world request short.kept)) light goes (operation_of operation) status.RepTooBig
           (Some (executed_entry world before operation (Refused (operation_of operation) status.RepTooBig) world))
 
       by_room : (room : Bool) → has_room world request (Done answer) ≡ room
           → Bounded limits (has_run world here before operation
           (cond room (Gives (Done answer) after left) (refuses world request (operation_of operation) status.RepTooBig))).world
       by_room true is =
-          done_behind request after left leaves light goes answer (Some (executed_entry world before operation (Done answer) after))
+          done_behind request after (noting world after operation left) (noted _ world request after left leaves) light goes answer (Some (executed_entry world before operation (Done answer) after))
           (omega (arith, reply_with_length request (Done answer), leb-true (length (reply_with request (Done answer))) limits.reply_bytes is))
       by_room false is = too_big
   fits_behind request light goes operation before (Replays result session slot) leaves =
@@ -430,10 +441,10 @@ module _ (world : World) (short : IsShort world) (here : ℕ) where
     called_bounded (Calls call) = requested_bounded call.xid (request_of call) (request_fits call)
 
     -- one whose reply was to be held: it is there
-    makes : (request : InProgress) (last : Status) → length (result_of request last) ≤ max_kept limits → Bounded limits (ends world here request last None).world
+    makes : (request : InProgress) (last : Status) → length (result_of request last) ≤ max_kept limits → Bounded limits (ends world here request last true None).world
     makes request last most =
         let reply = marks.framed (reply_text request.xid (Success (result_of request last))) in
-        replied reply (ends world here request last None).world refl refl (kept_short request.slot (result_of request last) world.table most short.kept)
+        replied reply (ends world here request last true None).world refl refl (kept_short request.slot true (result_of request last) world.table most short.kept)
 
     further_bounded : (request : InProgress) → (status : Option Status) → request.ended ≡ status → IsShortSoFar limits request status
         → Bounded limits (further world here now request status).world

@@ -19,13 +19,14 @@ use Rattle.model.specs.Wire.Record.{framed}
 use Rattle.model.specs.Wire.Rpc.{Success, reply_text}
 use Rattle.model.specs.Server.Runs.{Serving, RunHistory, IsRun, mounted, Event, Arrives, Turns, HangsUp, Connects, Takes, effect_of, Begins, Goes_on, Fails_at, Stays_down, Flushed, is_done}
 use Rattle.model.specs.Sessions.Session as sessions
+use Rattle.model.specs.Sessions.Session.{holds_reply}
 use Rattle.model.specs.Sessions.Session.{Session, Table, is_session}
 use Rattle.model.specs.Operations.SetAttr.{sets}
 use Rattle.model.specs.Sessions.SlotsHeld.{is_slot_running, is_on, is_busy_on}
 use Rattle.model.specs.Sessions.StateIds.{Found, Anonymous, Names, found, is_like, open_like, upgraded, opened, opened_by, without_clients}
 use Rattle.model.specs.Operations.Step.{State, Stepped, effect, rename, does}
 use Rattle.model_tree.specs.Trees.Tree.{Tree}
-use Rattle.model.specs.Server.World.{ServerLimits, InProgress, Connection, Quiet, Busy, Replied, World, HasRun, Gives, Replays, Entry, executed_entry, exchanged, created_by, tabled, started_in, begun, reclaimed, refuses, stepped, state_of, run, Turned, with_connection, with_result, result_of, kept_by, behind, ends, goes_on, is_last, stands_alone, is_sequence, one, in_progress, mounted_world, Reads, next_operation, arrives, takes, connects, hangs_up, can_connect, connection_changed, arrives_at, without_reply, is_busy, without_connection, closes, is_to_hold}
+use Rattle.model.specs.Server.World.{ServerLimits, InProgress, Connection, Quiet, Busy, Replied, World, HasRun, Gives, Replays, Entry, executed_entry, exchanged, created_by, tabled, started_in, begun, reclaimed, refuses, stepped, state_of, run, Turned, with_connection, with_result, result_of, kept_by, behind, ends, goes_on, is_last, stands_alone, is_sequence, one, in_progress, mounted_world, Reads, next_operation, arrives, takes, connects, hangs_up, can_connect, connection_changed, arrives_at, without_reply, is_busy, without_connection, closes, is_to_hold, noting, is_seated}
 use Rattle.model.proofs.Sessions.ClientTables.{is_of_known, Lives, StaysFor, KeepsRunning, exchange_lives, exchange_running, destroy_client_lives, destroy_client_running, reclaim_lives, reclaim_running, destroy_lives, destroy_running, create_lives, create_running, started_lives, started_stays, finish_lives, finish_stays}
 use Rattle.model_tree.proofs.Trees.KeyedLaws.{at-with_same, at-with_other, at-without_same, at-without_other}
 use Rattle.model_tree.proofs.Rights.LimitLaws.{modes_keep_limits, inheritance_keeps_limits}
@@ -164,6 +165,19 @@ record Leaves (world : World) (outcome : Outcome) (after : World) (left : InProg
   running : KeepsRunning world.table after.table
   more : is_done outcome ≡ true → is_last left ≡ false → RunsInSession after.table left
   slotted : is_some left.slot ≡ true → RunsInSession after.table left
+
+noted : (altered : Bool) (world : World) (outcome : Outcome) (after : World) (left : InProgress) → Leaves world outcome after left
+    → Leaves world outcome after (record left { altered = altered })
+noted altered world outcome after left leaves = record {
+  lives = leaves.lives;
+  connections = leaves.connections;
+  running = leaves.running;
+  more = λ done last. runs_noted (leaves.more done last);
+  slotted = λ some. runs_noted (leaves.slotted some);
+}
+  where
+    runs_noted : RunsInSession after.table left → RunsInSession after.table (record left { altered = altered })
+    runs_noted on = record { slot = on.slot; session = on.session; on = on.on; stands = on.stands; client = on.client }
 
 abbrev HasLeft : World → HasRun → Type 0
 HasLeft world (Gives outcome after left) = Leaves world outcome after left
@@ -347,25 +361,25 @@ module _ (limits : ServerLimits) (world : World) (held : Held limits world) (liv
       put_down world.table (with_connection world here (Replied reply)) (Replied reply) (stays_same world.table)
       (λ id session found. record { session = session; stands = found; client = refl }) refl living.lives (not_busy reply world.table)
 
-  kept_lives : (slot : Option (List ℕ × ℕ)) (result : List ℕ) (table : Table) (opens : Opens) → Lives table opens → Lives (kept_by slot result table) opens
-  kept_lives None result table opens lives = lives
-  kept_lives (Some slot) result table opens lives = finish_lives slot.0 slot.1 result table opens lives
+  kept_lives : (slot : Option (List ℕ × ℕ)) (holds : Bool) (result : List ℕ) (table : Table) (opens : Opens) → Lives table opens → Lives (kept_by slot holds result table) opens
+  kept_lives None holds result table opens lives = lives
+  kept_lives (Some slot) holds result table opens lives = finish_lives slot.0 slot.1 holds result table opens lives
 
-  kept_stays : (slot : Option (List ℕ × ℕ)) (result : List ℕ) (table : Table) (id : List ℕ) (session : Session) → find (is_session id) table.sessions ≡ Some session
-      → StaysFor id session.client (kept_by slot result table)
-  kept_stays None result table id session found = record { session = session; stands = found; client = refl }
-  kept_stays (Some slot) result table id session found = finish_stays slot.0 slot.1 result table id session found
+  kept_stays : (slot : Option (List ℕ × ℕ)) (holds : Bool) (result : List ℕ) (table : Table) (id : List ℕ) (session : Session) → find (is_session id) table.sessions ≡ Some session
+      → StaysFor id session.client (kept_by slot holds result table)
+  kept_stays None holds result table id session found = record { session = session; stands = found; client = refl }
+  kept_stays (Some slot) holds result table id session found = finish_stays slot.0 slot.1 holds result table id session found
 
   module _ (outcome : Outcome) (after : World) (left : InProgress) (leaves : Leaves world outcome after left) where
-    ended : (answered : ℕ) (results : List ℕ) (last : Status) (executed : Option Entry)
-        → Living (ends after here (record left { answered = answered; results = results }) last executed).world
-    ended answered results last executed =
+    ended : (answered : ℕ) (results : List ℕ) (last : Status) (holds : Bool) (executed : Option Entry)
+        → Living (ends after here (record left { answered = answered; results = results }) last holds executed).world
+    ended answered results last holds executed =
         let result = result_of (record left { answered = answered; results = results }) last in
         let reply = framed (reply_text left.xid (Success result)) in
-        put_down after.table (ends after here (record left { answered = answered; results = results }) last executed).world (Replied reply) leaves.running
-        (kept_stays left.slot result after.table) (ap (λ (c : Keyed Connection). with c here (Replied reply)) leaves.connections)
-        (kept_lives left.slot result after.table after.opens leaves.lives)
-        (not_busy reply (kept_by left.slot result after.table))
+        put_down after.table (ends after here (record left { answered = answered; results = results }) last holds executed).world (Replied reply) leaves.running
+        (kept_stays left.slot holds result after.table) (ap (λ (c : Keyed Connection). with c here (Replied reply)) leaves.connections)
+        (kept_lives left.slot holds result after.table after.opens leaves.lives)
+        (not_busy reply (kept_by left.slot holds result after.table))
 
     gone_on : RunsInSession after.table left → (status : Option Status) → (executed : Option Entry)
         → Living (goes_on after here (record (with_result left outcome) { ended = status }) executed).world
@@ -379,11 +393,11 @@ module _ (limits : ServerLimits) (world : World) (held : Held limits world) (liv
 
     closed : (last : Status) (executed : Option Entry) → Living (closes after here (with_result left outcome) last executed).world
     closed last executed =
-        either (λ (t : Turned). Living t.world) (is_to_hold left.slot after.table.seats) _ _
-        (λ seated. gone_on (leaves.slotted (some_slot left.slot seated)) (Some last) executed)
-        (λ none. ended (with_result left outcome).answered (with_result left outcome).results last executed)
+        either (λ (t : Turned). Living t.world) (is_to_hold left after.table) _ _
+        (λ seated. gone_on (leaves.slotted (some_slot left.slot (and_parts (holds_reply after.table.settings.holding left.altered) (is_seated left.slot after.table.seats) seated).1)) (Some last) executed)
+        (λ none. ended (with_result left outcome).answered (with_result left outcome).results last false executed)
       where
-        some_slot : (slot : Option (List ℕ × ℕ)) → is_to_hold slot after.table.seats ≡ true → is_some slot ≡ true
+        some_slot : (slot : Option (List ℕ × ℕ)) → is_seated slot after.table.seats ≡ true → is_some slot ≡ true
         some_slot None seated = seated
         some_slot (Some slot) seated = refl
 
@@ -440,17 +454,17 @@ module _ (limits : ServerLimits) (world : World) (held : Held limits world) (liv
   turned now _ Idles = living
   turned now _ (Says bytes xid reply waits) = replied (framed (reply_text xid reply))
   turned now _ (Closes request last there is) =
-      ended (Refused 0 status.Ok) world request (refused_here request 0 status.Ok (λ some. living.requests here request there)) request.answered request.results last None
+      ended (Refused 0 status.Ok) world request (refused_here request 0 status.Ok (λ some. living.requests here request there)) request.answered request.results last true None
   turned now _ (Unread request operation reason goes) =
       went (Refused operation reason) world request (refused_here request operation reason (its_session request goes)) None
   turned now _ (TooBig request operation rest goes reads) =
-      went (Refused (operation_of operation) status.RepTooBig) world (read_of request rest)
-      (refused_here (read_of request rest) (operation_of operation) status.RepTooBig (read_session request rest goes))
+      went (Refused (operation_of operation) status.RepTooBig) world (noting world world operation (read_of request rest))
+      (noted _ world _ world (read_of request rest) (refused_here (read_of request rest) (operation_of operation) status.RepTooBig (read_session request rest goes)))
       (Some (executed_entry world (read_of request rest) operation (Refused (operation_of operation) status.RepTooBig) world))
   turned now _ (Gave request operation rest outcome after left goes reads is) =
-      went outcome after left
-      (subst (HasLeft world) is (run_left limits world held living (read_of request rest) (its_running request rest goes) (read_session request rest goes) now operation
-      (goes_so request operation rest goes reads)))
+      went outcome after (noting world after operation left)
+      (noted _ world outcome after left (subst (HasLeft world) is (run_left limits world held living (read_of request rest) (its_running request rest goes) (read_session request rest goes) now operation
+      (goes_so request operation rest goes reads))))
       (Some (executed_entry world (read_of request rest) operation outcome after))
   turned now _ (Repeats request operation rest result session slot goes reads is) = replied (framed (reply_text request.xid (Success result)))
 

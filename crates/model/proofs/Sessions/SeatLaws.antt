@@ -279,3 +279,14 @@ freed_listed id (Some other ∷ old) new seat e gone = by_test (λ later. freed_
         subst (λ (b : Bool). IsAmong (cond b (freed_between old new) (other.session ∷ freed_between old new)) id) (sym none)
         (among_first other.session (freed_between old new) id (sym named))
     by_test rest false is later = stays_listed (has_seat other.session new) (rest later)
+
+pub either_list : {A : Type 0} (xs ys : List A) (x : A) → IsAmong (xs ++ ys) x → IsAmong xs x ⊎ IsAmong ys x
+either_list [] ys x among = inr among
+either_list {A} (first ∷ xs) ys x among = by_place (either_list xs ys x) among.0 among.1.0 among.1.1
+  where
+    by_place : (IsAmong (xs ++ ys) x → IsAmong xs x ⊎ IsAmong ys x) → (place : ℕ) → place < length ((first ∷ xs) ++ ys) → x ≡ get_or ((first ∷ xs) ++ ys) place x → IsAmong (first ∷ xs) x ⊎ IsAmong ys x
+    by_place later zero less e = inl (0, (omega arith, e))
+    by_place later (suc place) less e = elim (later (place, (omega (arith, less), e))) [
+      | inl before ↦ inl (let inside = before.1.0 in (suc before.0, (omega (arith, inside), before.1.1)))
+      | inr after ↦ inr after
+    ]

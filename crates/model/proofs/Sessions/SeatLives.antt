@@ -14,7 +14,7 @@ use Rattle.model.specs.Sessions.Session as sessions
 use Rattle.model.specs.Sessions.Session.{Table, Session, is_session}
 use Rattle.model.specs.Sessions.SessionRuns.{CountsFrom}
 use Rattle.model_tree.specs.Trees.Tree.{Tree}
-use Rattle.model.specs.Server.World.{ServerLimits, World, InProgress, Gives, Replays, Entry, Turned, begun, started_in, refuses, run, is_to_hold, closes, behind, is_last, with_result, one, reply_at, arrives, takes, connects, hangs_up}
+use Rattle.model.specs.Server.World.{ServerLimits, World, InProgress, Gives, Replays, Entry, Turned, begun, started_in, refuses, run, is_to_hold, closes, behind, is_last, with_result, one, reply_at, arrives, takes, connects, hangs_up, noting}
 use Rattle.model.proofs.Server.Headline.{only_one, done_behind, taken_done}
 use Rattle.model.proofs.Sessions.SeatLaws.{among_left, among_right, freed_listed, seat_holds, holds_there}
 use Rattle.model.proofs.Sessions.AllOf.{all-found}
@@ -262,7 +262,7 @@ module _ (id : List ℕ) (slot : ℕ) (its_run : ℕ) (small : its_run < 2 ^ 32)
 
   closes_executes : (here : ℕ) (after : World) (request : InProgress) (last : _) (executed : Option Entry) → (closes after here request last executed).executed ≡ executed
   closes_executes here after request last executed =
-      either (λ (t : Turned). t.executed ≡ executed) (is_to_hold request.slot after.table.seats) _ _ (λ seated. refl) (λ none. refl)
+      either (λ (t : Turned). t.executed ≡ executed) (is_to_hold request after.table) _ _ (λ seated. refl) (λ none. refl)
 
   behind_executes : (here : ℕ) (after : World) (request : InProgress) (outcome : Outcome) (executed : Option Entry) → (behind after here request outcome executed).executed ≡ executed
   behind_executes here after request (Refused operation reason) executed = closes_executes here after (with_result request (Refused operation reason)) reason executed
@@ -283,10 +283,10 @@ module _ (id : List ℕ) (slot : ℕ) (its_run : ℕ) (small : its_run < 2 ^ 32)
       no_number number (sym (ap (number_of id slot) (behind_executes here world request (Refused operation reason) None)) ∙ e)
   turned_own here now _ (TooBig request operation rest _ reads) number e =
       no_number number (sym (refused_none operation (operation_of operation) status.RepTooBig)
-      ∙ (sym (ap (number_of id slot) (behind_executes here world (read_of request rest) (Refused (operation_of operation) status.RepTooBig) _)) ∙ e))
+      ∙ (sym (ap (number_of id slot) (behind_executes here world (noting world world operation (read_of request rest)) (Refused (operation_of operation) status.RepTooBig) _)) ∙ e))
   turned_own here now _ (Gave request operation rest outcome after left goes reads ran) number e =
       ran_own (read_of request rest) now operation outcome after left ran number
-      (sym (ap (number_of id slot) (behind_executes here after left outcome _)) ∙ e)
+      (sym (ap (number_of id slot) (behind_executes here after (noting world after operation left) outcome _)) ∙ e)
   turned_own here now _ (Repeats request operation rest result session place goes reads ran) number e = no_number number e
 
   event_own : (event : Event) → IsOwn id slot its_run (executed_of world event)

@@ -1,6 +1,7 @@
 -- No reply is there before the seat of its slot's session holds it.
-use Rattle.std.proofs.Common.{◌≡◌, ◌≢◌, ℕ, ◌⊎◌, inl, inr, Bool, true, false, List, find, Option, None, Some, Result, Ok, Err, refl, sym, ap, ◌∙◌, subst, arith}
-use Rattle.std.proofs.lemmas.Bool.{true≢false}
+use Rattle.std.proofs.Common.{◌≡◌, ◌≢◌, ℕ, ◌<◌, ◌⊎◌, inl, inr, Bool, true, false, List, ◌++◌, length, option_to_list, find, Option, None, Some, Result, Ok, Err, refl, sym, ap, ◌∙◌, subst, arith}
+use Rattle.std.specs.List.{IsAmong}
+use Rattle.std.proofs.lemmas.Bool.{true≢false, and_from}
 use Rattle.model_tree.specs.declared.status.Status.{Status}
 use Rattle.model_tree.specs.declared.status.Status.TheVariants as status
 use Rattle.model.specs.Operations.Answer.{Answer, Outcome, Done, Refused, ExchangeIdAnswer, CreateSessionAnswer}
@@ -8,15 +9,18 @@ use Rattle.model_tree.specs.Trees.Keyed.{at}
 use Rattle.model.specs.Operations.Operation.{Argument, SequenceArguments, operation_of}
 use Rattle.model.specs.Wire.Record.{framed}
 use Rattle.model.specs.Wire.Rpc.{Success, reply_text}
-use Rattle.model.specs.Server.Runs.{Stored, is_done}
-use Rattle.model.specs.Sessions.SeatRuns.{IsHeldReply, GivesHeld, KeepsOrNone, TakesItsSlot, request_in, EveryReplyIsStored}
+use Rattle.model.specs.declared.holding.Holding.{Holding}
+use Rattle.model.specs.declared.holding.Holding.TheVariants as holdings
+use Rattle.model.specs.Server.Runs.{RunHistory, Stored, is_done, done_with, names_by, names_after, named_so_far, numbers_of}
+use Rattle.model.specs.Sessions.SeatRuns.{IsHeldReply, IsToBeHeld, GivesHeld, KeepsOrNone, TakesItsSlot, request_in, EveryReplyIsStored}
 use Rattle.model_tree.specs.Seats.Seats.{has_seat, held_at}
 use Rattle.model.specs.Sessions.Session as sessions
-use Rattle.model.specs.Sessions.Session.{Table, Session, is_session, finish}
+use Rattle.model.specs.Sessions.Session.{Settings, Table, Session, is_session, holds_reply, finish}
 use Rattle.model.specs.Sessions.SlotsHeld.{is_slot_running, is_on, is_busy_on}
-use Rattle.model.specs.Server.World.{ServerLimits, World, InProgress, Connection, Quiet, Busy, Waiting, Replied, Closed, HasRun, Gives, Replays, Entry, Answered, Turned, exchanged, created_by, tabled, started_in, begun, reclaimed, run, executed_entry, with_connection, with_table, with_result, result_of, kept_by, is_to_hold, closes, behind, is_last, next_operation, Reads, reply_in, reply_at, one}
+use Rattle.model.specs.Server.World.{ServerLimits, World, InProgress, Connection, Quiet, Busy, Waiting, Replied, Closed, HasRun, Gives, Replays, Entry, Answered, Turned, exchanged, created_by, tabled, started_in, begun, reclaimed, run, executed_entry, with_connection, with_table, with_result, result_of, kept_by, is_seated, is_to_hold, noting, closes, behind, is_last, next_operation, Reads, reply_in, reply_at, one}
 use Rattle.model_tree.proofs.Trees.KeyedLaws.{at-with_same}
 use Rattle.model.proofs.Operations.ReadOperations.{is_first, first_read}
+use Rattle.model.proofs.Sessions.AlteredRuns.{Notes, unread_notes, big_notes, gave_notes, is_behind, ran_settings, run_notes}
 use Rattle.model.proofs.Sessions.SeatRunLaws.{stop_seated}
 use Rattle.model.proofs.Sessions.SeatTables.{Seated, its_held, seats_are, stored_is, held_now}
 use Rattle.model.proofs.Sessions.StoringTurns.{same_seats}
@@ -103,7 +107,7 @@ KeepsOr number slot t = KeepsOrNone t number slot
 closes_keeps : (number : ℕ) (after : World) (request : InProgress) (last : Status) (executed : Option Entry)
     → KeepsOr number request.slot (closes after number request last executed)
 closes_keeps number after request last executed =
-    either (KeepsOr number request.slot) (is_to_hold request.slot after.table.seats) _ _
+    either (KeepsOr number request.slot) (is_to_hold request after.table) _ _
     (λ seated. inl (put_there after number (Busy (record request { ended = Some last }))))
     (λ none. inr refl)
 
@@ -120,7 +124,7 @@ behind_keeps number after request (Done answer) executed =
 closes_executed : (number : ℕ) (after : World) (request : InProgress) (last : Status) (executed : Option Entry)
     → (closes after number request last executed).executed ≡ executed
 closes_executed number after request last executed =
-    either (λ (t : Turned). t.executed ≡ executed) (is_to_hold request.slot after.table.seats) _ _ (λ seated. refl) (λ none. refl)
+    either (λ (t : Turned). t.executed ≡ executed) (is_to_hold request after.table) _ _ (λ seated. refl) (λ none. refl)
 
 behind_executed : (number : ℕ) (after : World) (request : InProgress) (outcome : Outcome) (executed : Option Entry)
     → (behind after number request outcome executed).executed ≡ executed
@@ -130,33 +134,36 @@ behind_executed number after request (Done answer) executed =
     (λ last. closes_executed number after (with_result request (Done answer)) status.Ok executed)
     (λ more. refl)
 
--- and no seat holds it
+-- and a seat that is to hold it has not been passed by
 
-abbrev HoldsSo : ℕ → Turned → Type 0
-HoldsSo number t = (id : List ℕ) (slot : ℕ) → t.keeps ≡ Some (id, slot) → has_seat id t.world.table.seats ≡ true → IsHeldReply t number id slot
+abbrev HoldsSo : Type 0 → ℕ → Turned → Type 0
+HoldsSo must number t =
+    (id : List ℕ) (slot : ℕ) → t.keeps ≡ Some (id, slot) → has_seat id t.world.table.seats ≡ true → must → IsHeldReply t number id slot
 
-never_held : (slot : Option (List ℕ × ℕ)) (result : List ℕ) (table : Table) → is_to_hold slot table.seats ≡ false → (id : List ℕ) (place : ℕ) → slot ≡ Some (id, place)
-    → has_seat id (kept_by slot result table).seats ≡ true → ⊥
-never_held None result table none id place same has = absurd (cc)
-never_held (Some slot) result table none id place same has =
-    let named : slot.0 ≡ id = some_first slot (id, place) same in
-    true≢false (sym has ∙ (ap (has_seat id) (same_seats slot.0 slot.1 result table none) ∙ (ap (λ (n : List ℕ). has_seat n table.seats) (sym named) ∙ none)))
-  where
-    some_first : (a b : List ℕ × ℕ) → Some a ≡ Some b → a.0 ≡ b.0
-    some_first a b same = let one : a ≡ b = cc in ap (λ (p : List ℕ × ℕ). p.0) one
+never_held : (must : Type 0) (request : InProgress) (result : List ℕ) (table : Table) → is_to_hold request table ≡ false
+    → (must → holds_reply table.settings.holding request.altered ≡ true) → (id : List ℕ) (place : ℕ) → request.slot ≡ Some (id, place)
+    → has_seat id (kept_by request.slot false result table).seats ≡ true → must → ⊥
+unfolding finish
+never_held must request result table none noted id place same has it =
+    let there : has_seat id table.seats ≡ true = subst (λ (s : Option (List ℕ × ℕ)). has_seat id (kept_by s false result table).seats ≡ true) same has in
+    let seated : is_seated request.slot table.seats ≡ true = ap (λ (s : Option (List ℕ × ℕ)). is_seated s table.seats) same ∙ there in
+    true≢false (sym (and_from (holds_reply table.settings.holding request.altered) (is_seated request.slot table.seats) (noted it) seated) ∙ none)
 
-closes_holds : (number : ℕ) (after : World) (request : InProgress) (last : Status) (executed : Option Entry) → HoldsSo number (closes after number request last executed)
-closes_holds number after request last executed =
-    either (HoldsSo number) (is_to_hold request.slot after.table.seats) _ _
-    (λ seated id slot same has. absurd (cc))
-    (λ none id slot same has. absurd (never_held request.slot (result_of request last) after.table none id slot same has))
+closes_holds : (must : Type 0) (number : ℕ) (after : World) (request : InProgress) (last : Status) (executed : Option Entry)
+    → (must → holds_reply after.table.settings.holding request.altered ≡ true) → HoldsSo must number (closes after number request last executed)
+closes_holds must number after request last executed noted =
+    either (HoldsSo must number) (is_to_hold request after.table) _ _
+    (λ seated id slot same has it. absurd (cc))
+    (λ none id slot same has it. absurd (never_held must request (result_of request last) after.table none noted id slot same has it))
 
-behind_holds : (number : ℕ) (after : World) (request : InProgress) (outcome : Outcome) (executed : Option Entry) → HoldsSo number (behind after number request outcome executed)
-behind_holds number after request (Refused operation reason) executed = closes_holds number after (with_result request (Refused operation reason)) reason executed
-behind_holds number after request (Done answer) executed =
-    either (HoldsSo number) (is_last request) _ _
-    (λ last. closes_holds number after (with_result request (Done answer)) status.Ok executed)
-    (λ more id slot same has. absurd (cc))
+behind_holds : (must : Type 0) (number : ℕ) (after : World) (request : InProgress) (outcome : Outcome) (executed : Option Entry)
+    → (must → holds_reply after.table.settings.holding request.altered ≡ true) → HoldsSo must number (behind after number request outcome executed)
+behind_holds must number after request (Refused operation reason) executed noted =
+    closes_holds must number after (with_result request (Refused operation reason)) reason executed noted
+behind_holds must number after request (Done answer) executed noted =
+    either (HoldsSo must number) (is_last request) _ _
+    (λ last. closes_holds must number after (with_result request (Done answer)) status.Ok executed noted)
+    (λ more id slot same has it. absurd (cc))
 
 -- A turn
 
@@ -166,14 +173,15 @@ module _ (limits : ServerLimits) (world : World) (held : Held limits world) (its
   abbrev ended_by : (xid : ℕ) (result : List ℕ) → Option (List ℕ × ℕ) → Turned
   ended_by xid result slot = record {
     turn = Answered;
-    world = with_connection (with_table world (kept_by slot result world.table)) number (Replied (framed (reply_text xid (Success result))));
+    world = with_connection (with_table world (kept_by slot true result world.table)) number (Replied (framed (reply_text xid (Success result))));
     executed = None;
     keeps = slot;
+    holds = true;
     replays = None;
   }
 
   ended_here : (xid : ℕ) (result id : List ℕ) (place : ℕ) → is_slot_running id place world.table ≡ true
-      → has_seat id (finish id place result world.table).seats ≡ true → IsHeldReply (ended_by xid result (Some (id, place))) number id place
+      → has_seat id (finish id place true result world.table).seats ≡ true → IsHeldReply (ended_by xid result (Some (id, place))) number id place
   ended_here xid result id place running has = by_seat (has_seat id world.table.seats) refl
     where
       by_seat : (b : Bool) → has_seat id world.table.seats ≡ b → IsHeldReply (ended_by xid result (Some (id, place))) number id place
@@ -186,27 +194,67 @@ module _ (limits : ServerLimits) (world : World) (held : Held limits world) (its
             stands = ap (held_at id place) (seats_are id place result its_run world.table stored gone is runs.session runs.found runs.within)
                 ∙ held_now id place result its_run world.table stored gone is runs.session runs.found runs.within there;
             stored = stored_is id place result its_run world.table stored gone is runs.session runs.found runs.within there;
-            gives = put_there (with_table world (finish id place result world.table)) number (Replied (framed (reply_text xid (Success result))));
+            gives = put_there (with_table world (finish id place true result world.table)) number (Replied (framed (reply_text xid (Success result))));
             alone = refl;
           }
 
   ended_holds : (xid : ℕ) (result : List ℕ) (slot : Option (List ℕ × ℕ))
-      → ((id : List ℕ) (place : ℕ) → is_on slot id place ≡ true → is_slot_running id place world.table ≡ true) → HoldsSo number (ended_by xid result slot)
-  ended_holds xid result slot runs id place same has =
+      → ((id : List ℕ) (place : ℕ) → is_on slot id place ≡ true → is_slot_running id place world.table ≡ true) → (must : Type 0)
+      → HoldsSo must number (ended_by xid result slot)
+  ended_holds xid result slot runs must id place same has it =
       subst (λ (s : Option (List ℕ × ℕ)). IsHeldReply (ended_by xid result s) number id place) (sym same)
       (ended_here xid result id place (runs id place (ap (λ (s : Option (List ℕ × ℕ)). is_on s id place) same ∙ on_itself id place))
-      (subst (λ (s : Option (List ℕ × ℕ)). has_seat id (kept_by s result world.table).seats ≡ true) same has))
+      (subst (λ (s : Option (List ℕ × ℕ)). has_seat id (kept_by s true result world.table).seats ≡ true) same has))
 
-  turned_holds : (t : Turned) → IsTurn world number now t → HoldsSo number t
-  turned_holds _ Idles id slot same has = absurd (cc)
-  turned_holds _ (Says bytes xid reply waits) id slot same has = absurd (cc)
-  turned_holds _ (Closes request last there ended) id slot same has =
-      ended_holds request.xid (result_of request last) request.slot (λ name place on. held.law.runs name place number (ap (is_busy_on name place) there ∙ on)) id slot same has
-  turned_holds _ (Unread request operation reason goes) id slot same has = behind_holds number world request (Refused operation reason) None id slot same has
-  turned_holds _ (TooBig request operation rest goes reads) id slot same has =
-      behind_holds number world (read_of request rest) (Refused (operation_of operation) status.RepTooBig) _ id slot same has
-  turned_holds _ (Gave request operation rest outcome after left goes reads ran) id slot same has = behind_holds number after left outcome _ id slot same has
-  turned_holds _ (Repeats request operation rest result session slot goes reads ran) id place same has = absurd (cc)
+  -- what a turn names, of a run
+  module _ (history : RunHistory) (set : world.table.settings ≡ limits.settings) (below : (other i : ℕ) → IsAmong (history.named other) i → i < length history.done)
+      (notes : (other : ℕ) (request : InProgress) → at other world.connections ≡ Some (Busy request) → Notes request.altered history.done (history.named other)) where
+    abbrev Must : Option Entry → Type 0
+    Must executed =
+        IsToBeHeld limits.settings.holding (history.done ++ option_to_list executed) (named_so_far history world number ++ numbers_of history executed)
+
+    noted_so : (holding : Holding) (done : List Entry) (names : List ℕ) (altered : Bool) → Notes altered done names → IsToBeHeld holding done names
+        → holds_reply holding altered ≡ true
+    noted_so holdings.Nothing done names altered notes it = absurd it
+    noted_so holdings.Changes done names altered notes it = notes it
+    noted_so holdings.All done names altered notes it = refl
+
+    of_settings : (settings : Settings) (altered : Bool) → settings ≡ limits.settings → holds_reply limits.settings.holding altered ≡ true
+        → holds_reply settings.holding altered ≡ true
+    of_settings settings altered same holds = ap (λ (s : Settings). holds_reply s.holding altered) same ∙ holds
+
+    MustOf : Turned → Type 0
+    MustOf t = IsToBeHeld limits.settings.holding (history.done ++ option_to_list t.executed) (names_after history world number t)
+
+    -- of a turn behind a result, which repeats none
+    behind_so : (after : World) (request : InProgress) (outcome : Outcome) (executed : Option Entry) → after.table.settings ≡ world.table.settings
+        → Notes request.altered (history.done ++ option_to_list executed) (named_so_far history world number ++ numbers_of history executed)
+        → HoldsSo (MustOf (behind after number request outcome executed)) number (behind after number request outcome executed)
+    unfolding MustOf
+    behind_so after request outcome executed settled noted =
+        let t = behind after number request outcome executed in
+        let is = is_behind number after request outcome executed in
+        behind_holds (MustOf t) number after request outcome executed (λ it.
+        of_settings after.table.settings request.altered (settled ∙ set)
+        (noted_so limits.settings.holding _ _ request.altered noted
+        (subst (λ (e : Option Entry). IsToBeHeld limits.settings.holding (history.done ++ option_to_list e) (named_so_far history world number ++ numbers_of history e)) is.executed_is
+        (subst (λ (r : Option (List ℕ × ℕ)). IsToBeHeld limits.settings.holding (history.done ++ option_to_list t.executed) (names_by history world number t r)) is.replays it))))
+
+    turned_holds : (t : Turned) → IsTurn world number now t → HoldsSo (MustOf t) number t
+    turned_holds _ Idles = λ id slot same has it. absurd (cc)
+    turned_holds _ (Says bytes xid reply waits) = λ id slot same has it. absurd (cc)
+    turned_holds _ (Closes request last there ended) =
+        ended_holds request.xid (result_of request last) request.slot
+        (λ name place on. held.law.runs name place number (ap (is_busy_on name place) there ∙ on)) _
+    turned_holds _ (Unread request operation reason goes) =
+        behind_so world request (Refused operation reason) None refl (unread_notes history world number now below notes request goes)
+    turned_holds _ (TooBig request operation rest goes reads) =
+        let outcome : Outcome = Refused (operation_of operation) status.RepTooBig in
+        behind_so world (noting world world operation (read_of request rest)) outcome _ refl (big_notes history world number now below notes request operation rest outcome goes)
+    turned_holds _ (Gave request operation rest outcome after left goes reads ran) =
+        behind_so after (noting world after operation left) outcome _ (ran_settings world (read_of request rest) now operation outcome after left ran)
+        (gave_notes history world number now below notes request operation rest outcome after left goes ran)
+    turned_holds _ (Repeats request operation rest result session slot goes reads ran) = λ id place same has it. absurd (cc)
 
   -- of a request that had begun
 
@@ -249,10 +297,13 @@ module _ (limits : ServerLimits) (world : World) (held : Held limits world) (its
     turned_keeps _ (TooBig other operation rest goes reads) =
         let reason = Refused (operation_of operation) status.RepTooBig in
         let executed = Some (executed_entry world (read_of other rest) operation reason world) in
-        as_its other.slot (behind world number (read_of other rest) reason executed) (same_slot other goes) (behind_keeps number world (read_of other rest) reason executed)
+        let noted : InProgress = noting world world operation (read_of other rest) in
+        as_its other.slot (behind world number noted reason executed) (same_slot other goes) (behind_keeps number world noted reason executed)
     turned_keeps _ (Gave other operation rest outcome after left goes reads ran) = elim (run_left other operation rest (Gives outcome after left) goes reads ran) [
-      | inl same ↦ as_its left.slot (behind after number left outcome (Some (executed_entry world (read_of other rest) operation outcome after))) (same ∙ same_slot other goes)
-          (behind_keeps number after left outcome (Some (executed_entry world (read_of other rest) operation outcome after)))
+      | inl same ↦
+          let noted : InProgress = noting world after operation left in
+          as_its left.slot (behind after number noted outcome (Some (executed_entry world (read_of other rest) operation outcome after))) (same ∙ same_slot other goes)
+          (behind_keeps number after noted outcome (Some (executed_entry world (read_of other rest) operation outcome after)))
       | inr none ↦ absurd (some (sym (same_slot other goes) ∙ none))
     ]
     turned_keeps _ (Repeats other operation rest result session slot goes reads ran) =
@@ -274,18 +325,19 @@ module _ (limits : ServerLimits) (world : World) (held : Held limits world) (its
     turned_begins _ (TooBig other operation rest goes reads) executed =
         let reason = Refused (operation_of operation) status.RepTooBig in
         let its = executed_entry world (read_of other rest) operation reason world in
-        let same : its ≡ entry = one_entry its _ (behind_executed number world (read_of other rest) reason (Some its)) executed in
+        let same : its ≡ entry = one_entry its _ (behind_executed number world (noting world world operation (read_of other rest)) reason (Some its)) executed in
         absurd (true≢false (sym (ap (λ (e : Entry). is_done e.outcome) same ∙ takes.1)))
     turned_begins _ (Gave other operation rest outcome after left goes reads ran) executed =
         let its = executed_entry world (read_of other rest) operation outcome after in
-        let same : its ≡ entry = one_entry its _ (behind_executed number after left outcome (Some its)) executed in
+        let same : its ≡ entry = one_entry its _ (behind_executed number after (noting world after operation left) outcome (Some its)) executed in
         let asks : operation ≡ Argument.Sequence arguments = ap (λ (e : Entry). e.operation) same ∙ takes.0 in
         let done : is_done outcome ≡ true = ap (λ (e : Entry). is_done e.outcome) same ∙ takes.1 in
         let ran_so : run world (read_of other rest) now (Argument.Sequence arguments) ≡ Gives outcome after left =
         subst (λ (o : Argument). run world (read_of other rest) now o ≡ Gives outcome after left) asks ran in
         let slot : left.slot ≡ Some (arguments.session, arguments.slot) =
         subst (TakesSlot arguments) ran_so (run_takes world (read_of other rest) arguments now) done in
-        subst (λ (s : Option (List ℕ × ℕ)). KeepsOr number s (behind after number left outcome (Some its))) slot (behind_keeps number after left outcome (Some its))
+        let noted : InProgress = noting world after operation left in
+        subst (λ (s : Option (List ℕ × ℕ)). KeepsOr number s (behind after number noted outcome (Some its))) slot (behind_keeps number after noted outcome (Some its))
     turned_begins _ (Repeats other operation rest result session slot goes reads ran) executed = absurd (cc)
 
   request_there : (request : InProgress) (there : Option Connection) → request_in there ≡ Some request → there ≡ Some (Busy request)
@@ -296,14 +348,20 @@ module _ (limits : ServerLimits) (world : World) (held : Held limits world) (its
   request_there request (Some (Replied reply)) same = absurd (cc)
   request_there request (Some Closed) same = absurd (cc)
 
-  one_held : GivesHeld (one world number now) number (request_in (at number world.connections))
-  one_held = record {
-    held = turned_holds (one world number now) (turn_is world number now);
-    kept = λ request there some. turned_keeps request (request_there request (at number world.connections) there) some (one world number now) (turn_is world number now);
-    begun = λ entry arguments executed takes. turned_begins entry arguments takes (one world number now) (turn_is world number now) executed;
-  }
+  module _ (history : RunHistory) (set : world.table.settings ≡ limits.settings) (below : (other i : ℕ) → IsAmong (history.named other) i → i < length history.done)
+      (notes : (other : ℕ) (request : InProgress) → at other world.connections ≡ Some (Busy request) → Notes request.altered history.done (history.named other)) where
+    one_held : GivesHeld limits.settings.holding (done_with history (one world number now).executed) (names_after history world number (one world number now)) (one world number now) number
+        (request_in (at number world.connections))
+    unfolding MustOf
+    one_held = record {
+      held = turned_holds history set below notes (one world number now) (turn_is world number now);
+      kept = λ request there some. turned_keeps request (request_there request (at number world.connections) there) some (one world number now) (turn_is world number now);
+      begun = λ entry arguments executed takes. turned_begins entry arguments takes (one world number now) (turn_is world number now) executed;
+    }
 
 pub every_reply_is_stored : EveryReplyIsStored
 every_reply_is_stored limits stop up connection now =
     let seated = (stop_seated stop).up up in
+    let noted = run_notes limits stop.run stop.start stop.seats stop.serving stop.history stop.is_run in
     one_held limits stop.serving.world (run_held limits stop.run stop.start stop.seats stop.serving stop.history stop.is_run) stop.run seated.1 stop.history.stored stop.history.freed seated.0 connection now
+    stop.history noted.settings noted.below (noted.notes up)

@@ -12,9 +12,9 @@ use Rattle.model.specs.Sessions.Session.{Table, Session, Refuses, Replays, is_se
 use Rattle.model_tree.specs.Trees.Tree.{Tree}
 use Rattle.model.specs.Server.World.{ServerLimits, World, one, arrives, takes, connects, hangs_up, reply_at}
 use Rattle.model.proofs.Server.Headline.{only_one, slice_get-append, slice_get-within}
-use Rattle.model.proofs.Sessions.SeatLaws.{among_left}
+use Rattle.model.proofs.Sessions.SeatLaws.{among_left, seat_holds}
 use Rattle.model.proofs.Sessions.AllOf.{all-found}
-use Rattle.model.proofs.Sessions.SeatTables.{Seated, IsKept, past_earlier, id_of_run, id_in, in_run, seated_more}
+use Rattle.model.proofs.Sessions.SeatTables.{Seated, HeldWas, IsKept, past_earlier, id_of_run, id_in, in_run, seated_more}
 use Rattle.model.proofs.Sessions.SeatWorlds.{one_seated}
 use Rattle.model.proofs.Server.ServedOnceLaws.{arrives_table, takes_table, connects_table, hangs_up_table}
 use Rattle.model.proofs.Sessions.SlotLaw.{id_of, dead_never}
@@ -120,13 +120,19 @@ module _ (run : ℕ) (history : RunHistory) (world : World) where
 differ : (b : Bool) → b ≡ true → b ≡ false → ⊥
 differ b one other = true≢false (sym one ∙ other)
 
+-- no seat that a run begins with is of a session of this run
+none_held : (run : ℕ) (seats : Seats) → AreSeats run seats → HeldWas run seats []
+none_held run seats are id place held of_run there =
+    let earlier = are.earlier id (ap is_some (seat_holds id place seats held there).1) in
+    absurd (omega (arith, earlier, of_run))
+
 table_seated : (run : ℕ) (settings : Settings) (seats : Seats) → run < 2 ^ 32 → AreSeats run seats → Seated run (loaded_table run settings seats) [] []
 table_seated run settings seats small are = record {
   of_run = tt;
   apart = are.apart;
   past = λ id has. past_earlier run 0 id small (are.earlier id has);
   fits = tt;
-  counts = tt;
+  theirs = none_held run seats are;
   old = λ i one at. absurd (cc);
   kept = λ i one at. absurd (cc);
 }

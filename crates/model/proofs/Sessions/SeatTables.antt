@@ -1,7 +1,7 @@
 -- What holds of the seats beside the tables of clients and sessions, and that each call on them keeps it.
 use Rattle.std.proofs.Common.{◌≡◌, ℕ, zero, suc, ◌+◌, ◌-◌, ◌/◌, ◌^◌, ◌<◌, ◌≤◌, ◌⊎◌, inl, inr, Bool, true, false, not, cond, ◌==◌, nat_lt, nat_le, List, [], ◌∷◌, ◌++◌, map, filter, length, take, option_to_list, slice_get, find, Option, None, Some, is_some, refl, sym, ap, ◌∙◌, subst, arith, bytes_eq, length-set, append-nil, leb-true, ltb-true, eqb-true, eq-eqb, get_or, get_or-set_same, get_or-set_other, replicate}
 use Rattle.std.specs.Int.{w64, to_be_bytes, from_be_bytes}
-use Rattle.std.specs.List.{AllByRecursion}
+use Rattle.std.specs.List.{AllByRecursion, IsAmong}
 use Rattle.std.proofs.lemmas.Bool.{true≢false, and_parts}
 use Rattle.std.proofs.lemmas.List.{length-replicate}
 use Rattle.std.proofs.lemmas.Nat.{from_be_bytes-to_be_bytes_8}
@@ -73,23 +73,17 @@ SeatFits seats session = (seat : Seat) → seat_of (id_in session) seats ≡ Som
 abbrev pub IsKept : Seats → List Stored → List (List ℕ) → ℕ → Stored → Type 0
 IsKept seats stored gone i one = HoldsFrom seats stored i one ⊎ IsFreed seats gone one.session
 
--- what a seat holds of a slot has the number of the slot's last request, until the next one runs
-abbrev pub CountsSo : (runs : Bool) → (last number : ℕ) → Type 0
-CountsSo true last number = number ≡ last → ⊥
-CountsSo false last number = number ≡ last
-
-abbrev pub CountsAt : Slot → HeldReply → Type 0
-CountsAt slot held = CountsSo (is_running_state slot.state) slot.last held.number
-
-abbrev pub SeatCounts : Seats → Session → Type 0
-SeatCounts seats session = (place : ℕ) (held : HeldReply) → held_at (id_in session) place seats ≡ Some held → CountsAt (slot_at session place) held
+-- what a seat of a session of this run holds was stored
+abbrev pub HeldWas : (run : ℕ) → Seats → List Stored → Type 0
+HeldWas run seats stored = (id : List ℕ) (place : ℕ) (held : HeldReply) → run_of id ≡ run → held_at id place seats ≡ Some held
+    → IsAmong stored (record { session = id; slot = place; held = held })
 
 pub record Seated (run : ℕ) (table : Table) (stored : List Stored) (gone : List (List ℕ)) : Type 0 where
   pub of_run : AllByRecursion (λ (session : Session). in_run session.client ≡ run) table.sessions
   pub apart : SeatsApart table.seats
   pub past : (id : List ℕ) → has_seat id table.seats ≡ true → IsPast run table.session_serial id
   pub fits : AllByRecursion (SeatFits table.seats) table.sessions
-  pub counts : AllByRecursion (SeatCounts table.seats) table.sessions
+  pub theirs : HeldWas run table.seats stored
   pub old : (i : ℕ) (one : Stored) → slice_get stored i ≡ Some one → IsPast run table.session_serial one.session
   pub kept : (i : ℕ) (one : Stored) → slice_get stored i ≡ Some one → IsKept table.seats stored gone i one
 
@@ -108,7 +102,7 @@ seated_more run table stored gone more is = record {
   apart = is.apart;
   past = is.past;
   fits = is.fits;
-  counts = is.counts;
+  theirs = is.theirs;
   old = is.old;
   kept = λ i one at. more_freed table.seats stored gone more i one (is.kept i one at);
 }
@@ -123,9 +117,7 @@ seated_same run old new stored gone same is = record {
   fits =
       subst (AllByRecursion (SeatFits new.seats)) (sym same.sessions)
       (subst (λ (s : Seats). AllByRecursion (SeatFits s) old.sessions) (sym same.seats) is.fits);
-  counts =
-      subst (AllByRecursion (SeatCounts new.seats)) (sym same.sessions)
-      (subst (λ (s : Seats). AllByRecursion (SeatCounts s) old.sessions) (sym same.seats) is.counts);
+  theirs = subst (λ (s : Seats). HeldWas run s stored) (sym same.seats) is.theirs;
   old = λ i one at. subst (λ (n : ℕ). IsPast run n one.session) (sym same.serial) (is.old i one at);
   kept = λ i one at. subst (λ (s : Seats). IsKept s stored gone i one) (sym same.seats) (is.kept i one at);
 }
@@ -147,14 +139,13 @@ module _ (f : Session → Session) (clients : (x : Session) → (f x).client ≡
       (λ session fit seat there. fit seat (ap (λ (id : List ℕ). seat_of id seats) (sym (same_id session)) ∙ there) ∙ sym (slots session)) fits
 
   pub seated_mapped : (run : ℕ) (table : Table) (stored : List Stored) (gone : List (List ℕ)) → Seated run table stored gone
-      → AllByRecursion (SeatCounts table.seats) (map f table.sessions)
       → Seated run (record table { sessions = map f table.sessions }) stored gone
-  seated_mapped run table stored gone is counts = record {
+  seated_mapped run table stored gone is = record {
     of_run = mapped_runs run table.sessions is.of_run;
     apart = is.apart;
     past = is.past;
     fits = mapped_fits table.seats table.sessions is.fits;
-    counts = counts;
+    theirs = is.theirs;
     old = is.old;
     kept = is.kept;
   }
@@ -166,7 +157,7 @@ seated_fewer run table stored gone keeps is = record {
   apart = is.apart;
   past = is.past;
   fits = all-fewer (SeatFits table.seats) keeps table.sessions is.fits;
-  counts = all-fewer (SeatCounts table.seats) keeps table.sessions is.counts;
+  theirs = is.theirs;
   old = is.old;
   kept = is.kept;
 }
@@ -205,8 +196,7 @@ module _ (run : ℕ) (table : Table) (stored : List Stored) (gone : List (List �
     past = λ id has. is.past id (had_seat goes id table.seats is.apart has);
     fits = all-mono (SeatFits table.seats) (SeatFits left) table.sessions
         (λ session fits seat there. fits seat (was_there goes (id_in session) table.seats seat is.apart there)) is.fits;
-    counts = all-mono (SeatCounts table.seats) (SeatCounts left) table.sessions
-        (λ session counts place held there. counts place held (held_before (id_in session) place held there)) is.counts;
+    theirs = λ id place held of_run there. is.theirs id place held of_run (held_before id place held there);
     old = is.old;
     kept = λ i one at. still_kept i one (is.kept i one at);
   }
@@ -271,8 +261,7 @@ module _ (run : ℕ) (table : Table) (stored : List Stored) (gone : List (List �
     past = λ id has. past_later run table.session_serial id (is.past id has);
     fits = all-more (SeatFits table.seats) table.sessions new is.fits
         (λ seat there. absurd (true≢false (sym (ap is_some there) ∙ new_has_none)));
-    counts = all-more (SeatCounts table.seats) table.sessions new is.counts
-        (λ place held there. absurd (true≢false (sym (ap is_some (seat_holds (id_in new) place table.seats held there).1) ∙ new_has_none)));
+    theirs = is.theirs;
     old = λ i one at. past_later run table.session_serial one.session (is.old i one at);
     kept = is.kept;
   }
@@ -315,17 +304,17 @@ module _ (run : ℕ) (table : Table) (stored : List Stored) (gone : List (List �
         let it : found ≡ seat = seated_new seat table.seats found none (ap (λ (id : List ℕ). seat_of id with_it) named ∙ there) in
         ap (λ (s : Seat). length s.slots) it ∙ slots
 
-    counts_old : (session : Session) → SeatCounts table.seats session × IsBelow table.session_serial session → SeatCounts with_it session
-    counts_old session both place held there =
-        let past = past_made run table.session_serial session.client session.serial both.1 (omega (arith, small)) in
-        both.0 place held (ap (held_in place) (sym (same_seat_of (id_in session) past)) ∙ there)
-
-    counts_new : SeatCounts with_it new
-    counts_new place held there =
-        let found = seat_holds (id_in new) place with_it held there in
-        let it : found.0 ≡ seat = seated_new seat table.seats found.0 none (ap (λ (id : List ℕ). seat_of id with_it) named ∙ found.1) in
-        let same : Some held ≡ None = sym there ∙ (ap (held_in place) found.1 ∙ (ap (λ (s : Seat). held_in place (Some s)) it ∙ empty place)) in
-        absurd (cc)
+    held_with : (id : List ℕ) (place : ℕ) (held : HeldReply) → run_of id ≡ run → held_at id place with_it ≡ Some held → IsAmong stored (record { session = id; slot = place; held = held })
+    held_with id place held its there = by_test (bytes_eq seat.session id) refl
+      where
+        by_test : (b : Bool) → bytes_eq seat.session id ≡ b → IsAmong stored (record { session = id; slot = place; held = held })
+        by_test false apart = is.theirs id place held its (ap (held_in place) (sym (seated_other seat id table.seats apart)) ∙ there)
+        by_test true same =
+            let name : seat.session ≡ id = (bytes_eq-Decides seat.session id).0 same in
+            let found = seat_holds id place with_it held there in
+            let it : found.0 ≡ seat = seated_new seat table.seats found.0 none (ap (λ (i : List ℕ). seat_of i with_it) name ∙ found.1) in
+            let empty_one : Some held ≡ None = sym there ∙ (ap (held_in place) found.1 ∙ (ap (λ (s : Seat). held_in place (Some s)) it ∙ empty place)) in
+            absurd (cc)
 
     pub seated_with : Seated run (record table { session_serial = table.session_serial + 1; sessions = table.sessions ++ new ∷ []; seats = with_it }) stored gone
     seated_with = record {
@@ -336,10 +325,7 @@ module _ (run : ℕ) (table : Table) (stored : List Stored) (gone : List (List �
           (all-mono (λ (session : Session). SeatFits table.seats session × IsBelow table.session_serial session) (SeatFits with_it) table.sessions fits_old
           (all-both (SeatFits table.seats) (IsBelow table.session_serial) table.sessions is.fits below))
           fits_new;
-      counts = all-more (SeatCounts with_it) table.sessions new
-          (all-mono (λ (session : Session). SeatCounts table.seats session × IsBelow table.session_serial session) (SeatCounts with_it) table.sessions counts_old
-          (all-both (SeatCounts table.seats) (IsBelow table.session_serial) table.sessions is.counts below))
-          counts_new;
+      theirs = held_with;
       old = λ i one at. past_later run table.session_serial one.session (is.old i one at);
       kept = λ i one at. still_kept_with i one (is.old i one at) (is.kept i one at);
     }
@@ -419,7 +405,7 @@ module _ (limits : SessionLimits) (stored : List Stored) (gone : List (List ℕ)
   seated_created (Some reason) e = seated_more table.run table stored gone (freed_between table.seats table.seats) is
   seated_created None e =
       let done = created_by_seat (serial_left limits arguments client table e) (persists arguments client table) in
-      record { of_run = done.of_run; apart = done.apart; past = done.past; fits = done.fits; counts = done.counts; old = done.old; kept = done.kept }
+      record { of_run = done.of_run; apart = done.apart; past = done.past; fits = done.fits; theirs = done.theirs; old = done.old; kept = done.kept }
 
   abbrev CreatedSo : CreateSessionOutcome → Type 0
   CreatedSo outcome = Seated table.run outcome.table stored (gone ++ freed_between table.seats outcome.table.seats)
@@ -458,7 +444,7 @@ find-mapped {A} test f (y ∷ xs) x same found = by_test (λ later. find-mapped 
         ap (λ (b : Bool). cond b (Some (f y)) (find test (map f xs))) (same y ∙ is) ∙ ap (λ (z : A). Some (f z)) one
     by_test rest false is later = ap (λ (b : Bool). cond b (Some (f y)) (find test (map f xs))) (same y ∙ is) ∙ rest later
 
-get-last : {A : Type 0} (xs : List A) (x : A) → slice_get (xs ++ x ∷ []) (length xs) ≡ Some x
+pub get-last : {A : Type 0} (xs : List A) (x : A) → slice_get (xs ++ x ∷ []) (length xs) ≡ Some x
 get-last [] x = refl
 get-last (y ∷ xs) x = get-last xs x
 
@@ -493,34 +479,37 @@ module _ (id : List ℕ) (place : ℕ) (reply : List ℕ) where
   finishing_fits : (seats : Seats) (sessions : List Session) → AllByRecursion (SeatFits seats) sessions → AllByRecursion (SeatFits seats) (map finishing sessions)
   finishing_fits = mapped_fits finishing (by_name (λ (s : Session). s.client) (λ s. refl)) (by_name (λ (s : Session). s.serial) (λ s. refl)) slots_still
 
-  none_counts : (seats : Seats) → has_seat id seats ≡ false → (session : Session) → SeatCounts seats session → SeatCounts seats (finishing session)
-  none_counts seats without session counts = by_test (is_session id session) refl
-    where
-      by_test : (b : Bool) → is_session id session ≡ b → SeatCounts seats (cond b (finished_slot place reply session) session)
-      by_test false other = counts
-      by_test true named = λ at held there.
-          let its = id_of id session named in
-          let seat = seat_holds (id_in session) at seats held there in
-          absurd (true≢false (sym (ap is_some (ap (λ (i : List ℕ). seat_of i seats) (sym its) ∙ seat.1)) ∙ without))
-
   finishing_still : (session : Session) → is_session id (finishing session) ≡ is_session id session
   finishing_still session = by_name (is_session id) (λ s. refl) session
 
+  -- no seat holds it
+  pub finished_unheld : (run : ℕ) (table : Table) (stored : List Stored) (gone : List (List ℕ)) → Seated run table stored gone → Seated run (finish id place false reply table) stored gone
+  unfolding finish
+  finished_unheld run table stored gone is = record {
+    of_run = finishing_runs run table.sessions is.of_run;
+    apart = is.apart;
+    past = is.past;
+    fits = finishing_fits table.seats table.sessions is.fits;
+    theirs = is.theirs;
+    old = is.old;
+    kept = is.kept;
+  }
+
+  -- one of a session that has no seat stores nothing
   pub finished_unseated : (run : ℕ) (table : Table) (stored : List Stored) (gone : List (List ℕ)) → has_seat id table.seats ≡ false → Seated run table stored gone
-      → Seated run (finish id place reply table) (stored ++ option_to_list (stored_by (finish id place reply table) (Some (id, place)))) gone
+      → Seated run (finish id place true reply table) (stored ++ option_to_list (stored_by (finish id place true reply table) (Some (id, place)) true)) gone
   unfolding finish
   finished_unseated run table stored gone none is =
-      let new = finish id place reply table in
+      let new = finish id place true reply table in
       let seats = sym (same_seats id place reply table none) in
-      let all : stored ≡ stored ++ option_to_list (stored_by new (Some (id, place)))
+      let all : stored ≡ stored ++ option_to_list (stored_by new (Some (id, place)) true)
       = sym (append-nil stored) ∙ ap (λ (o : Option Stored). stored ++ option_to_list o) (sym (nothing_stored id place reply table none)) in
       subst (λ (l : List Stored). Seated run new l gone) all (record {
         of_run = finishing_runs run table.sessions is.of_run;
         apart = subst SeatsApart seats is.apart;
         past = λ name has. is.past name (ap (has_seat name) seats ∙ has);
         fits = subst (λ (s : Seats). AllByRecursion (SeatFits s) new.sessions) seats (finishing_fits table.seats table.sessions is.fits);
-        counts = subst (λ (s : Seats). AllByRecursion (SeatCounts s) new.sessions) seats
-            (all-mapped (SeatCounts table.seats) (SeatCounts table.seats) finishing table.sessions (none_counts table.seats none) is.counts);
+        theirs = subst (λ (s : Seats). HeldWas run s stored) seats is.theirs;
         old = is.old;
         kept = λ i one at. subst (λ (s : Seats). IsKept s stored gone i one) seats (is.kept i one at);
       })
@@ -536,11 +525,11 @@ module _ (id : List ℕ) (place : ℕ) (reply : List ℕ) where
     abbrev pub its_seats : Seats
     its_seats = holding id place its_held table.seats
 
-    pub seats_are : (finish id place reply table).seats ≡ its_seats
+    pub seats_are : (finish id place true reply table).seats ≡ its_seats
     unfolding finish
     seats_are = ap (held_by id place reply table.seats) found
 
-    pub kept_is : kept_at id place (finish id place reply table) ≡ Some its_held
+    pub kept_is : kept_at id place (finish id place true reply table) ≡ Some its_held
     unfolding finish
     kept_is =
         let named : is_session id session ≡ true = found_passes (is_session id) table.sessions session found in
@@ -552,9 +541,9 @@ module _ (id : List ℕ) (place : ℕ) (reply : List ℕ) where
         (get_or-set_same session.slots place (record (slot_at session place) { state = Kept reply }) no_slot within))
 
     module _ (has : has_seat id table.seats ≡ true) where
-      pub stored_is : stored_by (finish id place reply table) (Some (id, place)) ≡ Some its_stored
+      pub stored_is : stored_by (finish id place true reply table) (Some (id, place)) true ≡ Some its_stored
       stored_is =
-          ap (λ (b : Bool). cond b (stored_as id place (kept_at id place (finish id place reply table))) None)
+          ap (λ (b : Bool). cond b (stored_as id place (kept_at id place (finish id place true reply table))) None)
           (ap (has_seat id) seats_are ∙ (has_holding id place its_held id table.seats ∙ has))
           ∙ ap (stored_as id place) kept_is
 
@@ -628,48 +617,31 @@ module _ (id : List ℕ) (place : ℕ) (reply : List ℕ) where
         | inr last ↦ subst (λ (s : Stored). IsPast run table.session_serial s.session) (sym last.1) (is.past id has)
       ]
 
-      -- of its own session the seat holds the slot's last from now on, and what it held of the others
-      its_counts : SeatCounts table.seats session → is_session id session ≡ true → SeatCounts its_seats (finished_slot place reply session)
-      its_counts counts named at held there = by_place (at == place) refl
+      -- what the seats hold now was held before, or it is this reply
+      held_all : HeldWas run its_seats all_stored
+      held_all name at held of_run there = by_tests (bytes_eq name id) (at == place) refl refl
         where
-          name : id_in session ≡ id
-          name = id_of id session named
+          before : (name ≡ id → at ≡ place → ⊥) → IsAmong all_stored (record { session = name; slot = at; held = held })
+          before other =
+              among_left stored (its_stored ∷ []) (record { session = name; slot = at; held = held })
+              (is.theirs name at held of_run (sym (held_other id place its_held name at table.seats other) ∙ there))
 
-          there_by : held_at id at its_seats ≡ Some held
-          there_by = ap (λ (i : List ℕ). held_at i at its_seats) (sym name) ∙ there
+          by_tests : (b p : Bool) → bytes_eq name id ≡ b → (at == place) ≡ p → IsAmong all_stored (record { session = name; slot = at; held = held })
+          by_tests true true named here =
+              let its_name : name ≡ id = (bytes_eq-Decides name id).0 named in
+              let its_place : at ≡ place = eqb-true at place here in
+              let both : Some its_held ≡ Some held
+              = sym held_now ∙ (ap (λ (n : List ℕ). held_at n place its_seats) (sym its_name) ∙ (ap (λ (p : ℕ). held_at name p its_seats) (sym its_place) ∙ there)) in
+              let its : its_held ≡ held = cc in
+              let same : its_stored ≡ record { session = name; slot = at; held = held } = cc in
+              subst (IsAmong all_stored) same (among_right stored (its_stored ∷ []) its_stored (0, (omega arith, refl)))
+          by_tests true false named apart = before (λ same here. true≢false (sym (eq-eqb at place here) ∙ apart))
+          by_tests false p apart here = before (λ same at. bytes_differ name id apart same)
 
-          by_place : (b : Bool) → (at == place) ≡ b → CountsAt (slot_at (finished_slot place reply session) at) held
-          by_place true same =
-              let here : at ≡ place = eqb-true at place same in
-              let its : Some its_held ≡ Some held = sym held_now ∙ (ap (λ (p : ℕ). held_at id p its_seats) (sym here) ∙ there_by) in
-              let held_is : its_held ≡ held = cc in
-              let slot : slot_at (finished_slot place reply session) at ≡ record (slot_at session place) { state = Kept reply }
-              = ap (λ (p : ℕ). slot_at (finished_slot place reply session) p) here
-              ∙ get_or-set_same session.slots place (record (slot_at session place) { state = Kept reply }) no_slot within in
-              subst (λ (s : Slot). CountsAt s held) (sym slot) (ap (λ (h : HeldReply). h.number) (sym held_is))
-          by_place false apart =
-              let other : at ≡ place → ⊥ = λ same. true≢false (sym (eq-eqb at place same) ∙ apart) in
-              let before : held_at id at table.seats ≡ Some held = sym (held_other id place its_held id at table.seats (λ _ same. other same)) ∙ there_by in
-              let slot : slot_at (finished_slot place reply session) at ≡ slot_at session at
-              = get_or-set_other session.slots place at (record (slot_at session place) { state = Kept reply }) no_slot other in
-              subst (λ (s : Slot). CountsAt s held) (sym slot) (counts at held (ap (λ (i : List ℕ). held_at i at table.seats) name ∙ before))
-
-      counts_now : (other : Session) → SeatCounts table.seats other × (is_session id other ≡ true → other ≡ session) → SeatCounts its_seats (finishing other)
-      counts_now other both = by_test (is_session id other) refl
-        where
-          by_test : (b : Bool) → is_session id other ≡ b → SeatCounts its_seats (cond b (finished_slot place reply other) other)
-          by_test true named =
-              let same : session ≡ other = sym (both.1 named) in
-              subst (λ (s : Session). SeatCounts its_seats (finished_slot place reply s)) same
-              (its_counts (subst (SeatCounts table.seats) (sym same) both.0) (subst (λ (s : Session). is_session id s ≡ true) (sym same) named))
-          by_test false apart = λ at held there.
-              both.0 at held
-              (sym (held_other id place its_held (id_in other) at table.seats (λ same _. bytes_differ (id_in other) id apart same)) ∙ there)
-
-      finished_with : length (filter (is_session id) table.sessions) ≤ 1 → Seated run (finish id place reply table) all_stored gone
+      finished_with : Seated run (finish id place true reply table) all_stored gone
       unfolding finish
-      finished_with few =
-          let new = finish id place reply table in
+      finished_with =
+          let new = finish id place true reply table in
           let seats = sym seats_are in
           record {
             of_run = finishing_runs run table.sessions is.of_run;
@@ -680,70 +652,27 @@ module _ (id : List ℕ) (place : ℕ) (reply : List ℕ) where
                 (λ other fits seat there.
                 let was = holding_was id place its_held (id_in other) table.seats seat there in
                 was.2 ∙ fits was.0 was.1) (finishing_fits table.seats table.sessions is.fits));
-            counts = subst (λ (s : Seats). AllByRecursion (SeatCounts s) new.sessions) seats
-                (all-mapped (λ (other : Session). SeatCounts table.seats other × (is_session id other ≡ true → other ≡ session)) (SeatCounts its_seats) finishing
-                table.sessions counts_now
-                (all-both (SeatCounts table.seats) (λ (other : Session). is_session id other ≡ true → other ≡ session) table.sessions is.counts
-                (only_found (is_session id) table.sessions session few found)));
+            theirs = subst (λ (s : Seats). HeldWas run s all_stored) seats held_all;
             old = old_now;
             kept = λ i one at. subst (λ (s : Seats). IsKept s all_stored gone i one) seats (kept_now i one at);
           }
 
-      pub finished_seated : length (filter (is_session id) table.sessions) ≤ 1 → Seated run (finish id place reply table) (stored ++ option_to_list (stored_by (finish id place reply table) (Some (id, place)))) gone
-      finished_seated few =
-          subst (λ (o : Option Stored). Seated run (finish id place reply table) (stored ++ option_to_list o) gone) (sym stored_is) (finished_with few)
+      pub finished_seated : Seated run (finish id place true reply table) (stored ++ option_to_list (stored_by (finish id place true reply table) (Some (id, place)) true)) gone
+      finished_seated =
+          subst (λ (o : Option Stored). Seated run (finish id place true reply table) (stored ++ option_to_list o) gone) (sym stored_is) finished_with
 
 -- SEQUENCE
 
--- the number that runs is another than the last
-other_number : (last : ℕ) → last ≡ next_number last → ⊥
-other_number last same = omega (arith, same)
-
 pub seated_started : (run uid : ℕ) (arguments : SequenceArguments) (table : Table) (stored : List Stored) (gone : List (List ℕ)) → Seated run table stored gone
-    → length (filter (is_session arguments.session) table.sessions) ≤ 1 → RunsOn arguments (find (is_session arguments.session) table.sessions)
     → Seated run (started uid arguments table) stored gone
 unfolding started
-seated_started run uid arguments table stored gone is few runs =
+seated_started run uid arguments table stored gone is =
     seated_mapped (λ session. cond (is_session arguments.session session) (with_slot arguments.slot slot session) session)
     (by_test (λ (s : Session). s.client) (λ s. refl)) (by_test (λ (s : Session). s.serial) (λ s. refl))
     (by_test (λ (s : Session). length s.slots) (λ s. length-set s.slots arguments.slot slot)) run table stored gone is
-    (all-mapped (λ (session : Session). SeatCounts table.seats session × (is_session arguments.session session ≡ true → session ≡ runs.session)) (SeatCounts table.seats)
-    (λ session. cond (is_session arguments.session session) (with_slot arguments.slot slot session) session) table.sessions counts_now
-    (all-both (SeatCounts table.seats) (λ (session : Session). is_session arguments.session session ≡ true → session ≡ runs.session) table.sessions is.counts
-    (only_found (is_session arguments.session) table.sessions runs.session few runs.is)))
   where
     slot : Slot
     slot = record { last = arguments.sequence; uid = uid; state = Running }
-
-    -- what is held of the slot is of its last request, and what runs now is the next one
-    its_counts : SeatCounts table.seats runs.session → SeatCounts table.seats (with_slot arguments.slot slot runs.session)
-    its_counts counts place held there = by_place (place == arguments.slot) refl
-      where
-        by_place : (b : Bool) → (place == arguments.slot) ≡ b → CountsAt (slot_at (with_slot arguments.slot slot runs.session) place) held
-        by_place true same =
-            let here : place ≡ arguments.slot = eqb-true place arguments.slot same in
-            let before : CountsAt (slot_at runs.session arguments.slot) held
-            = subst (λ (p : ℕ). CountsAt (slot_at runs.session p) held) here (counts place held there) in
-            let last : held.number ≡ (slot_at runs.session arguments.slot).last
-            = subst (λ (b : Bool). CountsSo b (slot_at runs.session arguments.slot).last held.number) runs.rests before in
-            let now : slot_at (with_slot arguments.slot slot runs.session) place ≡ slot
-            = ap (λ (p : ℕ). slot_at (with_slot arguments.slot slot runs.session) p) here
-            ∙ get_or-set_same runs.session.slots arguments.slot slot no_slot runs.within in
-            subst (λ (s : Slot). CountsAt s held) (sym now)
-            (λ number. other_number (slot_at runs.session arguments.slot).last (sym last ∙ (number ∙ runs.next)))
-        by_place false apart =
-            let other : place ≡ arguments.slot → ⊥ = λ same. true≢false (sym (eq-eqb place arguments.slot same) ∙ apart) in
-            subst (λ (s : Slot). CountsAt s held) (sym (get_or-set_other runs.session.slots arguments.slot place slot no_slot other)) (counts place held there)
-
-    counts_now : (session : Session) → SeatCounts table.seats session × (is_session arguments.session session ≡ true → session ≡ runs.session)
-        → SeatCounts table.seats (cond (is_session arguments.session session) (with_slot arguments.slot slot session) session)
-    counts_now session both = by_is (is_session arguments.session session) refl
-      where
-        by_is : (b : Bool) → is_session arguments.session session ≡ b → SeatCounts table.seats (cond b (with_slot arguments.slot slot session) session)
-        by_is true named =
-            let same : runs.session ≡ session = sym (both.1 named) in
-            subst (λ (s : Session). SeatCounts table.seats (with_slot arguments.slot slot s)) same (its_counts (subst (SeatCounts table.seats) (sym same) both.0))
-        by_is false other = both.0
 
     by_test : {A : Type 0} (told : Session → A) → ((session : Session) → told (with_slot arguments.slot slot session) ≡ told session) → (session : Session)
         → told (cond (is_session arguments.session session) (with_slot arguments.slot slot session) session) ≡ told session

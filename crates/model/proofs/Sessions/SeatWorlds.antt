@@ -14,7 +14,7 @@ use Rattle.model.specs.Sessions.Session.{Table, Session, Slot, SlotState, Free, 
 use Rattle.model.specs.Sessions.SessionRuns as calls
 use Rattle.model.specs.Sessions.SlotsHeld.{runs_at, is_slot_running, is_on, is_busy_on}
 use Rattle.model.specs.Sessions.StateIds.{has_opens}
-use Rattle.model.specs.Server.World.{ServerLimits, World, InProgress, HasRun, Gives, Replays, Entry, exchanged, created_by, tabled, started_in, begun, reclaimed, run, Turned, with_result, result_of, kept_by, is_to_hold, closes, behind, is_last, one}
+use Rattle.model.specs.Server.World.{ServerLimits, World, InProgress, HasRun, Gives, Replays, Entry, exchanged, created_by, tabled, started_in, begun, reclaimed, run, Turned, with_result, result_of, kept_by, is_to_hold, closes, behind, is_last, one, noting}
 use Rattle.model.proofs.Sessions.SlotLaw.{SameSessions, RunsOn, begin_runs, exchange_same, destroy_client_same, reclaim_same}
 use Rattle.model.proofs.Sessions.SlotRuns.{told_by}
 use Rattle.model.proofs.Sessions.SlotsHeld.{Held}
@@ -22,7 +22,7 @@ use Rattle.model.proofs.Sessions.TableCalls.{Holds, either, ids_differ}
 use Rattle.model.proofs.Sessions.TableIds.{every_call_gives_new}
 use Rattle.model.proofs.Server.TurnCases.{IsTurn, Idles, Says, Closes, Unread, TooBig, Gave, Repeats, turn_is, read_of}
 use Rattle.model_tree.proofs.Facts.BytesLaws.{bytes_same}
-use Rattle.model.proofs.Sessions.SeatTables.{Seated, seated_more, seated_same, seated_destroyed, seated_create, seated_started, finished_unseated, finished_seated}
+use Rattle.model.proofs.Sessions.SeatTables.{Seated, seated_more, seated_same, seated_destroyed, seated_create, seated_started, finished_unheld, finished_unseated, finished_seated}
 use Rattle.model.proofs.Sessions.StoringTurns.{same_seats}
 
 pub on_itself : (id : List ℕ) (place : ℕ) → is_on (Some (id, place)) id place ≡ true
@@ -69,13 +69,11 @@ module _ (limits : ServerLimits) (world : World) (held : Held limits world) (its
   reclaimed_seated request None = stays
   reclaimed_seated request (Some reason) = stays
 
-  started_so : (request : InProgress) (arguments : SequenceArguments) → RunsOn arguments (find (is_session arguments.session) world.table.sessions)
-      → Goes (sessions.started request.context.cred.uid arguments world.table)
+  started_so : (request : InProgress) (arguments : SequenceArguments) → Goes (sessions.started request.context.cred.uid arguments world.table)
   unfolding sessions.started
-  started_so request arguments runs = (
+  started_so request arguments = (
     seated_more its_run (sessions.started request.context.cred.uid arguments world.table) stored gone (freed_between world.table.seats world.table.seats)
-        (seated_started its_run request.context.cred.uid arguments world.table stored gone is
-        (ids_differ limits.sessions world.table.session_serial world.table.sessions held.holds.1 arguments.session) runs),
+        (seated_started its_run request.context.cred.uid arguments world.table stored gone is),
     run_is,
   )
 
@@ -87,7 +85,7 @@ module _ (limits : ServerLimits) (world : World) (held : Held limits world) (its
     where
       by_session : (known : Option Session) → RanSeated its_run world stored gone (started_in world request arguments known)
       by_session None = stays
-      by_session (Some session) = started_so request arguments (begin_runs request.context.cred.uid request.count arguments world.table is_so)
+      by_session (Some session) = started_so request arguments
 
   created_so : (request : InProgress) (arguments : _) → Goes (sessions.create_session world.limits.sessions request.context.cred.uid arguments world.table).table
   created_so request arguments = (
@@ -126,29 +124,29 @@ module _ (limits : ServerLimits) (world : World) (held : Held limits world) (its
   -- A turn
 
   abbrev pub TurnSeated : Turned → Type 0
-  TurnSeated t = Seated its_run t.world.table (stored ++ option_to_list (stored_by t.world.table t.keeps)) (gone ++ freed_between world.table.seats t.world.table.seats)
+  TurnSeated t = Seated its_run t.world.table (stored ++ option_to_list (stored_by t.world.table t.keeps t.holds)) (gone ++ freed_between world.table.seats t.world.table.seats)
       × (t.world.table.run ≡ its_run)
 
   nothing_more : (table : Table) → Goes table → Seated its_run table (stored ++ []) (gone ++ freed_between world.table.seats table.seats) × (table.run ≡ its_run)
   nothing_more table goes =
       (subst (λ (l : List Stored). Seated its_run table l (gone ++ freed_between world.table.seats table.seats)) (sym (append-nil stored)) goes.0, goes.1)
 
-  kept_unseated : (slot : Option (List ℕ × ℕ)) (result : List ℕ) (table : Table) → is_to_hold slot table.seats ≡ false → Goes table
-      → Seated its_run (kept_by slot result table) (stored ++ option_to_list (stored_by (kept_by slot result table) slot)) (gone ++ freed_between world.table.seats (kept_by slot result table).seats)
-      × ((kept_by slot result table).run ≡ its_run)
-  kept_unseated None result table none goes = nothing_more table goes
-  kept_unseated (Some slot) result table none goes = (
-    subst (λ (s : Seats). Seated its_run (sessions.finish slot.0 slot.1 result table) (stored ++ option_to_list (stored_by (sessions.finish slot.0 slot.1 result table) (Some (slot.0, slot.1)))) (gone ++ freed_between world.table.seats s))
-        (sym (same_seats slot.0 slot.1 result table none))
-        (finished_unseated slot.0 slot.1 result its_run table stored (gone ++ freed_between world.table.seats table.seats) none goes.0),
-    same_run world.limits.sessions (calls.Finishes slot.0 slot.1 result) table its_run goes.1,
+  kept_unheld : (slot : Option (List ℕ × ℕ)) (result : List ℕ) (table : Table) → Goes table
+      → Seated its_run (kept_by slot false result table) (stored ++ option_to_list (stored_by (kept_by slot false result table) slot false))
+      (gone ++ freed_between world.table.seats (kept_by slot false result table).seats)
+      × ((kept_by slot false result table).run ≡ its_run)
+  unfolding sessions.finish
+  kept_unheld None result table goes = nothing_more table goes
+  kept_unheld (Some slot) result table goes = nothing_more (sessions.finish slot.0 slot.1 false result table) (
+    finished_unheld slot.0 slot.1 result its_run table stored (gone ++ freed_between world.table.seats table.seats) goes.0,
+    goes.1,
   )
 
   closes_seated : (number : ℕ) (after : World) (request : InProgress) (last : Status) (executed : Option Entry) → Goes after.table → TurnSeated (closes after number request last executed)
   closes_seated number after request last executed goes =
-      either TurnSeated (is_to_hold request.slot after.table.seats) _ _
+      either TurnSeated (is_to_hold request after.table) _ _
       (λ seated. nothing_more after.table goes)
-      (λ none. kept_unseated request.slot (result_of request last) after.table none goes)
+      (λ none. kept_unheld request.slot (result_of request last) after.table goes)
 
   behind_seated : (number : ℕ) (after : World) (request : InProgress) (outcome : Outcome) (executed : Option Entry) → Goes after.table → TurnSeated (behind after number request outcome executed)
   behind_seated number after request (Refused operation reason) executed goes = closes_seated number after (with_result request (Refused operation reason)) reason executed goes
@@ -189,22 +187,23 @@ module _ (limits : ServerLimits) (world : World) (held : Held limits world) (its
         record { session = found.0; found = found.1; within = inside found.0 state; runs = state }
 
     stored_so : (result : List ℕ) → (b : Bool) → has_seat id world.table.seats ≡ b
-        → Seated its_run (sessions.finish id place result world.table) (stored ++ option_to_list (stored_by (sessions.finish id place result world.table) (Some (id, place)))) gone
+        → Seated its_run (sessions.finish id place true result world.table)
+        (stored ++ option_to_list (stored_by (sessions.finish id place true result world.table) (Some (id, place)) true)) gone
     stored_so result true has =
         finished_seated id place result its_run world.table stored gone is runs_there.session runs_there.found runs_there.within has
-        (ids_differ limits.sessions world.table.session_serial world.table.sessions held.holds.1 id)
     stored_so result false none = finished_unseated id place result its_run world.table stored gone none is
 
   kept_running : (slot : Option (List ℕ × ℕ)) (result : List ℕ) → ((id : List ℕ) (place : ℕ) → is_on slot id place ≡ true → is_slot_running id place world.table ≡ true)
-      → Seated its_run (kept_by slot result world.table) (stored ++ option_to_list (stored_by (kept_by slot result world.table) slot)) (gone ++ freed_between world.table.seats (kept_by slot result world.table).seats)
-      × ((kept_by slot result world.table).run ≡ its_run)
+      → Seated its_run (kept_by slot true result world.table) (stored ++ option_to_list (stored_by (kept_by slot true result world.table) slot true))
+      (gone ++ freed_between world.table.seats (kept_by slot true result world.table).seats)
+      × ((kept_by slot true result world.table).run ≡ its_run)
   kept_running None result runs = nothing_more world.table stays
-  kept_running (Some slot) result runs = (
-    seated_more its_run (sessions.finish slot.0 slot.1 result world.table) (stored ++ option_to_list (stored_by (sessions.finish slot.0 slot.1 result world.table) (Some (slot.0, slot.1)))) gone
-        (freed_between world.table.seats (sessions.finish slot.0 slot.1 result world.table).seats)
-        (stored_so slot.0 slot.1 (runs slot.0 slot.1 (on_itself slot.0 slot.1)) result (has_seat slot.0 world.table.seats) refl),
-    same_run world.limits.sessions (calls.Finishes slot.0 slot.1 result) world.table its_run run_is,
-  )
+  kept_running (Some slot) result runs =
+      let new = sessions.finish slot.0 slot.1 true result world.table in (
+        seated_more its_run new (stored ++ option_to_list (stored_by new (Some (slot.0, slot.1)) true)) gone (freed_between world.table.seats new.seats)
+            (stored_so slot.0 slot.1 (runs slot.0 slot.1 (on_itself slot.0 slot.1)) result (has_seat slot.0 world.table.seats) refl),
+        same_run world.limits.sessions (calls.Finishes slot.0 slot.1 true result) world.table its_run run_is,
+      )
 
   turned_seated : (number now : ℕ) (t : Turned) → IsTurn world number now t → TurnSeated t
   turned_seated number now _ Idles = nothing_more world.table stays
@@ -213,9 +212,9 @@ module _ (limits : ServerLimits) (world : World) (held : Held limits world) (its
       kept_running request.slot (result_of request last)
       (λ id place on. held.law.runs id place number (ap (is_busy_on id place) there ∙ on))
   turned_seated number now _ (Unread request operation reason goes) = behind_seated number world request (Refused operation reason) None stays
-  turned_seated number now _ (TooBig request operation rest goes reads) = behind_seated number world (read_of request rest) (Refused (operation_of operation) status.RepTooBig) _ stays
+  turned_seated number now _ (TooBig request operation rest goes reads) = behind_seated number world (noting world world operation (read_of request rest)) (Refused (operation_of operation) status.RepTooBig) _ stays
   turned_seated number now _ (Gave request operation rest outcome after left goes reads ran) =
-      behind_seated number after left outcome _ (subst (RanSeated its_run world stored gone) ran (run_seated (read_of request rest) now operation))
+      behind_seated number after (noting world after operation left) outcome _ (subst (RanSeated its_run world stored gone) ran (run_seated (read_of request rest) now operation))
   turned_seated number now _ (Repeats request operation rest result session slot goes reads ran) = nothing_more world.table stays
 
   pub one_seated : (number now : ℕ) → TurnSeated (one world number now)

@@ -13,7 +13,7 @@ use Rattle.model_tree.specs.Seats.Seats.{Seat, Seats, is_seat_of, seat_of, has_s
 use Rattle.model.specs.Sessions.Session as sessions
 use Rattle.model.specs.Sessions.Session.{SessionLimits, Client, Session, Table, is_session, is_client, is_running, slot_at, gives_way, seats_staying, new_seat, persists, create_refusals, create_unless, create_again, create_by, create_session, CreateSessionOutcome, next_number, destroy_by, destroy_session, held_reply, held_by, finish}
 use Rattle.model.specs.Sessions.StateIds.{has_opens}
-use Rattle.model.specs.Server.World.{World, InProgress, HasRun, Gives, Replays, Entry, exchanged, created_by, tabled, started_in, begun, reclaimed, run, executed_entry, Turned, with_result, result_of, kept_by, is_to_hold, closes, behind, is_last, one, arrives, takes, connects, hangs_up}
+use Rattle.model.specs.Server.World.{World, InProgress, HasRun, Gives, Replays, Entry, exchanged, created_by, tabled, started_in, begun, reclaimed, run, executed_entry, Turned, with_result, result_of, kept_by, is_to_hold, closes, behind, is_last, one, arrives, takes, connects, hangs_up, noting}
 use Rattle.model.proofs.Sessions.SeatLaws.{seat_found, freed_seat, has_holding}
 use Rattle.model.proofs.Sessions.SeatRunLaws.{stop_seated}
 use Rattle.model.proofs.Server.ServedOnceLaws.{arrives_table, takes_table, connects_table, hangs_up_table}
@@ -56,10 +56,11 @@ seated_frees new id seats went = by_test (has_seat id seats) refl
 
 -- What a turn keeps or holds frees none
 
-kept_has : (id : List ℕ) (slot : Option (List ℕ × ℕ)) (result : List ℕ) (table : Table) → has_seat id (kept_by slot result table).seats ≡ has_seat id table.seats
+kept_has : (id : List ℕ) (slot : Option (List ℕ × ℕ)) (holds : Bool) (result : List ℕ) (table : Table) → has_seat id (kept_by slot holds result table).seats ≡ has_seat id table.seats
 unfolding finish
-kept_has id None result table = refl
-kept_has id (Some slot) result table = by_session (find (is_session slot.0) table.sessions)
+kept_has id None holds result table = refl
+kept_has id (Some slot) false result table = refl
+kept_has id (Some slot) true result table = by_session (find (is_session slot.0) table.sessions)
   where
     by_session : (known : Option Session) → has_seat id (held_by slot.0 slot.1 result table.seats known) ≡ has_seat id table.seats
     by_session None = refl
@@ -68,8 +69,8 @@ kept_has id (Some slot) result table = by_session (find (is_session slot.0) tabl
 closes_has : (id : List ℕ) (number : ℕ) (after : World) (request : InProgress) (last : Status) (executed : Option Entry)
     → (has_seat id (closes after number request last executed).world.table.seats ≡ has_seat id after.table.seats) × ((closes after number request last executed).executed ≡ executed)
 closes_has id number after request last executed =
-    either (λ (t : Turned). (has_seat id t.world.table.seats ≡ has_seat id after.table.seats) × (t.executed ≡ executed)) (is_to_hold request.slot after.table.seats) _ _
-    (λ seated. (refl, refl)) (λ none. (kept_has id request.slot (result_of request last) after.table, refl))
+    either (λ (t : Turned). (has_seat id t.world.table.seats ≡ has_seat id after.table.seats) × (t.executed ≡ executed)) (is_to_hold request after.table) _ _
+    (λ seated. (refl, refl)) (λ none. (kept_has id request.slot false (result_of request last) after.table, refl))
 
 pub behind_has : (id : List ℕ) (number : ℕ) (after : World) (request : InProgress) (outcome : Outcome) (executed : Option Entry)
     → (has_seat id (behind after number request outcome executed).world.table.seats ≡ has_seat id after.table.seats)
@@ -216,16 +217,17 @@ module _ (world : World) (apart : SeatsApart world.table.seats) where
   turned_frees number now _ Idles id seat there went = stays_there world.table.seats id seat refl there went
   turned_frees number now _ (Says bytes xid reply waits) id seat there went = stays_there world.table.seats id seat refl there went
   turned_frees number now _ (Closes request last begins ended) id seat there went =
-      stays_there (kept_by request.slot (result_of request last) world.table).seats id seat (kept_has id request.slot (result_of request last) world.table) there went
+      stays_there (kept_by request.slot true (result_of request last) world.table).seats id seat (kept_has id request.slot true (result_of request last) world.table) there went
   turned_frees number now _ (Unread request operation reason goes) id seat there went =
       stays_there (behind world number request (Refused operation reason) None).world.table.seats id seat (behind_has id number world request (Refused operation reason) None).0 there went
   turned_frees number now _ (TooBig request operation rest goes reads) id seat there went =
       let outcome = Refused (operation_of operation) status.RepTooBig in
       let executed = Some (executed_entry world (read_of request rest) operation outcome world) in
-      stays_there (behind world number (read_of request rest) outcome executed).world.table.seats id seat (behind_has id number world (read_of request rest) outcome executed).0 there went
+      let noted : InProgress = noting world world operation (read_of request rest) in
+      stays_there (behind world number noted outcome executed).world.table.seats id seat (behind_has id number world noted outcome executed).0 there went
   turned_frees number now _ (Gave request operation rest outcome after left goes reads ran) id seat there went =
       let entry : Entry = executed_entry world (read_of request rest) operation outcome after in
-      let has = behind_has id number after left outcome (Some entry) in
+      let has = behind_has id number after (noting world after operation left) outcome (Some entry) in
       let frees = (subst (RanFrees operation) ran (run_frees (read_of request rest) now operation)) id seat there (sym has.0 ∙ went) in
       record { entry = entry; is = has.1; done = frees.0; by = frees.1 }
   turned_frees number now _ (Repeats request operation rest result session slot goes reads ran) id seat there went = stays_there world.table.seats id seat refl there went

@@ -12,7 +12,7 @@ use Rattle.model_tree.specs.Seats.Seats.{HeldReply, Seat, Seats, is_seat_of, sea
 use Rattle.model.specs.Sessions.Session as sessions
 use Rattle.model.specs.Sessions.Session.{SessionLimits, Client, Session, Table, is_session, is_client, is_running, slot_at, gives_way, seats_staying, seats_after, new_seat, persists, create_refusals, create_unless, create_again, create_by, create_session, CreateSessionOutcome, next_number, destroy_by, destroy_session, held_reply, held_by, finish}
 use Rattle.model.specs.Sessions.StateIds.{has_opens}
-use Rattle.model.specs.Server.World.{ServerLimits, World, InProgress, HasRun, Gives, Replays, Entry, exchanged, created_by, tabled, started_in, begun, reclaimed, run, Turned, with_result, result_of, kept_by, is_to_hold, closes, behind, is_last, one, arrives, takes, connects, hangs_up}
+use Rattle.model.specs.Server.World.{ServerLimits, World, InProgress, HasRun, Gives, Replays, Entry, exchanged, created_by, tabled, started_in, begun, reclaimed, run, Turned, with_result, result_of, kept_by, is_to_hold, closes, behind, is_last, one, arrives, takes, connects, hangs_up, noting}
 use Rattle.model.proofs.Sessions.SeatLaws.{seat_found, freed_seat, stays_or_goes, had_seat, seated_other, holding_seat, has_holding}
 use Rattle.model_tree.proofs.Facts.BytesLaws.{bytes_apart}
 use Rattle.model.proofs.Sessions.AllOf.{all-found}
@@ -132,7 +132,7 @@ go_created limits uid arguments table holds small apart = by_client (find (is_cl
         (λ other. go_same table.run table.seats table.seats refl)
 
 go_finished : (run : ℕ) → run < 2 ^ 32 → (id : List ℕ) (place : ℕ) (reply : List ℕ) (table : Table) → AllByRecursion (λ (s : Session). in_run s.client ≡ run) table.sessions
-    → SeatsGo run table.seats (finish id place reply table).seats
+    → SeatsGo run table.seats (finish id place true reply table).seats
 unfolding finish
 go_finished run small id place reply table of_run = by_session (find (is_session id) table.sessions) refl
   where
@@ -216,22 +216,21 @@ module _ (limits : ServerLimits) (world : World) (held : Held limits world) (its
   abbrev TurnGo : Turned → Type 0
   TurnGo t = Go t.world.table
 
-  kept_go : (slot : Option (List ℕ × ℕ)) (result : List ℕ) (table : Table) → is_to_hold slot table.seats ≡ false → Go table → Go (kept_by slot result table)
-  kept_go None result table none go = go
-  kept_go (Some slot) result table none go =
-      go_on its_run world.table.seats table.seats (finish slot.0 slot.1 result table).seats go
-      (go_same its_run table.seats (finish slot.0 slot.1 result table).seats (same_seats slot.0 slot.1 result table none))
+  kept_go : (slot : Option (List ℕ × ℕ)) (result : List ℕ) (table : Table) → Go table → Go (kept_by slot false result table)
+  unfolding finish
+  kept_go None result table go = go
+  kept_go (Some slot) result table go = go
 
   closes_go : (number : ℕ) (after : World) (request : InProgress) (last : Status) (executed : Option Entry) → Go after.table → TurnGo (closes after number request last executed)
   closes_go number after request last executed go =
-      either TurnGo (is_to_hold request.slot after.table.seats) _ _ (λ seated. go) (λ none. kept_go request.slot (result_of request last) after.table none go)
+      either TurnGo (is_to_hold request after.table) _ _ (λ seated. go) (λ none. kept_go request.slot (result_of request last) after.table go)
 
   behind_go : (number : ℕ) (after : World) (request : InProgress) (outcome : Outcome) (executed : Option Entry) → Go after.table → TurnGo (behind after number request outcome executed)
   behind_go number after request (Refused operation reason) executed go = closes_go number after (with_result request (Refused operation reason)) reason executed go
   behind_go number after request (Done answer) executed go =
       either TurnGo (is_last request) _ _ (λ last. closes_go number after (with_result request (Done answer)) status.Ok executed go) (λ more. go)
 
-  ends_go : (slot : Option (List ℕ × ℕ)) (result : List ℕ) → Go (kept_by slot result world.table)
+  ends_go : (slot : Option (List ℕ × ℕ)) (result : List ℕ) → Go (kept_by slot true result world.table)
   ends_go None result = stays
   ends_go (Some slot) result = go_finished its_run small slot.0 slot.1 result world.table is.of_run
 
@@ -240,9 +239,9 @@ module _ (limits : ServerLimits) (world : World) (held : Held limits world) (its
   turned_go number now _ (Says bytes xid reply waits) = stays
   turned_go number now _ (Closes request last there ended) = ends_go request.slot (result_of request last)
   turned_go number now _ (Unread request operation reason goes) = behind_go number world request (Refused operation reason) None stays
-  turned_go number now _ (TooBig request operation rest goes reads) = behind_go number world (read_of request rest) (Refused (operation_of operation) status.RepTooBig) _ stays
+  turned_go number now _ (TooBig request operation rest goes reads) = behind_go number world (noting world world operation (read_of request rest)) (Refused (operation_of operation) status.RepTooBig) _ stays
   turned_go number now _ (Gave request operation rest outcome after left goes reads ran) =
-      behind_go number after left outcome _ (subst (RanGo its_run world) ran (run_go (read_of request rest) now operation))
+      behind_go number after (noting world after operation left) outcome _ (subst (RanGo its_run world) ran (run_go (read_of request rest) now operation))
   turned_go number now _ (Repeats request operation rest result session slot goes reads ran) = stays
 
   quiet_go : (after : World) → after.table ≡ world.table → Go after.table

@@ -10,7 +10,7 @@ use Rattle.model.specs.Server.Runs.{Event, Arrives, Turns, HangsUp, Connects, Ta
 use Rattle.model.specs.Sessions.SeatRuns.{MakesSession, EverySessionSits}
 use Rattle.model_tree.specs.Seats.Seats.{Seat, Seats, is_seat_of, seat_of, has_seat, has_free, seated}
 use Rattle.model.specs.Sessions.Session.{SessionLimits, Client, Table, is_client, gives_way, seats_staying, new_seat, new_session, persists, create_refusals, create_session_answer, with_new_session, create_unless, create_again, create_by, create_session, create_refused, CreateSessionOutcome, next_number, finish, asks_seat}
-use Rattle.model.specs.Server.World.{ServerLimits, World, InProgress, HasRun, Gives, Replays, Entry, created_by, run, executed_entry, Turned, with_result, result_of, kept_by, is_to_hold, closes, behind, is_last, one}
+use Rattle.model.specs.Server.World.{ServerLimits, World, InProgress, HasRun, Gives, Replays, Entry, created_by, run, executed_entry, Turned, with_result, result_of, kept_by, is_to_hold, closes, behind, is_last, one, noting}
 use Rattle.model.proofs.Sessions.SeatLaws.{has_freed}
 use Rattle.model_tree.proofs.Facts.BytesLaws.{bytes_same}
 use Rattle.model.proofs.Sessions.SeatRunLaws.{stop_seated}
@@ -35,17 +35,17 @@ seated_there new (Some other ∷ seats) free = by_test (is_seat_of new.session o
 
 -- What a turn does behind a result makes no session
 
-kept_serial : (slot : Option (List ℕ × ℕ)) (result : List ℕ) (table : Table) → (kept_by slot result table).session_serial ≡ table.session_serial
+kept_serial : (slot : Option (List ℕ × ℕ)) (holds : Bool) (result : List ℕ) (table : Table) → (kept_by slot holds result table).session_serial ≡ table.session_serial
 unfolding finish
-kept_serial None result table = refl
-kept_serial (Some slot) result table = refl
+kept_serial None holds result table = refl
+kept_serial (Some slot) holds result table = refl
 
 abbrev SameSerial : World → Turned → Type 0
 SameSerial after t = t.world.table.session_serial ≡ after.table.session_serial
 
 closes_serial : (number : ℕ) (after : World) (request : InProgress) (last : Status) (executed : Option Entry) → SameSerial after (closes after number request last executed)
 closes_serial number after request last executed =
-    either (SameSerial after) (is_to_hold request.slot after.table.seats) _ _ (λ seated. refl) (λ none. kept_serial request.slot (result_of request last) after.table)
+    either (SameSerial after) (is_to_hold request after.table) _ _ (λ seated. refl) (λ none. kept_serial request.slot false (result_of request last) after.table)
 
 behind_serial : (number : ℕ) (after : World) (request : InProgress) (outcome : Outcome) (executed : Option Entry) → SameSerial after (behind after number request outcome executed)
 behind_serial number after request (Refused operation reason) executed = closes_serial number after (with_result request (Refused operation reason)) reason executed
@@ -140,15 +140,16 @@ module _ (limits : ServerLimits) (world : World) (held : Held limits world) (its
   turned_sits : (number now : ℕ) (t : Turned) → IsTurn world number now t → TurnSits t
   turned_sits number now _ Idles answer makes = absurd (makes.made refl)
   turned_sits number now _ (Says bytes xid reply waits) answer makes = absurd (makes.made refl)
-  turned_sits number now _ (Closes request last begins ended) answer makes = absurd (makes.made (kept_serial request.slot (result_of request last) world.table))
+  turned_sits number now _ (Closes request last begins ended) answer makes = absurd (makes.made (kept_serial request.slot true (result_of request last) world.table))
   turned_sits number now _ (Unread request operation reason goes) answer makes = absurd (makes.made (behind_serial number world request (Refused operation reason) None))
   turned_sits number now _ (TooBig request operation rest goes reads) answer makes =
       let outcome = Refused (operation_of operation) status.RepTooBig in
-      absurd (makes.made (behind_serial number world (read_of request rest) outcome (Some (executed_entry world (read_of request rest) operation outcome world))))
+      absurd (makes.made (behind_serial number world (noting world world operation (read_of request rest)) outcome (Some (executed_entry world (read_of request rest) operation outcome world))))
   turned_sits number now _ (Gave request operation rest outcome after left goes reads ran) answer makes =
       let entry : Entry = executed_entry world (read_of request rest) operation outcome after in
-      let has = behind_has answer.session number after left outcome (Some entry) in
-      let serial = behind_serial number after left outcome (Some entry) in
+      let noted : InProgress = noting world after operation left in
+      let has = behind_has answer.session number after noted outcome (Some entry) in
+      let serial = behind_serial number after noted outcome (Some entry) in
       let same : entry ≡ makes.entry = one_entry entry makes.entry _ has.1 makes.is in
       let asks : operation ≡ Argument.CreateSession makes.arguments = ap (λ (e : Entry). e.operation) same ∙ makes.asked in
       let told : outcome ≡ Done (Answer.CreateSession answer) = ap (λ (e : Entry). e.outcome) same ∙ makes.answered in

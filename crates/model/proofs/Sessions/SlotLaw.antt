@@ -299,10 +299,10 @@ made_still : (made : ℕ) (test : Session → Bool) (change : Session → Sessio
 made_still made test change same session is =
     both (IsMade made) (test session) (change session) session (subst (λ (n : ℕ). n ≤ made) (sym (same session)) is) is
 
-pub finish_stands : (id : List ℕ) (slot last : ℕ) (name : List ℕ) (place : ℕ) (reply : List ℕ) (table : Table) → Stands id slot last table
-    → Stands id slot last (finish name place reply table)
+pub finish_stands : (id : List ℕ) (slot last : ℕ) (name : List ℕ) (place : ℕ) (holds : Bool) (reply : List ℕ) (table : Table) → Stands id slot last table
+    → Stands id slot last (finish name place holds reply table)
 unfolding finish
-finish_stands id slot last name place reply table stands = record {
+finish_stands id slot last name place holds reply table stands = record {
   made = All-map (IsMade table.session_serial) (IsMade table.session_serial) _ table.sessions
       (made_still table.session_serial (is_session name) (finished_slot place reply) (λ session. refl)) stands.made;
   small = stands.small;
@@ -504,7 +504,7 @@ call_goes limits id slot last (Destroys session) table stands = destroy_stands i
 call_goes limits id slot last (DestroysClient has_opens number) table stands = Stands-same id slot last table _ (destroy_client_same has_opens number table) stands
 call_goes limits id slot last (Reclaims number) table stands = Stands-same id slot last table _ (reclaim_same number table) stands
 call_goes limits id slot last (Begins uid count arguments) table stands = begins_go id slot last uid count arguments table stands _ refl
-call_goes limits id slot last (Finishes session place reply) table stands = finish_stands id slot last session place reply table stands
+call_goes limits id slot last (Finishes session place holds reply) table stands = finish_stands id slot last session place holds reply table stands
 
 counts_by : (last : ℕ) (id : List ℕ) (slot : ℕ) (new : Table) (number : Option ℕ) (numbers : List ℕ) → Goes id slot last new number
     → ((at : ℕ) → Stands id slot at new → CountsFrom at numbers) → CountsFrom last (option_to_list number ++ numbers)

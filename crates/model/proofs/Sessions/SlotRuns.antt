@@ -136,10 +136,10 @@ pub same_sessions : (old new : Table) → new.sessions ≡ old.sessions → Runs
 same_sessions old new same id place = ap (list_any (runs_at id place)) same
 
 -- a finished slot rests
-pub finished : (name : List ℕ) (here : ℕ) (reply : List ℕ) (table : Table) (id : List ℕ) (place : ℕ)
-    → is_slot_running id place (finish name here reply table) ≡ (is_slot_running id place table && not (is_on (Some (name, here)) id place))
+pub finished : (name : List ℕ) (here : ℕ) (holds : Bool) (reply : List ℕ) (table : Table) (id : List ℕ) (place : ℕ)
+    → is_slot_running id place (finish name here holds reply table) ≡ (is_slot_running id place table && not (is_on (Some (name, here)) id place))
 unfolding finish
-finished name here reply table id place = by_place (is_on (Some (name, here)) id place) refl
+finished name here holds reply table id place = by_place (is_on (Some (name, here)) id place) refl
   where
     new : Session → Slot
     new session = record (slot_at session here) { state = Kept reply }

@@ -17,7 +17,7 @@ use Rattle.model.specs.Sessions.SessionRuns as calls
 use Rattle.model.specs.Sessions.SlotsHeld.{is_slot_running, is_on, is_busy_on, RunsWhereBusy, EveryRunningSlot}
 use Rattle.model.specs.Sessions.StateIds.{has_opens}
 use Rattle.model_tree.specs.Trees.Tree.{Tree}
-use Rattle.model.specs.Server.World.{ServerLimits, InProgress, Connection, Quiet, Waiting, Busy, Replied, Closed, World, Entry, HasRun, Gives, Replays, Next, Refuses, Reads, Turned, next_operation, exchanged, created_by, tabled, started_in, begun, reclaimed, run, has_room, in_room, with_result, result_of, kept_by, ends, goes_on, closes, is_to_hold, further, behind, has_run, operates, in_progress, requested, called, turned, with_connection, executed_entry, refuses, one, arrived, arrives_at, connection_changed, arrives, without_reply, takes, can_connect, connects, is_busy, without_connection, hangs_up, is_last, mounted_world}
+use Rattle.model.specs.Server.World.{ServerLimits, InProgress, Connection, Quiet, Waiting, Busy, Replied, Closed, World, Entry, HasRun, Gives, Replays, Next, Refuses, Reads, Turned, next_operation, exchanged, created_by, tabled, started_in, begun, reclaimed, run, has_room, in_room, with_result, result_of, kept_by, ends, goes_on, closes, is_to_hold, further, behind, has_run, operates, in_progress, requested, called, turned, with_connection, executed_entry, refuses, one, arrived, arrives_at, connection_changed, arrives, without_reply, takes, can_connect, connects, is_busy, without_connection, hangs_up, is_last, mounted_world, noting}
 use Rattle.model_tree.proofs.Trees.KeyedLaws.{at-with_same, at-with_other, at-without_same, at-without_other}
 use Rattle.model.proofs.Operations.ReadOperations.{is_first, first_read}
 use Rattle.model.proofs.Sessions.SlotLaw.{exchange_same, destroy_client_same, reclaim_same}
@@ -171,6 +171,16 @@ record Leaves (limits : ServerLimits) (before : World) (request : InProgress) (a
   slot : (left.slot ≡ request.slot)
       ⊎ ((request.slot ≡ None) × ((id : List ℕ) (place : ℕ) → is_on left.slot id place ≡ true → is_slot_running id place before.table ≡ false))
 
+noted : (limits : ServerLimits) (altered : Bool) (before : World) (request : InProgress) (after : World) (left : InProgress) → Leaves limits before request after left
+    → Leaves limits before request after (record left { altered = altered })
+noted limits altered before request after left leaves = record {
+  limits_are = leaves.limits_are;
+  connections = leaves.connections;
+  holds = leaves.holds;
+  runs = leaves.runs;
+  slot = leaves.slot;
+}
+
 abbrev HasLeft : ServerLimits → World → InProgress → HasRun → Type 0
 HasLeft limits before request (Gives outcome after left) = Leaves limits before request after left
 HasLeft limits before request (Replays result session slot) = request.slot ≡ None
@@ -282,19 +292,19 @@ module _ (limits : ServerLimits) (world : World) (held : Held limits world) (req
 
 -- What the slot keeps
 
-kept_runs : (slot : Option (List ℕ × ℕ)) (result : List ℕ) (table : Table) (id : List ℕ) (place : ℕ)
-    → is_slot_running id place (kept_by slot result table) ≡ (is_slot_running id place table && not (is_on slot id place))
-kept_runs None result table id place = and_all (is_slot_running id place table)
+kept_runs : (slot : Option (List ℕ × ℕ)) (holds : Bool) (result : List ℕ) (table : Table) (id : List ℕ) (place : ℕ)
+    → is_slot_running id place (kept_by slot holds result table) ≡ (is_slot_running id place table && not (is_on slot id place))
+kept_runs None holds result table id place = and_all (is_slot_running id place table)
   where
     and_all : (a : Bool) → a ≡ (a && true)
     and_all true = refl
     and_all false = refl
-kept_runs (Some slot) result table id place = finished slot.0 slot.1 result table id place
+kept_runs (Some slot) holds result table id place = finished slot.0 slot.1 holds result table id place
 
-kept_holds : (limits : ServerLimits) (slot : Option (List ℕ × ℕ)) (result : List ℕ) (table : Table) → Holds limits.sessions table
-    → Holds limits.sessions (kept_by slot result table)
-kept_holds limits None result table holds = holds
-kept_holds limits (Some slot) result table holds = call_holds limits.sessions (calls.Finishes slot.0 slot.1 result) table holds
+kept_holds : (limits : ServerLimits) (slot : Option (List ℕ × ℕ)) (holds : Bool) (result : List ℕ) (table : Table) → Holds limits.sessions table
+    → Holds limits.sessions (kept_by slot holds result table)
+kept_holds limits None seat result table holds = holds
+kept_holds limits (Some slot) seat result table holds = call_holds limits.sessions (calls.Finishes slot.0 slot.1 seat result) table holds
 
 -- of the slot that goes on, of the request's, and of what runs
 abbrev Fit : (left request running : Bool) → Type 0
@@ -353,17 +363,17 @@ module _ (limits : ServerLimits) (world : World) (held : Held limits world) (her
       | inr none ↦ inr (goes.same id place ∙ ap (λ (s : Option (List ℕ × ℕ)). is_on s id place) none.0, none.1 id place)
     ]
 
-    ended : (answered : ℕ) (results : List ℕ) (last : Status) (executed : Option Entry)
-        → Held limits (ends after here (record left { answered = answered; results = results }) last executed).world
-    ended answered results last executed =
+    ended : (answered : ℕ) (results : List ℕ) (last : Status) (holds : Bool) (executed : Option Entry)
+        → Held limits (ends after here (record left { answered = answered; results = results }) last holds executed).world
+    ended answered results last holds executed =
         let result = result_of (record left { answered = answered; results = results }) last in
         let reply = marks.framed (reply_text left.xid (Success result)) in
-        put_down limits world held here (Replied reply) (ends after here (record left { answered = answered; results = results }) last executed).world
+        put_down limits world held here (Replied reply) (ends after here (record left { answered = answered; results = results }) last holds executed).world
         (leaves.limits_are ∙ held.limits_are) (ap (λ (c : Keyed Connection). with c here (Replied reply)) leaves.connections)
-        (kept_holds limits left.slot result after.table leaves.holds)
+        (kept_holds limits left.slot holds result after.table leaves.holds)
         (record {
           runs = λ id place.
-              kept_runs left.slot result after.table id place
+              kept_runs left.slot holds result after.table id place
               ∙ (ap (λ b. b && not (is_on left.slot id place)) (leaves.runs id place)
               ∙ ended_fits (is_on left.slot id place) (busy id place) (is_slot_running id place world.table) (fits id place));
           fresh = λ id place wrong. absurd (true≢false (sym wrong));
@@ -398,9 +408,9 @@ module _ (limits : ServerLimits) (world : World) (held : Held limits world) (her
 
     closed : (outcome : Outcome) (last : Status) (executed : Option Entry) → Held limits (closes after here (with_result left outcome) last executed).world
     closed outcome last executed =
-        either (λ (t : Turned). Held limits t.world) (is_to_hold left.slot after.table.seats) _ _
+        either (λ (t : Turned). Held limits t.world) (is_to_hold left after.table) _ _
         (λ seated. gone_on outcome (Some last) executed)
-        (λ none. ended (with_result left outcome).answered (with_result left outcome).results last executed)
+        (λ none. ended (with_result left outcome).answered (with_result left outcome).results last false executed)
 
     went : (outcome : Outcome) (executed : Option Entry) → Held limits (behind after here left outcome executed).world
     went (Refused operation reason) executed = closed (Refused operation reason) reason executed
@@ -416,16 +426,17 @@ module _ (limits : ServerLimits) (world : World) (held : Held limits world) (her
   ran : (request : InProgress) → Goes request → (operation : Argument) (left : HasRun) → HasLeft limits world request left
       → Held limits (has_run world here request operation (in_room world request (operation_of operation) left)).world
   ran request goes operation (Gives (Refused number reason) after left) leaves =
-      went request goes after left leaves (Refused number reason) (Some (executed_entry world request operation (Refused number reason) after))
+      went request goes after (noting world after operation left) (noted limits _ world request after left leaves) (Refused number reason) (Some (executed_entry world request operation (Refused number reason) after))
   ran request goes operation (Gives (Done answer) after left) leaves = by_room (has_room world request (Done answer))
     where
       too_big : Held limits (has_run world here request operation (refuses world request (operation_of operation) status.RepTooBig)).world
-      too_big = went request goes world request (leaves_same limits world held request (running_on request goes)) (Refused (operation_of operation) status.RepTooBig)
+      too_big = went request goes world (noting world world operation request)
+          (noted limits _ world request world request (leaves_same limits world held request (running_on request goes))) (Refused (operation_of operation) status.RepTooBig)
           (Some (executed_entry world request operation (Refused (operation_of operation) status.RepTooBig) world))
 
       by_room : (room : Bool) → Held limits (has_run world here request operation
           (cond room (Gives (Done answer) after left) (refuses world request (operation_of operation) status.RepTooBig))).world
-      by_room true = went request goes after left leaves (Done answer) (Some (executed_entry world request operation (Done answer) after))
+      by_room true = went request goes after (noting world after operation left) (noted limits _ world request after left leaves) (Done answer) (Some (executed_entry world request operation (Done answer) after))
       by_room false = too_big
   ran request goes operation (Replays result session slot) none =
       replied (marks.framed (reply_text request.xid (Success result)))
@@ -458,7 +469,7 @@ module _ (limits : ServerLimits) (world : World) (held : Held limits world) (her
   further_held : (now : ℕ) (request : InProgress) → Goes request → (ended_as : Option Status) → Held limits (further world here now request ended_as).world
   further_held now request goes None = operates_held now request goes (next_operation request) refl
   further_held now request goes (Some last) =
-      ended request goes world request (leaves_same limits world held request (running_on request goes)) request.answered request.results last None
+      ended request goes world request (leaves_same limits world held request (running_on request goes)) request.answered request.results last true None
 
   turned_held : (now : ℕ) (connection : Option Connection) → at here world.connections ≡ connection → Held limits (turned world here now connection).world
   turned_held now None is = held

@@ -24,7 +24,7 @@ use Rattle.model.specs.Sessions.StateIdLaws.{IsOwn, IsGiven, OpenStands as Stand
 use Rattle.model.specs.Sessions.StateIdRuns.{WasAnswered, IsOpenOf, access_by, accesses_in, joined_by, OpenStandsIn, HasEnded, Verdicts, EveryStateIdGoesOn, JoinsAreCounted, EveryOtherRunRefuses}
 use Rattle.model.specs.Operations.Step.{State, does}
 use Rattle.model_tree.specs.Trees.Tree.{Tree}
-use Rattle.model.specs.Server.World.{ServerLimits, InProgress, Connection, Quiet, Busy, Replied, World, HasRun, Gives, Replays, Entry, executed_entry, exchanged, created_by, tabled, started_in, begun, reclaimed, stepped, state_of as state_in, run as runs_operation, Turned, with_connection, with_result, result_of, behind, ends, goes_on, is_last, one, mounted_world, arrives, takes, connects, hangs_up, can_connect, connection_changed, arrives_at, without_reply, is_busy, without_connection, closes, is_to_hold}
+use Rattle.model.specs.Server.World.{ServerLimits, InProgress, Connection, Quiet, Busy, Replied, World, HasRun, Gives, Replays, Entry, executed_entry, exchanged, created_by, tabled, started_in, begun, reclaimed, stepped, state_of as state_in, run as runs_operation, Turned, with_connection, with_result, result_of, behind, ends, goes_on, is_last, one, mounted_world, arrives, takes, connects, hangs_up, can_connect, connection_changed, arrives_at, without_reply, is_busy, without_connection, closes, is_to_hold, noting}
 use Rattle.model.proofs.Server.Headline.{done_behind}
 use Rattle.model_tree.proofs.Trees.KeyedLaws.{at-with_same, at-with_other, at-without_same, at-without_other, some≢none}
 use Rattle.model_tree.proofs.Rights.LimitLaws.{modes_keep_limits, inheritance_keeps_limits}
@@ -148,10 +148,11 @@ module _ (run : ℕ) (small_run : run < 2 ^ 32) (world : World) (numbered : Numb
 
   module _ (outcome : Outcome) (after : World) (left : InProgress) (of_run : left.context.run ≡ run) (run_is : after.run ≡ world.run)
       (are : after.connections ≡ world.connections) (counted : AreCounted after.opens) (executed : Option Entry) (by : OpensBy run world executed after.opens) where
-    ended_goes : (answered : ℕ) (results : List ℕ) (last : Status) → TurnGoes (ends after here (record left { answered = answered; results = results }) last executed)
-    ended_goes answered results last =
+    ended_goes : (answered : ℕ) (results : List ℕ) (last : Status) (holds : Bool)
+        → TurnGoes (ends after here (record left { answered = answered; results = results }) last holds executed)
+    ended_goes answered results last holds =
         let reply = framed (reply_text left.xid (Success (result_of (record left { answered = answered; results = results }) last))) in (
-          put_down (ends after here (record left { answered = answered; results = results }) last executed).world (Replied reply) run_is
+          put_down (ends after here (record left { answered = answered; results = results }) last holds executed).world (Replied reply) run_is
               (ap (λ (c : Keyed Connection). with c here (Replied reply)) are) counted (not_busy reply),
           by,
         )
@@ -169,8 +170,8 @@ module _ (run : ℕ) (small_run : run < 2 ^ 32) (world : World) (numbered : Numb
 
     closes_goes : (last : Status) → TurnGoes (closes after here (with_result left outcome) last executed)
     closes_goes last =
-        either TurnGoes (is_to_hold left.slot after.table.seats) _ _
-        (λ seated. more_goes (Some last)) (λ none. ended_goes (with_result left outcome).answered (with_result left outcome).results last)
+        either TurnGoes (is_to_hold left after.table) _ _
+        (λ seated. more_goes (Some last)) (λ none. ended_goes (with_result left outcome).answered (with_result left outcome).results last false)
 
   went : (outcome : Outcome) (after : World) (left : InProgress) → left.context.run ≡ run → after.run ≡ world.run → after.connections ≡ world.connections
       → AreCounted after.opens → (executed : Option Entry) → OpensBy run world executed after.opens → TurnGoes (behind after here left outcome executed)
@@ -187,15 +188,15 @@ module _ (run : ℕ) (small_run : run < 2 ^ 32) (world : World) (numbered : Numb
 
   gave : (request : InProgress) (operation : Argument) (outcome : Outcome) (after : World) (left : InProgress)
       → request.context.run ≡ run → HasLeft run world request operation (Gives outcome after left)
-      → TurnGoes (behind after here left outcome (Some (executed_entry world request operation outcome after)))
+      → TurnGoes (behind after here (noting world after operation left) outcome (Some (executed_entry world request operation outcome after)))
   gave request operation outcome after left of_run has =
-      went outcome after left has.1 has.2 has.3 has.0.counted (Some (executed_entry world request operation outcome after)) (has.0, refl, of_run)
+      went outcome after (noting world after operation left) has.1 has.2 has.3 has.0.counted (Some (executed_entry world request operation outcome after)) (has.0, refl, of_run)
 
   turned : (now : ℕ) (t : Turned) → IsTurn world here now t → TurnGoes t
   turned now _ Idles = (numbered, refl)
   turned now _ (Says bytes xid reply waits) = (replied (framed (reply_text xid reply)), refl)
   turned now _ (Closes request last there is) =
-      ended_goes (Done Answer.PutRootFh) world request (numbered.busy here request there) refl refl numbered.counted None refl request.answered request.results last
+      ended_goes (Done Answer.PutRootFh) world request (numbered.busy here request there) refl refl numbered.counted None refl request.answered request.results last true
   turned now _ (Unread request operation reason goes) =
       went (Refused operation reason) world request (its_run request goes) refl refl numbered.counted None refl
   turned now _ (TooBig request operation rest goes reads) =

@@ -217,9 +217,10 @@ started_holds limits uid arguments table Runs holds = (
       limits table.session_serial table.sessions holds.1,
 )
 
-finish_holds : (limits : SessionLimits) (id : List ℕ) (place : ℕ) (reply : List ℕ) (table : Table) → Holds limits table → Holds limits (finish id place reply table)
+finish_holds : (limits : SessionLimits) (id : List ℕ) (place : ℕ) (seat : Bool) (reply : List ℕ) (table : Table) → Holds limits table
+    → Holds limits (finish id place seat reply table)
 unfolding finish
-finish_holds limits id place reply table holds =
+finish_holds limits id place seat reply table holds =
     (holds.0, slotted_holds id place (λ session. record (slot_at session place) { state = Kept reply }) limits table.session_serial table.sessions holds.1)
 
 -- Every call, and every list of them
@@ -232,7 +233,7 @@ call_holds limits (Destroys session) table holds = destroy_holds limits session 
 call_holds limits (DestroysClient has_opens number) table holds = destroy_client_holds limits has_opens number table (find (is_client number) table.clients) holds
 call_holds limits (Reclaims number) table holds = reclaim_holds limits number table (find (is_client number) table.clients) holds
 call_holds limits (Begins uid count arguments) table holds = started_holds limits uid arguments table (begin uid count arguments table) holds
-call_holds limits (Finishes session slot reply) table holds = finish_holds limits session slot reply table holds
+call_holds limits (Finishes session slot seat reply) table holds = finish_holds limits session slot seat reply table holds
 
 calls_hold : (limits : SessionLimits) (calls : List Call) (table : Table) → Holds limits table → Holds limits (after_calls limits calls table)
 calls_hold limits [] table holds = holds

@@ -26,6 +26,7 @@ each_there t self (x ∷ xs) =
 unchanged : (table : Table) → GivesNew table table
 unchanged table = record {
   run = refl;
+  settings = refl;
   clients = all-weaker (was_there table) (λ c. was_there table c || is_new table c) table.clients
       (λ c. or_left (was_there table c) (is_new table c))
       (each_there (λ c d. is_client c.number d) (λ c. eq-eqb c.number c.number refl) table.clients);
@@ -47,6 +48,7 @@ module _ (before : Table) where
       → GivesNew before (with_clients clients table)
   other_clients table clients gives all = record {
     run = gives.run;
+    settings = gives.settings;
     clients = all;
     client_serial = gives.client_serial;
     sessions = gives.sessions;
@@ -57,6 +59,7 @@ module _ (before : Table) where
       → GivesNew before (with_sessions sessions table)
   other_sessions table sessions gives all = record {
     run = gives.run;
+    settings = gives.settings;
     clients = gives.clients;
     client_serial = gives.client_serial;
     sessions = all;
@@ -97,6 +100,7 @@ module _ (before : Table) where
       let above : client_number before.run before.client_serial < new.number = omega (arith, order, gives.run) in
       record {
         run = gives.run;
+        settings = gives.settings;
         clients = all-append known table.clients new gives.clients
             (or_right (was_there before new) (is_new before new) (lt-ltb (client_number before.run before.client_serial) new.number above));
         client_serial = omega (arith, order);
@@ -147,6 +151,7 @@ module _ (before : Table) where
       let above : before.session_serial < new.serial = omega (arith, order) in
       record {
         run = gives.run;
+        settings = gives.settings;
         clients = changed.clients;
         client_serial = gives.client_serial;
         sessions = all-append known_session (staying client table) new staying_known.sessions
@@ -180,6 +185,7 @@ module _ (before : Table) where
   reseated : (table : Table) (seats : Seats) → GivesNew before table → GivesNew before (record table { seats = seats })
   reseated table seats gives = record {
     run = gives.run;
+    settings = gives.settings;
     clients = gives.clients;
     client_serial = gives.client_serial;
     sessions = gives.sessions;
@@ -218,11 +224,11 @@ module _ (before : Table) where
       let slot : Session → Slot = λ _. record { last = arguments.sequence; uid = uid; state = Running } in
       changed_sessions table (slotted arguments.session arguments.slot slot) (slot_serial arguments.session arguments.slot slot) gives
 
-  finish_gives : (id : List ℕ) (place : ℕ) (reply : List ℕ) (table : Table) → GivesNew before table → GivesNew before (finish id place reply table)
+  finish_gives : (id : List ℕ) (place : ℕ) (holds : Bool) (reply : List ℕ) (table : Table) → GivesNew before table → GivesNew before (finish id place holds reply table)
   unfolding finish
-  finish_gives id place reply table gives =
+  finish_gives id place holds reply table gives =
       let slot : Session → Slot = λ session. record (slot_at session place) { state = Kept reply } in
-      reseated _ (held_by id place reply table.seats (find (is_session id) table.sessions)) (changed_sessions table (slotted id place slot) (slot_serial id place slot) gives)
+      reseated _ (finish id place holds reply table).seats (changed_sessions table (slotted id place slot) (slot_serial id place slot) gives)
 
 pub every_call_gives_new : EveryCallGivesNew
 unfolding exchange_id create_session destroy_session destroy_client_id reclaim_complete
@@ -237,4 +243,4 @@ every_call_gives_new limits (DestroysClient has_opens number) table =
     destroy_client_gives table has_opens number table (find (is_client number) table.clients) (unchanged table)
 every_call_gives_new limits (Reclaims number) table = reclaim_gives table number table (find (is_client number) table.clients) (unchanged table)
 every_call_gives_new limits (Begins uid count arguments) table = started_gives table uid arguments table (begin uid count arguments table) (unchanged table)
-every_call_gives_new limits (Finishes session slot reply) table = finish_gives table session slot reply table (unchanged table)
+every_call_gives_new limits (Finishes session slot holds reply) table = finish_gives table session slot holds reply table (unchanged table)

@@ -6,7 +6,6 @@ use Rattle.model_tree.specs.declared.acl.Who.TheVariants as who
 use Rattle.model_tree.specs.declared.status.Status.{Status}
 use Rattle.model_tree.specs.declared.status.Status.TheVariants as status
 use Rattle.model.specs.Operations.Answer.{Answer, Outcome}
-use Rattle.model.specs.Attributes.Attribute.{attributes_of, supported}
 use Rattle.model_tree.specs.Trees.Charge.{charge_of_blocks, divided_up}
 use Rattle.model_tree.specs.Trees.Changes.{acl_of}
 use Rattle.model_tree.specs.Trees.Fresh.{fresh_root, fresh_tree}
@@ -194,5 +193,3 @@ pub record StepExamples : Type 0 where
   pub charges : charge_of_blocks (divided_up 8200 4096) ∷ charge_of_blocks (divided_up 364544 4096)
       ∷ charge_of_blocks (divided_up 364545 4096) ∷ charge_of_blocks (divided_up 16777216 4096) ∷ volume.data_sectors ∷ []
       ≡ 4 ∷ 90 ∷ 91 ∷ 4105 ∷ 92 ∷ []
-  -- the bitmap of the supported attributes
-  pub bitmap : attributes_of (0xe8183fff ∷ 0x0020003a ∷ 0x00000800 ∷ []) ≡ supported

@@ -1,5 +1,5 @@
 -- Servers that these definitions rule out, each by one law.
-use Rattle.std.specs.Prelude.{◌≡◌, ◌≢◌, ℕ, zero, suc, ◌+◌, ◌<◌, true, false, List, [], ◌∷◌, ◌++◌, length, take, slice_get, find, Option, None, Some, ◌⊎◌}
+use Rattle.std.specs.Prelude.{◌≡◌, ◌≢◌, ℕ, zero, suc, ◌+◌, ◌<◌, Bool, true, false, List, [], ◌∷◌, ◌++◌, length, take, slice_get, find, Option, None, Some, ◌⊎◌}
 use Rattle.std.specs.List.{IsAmong}
 use Rattle.model_tree.specs.Seats.Seats.{Seats}
 use Rattle.model_tree.specs.Trees.Keyed.{at}
@@ -64,16 +64,17 @@ NoSecondRun =
     → arguments.sequence ≡ (slot_at session arguments.slot).last
     → begin uid count arguments table ≡ Runs → ⊥
 
--- One that forgets a reply: once it is kept, the same number by the same caller is answered by it.
+-- One that forgets a reply: once it is kept, held or not, the same number by the same caller is
+-- answered by it.
 abbrev pub NoForgetting : Type 0
 NoForgetting =
     (uid count : ℕ) (arguments : SequenceArguments) (table : Table) (session : Session)
-    (reply : List ℕ)
+    (holds : Bool) (reply : List ℕ)
     → find (is_session arguments.session) table.sessions ≡ Some session
     → arguments.slot < length session.slots
     → arguments.sequence ≡ (slot_at session arguments.slot).last
     → uid ≡ (slot_at session arguments.slot).uid
-    → begin uid count arguments (finish arguments.session arguments.slot reply table)
+    → begin uid count arguments (finish arguments.session arguments.slot holds reply table)
     ≡ Replays reply
 
 -- One whose slots take a number other than the next: what runs has the number after the slot's
@@ -195,7 +196,7 @@ abbrev pub EndsByHolding : Type 0
 EndsByHolding =
     (world : World) (number now : ℕ) (request : InProgress) (last : Status)
     → at number world.connections ≡ Some (Busy request) → request.ended ≡ Some last
-    → one world number now ≡ ends world number request last None
+    → one world number now ≡ ends world number request last true None
 
 -- One whose hang-up drops the rest of a request that has begun: the connection goes only once the
 -- request is answered.

@@ -12,7 +12,7 @@ use Rattle.model.specs.Sessions.Session.{Slot, SlotState, Free, Running, Kept, S
 use Rattle.model_tree.specs.Trees.Stamp.{stamp, next_stamp}
 use Rattle.model.specs.Operations.Step.{alters, permitted}
 use Rattle.model_tree.specs.Trees.Tree.{Tree}
-use Rattle.model.specs.Server.World.{World, ServerLimits, mounted_world, Entry, Turned, Turn, Idle, Ran, Answered, one, arrives, takes, connects, hangs_up, reply_at, is_busy}
+use Rattle.model.specs.Server.World.{World, ServerLimits, mounted_world, Entry, Turned, Turn, Idle, Ran, Answered, one, arrives, takes, connects, hangs_up, reply_at, is_busy, is_unstable}
 
 -- Events
 
@@ -43,11 +43,6 @@ executed_of world (Takes connection) = None
 
 abbrev pub before : Entry → Tree
 before entry = entry.state.tree
-
--- WRITE with UNSTABLE4, and COMMIT
-abbrev pub is_unstable : Argument → Bool
-is_unstable (Argument.Write arguments) = arguments.stable == 0
-is_unstable _ = false
 
 abbrev pub is_commit : Argument → Bool
 is_commit (Argument.Commit arguments) = true
@@ -92,15 +87,16 @@ held_of_session place (Some session) = kept_in (slot_at session place) (slot_at 
 abbrev pub kept_at : List ℕ → ℕ → Table → Option HeldReply
 kept_at id place table = held_of_session place (find (is_session id) table.sessions)
 
--- a turn stores the reply that its slot keeps from then on, where the session has a seat then
+-- a turn stores the reply that its slot keeps from then on, if a seat of the session is to hold it
 abbrev pub stored_as : List ℕ → ℕ → Option HeldReply → Option Stored
 stored_as id place None = None
 stored_as id place (Some held) = Some (record { session = id; slot = place; held = held })
 
-abbrev pub stored_by : Table → Option (List ℕ × ℕ) → Option Stored
-stored_by table None = None
-stored_by table (Some slot) =
-    if has_seat slot.0 table.seats then stored_as slot.0 slot.1 (kept_at slot.0 slot.1 table)
+abbrev pub stored_by : Table → Option (List ℕ × ℕ) → (holds : Bool) → Option Stored
+stored_by table None holds = None
+stored_by table (Some slot) holds =
+    if holds && has_seat slot.0 table.seats
+    then stored_as slot.0 slot.1 (kept_at slot.0 slot.1 table)
     else None
 
 -- the sessions whose seats are gone
@@ -115,6 +111,7 @@ abbrev pub stored_of : World → Event → Option Stored
 stored_of world (Arrives connection piece) = None
 stored_of world (Turns connection now) =
     stored_by (one world connection now).world.table (one world connection now).keeps
+    (one world connection now).holds
 stored_of world (HangsUp connection) = None
 stored_of world (Connects connection) = None
 stored_of world (Takes connection) = None
@@ -190,7 +187,7 @@ naming_stored (Some stored) names = (stored, names) ∷ []
 -- the reply that a seat is to hold from a turn on, with what it names
 abbrev pub replies_by : RunHistory → World → (connection : ℕ) → Turned → List (Stored × List ℕ)
 replies_by history world connection turned =
-    naming_stored (stored_by turned.world.table turned.keeps)
+    naming_stored (stored_by turned.world.table turned.keeps turned.holds)
     (names_after history world connection turned)
 
 -- a turn that does nothing changes no names
@@ -206,7 +203,7 @@ turned_by history world connection turned = record {
       naming_by turned.turn history.named connection (names_after history world connection turned);
   kept = keeping history.kept turned.keeps (names_after history world connection turned);
   handed_out = history.handed_out;
-  stored = history.stored ++ option_to_list (stored_by turned.world.table turned.keeps);
+  stored = history.stored ++ option_to_list (stored_by turned.world.table turned.keeps turned.holds);
   torn = history.torn;
   freed = history.freed ++ freed_between world.table.seats turned.world.table.seats;
   replies = history.replies ++ replies_by history world connection turned;
@@ -329,7 +326,7 @@ pub record Happens (old : Serving) (event : Event) (new : Serving) : Type 0 wher
   pub seats : (left : Left) → IsAmong new.left left → left.seats ≡ new.world.table.seats
 
 -- A flush of all that waits: of what a crash might leave it leaves only the newest. It is no event,
--- since a client can tell nothing of it.
+-- since no client sees it.
 pub record Flushes (old new : Serving) : Type 0 where
   pub up : old.is_down ≡ false
   pub world : new.world ≡ old.world
@@ -434,11 +431,20 @@ pub record AreSeats (run : ℕ) (seats : Seats) : Type 0 where
 abbrev pub BeginsSeated : (run : ℕ) → Seats → Type 0
 BeginsSeated run seats = (run < 2 ^ 32) × AreSeats run seats
 
--- each operation that a reply in these seats names and that has to last is among the first k
+-- each operation that such a reply names and that has to last is among the first k
+pub record IsNamedBelow (done : List Entry) (replies : List (Stored × List ℕ)) (stored : Stored)
+    (k : ℕ) : Type 0 where
+  pub names : List ℕ
+  pub among : IsAmong replies (stored, names)
+  pub below : HasAllDurable done names k
+
+-- so of each reply in these seats (two that are the same in each byte are not told apart: they have
+-- at least 2^32 others of their slot between them)
 abbrev pub HasAllHeld : List Entry → (replies : List (Stored × List ℕ)) → Seats → ℕ → Type 0
 HasAllHeld done replies seats k =
     (stored : Stored) (names : List ℕ) → IsAmong replies (stored, names)
-    → held_at stored.session stored.slot seats ≡ Some stored.held → HasAllDurable done names k
+    → held_at stored.session stored.slot seats ≡ Some stored.held
+    → IsNamedBelow done replies stored k
 
 pub record KeepsHeld (start : Tree) (done : List Entry) (handed_out : List ℕ)
     (replies : List (Stored × List ℕ)) (left : Left) : Type 0 where

@@ -51,6 +51,8 @@ pub record InProgress : Type 0 where
   pub context : Context
   -- the session and the slot that run it
   pub slot : Option (List ℕ × ℕ)
+  -- an operation of it made a change that has to last
+  pub altered : Bool
   -- the status of its last result, once that is there and a seat is to hold the reply
   pub ended : Option Status
 
@@ -312,17 +314,25 @@ pub record Entry : Type 0 where
   pub outcome : Outcome
   pub after : Tree
 
--- What a turn did. `keeps` is the slot that keeps the reply from now on, and `replays` the one
--- whose kept reply is sent again.
+-- What a turn did. `keeps` is the slot that keeps the reply from now on, `holds` says whether a seat
+-- of its session is to hold it too, and `replays` is the slot whose kept reply is sent again.
 pub record Turned : Type 0 where
   pub turn : Turn
   pub world : World
   pub executed : Option Entry
   pub keeps : Option (List ℕ × ℕ)
+  pub holds : Bool
   pub replays : Option (List ℕ × ℕ)
 
 abbrev pub idle : World → Turned
-idle world = record { turn = Idle; world = world; executed = None; keeps = None; replays = None }
+idle world = record {
+  turn = Idle;
+  world = world;
+  executed = None;
+  keeps = None;
+  holds = false;
+  replays = None;
+}
 
 -- a reply without any operation
 abbrev pub replies : World → (number : ℕ) → (xid : ℕ) → Reply → Turned
@@ -331,6 +341,7 @@ replies world number xid reply = record {
   world = with_connection world number (Replied (framed (reply_text xid reply)));
   executed = None;
   keeps = None;
+  holds = false;
   replays = None;
 }
 
@@ -344,21 +355,22 @@ with_result request outcome = record request {
 abbrev pub result_of : InProgress → Status → List ℕ
 result_of request last = compound_text last request.tag request.answered request.results
 
-abbrev pub kept_by : Option (List ℕ × ℕ) → (result : List ℕ) → Table → Table
-kept_by None result table = table
-kept_by (Some slot) result table = sessions.finish slot.0 slot.1 result table
+abbrev pub kept_by : Option (List ℕ × ℕ) → (holds : Bool) → (result : List ℕ) → Table → Table
+kept_by None holds result table = table
+kept_by (Some slot) holds result table = sessions.finish slot.0 slot.1 holds result table
 
--- the reply is made of the results, and its slot keeps it; where the slot's session has a seat,
--- that holds it first
-abbrev pub ends : World → (number : ℕ) → InProgress → Status → Option Entry → Turned
-ends world number request last executed = record {
+-- the reply is made of the results; its slot keeps it, and a seat may hold it
+abbrev pub ends : World → (number : ℕ) → InProgress → Status → (holds : Bool) → Option Entry
+    → Turned
+ends world number request last holds executed = record {
   turn = Answered;
   world =
-      with_connection (with_table world (kept_by request.slot (result_of request last) world.table))
-      number
+      with_connection
+      (with_table world (kept_by request.slot holds (result_of request last) world.table)) number
       (Replied (framed (reply_text request.xid (Success (result_of request last)))));
   executed = executed;
   keeps = request.slot;
+  holds = holds;
   replays = None;
 }
 
@@ -368,20 +380,27 @@ goes_on world number request executed = record {
   world = with_connection world number (Busy request);
   executed = executed;
   keeps = None;
+  holds = false;
   replays = None;
 }
 
+-- whether the session of this slot has a seat
+abbrev pub is_seated : Option (List ℕ × ℕ) → Seats → Bool
+is_seated None seats = false
+is_seated (Some slot) seats = has_seat slot.0 seats
+
 -- a seat is to hold the reply: it is made in a turn of its own
-abbrev pub is_to_hold : Option (List ℕ × ℕ) → Seats → Bool
-is_to_hold None seats = false
-is_to_hold (Some slot) seats = has_seat slot.0 seats
+abbrev pub is_to_hold : InProgress → Table → Bool
+is_to_hold request table =
+    sessions.holds_reply table.settings.holding request.altered
+    && is_seated request.slot table.seats
 
 -- the last result is there
 abbrev pub closes : World → (number : ℕ) → InProgress → Status → Option Entry → Turned
 closes world number request last executed =
-    if is_to_hold request.slot world.table.seats
+    if is_to_hold request world.table
     then goes_on world number (record request { ended = Some last }) executed
-    else ends world number request last executed
+    else ends world number request last false executed
 
 -- the first result that is not OK is the last one
 abbrev pub behind : World → (number : ℕ) → InProgress → Outcome → Option Entry → Turned
@@ -400,14 +419,27 @@ executed_entry before request operation outcome after = record {
   after = after.tree;
 }
 
+-- A change that has to last is any but that of a WRITE with UNSTABLE4.
+abbrev pub is_unstable : Argument → Bool
+is_unstable (Argument.Write arguments) = arguments.stable == 0
+is_unstable _ = false
+
+abbrev pub noting : (before after : World) → Argument → InProgress → InProgress
+noting before after operation request = record request {
+  altered =
+      request.altered || (not (before.changes == after.changes) && not (is_unstable operation));
+}
+
 abbrev pub has_run : World → (number : ℕ) → InProgress → Argument → HasRun → Turned
 has_run world number request operation (Gives outcome after left) =
-    behind after number left outcome (Some (executed_entry world request operation outcome after))
+    behind after number (noting world after operation left) outcome
+    (Some (executed_entry world request operation outcome after))
 has_run world number request operation (Replays result session slot) = record {
   turn = Answered;
   world = with_connection world number (Replied (framed (reply_text request.xid (Success result))));
   executed = None;
   keeps = None;
+  holds = false;
   replays = Some (session, slot);
 }
 
@@ -429,6 +461,7 @@ in_progress world xid cred compound = record {
   answered = 0;
   results = [];
   slot = None;
+  altered = false;
   ended = None;
   context = record { cred = cred; client = 0; run = world.run; current = None; saved = None };
 }
@@ -448,7 +481,7 @@ called world number now (Calls call) = requested world number now call.xid (requ
 abbrev pub further : World → (number : ℕ) → (now : ℕ) → InProgress → (ended : Option Status)
     → Turned
 further world number now request None = operates world number now request (next_operation request)
-further world number now request (Some last) = ends world number request last None
+further world number now request (Some last) = ends world number request last true None
 
 abbrev pub turned : World → (number : ℕ) → (now : ℕ) → Option Connection → Turned
 turned world number now None = idle world

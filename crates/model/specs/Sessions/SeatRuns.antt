@@ -10,13 +10,15 @@ use Rattle.model.specs.Operations.Operation.{Argument, CreateSessionArguments, S
 use Rattle.model.specs.Wire.Record.{framed}
 use Rattle.model.specs.Wire.Rpc.{Success, reply_text}
 pub use Rattle.model.specs.Server.Runs.{AreSeats}
-use Rattle.model.specs.Server.Runs.{Event, effect_of, executed_of, is_done, Stored, RunHistory, Serving, Left, mounted, executed, done_with, stored_by, stored_of, freed_of, MayHoldSeats, IsRun}
+use Rattle.model.specs.Server.Runs.{Event, before, effect_of, executed_of, is_done, names_after, Stored, RunHistory, Serving, Left, mounted, executed, done_with, stored_by, stored_of, freed_of, MayHoldSeats, IsRun}
 use Rattle.model_tree.specs.Seats.Seats.{HeldReply, Seat, Seats, run_of, seat_of, has_seat, held_at}
+use Rattle.model.specs.declared.holding.Holding.{Holding}
+use Rattle.model.specs.declared.holding.Holding.TheVariants as holdings
 use Rattle.model.specs.Server.ServedOnce.{numbers_in}
 use Rattle.model.specs.Sessions.Session.{Client, Table, is_client, gives_way, begin, Refuses, Replays, Runs}
 use Rattle.model.specs.Sessions.SessionRuns.{CountsFrom, OthersBetween}
 use Rattle.model_tree.specs.Trees.Tree.{Tree}
-use Rattle.model.specs.Server.World.{ServerLimits, InProgress, Entry, Connection, Turned, Busy, one, reply_at}
+use Rattle.model.specs.Server.World.{ServerLimits, InProgress, Entry, Connection, Turned, Busy, one, reply_at, is_unstable}
 
 -- A run that ended in a crash, and the seats that the crash left
 
@@ -171,7 +173,7 @@ pub record IsHeldReply (turned : Turned) (connection : ℕ) (id : List ℕ) (slo
   pub held : HeldReply
   pub xid : ℕ
   pub stands : held_at id slot turned.world.table.seats ≡ Some held
-  pub stored : stored_by turned.world.table turned.keeps
+  pub stored : stored_by turned.world.table turned.keeps turned.holds
       ≡ Some (record { session = id; slot = slot; held = held })
   pub gives : reply_at turned.world connection
       ≡ Some (framed (reply_text xid (Success held.result)))
@@ -187,11 +189,29 @@ abbrev pub KeepsOrNone : Turned → (connection : ℕ) → (slot : Option (List 
 KeepsOrNone turned connection slot =
     (reply_at turned.world connection ≡ None) ⊎ (turned.keeps ≡ slot)
 
--- A turn that gives a request of a slot its reply lets the slot keep it, and a seat that there is
--- then holds it: of a request that had begun, and of a SEQUENCE that stands alone.
-pub record GivesHeld (turned : Turned) (connection : ℕ) (before : Option InProgress) : Type 0 where
+-- among these operations is a change that has to last
+pub record NamesChange (done : List Entry) (names : List ℕ) : Type 0 where
+  pub place : ℕ
+  pub entry : Entry
+  pub named : IsAmong names place
+  pub is : slice_get done place ≡ Some entry
+  pub changes : before entry ≢ entry.after
+  pub lasting : is_unstable entry.operation ≡ false
+
+-- a seat is to hold a reply that names these
+abbrev pub IsToBeHeld : Holding → (done : List Entry) → (names : List ℕ) → Type 0
+IsToBeHeld holdings.Nothing done names = ⊥
+IsToBeHeld holdings.Changes done names = NamesChange done names
+IsToBeHeld holdings.All done names = Unit {0}
+
+-- A turn that gives a request of a slot its reply lets the slot keep it, and if the session has a
+-- seat which is to hold it, that does: of a request that had begun, and of a SEQUENCE that stands
+-- alone.
+pub record GivesHeld (holding : Holding) (done : List Entry) (names : List ℕ) (turned : Turned)
+    (connection : ℕ) (before : Option InProgress) : Type 0 where
   pub held : (id : List ℕ) (slot : ℕ) → turned.keeps ≡ Some (id, slot)
-      → has_seat id turned.world.table.seats ≡ true → IsHeldReply turned connection id slot
+      → has_seat id turned.world.table.seats ≡ true → IsToBeHeld holding done names
+      → IsHeldReply turned connection id slot
   pub kept : (request : InProgress) → before ≡ Some request → request.slot ≢ None
       → KeepsOrNone turned connection request.slot
   pub begun : (entry : Entry) (arguments : SequenceArguments) → turned.executed ≡ Some entry
@@ -206,7 +226,11 @@ abbrev pub EveryReplyIsStored : Type 0
 EveryReplyIsStored =
     (limits : ServerLimits) (stop : Stop limits) → stop.serving.is_down ≡ false
     → (connection now : ℕ)
-    → GivesHeld (one stop.serving.world connection now) connection
+    → GivesHeld limits.settings.holding
+    (done_with stop.history (one stop.serving.world connection now).executed)
+    (names_after stop.history stop.serving.world connection
+    (one stop.serving.world connection now))
+    (one stop.serving.world connection now) connection
     (request_in (at connection stop.serving.world.connections))
 
 -- Runs, one after another

@@ -7,6 +7,8 @@ use Rattle.std.specs.Int.{w64, w128, to_be_bytes, from_be_bytes}
 use Rattle.model_tree.specs.declared.status.Status.{Status}
 use Rattle.model_tree.specs.declared.status.Status.TheVariants as status
 use Rattle.model_tree.specs.Refusals.Refusal.{Refusals, first_refusal}
+use Rattle.model.specs.declared.holding.Holding.{Holding}
+use Rattle.model.specs.declared.holding.Holding.TheVariants as holdings
 use Rattle.model.specs.Operations.Operation.{Channel, ExchangeIdArguments, CreateSessionArguments, SequenceArguments}
 use Rattle.model.specs.Operations.Answer.{ExchangeIdAnswer, CreateSessionAnswer, SequenceAnswer}
 use Rattle.model_tree.specs.Seats.Seats.{HeldReply, Seat, Seats, no_seats, is_seat_of, seat_of, has_seat, freed, has_free, seated, holding}
@@ -56,13 +58,25 @@ pub record Session : Type 0 where
   pub max_operations : ℕ
   pub slots : List Slot
 
+-- Which replies seats hold: those of Changes are the replies to requests that made a change which has
+-- to last. A server that holds none has no persistent sessions.
+
+abbrev pub may_persist : Holding → Bool
+may_persist holdings.Nothing = false
+may_persist _ = true
+
+abbrev pub holds_reply : Holding → (altered : Bool) → Bool
+holds_reply holdings.Nothing altered = false
+holds_reply holdings.Changes altered = altered
+holds_reply holdings.All altered = true
+
 -- What whoever starts a server chooses for a run
 pub record Settings : Type 0 where
   -- the major id and the scope that EXCHANGE_ID returns (sections 2.10.4 and 2.10.5): servers of
   -- different names are different servers
   pub name : List ℕ
-  -- whether a new session may be persistent
-  pub persistent : Bool
+  -- which replies are held, and so whether a new session may be persistent
+  pub holding : Holding
   -- whether a full table gives up what no client holds: its oldest unconfirmed client record, or the
   -- dead seat of the oldest run
   pub yields_when_full : Bool
@@ -95,7 +109,7 @@ loaded_table run settings seats = record {
 abbrev pub plain_settings : Settings
 plain_settings = record {
   name = codes "nfs41srv";
-  persistent = false;
+  holding = holdings.Nothing;
   yields_when_full = false;
 }
 
@@ -332,7 +346,7 @@ is_done_with client table seat =
 
 -- the flag PERSIST is asked of a server that has persistent sessions
 abbrev pub asks_seat : CreateSessionArguments → Table → Bool
-asks_seat arguments table = table.settings.persistent && arguments.flags % 2 == 1
+asks_seat arguments table = may_persist table.settings.holding && arguments.flags % 2 == 1
 
 -- .. and no seat is free then, of one that gives up what no client holds
 abbrev pub lacks_seat : CreateSessionArguments → Client → Table → Bool
@@ -619,7 +633,7 @@ abbrev pub finished_slot : ℕ → List ℕ → Session → Session
 finished_slot place reply session =
     with_slot place (record (slot_at session place) { state = Kept reply }) session
 
--- where the session has a seat, that holds the reply
+-- what a seat of the session holds
 abbrev pub held_reply : List ℕ → Slot → HeldReply
 held_reply reply slot = record { number = slot.last; uid = slot.uid; result = reply }
 
@@ -628,10 +642,13 @@ held_by id place reply seats None = seats
 held_by id place reply seats (Some session) =
     holding id place (held_reply reply (slot_at session place)) seats
 
-unfoldable pub finish : List ℕ → ℕ → List ℕ → Table → Table
-finish id place reply table = record table {
+-- the slot keeps the reply, and if it is to be held, a seat of the session holds it too
+unfoldable pub finish : List ℕ → ℕ → (holds : Bool) → List ℕ → Table → Table
+finish id place holds reply table = record table {
   sessions = changed_where (is_session id) (finished_slot place reply) table.sessions;
-  seats = held_by id place reply table.seats (find (is_session id) table.sessions);
+  seats =
+      if holds then held_by id place reply table.seats (find (is_session id) table.sessions)
+      else table.seats;
 }
 
 -- A SEQUENCE that runs answers its slot number, and twice the highest slot of the session.

@@ -12,7 +12,7 @@ pub data Call : Type 0 where
   DestroysClient : (has_opens : ℕ → Bool) → (number : ℕ) → Call
   Reclaims : (number : ℕ) → Call
   Begins : (uid : ℕ) → (count : ℕ) → SequenceArguments → Call
-  Finishes : (session : List ℕ) → (slot : ℕ) → (reply : List ℕ) → Call
+  Finishes : (session : List ℕ) → (slot : ℕ) → (holds : Bool) → (reply : List ℕ) → Call
 
 abbrev pub started_by : ℕ → SequenceArguments → Table → Begun → Table
 started_by uid arguments table (Refuses reason) = table
@@ -29,7 +29,7 @@ after limits (DestroysClient has_opens number) table = (destroy_client_id has_op
 after limits (Reclaims number) table = (reclaim_complete number table).1
 after limits (Begins uid count arguments) table =
     started_by uid arguments table (begin uid count arguments table)
-after limits (Finishes session slot reply) table = finish session slot reply table
+after limits (Finishes session slot holds reply) table = finish session slot holds reply table
 
 -- the number that runs on this slot of the session of this id
 abbrev pub number_on : List ℕ → ℕ → SequenceArguments → Begun → Option ℕ
@@ -48,7 +48,7 @@ runs_on id slot (DestroysClient has_opens number) table = None
 runs_on id slot (Reclaims number) table = None
 runs_on id slot (Begins uid count arguments) table =
     number_on id slot arguments (begin uid count arguments table)
-runs_on id slot (Finishes session place reply) table = None
+runs_on id slot (Finishes session place holds reply) table = None
 
 -- the numbers that run there, in their order, when these calls are made
 abbrev pub numbers_on : SessionLimits → List ℕ → ℕ → List Call → Table → List ℕ

@@ -71,6 +71,7 @@ is_new_session before session = nat_lt before.session_serial session.serial
 
 pub record GivesNew (before after : Table) : Type 0 where
   pub run : after.run ≡ before.run
+  pub settings : after.settings ≡ before.settings
   pub clients : IsTrue
       (list_all (λ client. was_there before client || is_new before client) after.clients)
   pub client_serial : before.client_serial ≤ after.client_serial

@@ -52,5 +52,4 @@ returns c = record {
   below_itself = refl;
   not_served = λ next. refl;
   charges = refl;
-  bitmap = refl;
 }
