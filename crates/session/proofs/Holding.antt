@@ -4,13 +4,9 @@ use Rattle.std.proofs.lemmas.Slice.Eq.{bytes_eq-Decides}
 use Rattle.model_tree.specs.declared.status.Status.{Status}
 use Rattle.model_tree.specs.declared.status.Status.TheVariants as status
 use Rattle.model_tree.specs.Seats.Seats.{HeldReply, Seat, Seats, SeatsApart, seat_of, has_seat, with_held, holding}
-use Rattle.model.specs.Sessions.Session.{Session, Table, is_session, is_running, without_where, without_seat, with_sessions, destroy_by, destroy_session, held_by, held_reply, slot_at}
+use Rattle.model.specs.Sessions.Session.{Session, Table, is_session, is_running, without_where, without_seat, with_sessions, destroy_by, destroy_session}
 use Rattle.model.proofs.Sessions.SeatLaws.{holding_none}
 use Rattle.session.specs.Seating.{has_held_slot}
-
-pub unheld : (id : List ℕ) (place : ℕ) (reply : List ℕ) (seats : Seats) (found : Option Session) → has_seat id seats ≡ false → held_by id place reply seats found ≡ seats
-unheld id place reply seats None none = refl
-unheld id place reply seats (Some session) none = holding_none id place (held_reply reply (slot_at session place)) seats none
 
 -- a seat without the slot
 
