@@ -1,5 +1,5 @@
 -- A step keeps the table of the volume's run, with the volume's seats.
-use Rattle.std.proofs.Common.{◌≡◌, ℕ, inl, false, List, [], Option, None, Some, Result, Ok, Err, IfOk, refl, sym, ap, ◌∙◌}
+use Rattle.std.proofs.Common.{◌≡◌, ℕ, inl, Bool, true, false, List, [], Option, None, Some, Result, Ok, Err, IfOk, refl, sym, ap, ◌∙◌}
 use Rattle.volume.specs.Changes.{Done}
 use Rattle.fs.specs.Changes.{FsChanges}
 use Rattle.model.specs.Operations.Answer as model
@@ -30,14 +30,14 @@ use Rattle.compound.proofs.TablesGo.{run_after, finish_run}
 abbrev SameRun : World → World → Type 0
 SameRun world after = after.table.run ≡ world.table.run
 
-kept_run : (slot : Option (List ℕ × ℕ)) (result : List ℕ) (table : Table) → (kept_by slot result table).run ≡ table.run
-kept_run None result table = refl
-kept_run (Some slot) result table = finish_run slot.0 slot.1 result table
+kept_run : (slot : Option (List ℕ × ℕ)) (holds : Bool) (result : List ℕ) (table : Table) → (kept_by slot holds result table).run ≡ table.run
+kept_run None holds result table = refl
+kept_run (Some slot) holds result table = finish_run slot.0 slot.1 holds result table
 
 closes_run : (world : World) (number : ℕ) (request : InProgress) (last : Status) (executed : Option Entry) → SameRun world (closes world number request last executed).world
 closes_run world number request last executed =
-    either (λ (t : Turned). SameRun world t.world) (is_to_hold request.slot world.table.seats) _ _
-    (λ holds. refl) (λ none. kept_run request.slot (result_of request last) world.table)
+    either (λ (t : Turned). SameRun world t.world) (is_to_hold request world.table) _ _
+    (λ holds. refl) (λ none. kept_run request.slot false (result_of request last) world.table)
 
 behind_run : (world : World) (number : ℕ) (request : InProgress) (outcome : model.Outcome) (executed : Option Entry) → SameRun world (behind world number request outcome executed).world
 behind_run world number request (model.Refused operation reason) executed = closes_run world number (with_result request (model.Refused operation reason)) reason executed
@@ -46,7 +46,7 @@ behind_run world number request (model.Done answer) executed =
     (λ last. closes_run world number (with_result request (model.Done answer)) status.Ok executed) (λ more. refl)
 
 ran_run : (world : World) (number : ℕ) (request : InProgress) (operation : _) (ran : HasRun) → SameRun (world_by world ran) (has_run world number request operation ran).world
-ran_run world number request operation (turns.Gives outcome after left) = behind_run after number left outcome _
+ran_run world number request operation (turns.Gives outcome after left) = behind_run after number _ outcome _
 ran_run world number request operation (turns.Replays reply session slot) = refl
 
 operates_run : (world : World) (number now : ℕ) (request : InProgress) (next : Next) → SameRun world (operates world number now request next).world
@@ -57,7 +57,7 @@ operates_run world number now request (Reads operation rest) =
 
 further_run : (world : World) (number now : ℕ) (request : InProgress) (ended : Option Status) → SameRun world (further world number now request ended).world
 further_run world number now request None = operates_run world number now request (next_operation request)
-further_run world number now request (Some last) = kept_run request.slot (result_of request last) world.table
+further_run world number now request (Some last) = kept_run request.slot true (result_of request last) world.table
 
 -- Some world has this state
 

@@ -68,10 +68,10 @@ pub more_follow : (table : Table) (asked : Asked) (request : InProgress) (answer
 more_follow table asked request answer progress more pushed = λ world number executed here. rw (more, ← pushed, ← here) (refl, refl)
 
 module _ (run : ℕ) (progress : Progress) (position : progress.position ≡ 0) (answered : progress.answered ≡ 0) (results : progress.results.bytes ≡ [])
-    (client : progress.client ≡ 0) (here : progress.run ≡ run) (current : progress.current ≡ None) (saved : progress.saved ≡ None) (slot : progress.slot ≡ None) (going : progress.ended ≡ None) where
+    (client : progress.client ≡ 0) (here : progress.run ≡ run) (current : progress.current ≡ None) (saved : progress.saved ≡ None) (slot : progress.slot ≡ None) (altered : progress.altered ≡ false) (going : progress.ended ≡ None) where
   pub begins : IsBegin run progress
   begins = record {
-    begun = λ world asked same. rw (position, answered, results, client, here, current, saved, slot, going, same) refl;
+    begun = λ world asked same. rw (position, answered, results, client, here, current, saved, slot, altered, going, same) refl;
     run_is = here;
     fit = λ asked some short. fits_by asked progress going (omega arith) (omega arith) (omega (arith, tag_brief asked.compound.tag short, ap length results));
   }

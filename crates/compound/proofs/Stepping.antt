@@ -1,5 +1,5 @@
 -- A step of a request is the turn of the definition.
-use Rattle.std.proofs.Common.{◌≡◌, ◌+◌, ℕ, List, refl, sym, ap, ap₂, subst, ◌∙◌}
+use Rattle.std.proofs.Common.{◌≡◌, ◌+◌, ℕ, Bool, List, refl, sym, ap, ap₂, subst, ◌∙◌}
 use Rattle.model.specs.Operations.Answer as model
 use Rattle.model.specs.Wire.Record.{framed}
 use Rattle.model.specs.Wire.Rpc.{Success, reply_text}
@@ -7,7 +7,7 @@ use Rattle.model.specs.Sessions.Session.{Table}
 use Rattle.model.specs.Server.World as world
 use Rattle.model.specs.Server.World.{World, InProgress, Turned, Replied, with_connection}
 use Rattle.compound.specs.Operates.{left_by_effect}
-use Rattle.compound.specs.Runs.{with_rest}
+use Rattle.compound.specs.Runs.{noted, with_rest}
 use Rattle.compound.specs.Views.{Asked}
 use Rattle.compound.specs.States.{SharedState, HasState, with_state}
 use Rattle.compound.specs.Steps.{GoesFurther, RequestGoesOn, RequestSteps, stepped_on}
@@ -18,15 +18,16 @@ use Rattle.compound.specs.declared.executed.Effect.TheVariants as effect
 use Rattle.compound.specs.declared.step.Stepped.{Stepped}
 use Rattle.compound.specs.declared.step.Stepped.TheVariants as stepped
 
--- what an operation leaves does not touch the bytes after it
-pub left_rest : (left : Effect) (request : InProgress) (rest : List ℕ) → left_by_effect left (with_rest request rest) ≡ with_rest (left_by_effect left request) rest
-left_rest effect.Stays request rest = refl
-left_rest (effect.Moves number) request rest = refl
-left_rest effect.Saves request rest = refl
-left_rest effect.Restores request rest = refl
-left_rest (effect.Opens number state) request rest = refl
-left_rest effect.Closes request rest = refl
-left_rest (effect.Joins slot client) request rest = refl
+-- what an operation leaves does not touch the bytes after it, nor whether it altered
+pub left_rest : (left : Effect) (altered : Bool) (request : InProgress) (rest : List ℕ)
+    → left_by_effect left (noted altered (with_rest request rest)) ≡ noted altered (with_rest (left_by_effect left request) rest)
+left_rest effect.Stays altered request rest = refl
+left_rest (effect.Moves number) altered request rest = refl
+left_rest effect.Saves altered request rest = refl
+left_rest effect.Restores altered request rest = refl
+left_rest (effect.Opens number state) altered request rest = refl
+left_rest effect.Closes altered request rest = refl
+left_rest (effect.Joins slot client) altered request rest = refl
 
 -- nor the results before it
 pub left_answered : (left : Effect) (request : InProgress) → (left_by_effect left request).answered ≡ request.answered

@@ -1,5 +1,5 @@
 -- The seats that a volume keeps, and the turn in which a seat holds a reply.
-use Rattle.std.proofs.Common.{◌≡◌, ℕ, Bool, true, false, List, [], ◌∷◌, find, Option, Some, None, refl, sym, ap, ap₂, ◌∙◌, inl, inr}
+use Rattle.std.proofs.Common.{◌≡◌, ℕ, Bool, true, false, List, [], ◌∷◌, find, Option, Some, None, is_some, refl, sym, ap, ap₂, ◌∙◌, inl, inr}
 use Rattle.std.specs.Global.{Vec}
 use Rattle.layout.specs.Stands.{Kept}
 use Rattle.volume.specs.Changes.{Ending, Done, IsSeats}
@@ -94,18 +94,18 @@ seats_change keeps_word state table opens request left now operation outcome qui
 -- The turn in which a seat holds a reply
 
 ends_now : (world : World) (number now : ℕ) (request : InProgress) (last : Status) → request.ended ≡ Some last
-    → stepped_on world number now request ≡ ends world number request last None
+    → stepped_on world number now request ≡ ends world number request last true None
 ends_now world number now request last ended = ap (further world number now request) ended
 
 pub stored : (now : ℕ) (old new : FileSystem) (table after : Table) (known : Opens) (asked : Asked) (request : InProgress) (last : Status) (reply : Vec ℕ) → request.ended ≡ Some last
-    → HasSameTree old new → reply.items ≡ framed (reply_text request.xid (Success (result_of request last))) → after ≡ kept_by request.slot (result_of request last) table
+    → HasSameTree old new → reply.items ≡ framed (reply_text request.xid (Success (result_of request last))) → after ≡ kept_by request.slot true (result_of request last) table
     → RequestSteps now (shared old table known) (shared new after known) asked request (stepped.Answered reply)
 stored now old new table after known asked request last reply ended same reply_is kept = λ world number has.
     let turn = ends_now world number now request last ended in
-    let table_is : kept_by request.slot (result_of request last) world.table ≡ after = ap (kept_by request.slot (result_of request last)) has.table_is ∙ sym kept in
+    let table_is : kept_by request.slot true (result_of request last) world.table ≡ after = ap (kept_by request.slot true (result_of request last)) has.table_is ∙ sym kept in
     let tree_is : world.tree ≡ new.volume.tree = has.tree ∙ sym same.tree in
     let count_is : world.changes ≡ new.changes = has.changes ∙ sym same.changes in
-    let made : with_table world (kept_by request.slot (result_of request last) world.table) ≡ with_state world (shared new after known) =
+    let made : with_table world (kept_by request.slot true (result_of request last) world.table) ≡ with_state world (shared new after known) =
     ap (with_table world) table_is
     ∙ ap₂ (λ (tree : Tree) (changes : ℕ). let one : World = record world { tree = tree; changes = changes; table = after } in one) tree_is count_is
     ∙ ap (λ (opens : Opens). let one : World = record world { tree = new.volume.tree; changes = new.changes; table = after; opens = opens } in one) has.opens in (
@@ -116,21 +116,27 @@ stored now old new table after known asked request last reply ended same reply_i
 
 pub stored_gives : (state : SharedState) (now : ℕ) (request : InProgress) (last : Status) → request.ended ≡ Some last → (after : Kept) (lasting : Bool)
     → TurnGives state (λ world number. stepped_on world number now request) after lasting
-    → IsSeated state.files.volume (kept_by request.slot (result_of request last) state.table).seats after lasting
+    → IsSeated state.files.volume (kept_by request.slot true (result_of request last) state.table).seats after lasting
 stored_gives state now request last ended after lasting gives =
     let turn = ends_now gives.world gives.number now request last ended in (
       gives.kept ∙ ap (λ (t : Turned). kept_of_world t.world) turn
-          ∙ ap₂ (λ (tree : Tree) (table : Table). let of : Kept = record { tree = tree; seats = (kept_by request.slot (result_of request last) table).seats } in of) gives.has.tree gives.has.table_is,
+          ∙ ap₂ (λ (tree : Tree) (table : Table). let of : Kept = record { tree = tree; seats = (kept_by request.slot true (result_of request last) table).seats } in of) gives.has.tree gives.has.table_is,
       elim gives.lasting_is [
         | inl durable ↦ inl (durable ∙ ap (λ (t : Turned). lasts t.executed) turn)
         | inr differs ↦ inr differs
       ],
     )
 
+-- where a slot keeps the reply, a seat holds it too
+pub kept_if_some : (slot : Option (List ℕ × ℕ)) (holds : Bool) (result : List ℕ) (table : Table) → holds ≡ is_some slot
+    → kept_by slot holds result table ≡ kept_by slot true result table
+kept_if_some None holds result table is = refl
+kept_if_some (Some slot) holds result table is = ap (λ (holds : Bool). kept_by (Some slot) holds result table) is
+
 -- the seats once the slot keeps the reply, by the edits that were planned
 pub kept_held : (slot : Option (List ℕ × ℕ)) (id : List ℕ) (place : ℕ) (reply result : List ℕ) (table : Table) (edits : List SeatEdit) → slot ≡ Some (id, place) → reply ≡ result
     → edited_all edits table.seats ≡ held_by id place reply table.seats (find (is_session id) table.sessions)
-    → edited_all edits table.seats ≡ (kept_by slot result table).seats
+    → edited_all edits table.seats ≡ (kept_by slot true result table).seats
 unfolding finish
 kept_held slot id place reply result table edits is same planned =
-    planned ∙ ap₂ (λ (of : Option (List ℕ × ℕ)) (bytes : List ℕ). (kept_by of bytes table).seats) (sym is) same
+    planned ∙ ap₂ (λ (of : Option (List ℕ × ℕ)) (bytes : List ℕ). (kept_by of true bytes table).seats) (sym is) same

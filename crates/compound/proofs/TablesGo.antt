@@ -194,6 +194,6 @@ run_after world request now operation =
     room_stays (λ t. t.run) world request (operation_of operation) (run world request now operation) (run_keeps_run world request now operation)
 
 -- of a reply that is made
-pub finish_run : (id : List ℕ) (place : ℕ) (reply : List ℕ) (table : Table) → (finish id place reply table).run ≡ table.run
+pub finish_run : (id : List ℕ) (place : ℕ) (holds : Bool) (reply : List ℕ) (table : Table) → (finish id place holds reply table).run ≡ table.run
 unfolding finish
-finish_run id place reply table = refl
+finish_run id place holds reply table = refl

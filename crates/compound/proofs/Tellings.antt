@@ -131,15 +131,15 @@ goes_on_told table asked request result outcome progress ok more pushed is =
 
 -- The last one
 
-closes_holding : (world : World) (number : ℕ) (request : InProgress) (last : Status) (executed : Option Entry) → is_to_hold request.slot world.table.seats ≡ true
+closes_holding : (world : World) (number : ℕ) (request : InProgress) (last : Status) (executed : Option Entry) → is_to_hold request world.table ≡ true
     → closes world number request last executed ≡ goes_on world number (record request { ended = Some last }) executed
 closes_holding world number request last executed holds =
-    ap (λ (b : Bool). if b then goes_on world number (record request { ended = Some last }) executed else ends world number request last executed) holds
+    ap (λ (b : Bool). if b then goes_on world number (record request { ended = Some last }) executed else ends world number request last false executed) holds
 
-closes_unseated : (world : World) (number : ℕ) (request : InProgress) (last : Status) (executed : Option Entry) → is_to_hold request.slot world.table.seats ≡ false
-    → closes world number request last executed ≡ ends world number request last executed
+closes_unseated : (world : World) (number : ℕ) (request : InProgress) (last : Status) (executed : Option Entry) → is_to_hold request world.table ≡ false
+    → closes world number request last executed ≡ ends world number request last false executed
 closes_unseated world number request last executed none =
-    ap (λ (b : Bool). if b then goes_on world number (record request { ended = Some last }) executed else ends world number request last executed) none
+    ap (λ (b : Bool). if b then goes_on world number (record request { ended = Some last }) executed else ends world number request last false executed) none
 
 behind_last : (world : World) (number : ℕ) (request : InProgress) (outcome : Outcome) (executed : Option Entry) → (is_done outcome && not (is_last request)) ≡ false
     → behind world number request outcome executed ≡ closes world number (with_result request outcome) (status_of outcome) executed
@@ -154,11 +154,11 @@ behind_last world number request (Done answer) executed last =
 
 -- a seat is to hold the reply
 pub holds_told : (table : Table) (asked : Asked) (request : InProgress) (result : EncodedResult) (outcome : Outcome) (progress : Progress) → (is_ok result && not (is_last request)) ≡ false
-    → is_to_hold request.slot table.seats ≡ true → resumed asked progress ≡ with_last request result → Tells result outcome
+    → is_to_hold request table ≡ true → resumed asked progress ≡ with_last request result → Tells result outcome
     → ResultLeaves table table asked request outcome (stepped.Ran progress)
 holds_told table asked request result outcome progress last holds pushed is = λ world number executed here.
     let ended = behind_last world number request outcome executed (ap (λ (b : Bool). b && not (is_last request)) (sym (ok_is result outcome is)) ∙ last) in
-    let held = closes_holding world number (with_result request outcome) (status_of outcome) executed (ap (λ (t : Table). is_to_hold request.slot t.seats) here ∙ holds) in
+    let held = closes_holding world number (with_result request outcome) (status_of outcome) executed (ap (is_to_hold request) here ∙ holds) in
     let turn = ended ∙ held in (
       ap (λ (t : Turned). t.turn) turn,
       ap (λ (t : Turned). t.world) turn
@@ -167,19 +167,19 @@ holds_told table asked request result outcome progress last holds pushed is = λ
 
 -- or the reply is there
 pub ends_told : (old new : Table) (asked : Asked) (request : InProgress) (result : EncodedResult) (outcome : Outcome) (reply : Vec ℕ) → (is_ok result && not (is_last request)) ≡ false
-    → is_to_hold request.slot old.seats ≡ false
+    → is_to_hold request old ≡ false
     → reply.items ≡ framed (reply_text request.xid (Success (result_of (with_last request result) (told_status result))))
-    → new ≡ kept_by request.slot (result_of (with_last request result) (told_status result)) old → Tells result outcome
+    → new ≡ kept_by request.slot false (result_of (with_last request result) (told_status result)) old → Tells result outcome
     → ResultLeaves old new asked request outcome (stepped.Answered reply)
 ends_told old new asked request result outcome reply last none reply_is kept is = λ world number executed here.
     let ended = behind_last world number request outcome executed (ap (λ (b : Bool). b && not (is_last request)) (sym (ok_is result outcome is)) ∙ last) in
-    let made = closes_unseated world number (with_result request outcome) (status_of outcome) executed (ap (λ (t : Table). is_to_hold request.slot t.seats) here ∙ none) in
+    let made = closes_unseated world number (with_result request outcome) (status_of outcome) executed (ap (is_to_hold request) here ∙ none) in
     let text : result_of (with_last request result) (told_status result) ≡ result_of (with_result request outcome) (status_of outcome) =
     ap₂ result_of (last_is request result outcome is) (status_is result outcome is) in
     let turn = ended ∙ made in (
       ap (λ (t : Turned). t.turn) turn,
       ap (λ (t : Turned). t.world) turn
           ∙ ap₂ (λ (t : Table) (bytes : List ℕ). with_connection (with_table world t) number (Replied bytes))
-          (sym (kept ∙ ap₂ (λ (bytes : List ℕ) (t : Table). kept_by request.slot bytes t) text (sym here)))
+          (sym (kept ∙ ap₂ (λ (bytes : List ℕ) (t : Table). kept_by request.slot false bytes t) text (sym here)))
           (sym (reply_is ∙ ap (λ (bytes : List ℕ). framed (reply_text request.xid (Success bytes))) text)),
     )

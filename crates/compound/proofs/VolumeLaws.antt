@@ -17,7 +17,7 @@ use Rattle.model.specs.Server.Runs.{is_durable, is_commit}
 use Rattle.model.specs.Operations.Step.{State, alters, does, effect, refused, unless_refused}
 use Rattle.model_tree.specs.Trees.Tree.{Tree}
 use Rattle.model.specs.Server.World as turns
-use Rattle.model.specs.Server.World.{World, InProgress, HasRun, Entry, Turned, Reads, Refuses, next_operation, operates, has_run, behind, closes, is_to_hold, with_result, is_last, executed_entry, run, in_room, stepped, state_of, reply_with}
+use Rattle.model.specs.Server.World.{World, InProgress, HasRun, Entry, Turned, Reads, Refuses, next_operation, operates, has_run, noting, behind, closes, is_to_hold, with_result, is_last, executed_entry, run, in_room, stepped, state_of, reply_with}
 use Rattle.model_tree.specs.declared.status.Status.{Status}
 use Rattle.model_tree.specs.declared.status.Status.TheVariants as status
 use Rattle.fs.specs.Operations.{MakesTree, new_directory}
@@ -216,7 +216,7 @@ memory_changes keeps_word given fs failed (Err told) reason is memory = rw (is, 
 closes_executed : (world : World) (number : ℕ) (request : InProgress) (last : Status) (executed : Option Entry)
     → (closes world number request last executed).executed ≡ executed
 closes_executed world number request last executed =
-    either (λ (t : Turned). t.executed ≡ executed) (is_to_hold request.slot world.table.seats) _ _ (λ holds. refl) (λ none. refl)
+    either (λ (t : Turned). t.executed ≡ executed) (is_to_hold request world.table) _ _ (λ holds. refl) (λ none. refl)
 
 behind_executed : (world : World) (number : ℕ) (request : InProgress) (outcome : model.Outcome) (executed : Option Entry)
     → (behind world number request outcome executed).executed ≡ executed
@@ -229,7 +229,7 @@ behind_executed world number request (model.Done answer) executed =
 run_executed : (world : World) (number : ℕ) (request : InProgress) (operation : Argument) (ran : HasRun)
     → (has_run world number request operation ran).executed ≡ entry_by world request operation ran
 run_executed world number request operation (turns.Gives outcome after left) =
-    behind_executed after number left outcome (Some (executed_entry world request operation outcome after))
+    behind_executed after number (noting world after operation left) outcome (Some (executed_entry world request operation outcome after))
 run_executed world number request operation (turns.Replays reply session slot) = refl
 
 -- a turn whose next operation is read does what that operation does

@@ -19,7 +19,7 @@ pub record RunsNext {D : Type 0} {g : Ghosts D} (old new : Engine D g) (running 
   pub same : BorrowsSame old new
   pub turns : g.keeps_word → IfOk result (λ ran. TurnsExecuted old.moment (state_in old)
       (state_in new) (in_progress_of running)
-      (drop ran.position running.compound.operations.now) ran.done)
+      (drop ran.position running.compound.operations.now) ran.altered ran.done)
   pub within : IfOk result (λ ran. ran.position ≤ length running.compound.operations.now)
   pub answered : IfOk result (λ ran. IsAnswered (in_progress_of running) ran.done)
   pub kept : IfOk result (λ ran. IsReplyKept (state_in new).table ran.done)

@@ -1,18 +1,18 @@
 -- How a turn is made of an operation that ran, and of what follows its result.
-use Rattle.std.specs.Prelude.{◌≡◌, ℕ, List, Option, Some, None, false}
+use Rattle.std.specs.Prelude.{◌≡◌, ℕ, Bool, true, false, List, Option, Some, None}
 use Rattle.model.specs.Operations.Answer as model
 use Rattle.model.specs.Wire.Record.{framed}
 use Rattle.model.specs.Wire.Rpc.{Success, reply_text}
 use Rattle.model_tree.specs.Seats.SeatEdits.{edited_all, edits_view}
 use Rattle.model.specs.Sessions.Session.{Table}
 use Rattle.model.specs.Server.World as turns
-use Rattle.model.specs.Server.World.{World, InProgress, Entry, Turned, behind, is_to_hold, kept_by, with_connection, with_table}
+use Rattle.model.specs.Server.World.{World, InProgress, Entry, Turned, behind, kept_by, with_connection, with_table}
 use Rattle.model_tree.specs.declared.seats.SeatEdits.{SeatEdits}
 use Rattle.session.specs.Views.{reply_kept}
 use Rattle.wire.specs.Numbers.{number_of}
 use Rattle.wire.specs.OutcomeView.{outcome_view}
 use Rattle.compound.specs.Operates.{Spells, left_by_effect}
-use Rattle.compound.specs.Runs.{with_rest}
+use Rattle.compound.specs.Runs.{noted, with_rest}
 use Rattle.compound.specs.Views.{Asked}
 use Rattle.compound.specs.States.{SharedState, HasState, with_state}
 use Rattle.compound.specs.Steps.{stepped_on, turn_of_step, connection_by}
@@ -30,6 +30,7 @@ repeated world number request reply session slot = record {
       (turns.Replied (framed (reply_text request.xid (Success reply))));
   executed = None;
   keeps = None;
+  holds = false;
   replays = Some (session, slot);
 }
 
@@ -43,17 +44,17 @@ TurnsTo now old new request left outcome =
     × (stepped_on world number now request
     ≡ behind (with_state world new) number left outcome executed)
 
--- the same, where the next operation did this and ends where these bytes begin
+-- the same, where the next operation did this, ends where these bytes begin, and made a change that
+-- has to last or made none
 abbrev pub TurnsExecuted : (now : ℕ) → (old new : SharedState) → InProgress → (rest : List ℕ)
-    → Executed
-    → Type 0
-TurnsExecuted now old new request rest (execution.Gives outcome left) =
-    TurnsTo now old new request (with_rest (left_by_effect left request) rest)
+    → (altered : Bool) → Executed → Type 0
+TurnsExecuted now old new request rest altered (execution.Gives outcome left) =
+    TurnsTo now old new request (noted altered (with_rest (left_by_effect left request) rest))
     (outcome_view outcome)
-TurnsExecuted now old new request rest (execution.GivesSpelled kind values) =
+TurnsExecuted now old new request rest altered (execution.GivesSpelled kind values) =
     (answer : model.Answer) × Spells (number_of kind) values.items answer
-    × TurnsTo now old new request (with_rest request rest) (model.Done answer)
-TurnsExecuted now old new request rest (execution.Replays slot) =
+    × TurnsTo now old new request (noted altered (with_rest request rest)) (model.Done answer)
+TurnsExecuted now old new request rest altered (execution.Replays slot) =
     (reply : List ℕ) × (new ≡ old) × (reply_kept slot.session slot.slot old.table ≡ Some reply)
     × ((world : World) (number : ℕ) → HasState world old
     → stepped_on world number now request
@@ -67,9 +68,9 @@ ResultLeaves old new asked request outcome done =
     × ((behind world number request outcome executed).world
     ≡ with_connection (with_table world new) number (connection_by asked done))
 
--- what a reply makes of the seats: these edits, or nothing where no seat is to hold it
+-- the edits of the seats by which one holds the reply, or none
 abbrev pub AreOfReply : (slot : Option (List ℕ × ℕ)) → (result : List ℕ) → Table → Option SeatEdits
     → Type 0
-AreOfReply slot result table None = is_to_hold slot table.seats ≡ false
+AreOfReply slot result table None = Unit {0}
 AreOfReply slot result table (Some edits) =
-    edited_all (edits_view edits) table.seats ≡ (kept_by slot result table).seats
+    edited_all (edits_view edits) table.seats ≡ (kept_by slot true result table).seats

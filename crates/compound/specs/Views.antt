@@ -59,6 +59,7 @@ resumed asked progress = record {
   results = progress.results.bytes;
   context = context_of asked.cred progress;
   slot = option_map slot_of progress.slot;
+  altered = progress.altered;
   ended = progress.ended;
 }
 

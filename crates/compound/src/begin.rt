@@ -35,6 +35,7 @@ impl Progress {
             current: None,
             saved: None,
             slot: None,
+            altered: false,
             ended: None,
         })
     }

@@ -1,7 +1,7 @@
 //! The end of a COMPOUND: its whole result, which the slot keeps and a seat may hold, and the
 //! reply's record.
 
-ghost use Rattle.std.specs.Prelude.{◌≡◌, ◌≤◌, Some, length};
+ghost use Rattle.std.specs.Prelude.{◌≡◌, ◌≤◌, Some, is_some, length};
 ghost use Rattle.std.specs.Option.{option_map};
 ghost use Rattle.model.specs.Wire.Rpc.{compound_text};
 ghost use Rattle.model.specs.Sessions.Session.{finish};
@@ -24,7 +24,7 @@ use rpc::{Compound, CompoundResult, Reply, Tag, write_reply};
 use session::Table;
 use xdr::Writer;
 
-/// The status of the last result, and what a reply that a seat holds makes of the seats.
+/// The status of the last result, and if a seat is to hold the reply what that makes of the seats.
 #[derive(Drop)]
 pub(crate) struct LastResult {
     pub(crate) status: Status,
@@ -32,7 +32,7 @@ pub(crate) struct LastResult {
 }
 
 impl Running<'_> {
-    ghost use Rattle.std.specs.Prelude.{◌≡◌, ℕ, List, Some, IfOk, OnOk};
+    ghost use Rattle.std.specs.Prelude.{◌≡◌, ℕ, true, List, Some, is_some, IfOk, OnOk};
     ghost use Rattle.fs.specs.Views.{fs_of, AltersFs};
     ghost use Rattle.model.specs.Wire.Record.{framed};
     ghost use Rattle.model.specs.Wire.Rpc.{Success, reply_text};
@@ -45,8 +45,8 @@ impl Running<'_> {
     ghost use Rattle.compound.specs.Volumes.{IsSeated, HasSameTree, ending};
 
     /// The reply's whole record, once the last result is there. The slot keeps the result of the
-    /// COMPOUND, and where a seat holds it these edits are made of the seats. No memory is taken,
-    /// and what is left over goes to `results_buffer`.
+    /// COMPOUND, and if there are edits a seat holds it by them. No memory is taken, and what is
+    /// left over goes to `results_buffer`.
     #[tactic(auto, unfolding(crate::specs::Views::in_progress_of), using(crate::proofs::Replies::success_length, crate::proofs::Replies::framed_length))]
     pub(crate) fn end(
         self,
@@ -59,7 +59,8 @@ impl Running<'_> {
         ensures reply { result.items ≡ framed (reply_text (in_progress_of self.entry).xid
             (Success (result_of (in_progress_of self.entry) last.status))) }
         ensures kept { table_of table.new ≡ kept_by (in_progress_of self.entry).slot
-            (result_of (in_progress_of self.entry) last.status) (table_of table.old) }
+            (is_some last.edits) (result_of (in_progress_of self.entry) last.status)
+            (table_of table.old) }
     {
         let Running {
             xid,
@@ -89,8 +90,8 @@ impl Running<'_> {
         record
     }
 
-    /// Where a seat is to hold the reply, it does so on the volume; and what that makes of the
-    /// seats beside the table.
+    /// A seat is to hold the reply, and does so on the volume: what that makes of the table's
+    /// seats. There is nothing to hold if no slot keeps the reply.
     ///
     /// # Errors
     /// After `Memory` nothing changed; after `Device` the file system is down.
@@ -101,12 +102,15 @@ impl Running<'_> {
         last: Status,
     ) -> Result<Option<SeatEdits>, Fault>
         requires { CanSeat D.keeps_word (fs_of fs.old) (table_of table.now) }
+        ensures some { IfOk result (λ edits.
+            is_some edits ≡ is_some (in_progress_of self.now).slot) }
         ensures edits { IfOk result (AreOfReply (in_progress_of self.now).slot
             (result_of (in_progress_of self.now) last) (table_of table.now)) }
         ensures same { D.keeps_word → OnOk result (HasSameTree (fs_of fs.old) (fs_of fs.new)) }
         ensures volume { AltersFs fs.old fs.new (IsSeated (fs_of fs.old).volume
-            (kept_by (in_progress_of self.now).slot (result_of (in_progress_of self.now) last)
-            (table_of table.now)).seats) (ending result) }
+            (kept_by (in_progress_of self.now).slot true
+            (result_of (in_progress_of self.now) last) (table_of table.now)).seats)
+            (ending result) }
     {
         let Some(id) = &self.progress.slot else {
             return Ok(None);
@@ -166,7 +170,7 @@ fn result_of<'a>(status: Status, tag: Tag<'a>, count: u32, results: &'a [u8]) ->
     }
 }
 
-/// The bytes of a result, and the edits of the seats where one holds it.
+/// The bytes of a result, and the edits of the seats if one holds it.
 #[derive(Drop)]
 struct KeptResult<'a> {
     bytes: &'a [u8],
@@ -174,7 +178,7 @@ struct KeptResult<'a> {
     ghost short: { length bytes.now ≤ RESULT_BUFFER },
 }
 
-/// Where a slot runs the COMPOUND it keeps the result, as `keep` says. What is left of the memory
+/// If a slot runs the COMPOUND it keeps the result, as `keep` says. What is left of the memory
 /// comes back.
 fn keep_by(
     table: &mut Table,
@@ -185,8 +189,8 @@ fn keep_by(
     requires room { RESULT_BUFFER ≤ memory.capacity }
     requires edits { AreOfReply (option_map slot_of slot) kept.bytes.now (table_of table.old)
         kept.edits }
-    ensures { table_of table.new ≡ kept_by (option_map slot_of slot) kept.entry.bytes.now
-        (table_of table.old) }
+    ensures { table_of table.new ≡ kept_by (option_map slot_of slot) (is_some kept.entry.edits)
+        kept.entry.bytes.now (table_of table.old) }
 {
     match slot {
         Some(id) => keep(table, &id, kept, memory),
@@ -194,14 +198,15 @@ fn keep_by(
     }
 }
 
-/// The slot keeps the result, in this memory. The memory of the reply before comes back.
+/// The slot keeps the result, in this memory, and if there are edits a seat holds it by them. The
+/// memory of the reply before comes back.
 #[tactic(auto, unfolding(model::specs::Sessions::Session::finish))]
 fn keep(table: &mut Table, id: &SlotId, kept: KeptResult<'_>, memory: Writer) -> Option<Vec<u8>>
     requires room { RESULT_BUFFER ≤ memory.capacity }
     requires edits { AreOfReply (Some (slot_of id.now)) kept.bytes.now (table_of table.old)
         kept.edits }
-    ensures { table_of table.new
-        ≡ finish id.now.session id.now.slot kept.entry.bytes.now (table_of table.old) }
+    ensures { table_of table.new ≡ finish id.now.session id.now.slot (is_some kept.entry.edits)
+        kept.entry.bytes.now (table_of table.old) }
 {
     let KeptResult { bytes, edits } = kept;
     let bytes = copied(bytes, memory);

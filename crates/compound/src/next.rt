@@ -46,6 +46,7 @@ impl Running<'_> {
     ghost use Rattle.model.specs.Server.World.{next_operation, by_arguments, first_or, tests_of, is_last};
     ghost use Rattle.model.specs.Wire.WireArguments.{arguments_at};
     ghost use Rattle.compound.specs.Memory.{OrMemory};
+    ghost use Rattle.compound.specs.Runs.{noted, with_rest};
     ghost use Rattle.compound.specs.Views.{in_progress_of, asked_of, next_view, refused_or, IsWithin};
 
     /// The next operation with its arguments, or why it is refused before it is run.
@@ -118,16 +119,17 @@ impl Running<'_> {
         self.compound.count.saturating_sub(self.progress.answered) == 1
     }
 
-    /// Goes on after an operation, to the bytes from this position on.
+    /// Goes on after an operation, to the bytes from this position on. `altered` says whether it
+    /// made a change that has to last.
     #[tactic(auto, unfolding(crate::specs::Views::in_progress_of))]
-    pub(crate) fn advance(&mut self, position: usize)
+    pub(crate) fn advance(&mut self, position: usize, altered: bool)
         requires { position ≤ length self.old.compound.operations.now }
         ensures asked { asked_of self.new ≡ asked_of self.old }
-        ensures request { in_progress_of self.new
-            ≡ record (in_progress_of self.old)
-            { rest = drop position self.old.compound.operations.now } }
+        ensures request { in_progress_of self.new ≡ noted altered (with_rest
+            (in_progress_of self.old) (drop position self.old.compound.operations.now)) }
     {
         self.progress.position = position;
+        self.progress.altered |= altered;
     }
 
     /// Why an operation of this number is refused, and under which number, whatever its arguments.

@@ -53,6 +53,8 @@ pub struct Progress {
     pub(crate) saved: Option<HandlePlace>,
     /// The slot that runs it.
     pub(crate) slot: Option<SlotId>,
+    /// Whether an operation of it made a change that has to last.
+    pub(crate) altered: bool,
     /// The status of its last result, once that is there and a seat is to hold the reply.
     pub(crate) ended: Option<Status>,
     ghost first: { answered ≡ 0 → results.bytes ≡ [] },

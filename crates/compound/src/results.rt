@@ -194,6 +194,7 @@ impl Progress {
             current,
             saved,
             slot,
+            altered,
             ended,
         } = self;
         Progress {
@@ -206,6 +207,7 @@ impl Progress {
             current,
             saved,
             slot,
+            altered,
             ended,
         }
     }

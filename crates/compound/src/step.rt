@@ -2,7 +2,10 @@
 //! seat holds first.
 
 ghost use Rattle.std.specs.Prelude.{◌≡◌, ◌<◌, ◌^◌};
+ghost use Rattle.model.specs.Server.World.{is_unstable};
+ghost use Rattle.wire.specs.ArgumentView.{argument_view};
 ghost use Rattle.wire.specs.declared.outcome.Outcome.TheVariants as outcomes;
+ghost use Rattle.compound.specs.Runs.{makes_change};
 ghost use Rattle.compound.specs.declared.executed.Effect.TheVariants as effect;
 ghost use Rattle.compound.specs.declared.executed.Executed.TheVariants as execution;
 
@@ -14,12 +17,13 @@ use crate::fault::Fault;
 use crate::next::Next;
 use crate::progress::{HandlePlace, Progress};
 use crate::running::Running;
+use crate::writing::is_to_be_stable;
 use disk::Device;
 use fs::Fs;
 use model_tree::status::Status;
 use opens::Opens;
 use session::Table;
-use wire::Outcome;
+use wire::{Argument, Outcome};
 use xdr::Writer;
 
 /// What a step leaves.
@@ -28,8 +32,8 @@ pub enum Stepped {
     /// One operation ran, and more remain, or a seat is to hold the reply: how far the COMPOUND has
     /// come.
     Ran(Progress),
-    /// The reply's whole record, its header included. Its slot keeps the result, and where the
-    /// session has a seat, that holds it on the volume.
+    /// The reply's whole record, its header included. Its slot keeps the result, and where a seat
+    /// was to hold it, that has it on the volume.
     Answered(Vec<u8>),
 }
 
@@ -47,7 +51,7 @@ impl Running<'_> {
     ghost use Rattle.opens.specs.Views.{opens_of};
     ghost use Rattle.session.specs.Views.{table_of};
     ghost use Rattle.model.specs.Operations.Answer as model;
-    ghost use Rattle.model.specs.Server.World.{is_to_hold};
+    ghost use Rattle.model.specs.Server.World.{is_seated, is_to_hold};
     ghost use Rattle.compound.specs.Engines.{BorrowsSame, Steps, files_in, state_in};
     ghost use Rattle.compound.specs.Operates.{left_by_effect};
     ghost use Rattle.compound.specs.States.{Agrees, CanSeat, shared_of};
@@ -118,7 +122,11 @@ impl Running<'_> {
         ensures same { BorrowsSame engine.old engine.new }
         ensures turn { Steps engine.old engine.new self.entry result }
     {
-        let Ran { position, done } = match self.run_next(engine) {
+        let Ran {
+            position,
+            altered,
+            done,
+        } = match self.run_next(engine) {
             Ok(ran) => ran,
             Err(fault) => return Err(StepError {
                 fault,
@@ -126,7 +134,7 @@ impl Running<'_> {
             }),
         };
         let mut running = self;
-        running.advance(position);
+        running.advance(position, altered);
         match done {
             Executed::Replays(slot) => Ok(Stepped::Answered(running.repeat(
                 engine.table,
@@ -156,11 +164,19 @@ impl Running<'_> {
         match self.next_operation(self.alloc)? {
             Next::Refuses { operation, status } => Ok(Ran {
                 position: self.progress.position,
+                altered: false,
                 done: refused(operation, status),
             }),
             Next::Reads { argument, position } => {
+                let before = engine.fs.change_count();
                 let done = self.operate(engine, &argument)?;
-                Ok(Ran { position, done })
+                let after = engine.fs.change_count();
+                let altered = makes_change(before, after, &argument);
+                Ok(Ran {
+                    position,
+                    altered,
+                    done,
+                })
             }
         }
     }
@@ -267,7 +283,7 @@ impl Running<'_> {
         }
     }
 
-    /// The last result is there. Where the session has a seat, that holds the reply on the volume;
+    /// The last result is there, and a seat is to hold the reply: it does so on the volume, and
     /// then the reply is made.
     fn store<D: Device>(
         self,
@@ -299,8 +315,16 @@ impl Running<'_> {
     /// Whether a seat is to hold the reply.
     #[tactic(auto, unfolding(crate::specs::Views::in_progress_of))]
     fn is_to_hold(&self, table: &Table) -> bool
+        ensures { result ≡ is_to_hold (in_progress_of self.now) (table_of table.now) }
+    {
+        table.holds(self.progress.altered) && self.is_seated(table)
+    }
+
+    /// Whether the session that runs it has a seat.
+    #[tactic(auto, unfolding(crate::specs::Views::in_progress_of))]
+    fn is_seated(&self, table: &Table) -> bool
         ensures { result
-            ≡ is_to_hold (in_progress_of self.now).slot (table_of table.now).seats }
+            ≡ is_seated (in_progress_of self.now).slot (table_of table.now).seats }
     {
         match &self.progress.slot {
             Some(id) => table.has_seat(&id.session),
@@ -320,10 +344,29 @@ fn refused(operation: u32, status: Status) -> Executed
     }
 }
 
+/// Whether an operation made a change that has to last, any but that of a WRITE with UNSTABLE4, by
+/// how many changes were counted before and after it.
+fn makes_change(before: u32, after: u32, operation: &Argument<'_>) -> bool
+    ensures { result ≡ makes_change before after (argument_view operation.now) }
+{
+    before != after && !is_unstable(operation)
+}
+
+fn is_unstable(operation: &Argument<'_>) -> bool
+    ensures { result ≡ is_unstable (argument_view operation.now) }
+{
+    match operation {
+        Argument::Write(arguments) => !is_to_be_stable(arguments.stable),
+        _ => false,
+    }
+}
+
 /// An operation that ran, or was refused before.
 #[derive(Drop)]
 struct Ran {
     /// Where the bytes after it begin.
     position: usize,
+    /// Whether it made a change that has to last.
+    altered: bool,
     done: Executed,
 }

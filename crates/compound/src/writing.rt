@@ -106,7 +106,7 @@ fn tell_bytes(data: &[u8])
 {}
 
 /// Whether the bytes are to be on the device before the answer.
-fn is_to_be_stable(stable: StableHow) -> bool
+pub(crate) fn is_to_be_stable(stable: StableHow) -> bool
     ensures { (stable_number stable == 0) ≡ not result }
 {
     match stable {

@@ -68,8 +68,8 @@ returns-then-is_to_hold-clause-stands c =
       | else-is_ok-via-else-is_ok w ↦
           ap (λ (a : Bool). a && not (is_last request)) (sym c.is_ok.ensures ∙ w.if-is_ok.false)
     ] in
-    let holds : is_to_hold request.slot (table_of c.args.table.now).seats ≡ true =
-    ap (λ (r : InProgress). is_to_hold r.slot (table_of c.args.table.now).seats) (sym c.with_last-running.ensures.request) ∙ (sym c.is_to_hold.ensures ∙ c.if-is_to_hold.true) in
+    let holds : is_to_hold request (table_of c.args.table.now) ≡ true =
+    ap (λ (r : InProgress). is_to_hold r (table_of c.args.table.now)) (sym c.with_last-running.ensures.request) ∙ (sym c.is_to_hold.ensures ∙ c.if-is_to_hold.true) in
     λ outcome is.
     holds_told (table_of c.args.table.now) (asked_of c.args.self) request c.args.encoded outcome after.progress last holds
     (ap (λ (one : Asked). resumed one after.progress) (sym c.with_last-running.ensures.asked) ∙ c.with_last-running.ensures.request) is
@@ -99,10 +99,10 @@ returns-clause-stands c =
       | else-is_ok-via-else-is_ok w ↦
           ap (λ (a : Bool). a && not (is_last request)) (sym c.is_ok.ensures ∙ w.if-is_ok.false)
     ] in
-    let none : is_to_hold request.slot table.seats ≡ false =
-    ap (λ (r : InProgress). is_to_hold r.slot table.seats) (sym c.with_last-running.ensures.request) ∙ (sym c.is_to_hold.ensures ∙ c.if-is_to_hold.false) in
+    let none : is_to_hold request table ≡ false =
+    ap (λ (r : InProgress). is_to_hold r table) (sym c.with_last-running.ensures.request) ∙ (sym c.is_to_hold.ensures ∙ c.if-is_to_hold.false) in
     let pushed = c.with_last-running.ensures.request in
     λ outcome is.
     ends_told table (table_of c.end.new.table) (asked_of c.args.self) request c.args.encoded outcome c.end.result last none
     (c.end.ensures.reply ∙ ap₂ (λ (r : InProgress) (status : Status). framed (reply_text r.xid (Success (result_of r status)))) pushed c.status-last.ensures)
-    (c.end.ensures.kept ∙ ap₂ (λ (r : InProgress) (status : Status). kept_by r.slot (result_of r status) table) pushed c.status-last.ensures) is
+    (c.end.ensures.kept ∙ ap₂ (λ (r : InProgress) (status : Status). kept_by r.slot false (result_of r status) table) pushed c.status-last.ensures) is

@@ -1,4 +1,4 @@
-use Rattle.std.proofs.Common.{◌≡◌, ◌-◌, ◌++◌, List, ℕ, sym, subst, ap, ◌∙◌, arith}
+use Rattle.std.proofs.Common.{◌≡◌, ◌-◌, ◌++◌, List, ℕ, is_some, sym, subst, ap, ◌∙◌, arith}
 use Rattle.std.specs.Option.{option_map}
 use Rattle.std.specs.Prelude.{length, take, drop}
 use Rattle.model.specs.Wire.Record.{framed}
@@ -66,4 +66,4 @@ returns-clause-kept c =
     c.deref.ensures.value ∙ (c.in-Ok.ensures.ok ∙ ap (λ (front : List ℕ). front ++ framed (reply_text c.args.self.xid (Success (result_text c.result_of-compound.result)))) c.args.self.progress.reply_fresh) in
     let within : take (length c.deref.result.now - 28) (drop 28 c.deref.result.now) ≡ result_of (in_progress_of c.args.self) c.args.last.status =
     result_within c.args.self.xid (result_text c.result_of-compound.result) c.deref.result.now whole ∙ text in
-    c.keep_by-left.ensures ∙ ap (λ (bytes : List ℕ). kept_by (option_map slot_of c.args.self.progress.slot) bytes (table_of c.args.table.now)) within
+    c.keep_by-left.ensures ∙ ap (λ (bytes : List ℕ). kept_by (option_map slot_of c.args.self.progress.slot) (is_some c.args.last.edits) bytes (table_of c.args.table.now)) within

@@ -1,8 +1,8 @@
-use Rattle.std.proofs.Common.{Option, length, sym, ap, ◌∙◌, arith}
+use Rattle.std.proofs.Common.{Option, is_some, true, length, sym, ap, ◌∙◌, arith}
 use Rattle.std.specs.Option.{option_map}
 use Rattle.fs.specs.Views.{fs_of, fs_failures}
 use Rattle.model_tree.specs.Seats.SeatEdits.{edited_all, edits_view}
-use Rattle.model.specs.Server.World.{is_to_hold, kept_by, result_of}
+use Rattle.model.specs.Server.World.{kept_by, result_of}
 use Rattle.session.specs.Views.{table_of}
 use Rattle.volume.proofs.ServeLaws.{told_err}
 use Rattle.volume.specs.Changes.{Done}
@@ -12,9 +12,9 @@ use Rattle.compound.proofs.Replies.{result_length}
 use Rattle.compound.proofs.Storing.{seated_still, seated_as, kept_held}
 use Rattle.compound.proofs.running.Running.hold.Goals as goal
 
-pub returns-in_default-clause-edits : goal.returns-in_default-clause-edits
+pub returns-in_default-clause-some : goal.returns-in_default-clause-some
 unfolding in_progress_of
-returns-in_default-clause-edits g c = ap (λ (slot : Option SlotId). is_to_hold (option_map slot_of slot) (table_of c.args.table.now).seats) c.in_default.is
+returns-in_default-clause-some g c = sym (ap (λ (slot : Option SlotId). is_some (option_map slot_of slot)) c.in_default.is)
 
 pub returns-in_default-clause-volume : goal.returns-in_default-clause-volume
 unfolding in_progress_of
@@ -22,8 +22,8 @@ returns-in_default-clause-volume g c =
     let request = in_progress_of c.args.self.now in
     let table = table_of c.args.table.now in
     let result = result_of request c.args.last in
-    seated_still g.D.Device.keeps_word (fs_of c.args.fs.now) (fs_failures c.args.fs.now) (kept_by request.slot result table).seats c.requires.up
-    (λ keeps. ap (λ (slot : Option SlotId). (kept_by (option_map slot_of slot) result table).seats) c.in_default.is ∙ (c.requires.agrees keeps).seats)
+    seated_still g.D.Device.keeps_word (fs_of c.args.fs.now) (fs_failures c.args.fs.now) (kept_by request.slot true result table).seats c.requires.up
+    (λ keeps. ap (λ (slot : Option SlotId). (kept_by (option_map slot_of slot) true result table).seats) c.in_default.is ∙ (c.requires.agrees keeps).seats)
 
 pub plan_hold-requires : goal.plan_hold-requires
 unfolding in_progress_of
@@ -46,8 +46,12 @@ returns-in_err-put_seats-clause-volume g c =
     let held = kept_held request.slot c.in-Some.id.session c.in-Some.id.slot c.as_slice.result.now result table edits (ap (option_map slot_of) c.in-Some.is)
     (c.as_slice.ensures.value ∙ c.in_ok-result.ensures) c.in_ok-edits.ensures.seats in
     let told = told_err c.from_residual-in_err-put_seats.result c.in_err-put_seats.field-0.0 c.from_residual-in_err-put_seats.ensures.1 in
-    rw told (seated_as g.D.Device.keeps_word fs _ _ _ _ (edited_all edits fs.volume.seats) (kept_by request.slot result table).seats
+    rw told (seated_as g.D.Device.keeps_word fs _ _ _ _ (edited_all edits fs.volume.seats) (kept_by request.slot true result table).seats
     (λ keeps. sym held ∙ ap (edited_all edits) (c.requires.agrees keeps).seats) (rw c.in_err-put_seats.was at c.put_seats.ensures.volume))
+
+pub returns-clause-some : goal.returns-clause-some
+unfolding in_progress_of
+returns-clause-some g c = sym (ap (λ (slot : Option SlotId). is_some (option_map slot_of slot)) c.in-Some.is)
 
 pub returns-clause-edits : goal.returns-clause-edits
 unfolding in_progress_of
@@ -66,5 +70,5 @@ returns-clause-volume g c =
     let edits = edits_view c.in_ok-edits.edits in
     let held = kept_held request.slot c.in-Some.id.session c.in-Some.id.slot c.as_slice.result.now result table edits (ap (option_map slot_of) c.in-Some.is)
     (c.as_slice.ensures.value ∙ c.in_ok-result.ensures) c.in_ok-edits.ensures.seats in
-    seated_as g.D.Device.keeps_word fs _ _ _ Done (edited_all edits fs.volume.seats) (kept_by request.slot result table).seats
+    seated_as g.D.Device.keeps_word fs _ _ _ Done (edited_all edits fs.volume.seats) (kept_by request.slot true result table).seats
     (λ keeps. sym held ∙ ap (edited_all edits) (c.requires.agrees keeps).seats) (rw c.in_ok-put_seats.was at c.put_seats.ensures.volume)

@@ -8,7 +8,7 @@ use Rattle.session.specs.Views.{table_of, reply_kept}
 use Rattle.wire.specs.Numbers.{number_of}
 use Rattle.wire.specs.OutcomeView.{outcome_view}
 use Rattle.compound.specs.Operates.{Spells, left_by_effect}
-use Rattle.compound.specs.Runs.{with_rest}
+use Rattle.compound.specs.Runs.{noted, with_rest}
 use Rattle.compound.specs.States.{SharedState, shared_of}
 use Rattle.compound.specs.Views.{asked_of, in_progress_of}
 use Rattle.compound.proofs.Agreeing.{steps_agree}
@@ -20,18 +20,20 @@ returns-in-Gives-clause-turn g c = steps_agree _ _ _ _ c.requires.agrees (record
   step = λ keeps.
       let request = in_progress_of c.args.self in
       let rest = drop c.in-Ok.ran.position c.args.self.compound.operations.now in
+      let altered = c.in-Ok.ran.altered in
       let turns = rw c.in-Gives.is at c.in-Ok.ensures.turns keeps in
       steps_to c.args.engine.now.moment (shared_of c.args.engine.now.fs.now c.args.engine.now.table.now c.args.engine.now.opens.now) (shared_of c.run_next.new.engine.fs.now c.run_next.new.engine.table.now c.run_next.new.engine.opens.now) (table_of c.answer-in-Gives.new.table)
-      (asked_of c.args.self) (asked_of c.leave.new.self) request (with_rest (left_by_effect c.in-Gives.effect request) rest) (in_progress_of c.leave.new.self)
+      (asked_of c.args.self) (asked_of c.leave.new.self) request (noted altered (with_rest (left_by_effect c.in-Gives.effect request) rest)) (in_progress_of c.leave.new.self)
       (outcome_view c.in-Gives.outcome) c.answer-in-Gives.result turns (c.leave.ensures.asked ∙ c.advance.ensures.asked)
-      (c.leave.ensures.request ∙ (ap (left_by_effect c.in-Gives.effect) c.advance.ensures.request ∙ left_rest c.in-Gives.effect request rest)) (c.answer-in-Gives.ensures.stands (outcome_view c.in-Gives.outcome) refl);
+      (c.leave.ensures.request ∙ (ap (left_by_effect c.in-Gives.effect) c.advance.ensures.request ∙ left_rest c.in-Gives.effect altered request rest)) (c.answer-in-Gives.ensures.stands (outcome_view c.in-Gives.outcome) refl);
   goes_on =
       let request = in_progress_of c.args.self in
       let rest = drop c.in-Ok.ran.position c.args.self.compound.operations.now in
+      let altered = c.in-Ok.ran.altered in
       let left = left_by_effect c.in-Gives.effect request in
-      goes_on_as _ (asked_of c.args.self) (asked_of c.leave.new.self) request (with_rest left rest) (in_progress_of c.leave.new.self) c.answer-in-Gives.result
+      goes_on_as _ (asked_of c.args.self) (asked_of c.leave.new.self) request (noted altered (with_rest left rest)) (in_progress_of c.leave.new.self) c.answer-in-Gives.result
       (c.leave.ensures.asked ∙ c.advance.ensures.asked)
-      (c.leave.ensures.request ∙ (ap (left_by_effect c.in-Gives.effect) c.advance.ensures.request ∙ left_rest c.in-Gives.effect request rest))
+      (c.leave.ensures.request ∙ (ap (left_by_effect c.in-Gives.effect) c.advance.ensures.request ∙ left_rest c.in-Gives.effect altered request rest))
       (left_run c.in-Gives.effect request ∙ c.requires.run) (left_answered c.in-Gives.effect request) (left_ended c.in-Gives.effect request) c.answer-in-Gives.ensures.goes_on;
   back = tt;
   table = tt;
@@ -44,15 +46,17 @@ returns-in-GivesSpelled-clause-turn g c = steps_agree _ _ _ _ c.requires.agrees 
   step = λ keeps.
       let request = in_progress_of c.args.self in
       let rest = drop c.in-Ok.ran.position c.args.self.compound.operations.now in
+      let altered = c.in-Ok.ran.altered in
       let turns = rw c.in-GivesSpelled.is at c.in-Ok.ensures.turns keeps in
       let spells = subst (λ (values : List ℕ). Spells (number_of c.in-GivesSpelled.operation) values turns.0) (sym c.as_slice.ensures.value) turns.1 in
       steps_to c.args.engine.now.moment (shared_of c.args.engine.now.fs.now c.args.engine.now.table.now c.args.engine.now.opens.now) (shared_of c.run_next.new.engine.fs.now c.run_next.new.engine.table.now c.run_next.new.engine.opens.now) (table_of c.answer.new.table)
-      (asked_of c.args.self) (asked_of c.advance.new.self) request (with_rest request rest) (in_progress_of c.advance.new.self)
+      (asked_of c.args.self) (asked_of c.advance.new.self) request (noted altered (with_rest request rest)) (in_progress_of c.advance.new.self)
       (model.Done turns.0) c.answer.result turns.2 c.advance.ensures.asked c.advance.ensures.request (c.answer.ensures.stands (model.Done turns.0) (turns.0, refl, spells));
   goes_on =
       let request = in_progress_of c.args.self in
       let rest = drop c.in-Ok.ran.position c.args.self.compound.operations.now in
-      goes_on_as _ (asked_of c.args.self) (asked_of c.advance.new.self) request (with_rest request rest) (in_progress_of c.advance.new.self) c.answer.result
+      let altered = c.in-Ok.ran.altered in
+      goes_on_as _ (asked_of c.args.self) (asked_of c.advance.new.self) request (noted altered (with_rest request rest)) (in_progress_of c.advance.new.self) c.answer.result
       c.advance.ensures.asked c.advance.ensures.request c.requires.run refl refl c.answer.ensures.goes_on;
   back = tt;
   table = tt;

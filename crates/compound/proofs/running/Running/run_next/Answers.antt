@@ -1,8 +1,8 @@
-use Rattle.std.proofs.Common.{◌≡◌, refl, sym, subst, ap}
+use Rattle.std.proofs.Common.{◌≡◌, ℕ, false, refl, sym, subst, ap₂, ◌∙◌}
 use Rattle.std.specs.Prelude.{drop}
-use Rattle.session.specs.Views.{table_of}
 use Rattle.wire.specs.ArgumentView.{argument_view}
 use Rattle.compound.specs.Operates.{IsAnswered, IsReplyKept}
+use Rattle.compound.specs.Runs.{makes_change}
 use Rattle.compound.specs.States.{shared_of}
 use Rattle.compound.specs.Turns.{TurnsExecuted}
 use Rattle.compound.specs.Views.{in_progress_of}
@@ -40,9 +40,11 @@ returns-in_ok-done-in-Reads g c =
     let rest = drop c.in-Reads.position c.args.self.now.compound.operations.now in
     let next = rw c.in-Reads.is at c.in_ok-operation.ensures.ok in
     let runs = rw c.in_ok-done-in-Reads.was at c.operate.ensures.state in
+    let altered : c.makes_change-altered.result ≡ makes_change old.files.changes new.files.changes argument =
+    c.makes_change-altered.ensures ∙ ap₂ (λ (before after : ℕ). makes_change before after argument) c.change_count-before.ensures c.change_count-after.ensures in
     record {
       same = c.operate.ensures.same;
-      turns = λ keeps. turns_read moment old new request argument rest c.in_ok-done-in-Reads.done c.requires.more next (runs.gives keeps);
+      turns = λ keeps. turns_read moment old new request argument rest _ c.in_ok-done-in-Reads.done c.requires.more next altered (runs.gives keeps);
       within = rw c.in-Reads.is at c.in_ok-operation.ensures.within;
       answered = runs.answered;
       kept = runs.kept;
@@ -104,7 +106,7 @@ returns-in-Refuses g c =
     let next = rw c.in-Refuses.is at c.in_ok-operation.ensures.ok in
     record {
       same = record { fs = refl; table = refl; opens = refl };
-      turns = λ keeps. subst (TurnsExecuted moment state state request rest) (sym c.refused.ensures.gives)
+      turns = λ keeps. subst (TurnsExecuted moment state state request rest false) (sym c.refused.ensures.gives)
           (turns_refused moment state request rest c.in-Refuses.operation c.in-Refuses.status c.requires.more next refl);
       within = c.args.self.now.within;
       answered = subst (IsAnswered request) (sym c.refused.ensures.gives) (refused_spelled request c.in-Refuses.operation c.in-Refuses.status next c.refused.ensures.number);

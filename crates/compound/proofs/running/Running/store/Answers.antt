@@ -1,12 +1,13 @@
-use Rattle.std.proofs.Common.{refl}
+use Rattle.std.proofs.Common.{is_some, refl, ◌∙◌}
 use Rattle.fs.specs.Views.{fs_of}
 use Rattle.fs.proofs.ChangeLaws.{changes_by}
+use Rattle.model.specs.Server.World.{result_of}
 use Rattle.opens.specs.Views.{opens_of}
 use Rattle.session.specs.Views.{table_of}
 use Rattle.compound.specs.States.{shared_of}
 use Rattle.compound.specs.Views.{asked_of, in_progress_of}
 use Rattle.compound.proofs.Agreeing.{steps_agree}
-use Rattle.compound.proofs.Storing.{stored, stored_gives}
+use Rattle.compound.proofs.Storing.{kept_if_some, stored, stored_gives}
 use Rattle.compound.proofs.running.Running.store.Goals as goal
 
 pub returns-in-Ok-clause-turn : goal.returns-in-Ok-clause-turn
@@ -15,7 +16,8 @@ returns-in-Ok-clause-turn g c =
     let request = in_progress_of c.args.self in
     steps_agree _ _ _ _ c.requires.ready.agrees (record {
       step = λ keeps. stored engine.moment (fs_of engine.fs.now) (fs_of c.hold.new.fs) (table_of engine.table.now) (table_of c.end-record.new.table) (opens_of engine.opens.now)
-          (asked_of c.args.self) request c.args.last c.end-record.result c.requires.ended (c.in-Ok.ensures.same keeps) c.end-record.ensures.reply c.end-record.ensures.kept;
+          (asked_of c.args.self) request c.args.last c.end-record.result c.requires.ended (c.in-Ok.ensures.same keeps) c.end-record.ensures.reply
+          (c.end-record.ensures.kept ∙ kept_if_some request.slot (is_some c.in-Ok.edits) (result_of request c.args.last) (table_of engine.table.now) c.in-Ok.ensures.some);
       goes_on = record { stays = tt; further = tt; fits = refl };
       back = tt;
       table = tt;
