@@ -18,7 +18,7 @@ use Rattle.model.specs.Operations.SetAttr.{sets, set_attributes}
 use Rattle.model.specs.Operations.State.{current_refusals}
 use Rattle.model.specs.Sessions.StateIds.{has_opens}
 use Rattle.model.specs.Operations.Step.{State, Stepped, effect, does}
-use Rattle.model.specs.Server.World.{World, InProgress, Connection, Quiet, Waiting, Busy, Replied, Closed, HasRun, Gives, Replays, exchanged, created_by, tabled, started_in, begun, reclaimed, state_of, refuses, in_room, has_room, run, result_of, with_result, Turned, Entry, executed_entry, idle, replies, behind, ends, goes_on, closes, is_to_hold, further, is_last, has_run, operates, Next, Refuses, Reads, next_operation, requested, in_progress, called, turned, one}
+use Rattle.model.specs.Server.World.{World, InProgress, Connection, Quiet, Waiting, Busy, Replied, Closed, HasRun, Gives, Replays, exchanged, created_by, tabled, started_in, begun, reclaimed, state_of, refuses, in_room, has_room, run, result_of, with_result, Turned, Entry, executed_entry, idle, replies, behind, ends, goes_on, closes, is_to_hold, further, is_last, has_run, operates, Next, Refuses, Reads, next_operation, requested, in_progress, called, turned, one, noting}
 use Rattle.model_tree.proofs.Trees.KeyedLaws.{at-with_other}
 use Rattle.model.proofs.Operations.StepCases.{does_cases}
 use Rattle.client.specs.Replies.{outcome_number}
@@ -139,10 +139,10 @@ module _ (old : World) (number : ℕ) where
   }
 
   module _ (world : World) (same : world.connections ≡ old.connections) (executed : Option Entry) (numbered : EntryNumbered executed) where
-    ends_well : (request : InProgress) (last : Status) → TurnWell old number (ends world number request last executed)
+    ends_well : (request : InProgress) (last : Status) → TurnWell old number (ends world number request last false executed)
     ends_well request last = record {
       numbered = numbered;
-      others = others_left world (Replied (framed (reply_text request.xid (Success (result_of request last))))) (ends world number request last executed).world same refl;
+      others = others_left world (Replied (framed (reply_text request.xid (Success (result_of request last))))) (ends world number request last false executed).world same refl;
     }
 
     goes_well : (request : InProgress) → TurnWell old number (goes_on world number request executed)
@@ -157,7 +157,7 @@ module _ (old : World) (number : ℕ) where
 
     closes_well : (request : InProgress) (last : Status) → TurnWell old number (closes world number request last executed)
     closes_well request last =
-        either_well (is_to_hold request.slot world.table.seats) _ _ (goes_well (record request { ended = Some last })) (ends_well request last)
+        either_well (is_to_hold request world.table) _ _ (goes_well (record request { ended = Some last })) (ends_well request last)
 
     behind_well : (request : InProgress) (outcome : Outcome) → TurnWell old number (behind world number request outcome executed)
     behind_well request (Outcome.Refused operation reason) = closes_well (with_result request (Outcome.Refused operation reason)) reason
@@ -166,7 +166,7 @@ module _ (old : World) (number : ℕ) where
 
   has_run_well : (request : InProgress) (operation : Argument) (ran : HasRun) → RanWell old operation ran → TurnWell old number (has_run old number request operation ran)
   has_run_well request operation (Gives outcome after left) well =
-      behind_well after well.1 (Some (executed_entry old request operation outcome after)) well.0 left outcome
+      behind_well after well.1 (Some (executed_entry old request operation outcome after)) well.0 (noting old after operation left) outcome
   has_run_well request operation (Replays result session slot) well = record {
     numbered = tt;
     others = others_left old (Replied (framed (reply_text request.xid (Success result))))

@@ -11,7 +11,7 @@ use Rattle.model.specs.Operations.Answer.{Answer, Outcome, Done, Refused, Exchan
 use Rattle.model.specs.Operations.Operation.{Argument, SequenceArguments, operation_of}
 use Rattle.model.specs.Operations.State.{current_refusals}
 use Rattle.model.specs.Server.Runs.{Event, Arrives, Turns, HangsUp, Connects, Takes, effect_of}
-use Rattle.model.specs.Server.World.{InProgress, Connection, Quiet, Busy, Replied, World, Entry, HasRun, Gives, Replays, Turned, exchanged, created_by, tabled, started_in, begun, reclaimed, state_of, run, with_result, result_of, behind, ends, goes_on, executed_entry, one, with_connection, without_connection, arrives, arrives_at, connection_changed, without_reply, takes, can_connect, connects, is_busy, hangs_up, is_last, closes, is_to_hold}
+use Rattle.model.specs.Server.World.{InProgress, Connection, Quiet, Busy, Replied, World, Entry, HasRun, Gives, Replays, Turned, exchanged, created_by, tabled, started_in, begun, reclaimed, state_of, run, with_result, result_of, behind, ends, goes_on, executed_entry, one, with_connection, without_connection, arrives, arrives_at, connection_changed, without_reply, takes, can_connect, connects, is_busy, hangs_up, is_last, closes, is_to_hold, noting}
 use Rattle.model.specs.Sessions.Session as sessions
 use Rattle.model.specs.Sessions.Session.{Session, Table, is_session, begin}
 use Rattle.model.specs.Sessions.StateIds.{has_opens}
@@ -86,17 +86,17 @@ module _ (world : World) (here number : ℕ) (there : IsThere number world) wher
     still : is_some (at number after.connections) ≡ true
     still = ap (λ (c : Keyed Connection). is_some (at number c)) same ∙ there
 
-    ended : (left : InProgress) (last : Status) → IsThere number (ends after here left last executed).world
-    ended left last = put after.connections here number (Replied (framed (reply_text left.xid (Success (result_of left last))))) still
+    ended : (left : InProgress) (last : Status) (holds : Bool) → IsThere number (ends after here left last holds executed).world
+    ended left last holds = put after.connections here number (Replied (framed (reply_text left.xid (Success (result_of left last))))) still
 
     gone_on : (left : InProgress) → IsThere number (goes_on after here left executed).world
     gone_on left = put after.connections here number (Busy left) still
 
     closed : (left : InProgress) (last : Status) → IsThere number (closes after here left last executed).world
     closed left last =
-        choose (λ (t : Turned). IsThere number t.world) (is_to_hold left.slot after.table.seats)
-        (goes_on after here (record left { ended = Some last }) executed) (ends after here left last executed)
-        (gone_on (record left { ended = Some last })) (ended left last)
+        choose (λ (t : Turned). IsThere number t.world) (is_to_hold left after.table)
+        (goes_on after here (record left { ended = Some last }) executed) (ends after here left last false executed)
+        (gone_on (record left { ended = Some last })) (ended left last false)
 
     went : (left : InProgress) (outcome : Outcome) → IsThere number (behind after here left outcome executed).world
     went left (Refused operation reason) = closed (with_result left (Refused operation reason)) reason
@@ -108,14 +108,14 @@ module _ (world : World) (here number : ℕ) (there : IsThere number world) wher
   turned : (now : ℕ) (t : Turned) → IsTurn world here now t → IsThere number t.world
   turned now _ Idles = there
   turned now _ (Says bytes xid reply is) = put world.connections here number (Replied (framed (reply_text xid reply))) there
-  turned now _ (Closes request last is done) = ended world refl None request last
+  turned now _ (Closes request last is done) = ended world refl None request last true
   turned now _ (Unread request operation reason goes) = went world refl None request (Refused operation reason)
   turned now _ (TooBig request operation rest goes reads) =
       went world refl (Some (executed_entry world (read_of request rest) operation (Refused (operation_of operation) status.RepTooBig) world))
-      (read_of request rest) (Refused (operation_of operation) status.RepTooBig)
+      (noting world world operation (read_of request rest)) (Refused (operation_of operation) status.RepTooBig)
   turned now _ (Gave request operation rest outcome after left goes reads is) =
       let same : Keeps world (Gives outcome after left) = subst (Keeps world) is (run_keeps world (read_of request rest) now operation) in
-      went after same (Some (executed_entry world (read_of request rest) operation outcome after)) left outcome
+      went after same (Some (executed_entry world (read_of request rest) operation outcome after)) (noting world after operation left) outcome
   turned now _ (Repeats request operation rest result session slot goes reads is) =
       put world.connections here number (Replied (framed (reply_text request.xid (Success result)))) there
 

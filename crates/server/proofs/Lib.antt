@@ -5,7 +5,6 @@ pub mod LifeStops
 pub mod Moves
 pub mod Openings
 pub mod Pairs
-pub mod Persisting
 pub mod Refusals
 pub mod Resumptions
 pub mod SeatsEnd

@@ -32,6 +32,7 @@ use Rattle.server.specs.Seen.{Seen, left_of, LeavesNow, MayKeepDuring, Moves, Sa
 use Rattle.server.proofs.Pairs.{beside_left, ready_beside}
 use Rattle.server.proofs.Worlds.{happened_quietly}
 use Rattle.volume.proofs.FrontLaws.{among_rest}
+use Rattle.volume.proofs.LoadLaws.{any_limits}
 use Rattle.disk.proofs.MomentLemmas.{AddsOnly-same}
 
 -- no past moment is as late as the present
@@ -164,7 +165,9 @@ module _ (fs : FileSystem) (table : Table) (opens : Opens) (connections : Keyed 
 pub found_start : (sectors : ℕ) (old : moments.History) (held : VolumeState) → IsFound sectors old held → held.limits ≡ limits_of sectors held.limits.nodes
     → ∥ IsStart held.limits held.run held.tree ∥₁
 found_start sectors old held found limits = ∥∥₁_elim found.stood ∥∥₁_prop (λ base. ∥∥₁_map base.stands.stands.well_formed (λ well. record {
-  well_formed = subst (λ (l : Limits). IsWellFormed l held.tree) (sym limits) well;
+  well_formed = subst (λ (l : Limits). IsWellFormed l held.tree) (sym limits)
+      (subst (λ (f : ℕ → ℕ → Limits). IsWellFormed (f sectors held.limits.nodes) held.tree)
+      (any_limits held.limits.nodes base.stands.version held.seats base.stands.is_version) well);
   before = was_before (stamp held.run 0) (next_stamp held.run 0) held.tree
       (subst (λ (r : ℕ). IsBefore (stamp r 0) held.tree) (sym found.raised) base.stands.stands.before) (omega arith);
 }))

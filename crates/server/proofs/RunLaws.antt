@@ -9,7 +9,7 @@ use Rattle.model.specs.Operations.Operation.{Argument, operation_of}
 use Rattle.model.specs.Wire.Rpc.{CallRead, NoCall, OtherVersion, Calls, Request, Answers, Runs, read_call, request_of}
 use Rattle.model.specs.Server.Runs as runs
 use Rattle.model.specs.Server.World as world
-use Rattle.model.specs.Server.World.{World, Idle, InProgress, Next, Refuses, Reads, HasRun, Gives, Replays, Entry, Connection, Quiet, Waiting, Busy, Replied, Closed, one, turned, called, further, operates, behind, closes, has_run, is_last, is_to_hold, next_operation, in_room, run}
+use Rattle.model.specs.Server.World.{World, Idle, InProgress, Next, Refuses, Reads, HasRun, Gives, Replays, Entry, Connection, Quiet, Waiting, Busy, Replied, Closed, one, turned, called, further, operates, behind, closes, has_run, is_last, is_to_hold, next_operation, in_room, run, noting}
 use Rattle.disk.specs.Moments.{seen}
 use Rattle.server.specs.RunLaws.{IsSeenReady, HangUpIsCalls, NeverEmpty, IsIdle, OnlyIdle}
 use Rattle.server.specs.Seen.{Seen, ServerCall, Did, IsServed, IsTurned, Stays, left_of}
@@ -40,12 +40,12 @@ never_empty settings run start first last calls mounted served none =
 -- A step is not idle
 
 holds_or_ends : (old : World) (number : ℕ) (request : InProgress) (last : Status) (executed : Option Entry) (b : Bool)
-    → (cond b (world.goes_on old number (record request { ended = Some last }) executed) (world.ends old number request last executed)).turn ≡ Idle → ⊥
+    → (cond b (world.goes_on old number (record request { ended = Some last }) executed) (world.ends old number request last false executed)).turn ≡ Idle → ⊥
 holds_or_ends old number request last executed true idle = let never : ⊥ = cc in never
 holds_or_ends old number request last executed false idle = let never : ⊥ = cc in never
 
 closes_runs : (old : World) (number : ℕ) (request : InProgress) (last : Status) (executed : Option Entry) → (closes old number request last executed).turn ≡ Idle → ⊥
-closes_runs old number request last executed idle = holds_or_ends old number request last executed (is_to_hold request.slot old.table.seats) idle
+closes_runs old number request last executed idle = holds_or_ends old number request last executed (is_to_hold request old.table) idle
 
 ends_or_goes : (old : World) (number : ℕ) (request : InProgress) (answer : Answer) (executed : Option Entry) (b : Bool)
     → (cond b (closes old number (world.with_result request (Outcome.Done answer)) status.Ok executed)
@@ -58,7 +58,8 @@ behind_runs old number request (Outcome.Refused operation reason) executed idle 
 behind_runs old number request (Outcome.Done answer) executed idle = ends_or_goes old number request answer executed (is_last request) idle
 
 has_runs : (old : World) (number : ℕ) (request : InProgress) (operation : Argument) (ran : HasRun) → (has_run old number request operation ran).turn ≡ Idle → ⊥
-has_runs old number request operation (Gives outcome after left) idle = behind_runs after number left outcome (Some (world.executed_entry old request operation outcome after)) idle
+has_runs old number request operation (Gives outcome after left) idle =
+    behind_runs after number (noting old after operation left) outcome (Some (world.executed_entry old request operation outcome after)) idle
 has_runs old number request operation (Replays result session slot) idle = let never : ⊥ = cc in never
 
 operates_runs : (old : World) (number now : ℕ) (request : InProgress) (next : Next) → (operates old number now request next).turn ≡ Idle → ⊥

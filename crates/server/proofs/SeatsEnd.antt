@@ -11,7 +11,7 @@ use Rattle.model_tree.specs.declared.status.Status.TheVariants as status
 use Rattle.model.specs.Operations.Answer.{Answer, Outcome, Done, Refused, ExchangeIdAnswer, CreateSessionAnswer}
 use Rattle.model.specs.Operations.Operation.{Argument, CreateSessionArguments, SequenceArguments, operation_of}
 use Rattle.model.specs.Server.Runs.{Event, Arrives, Turns, HangsUp, Connects, Takes, Stored, effect_of, executed_of, is_done}
-use Rattle.model.specs.Server.World.{ServerLimits, World, InProgress, HasRun, Gives, Replays, Entry, exchanged, created_by, tabled, started_in, begun, reclaimed, run, executed_entry, Turned, with_result, result_of, kept_by, is_to_hold, closes, behind, is_last, one, arrives, takes, connects, hangs_up}
+use Rattle.model.specs.Server.World.{ServerLimits, World, InProgress, HasRun, Gives, Replays, Entry, exchanged, created_by, tabled, started_in, begun, reclaimed, run, executed_entry, Turned, with_result, result_of, kept_by, is_to_hold, closes, behind, is_last, one, arrives, takes, connects, hangs_up, noting}
 use Rattle.model.specs.Sessions.SeatRuns.{MakesSession, Stop}
 use Rattle.model.specs.Sessions.Session as sessions
 use Rattle.model.specs.Sessions.Session.{SessionLimits, Client, Session, Table, is_session, is_client, is_running, is_seat_among, is_done_with, is_oldest_dead, lacks_seat, gives_way, staying, seats_staying, new_seat, new_session, persists, with_slot, changed_where, create_refusals, create_unless, create_again, create_by, create_session, CreateSessionOutcome, next_number, destroy_by, destroy_session, exchange_id, destroy_client_id, reclaim_complete, finish, finished_slot, started}
@@ -93,16 +93,16 @@ record IsSameTable (old new : Table) : Type 0 where
   any : (id : List ℕ) → any_of id new ≡ any_of id old
   serial : new.session_serial ≡ old.session_serial
 
-kept_same : (slot : Option (List ℕ × ℕ)) (result : List ℕ) (table : Table) → IsSameTable table (kept_by slot result table)
+kept_same : (slot : Option (List ℕ × ℕ)) (holds : Bool) (result : List ℕ) (table : Table) → IsSameTable table (kept_by slot holds result table)
 unfolding finish
-kept_same None result table = record { any = λ id. refl; serial = refl }
-kept_same (Some slot) result table = record { any = λ id. slot_any id slot.0 (finished_slot slot.1 result) (λ x. refl) table.sessions; serial = refl }
+kept_same None holds result table = record { any = λ id. refl; serial = refl }
+kept_same (Some slot) holds result table = record { any = λ id. slot_any id slot.0 (finished_slot slot.1 result) (λ x. refl) table.sessions; serial = refl }
 
 closes_same : (number : ℕ) (after : World) (request : InProgress) (last : Status) (executed : Option Entry)
     → IsSameTable after.table (closes after number request last executed).world.table
 closes_same number after request last executed =
-    either (λ (t : Turned). IsSameTable after.table t.world.table) (is_to_hold request.slot after.table.seats) _ _
-    (λ held. record { any = λ id. refl; serial = refl }) (λ none. kept_same request.slot (result_of request last) after.table)
+    either (λ (t : Turned). IsSameTable after.table t.world.table) (is_to_hold request after.table) _ _
+    (λ held. record { any = λ id. refl; serial = refl }) (λ none. kept_same request.slot false (result_of request last) after.table)
 
 behind_same : (number : ℕ) (after : World) (request : InProgress) (outcome : Outcome) (executed : Option Entry)
     → IsSameTable after.table (behind after number request outcome executed).world.table
@@ -283,17 +283,18 @@ module _ (world : World) (apart : SeatsApart world.table.seats) where
   turned_ends number now _ Idles = ends_same world.table refl
   turned_ends number now _ (Says bytes xid reply waits) = ends_same world.table refl
   turned_ends number now _ (Closes request last begins ended) =
-      ends_none (kept_by request.slot (result_of request last) world.table) (kept_same request.slot (result_of request last) world.table).any
+      ends_none (kept_by request.slot true (result_of request last) world.table) (kept_same request.slot true (result_of request last) world.table).any
   turned_ends number now _ (Unread request operation reason goes) =
       ends_none (behind world number request (Refused operation reason) None).world.table (behind_same number world request (Refused operation reason) None).any
   turned_ends number now _ (TooBig request operation rest goes reads) =
       let outcome = Refused (operation_of operation) status.RepTooBig in
       let executed = Some (executed_entry world (read_of request rest) operation outcome world) in
-      ends_none (behind world number (read_of request rest) outcome executed).world.table (behind_same number world (read_of request rest) outcome executed).any
+      let noted : InProgress = noting world world operation (read_of request rest) in
+      ends_none (behind world number noted outcome executed).world.table (behind_same number world noted outcome executed).any
   turned_ends number now _ (Gave request operation rest outcome after left goes reads ran) =
       let entry : Entry = executed_entry world (read_of request rest) operation outcome after in λ id was gone.
-      (behind_has id number after left outcome (Some entry)).0
-      ∙ (subst RanEnds ran (run_ends (read_of request rest) now operation)) id was (sym ((behind_same number after left outcome (Some entry)).any id) ∙ gone)
+      (behind_has id number after (noting world after operation left) outcome (Some entry)).0
+      ∙ (subst RanEnds ran (run_ends (read_of request rest) now operation)) id was (sym ((behind_same number after (noting world after operation left) outcome (Some entry)).any id) ∙ gone)
   turned_ends number now _ (Repeats request operation rest result session slot goes reads ran) = ends_same world.table refl
 
   ends_table : (after : World) → after.table ≡ world.table → Ends after.table
@@ -320,17 +321,17 @@ module _ (world : World) (apart : SeatsApart world.table.seats) where
   turned_destroys number now _ (TooBig request operation rest goes reads) entry id is asked done =
       let outcome = Refused (operation_of operation) status.RepTooBig in
       let ran : Entry = executed_entry world (read_of request rest) operation outcome world in
-      let same = one_entry ran entry _ (behind_has id number world (read_of request rest) outcome (Some ran)).1 is in
+      let same = one_entry ran entry _ (behind_has id number world (noting world world operation (read_of request rest)) outcome (Some ran)).1 is in
       absurd (true≢false (sym done ∙ ap (λ (e : Entry). is_done e.outcome) (sym same)))
   turned_destroys number now _ (Gave request operation rest outcome after left goes reads ran) entry id is asked done =
       let made : Entry = executed_entry world (read_of request rest) operation outcome after in
-      let has = behind_has id number after left outcome (Some made) in
+      let has = behind_has id number after (noting world after operation left) outcome (Some made) in
       let same = one_entry made entry _ has.1 is in
       let asks : operation ≡ Argument.DestroySession id = ap (λ (e : Entry). e.operation) same ∙ asked in
       let ran_so : run world (read_of request rest) now (Argument.DestroySession id) ≡ Gives outcome after left =
       subst (λ (o : Argument). run world (read_of request rest) now o ≡ Gives outcome after left) asks ran in
       let leaves = (subst (RanDestroys id) ran_so (run_destroys (read_of request rest) now id)) (ap (λ (e : Entry). is_done e.outcome) same ∙ done) in
-      ((behind_same number after left outcome (Some made)).any id ∙ leaves.0, has.0 ∙ leaves.1)
+      ((behind_same number after (noting world after operation left) outcome (Some made)).any id ∙ leaves.0, has.0 ∙ leaves.1)
   turned_destroys number now _ (Repeats request operation rest result session slot goes reads ran) entry id is asked done = no_entry entry is
 
   event_destroys : (event : Event) (entry : Entry) (id : List ℕ) → executed_of world event ≡ Some entry → entry.operation ≡ Argument.DestroySession id → is_done entry.outcome ≡ true
@@ -424,16 +425,16 @@ module _ (limits : ServerLimits) (world : World) (held : Held limits world) (its
   turned_replaces number now _ Idles answer makes client found id seat there done = absurd (makes.made refl)
   turned_replaces number now _ (Says bytes xid reply waits) answer makes client found id seat there done = absurd (makes.made refl)
   turned_replaces number now _ (Closes request last begins ended) answer makes client found id seat there done =
-      absurd (makes.made (kept_same request.slot (result_of request last) world.table).serial)
+      absurd (makes.made (kept_same request.slot true (result_of request last) world.table).serial)
   turned_replaces number now _ (Unread request operation reason goes) answer makes client found id seat there done =
       absurd (makes.made (behind_same number world request (Refused operation reason) None).serial)
   turned_replaces number now _ (TooBig request operation rest goes reads) answer makes client found id seat there done =
       let outcome = Refused (operation_of operation) status.RepTooBig in
-      absurd (makes.made (behind_same number world (read_of request rest) outcome (Some (executed_entry world (read_of request rest) operation outcome world))).serial)
+      absurd (makes.made (behind_same number world (noting world world operation (read_of request rest)) outcome (Some (executed_entry world (read_of request rest) operation outcome world))).serial)
   turned_replaces number now _ (Gave request operation rest outcome after left goes reads ran) answer makes client found id seat there done =
       let entry : Entry = executed_entry world (read_of request rest) operation outcome after in
-      let has = behind_has id number after left outcome (Some entry) in
-      let serial = (behind_same number after left outcome (Some entry)).serial in
+      let has = behind_has id number after (noting world after operation left) outcome (Some entry) in
+      let serial = (behind_same number after (noting world after operation left) outcome (Some entry)).serial in
       let same : entry ≡ makes.entry = one_entry entry makes.entry _ has.1 makes.is in
       let asks : operation ≡ Argument.CreateSession makes.arguments = ap (λ (e : Entry). e.operation) same ∙ makes.asked in
       let ran_so : run world (read_of request rest) now (Argument.CreateSession makes.arguments) ≡ Gives outcome after left =

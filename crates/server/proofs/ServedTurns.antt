@@ -27,7 +27,7 @@ use Rattle.server.specs.declared.turn.Turn.{Turn}
 use Rattle.server.specs.Connections.{ConnectionTurns, IsRising, HasGoneOn, turn_view}
 use Rattle.server.specs.Seen.{MayKeepDuring, left_of}
 use Rattle.server.specs.Views.{world_by, server_limits, beside, serving_by}
-use Rattle.server.proofs.Persisting.{one_settings}
+use Rattle.model.proofs.Sessions.AlteredRuns.{one_settings}
 use Rattle.server.proofs.Turning.{one_is, agrees_on}
 use Rattle.server.proofs.Pairs.{beside_left, same_seats, lasting_by, lasting_more, has_to_last}
 use Rattle.server.proofs.Worlds.{may_be_left_from}

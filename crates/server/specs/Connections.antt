@@ -1,5 +1,5 @@
 -- What a connection stands for, and a turn of it by the definition.
-use Rattle.std.specs.Prelude.{◌≡◌, ◌+◌, ℕ, true, List, [], ◌∷◌, map, Option, Some, None}
+use Rattle.std.specs.Prelude.{◌≡◌, ◌+◌, ℕ, true, false, List, [], ◌∷◌, map, Option, Some, None}
 use Rattle.slab.specs.Slab.{Slab, entries}
 use Rattle.compound.specs.States.{SharedState, HasState, with_state}
 use Rattle.compound.specs.Steps.{stepped_on}
@@ -90,6 +90,7 @@ replied old number reply = record {
   world = with_connection old number (Replied reply);
   executed = None;
   keeps = None;
+  holds = false;
   replays = None;
 }
 

@@ -8,7 +8,7 @@ use Rattle.layout.specs.Stands.{Kept}
 use Rattle.model.specs.Operations.Answer.{CreateSessionAnswer}
 use Rattle.model_tree.specs.Trees.Keyed.{at}
 use Rattle.model.specs.Operations.Operation.{Argument, SequenceArguments}
-use Rattle.model.specs.Server.Runs.{Event, Stored, effect_of, executed_of, is_done}
+use Rattle.model.specs.Server.Runs.{Event, Stored, effect_of, executed_of, is_done, done_with, names_after}
 use Rattle.model.specs.Server.Runs as runs
 use Rattle.model.specs.Sessions.SeatRuns.{AreSeats, AnswersBySeats, GivesHeld, HoldsFrom, IsFreed, IsFreedBy, MakesSession, storing, freeing, request_in}
 use Rattle.model_tree.specs.Seats.Seats.{Seat, Seats, seat_of, has_seat}
@@ -80,11 +80,15 @@ EverySits = (stopped : Stopped) → WasUp stopped → (event : Event) (answer : 
     → (answer.flags ≡ 1)
     ↔ (has_seat answer.session (effect_of stopped.old.serving.world event).table.seats ≡ true)
 
--- A turn that gives a request of a slot its reply lets the slot keep it, and a seat that there is
--- holds it then.
+-- A turn that gives a request of a slot its reply lets the slot keep it, and a seat of the session
+-- holds it then, if it is to: every reply, or only those that name a change which has to last.
 abbrev pub EveryStored : Type 0
 EveryStored = (stopped : Stopped) → WasUp stopped → (connection now : ℕ)
-    → GivesHeld (one stopped.old.serving.world connection now) connection
+    → GivesHeld stopped.settings.holding
+    (done_with (history_in stopped) (one stopped.old.serving.world connection now).executed)
+    (names_after (history_in stopped) stopped.old.serving.world connection
+    (one stopped.old.serving.world connection now))
+    (one stopped.old.serving.world connection now) connection
     (request_in (at connection stopped.old.serving.world.connections))
 
 -- A seat goes by a DESTROY_SESSION of its session, or by a CREATE_SESSION for which it gives way,

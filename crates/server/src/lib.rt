@@ -20,6 +20,7 @@ pub use compound::Ahead;
 pub use fault::ServerFault;
 pub use fs::{FormatFault, MountFault, Room, Unmounted, is_volume_size};
 pub use laws::{every_life, every_run};
+pub use model::holding::Holding;
 pub use server::{MAX_CONNECTIONS, Server};
 pub use session::{MAX_NAME_BYTES, NameFault, STANDARD_NAME, ServerName, Settings};
 pub use statistics::UnderWay;

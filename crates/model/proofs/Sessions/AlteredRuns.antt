@@ -178,9 +178,12 @@ turned_settings world here now _ (Gave request operation rest outcome after left
     ∙ (subst (HasLeft world (read_of request rest)) ran (run_left world (read_of request rest) now operation)).settings
 turned_settings world here now _ (Repeats request operation rest result session slot goes reads ran) = refl
 
+pub one_settings : (world : World) (here now : ℕ) → (one world here now).world.table.settings ≡ world.table.settings
+one_settings world here now = turned_settings world here now (one world here now) (turn_is world here now)
+
 event_settings : (world : World) (event : Event) → (effect_of world event).table.settings ≡ world.table.settings
 event_settings world (Arrives connection piece) = ap (λ (t : Table). t.settings) (arrives_table world connection piece)
-event_settings world (Turns connection now) = turned_settings world connection now (one world connection now) (turn_is world connection now)
+event_settings world (Turns connection now) = one_settings world connection now
 event_settings world (HangsUp connection) = ap (λ (t : Table). t.settings) (hangs_up_table world connection)
 event_settings world (Connects connection) = ap (λ (t : Table). t.settings) (connects_table world connection)
 event_settings world (Takes connection) = ap (λ (t : Table). t.settings) (takes_table world connection)
