@@ -7,18 +7,18 @@ ghost use Rattle.wire_client.specs.ArgumentFits.{ArgumentFits};
 use crate::fault::ScriptFault;
 use client::Client;
 use disk::Device;
-use server::{Server, Turn};
+use server::{Holding, Server, Turn};
 use std::alloc::Global;
 use system::standard_settings;
 use wire::Argument;
 
-/// Mounts the device's volume. Sessions may be persistent or not.
+/// Mounts the device's volume. These replies are held.
 pub fn mount<D: Device>(
     alloc: Global,
     device: D,
-    persistent: bool,
+    holding: Holding,
 ) -> Result<Server<D>, ScriptFault> {
-    match Server::mount(alloc, device, standard_settings(alloc, persistent)?) {
+    match Server::mount(alloc, device, standard_settings(alloc, holding)?) {
         Ok(server) => Ok(server),
         Err(unmounted) => Err(unmounted.fault.into()),
     }

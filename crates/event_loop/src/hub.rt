@@ -700,7 +700,7 @@ impl<D: Watched> Hub<D> {
     {
         let had_seat = self.has_seat;
         self.has_seat = !seating::are_in_use(self.peers.server());
-        let is_new = had_seat && !self.has_seat && self.settings.persistent;
+        let is_new = had_seat && !self.has_seat && self.settings.holding.may_persist();
         if is_new && self.told.no_seat.is_due(now) {
             lines.tell(&Line::NoSeat, now);
         }

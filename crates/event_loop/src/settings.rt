@@ -3,7 +3,7 @@
 use crate::admission::Admission;
 use crate::guests::Guests;
 use peer::Keeping;
-use server::{NameFault, ServerName};
+use server::{Holding, NameFault, ServerName};
 use std::alloc::Global;
 use std::net::SocketAddr;
 use std::time::Duration;
@@ -18,9 +18,9 @@ pub struct Settings {
     pub name: Vec<u8>,
     /// When the changes of a turn are kept on the device.
     pub keeping: Keeping,
-    /// Whether sessions may be persistent: they outlive a crash, and each of their requests waits
-    /// for a sync.
-    pub persistent: bool,
+    /// Which replies outlive a crash, and so whether sessions may be persistent. A held reply waits
+    /// for a flush.
+    pub holding: Holding,
     /// Whether the seats that the last runs have left are freed at the start: their clients get new
     /// sessions.
     pub free_seats: bool,
@@ -38,13 +38,14 @@ pub struct Settings {
 
 impl Settings {
     /// Those of a server of the standard name that serves anybody and prints nothing: changes are
-    /// kept in their turn, sessions may be persistent, and full tables give up nothing.
+    /// kept in their turn, all replies on persistent sessions are held, and full tables give up
+    /// nothing.
     pub fn standard(alloc: Global) -> Settings {
         Settings {
             forget_after: None,
             name: Vec::new(alloc),
             keeping: Keeping::AtOnce,
-            persistent: true,
+            holding: Holding::All,
             free_seats: false,
             yields_when_full: false,
             admission: Admission::Together,
@@ -58,7 +59,7 @@ impl Settings {
     pub fn of_server(&self, alloc: Global) -> Result<server::Settings, Refused> {
         Ok(server::Settings {
             name: name_of(alloc, &self.name)?,
-            persistent: self.persistent,
+            holding: self.holding,
             yields_when_full: self.yields_when_full,
         })
     }

@@ -34,6 +34,8 @@ pub const FORCE: &str = "force";
 
 pub const FORGET_AFTER: &str = "forget-after";
 
+pub const HOLD: &str = "hold";
+
 pub const NO_PERSISTENT_SESSIONS: &str = "no-persistent-sessions";
 
 pub const NAME: &str = "name";
@@ -146,11 +148,14 @@ fn with_sessions<'a>(alloc: Global, command: Command<'a>) -> Result<Command<'a>,
             "SECONDS",
             "Forget all clients after this time without a connection",
         ))?
-        .arg(flag(
+        .arg(option(
             alloc,
-            NO_PERSISTENT_SESSIONS,
-            "Keep no replies over a crash, which is faster",
+            HOLD,
+            "WHICH",
+            "Which replies outlive a crash: those to requests that changed something ('changes', \
+             as by default), 'all', or 'none', which is fastest",
         ))?
+        .arg(flag(alloc, NO_PERSISTENT_SESSIONS, "The same as '--hold none'"))?
         .arg(flag(
             alloc,
             FREE_SEATS,

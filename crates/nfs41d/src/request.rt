@@ -1,7 +1,7 @@
 //! What the words of the command line ask for.
 
 use crate::arguments::{
-    ADDRESS, ALLOW, ARCHIVE, CHECK, FILE, FORCE, FORGET_AFTER, FORMAT, FREE_SEATS, GET, LS,
+    ADDRESS, ALLOW, ARCHIVE, CHECK, FILE, FORCE, FORGET_AFTER, FORMAT, FREE_SEATS, GET, HOLD, LS,
     METRICS, NAME, NO_PERSISTENT_SESSIONS, NODES, PATH, PRIVILEGED_PORTS, PUT, QUIET, SECTORS,
     SERVE, TAR, command,
 };
@@ -10,6 +10,7 @@ use crate::name::is_name;
 use clap::error::ErrorKind;
 use clap::{ArgMatches, Error};
 use event_loop::{Guests, Network};
+use server::Holding;
 use std::alloc::Global;
 use std::net::SocketAddr;
 use std::time::Duration;
@@ -63,7 +64,8 @@ pub struct Serving<'a> {
     /// What distinguishes this server from others; None: the host and the file.
     pub name: Option<&'a str>,
     pub forget_after: Option<Duration>,
-    pub persistent: bool,
+    /// Which replies outlive a crash.
+    pub holding: Holding,
     pub free_seats: bool,
     pub guests: Guests,
     pub quiet: bool,
@@ -136,7 +138,7 @@ fn serving_in<'a>(alloc: Global, words: &ArgMatches<'a>) -> Result<Serving<'a>, 
         address: words.try_get_one::<SocketAddr>(ADDRESS)?,
         name: name_in(words)?,
         forget_after: time_in(words)?,
-        persistent: !words.get_flag(NO_PERSISTENT_SESSIONS),
+        holding: holding_in(words)?,
         free_seats: words.get_flag(FREE_SEATS),
         guests: guests_in(alloc, words)?,
         quiet: words.get_flag(QUIET),
@@ -152,6 +154,19 @@ fn name_in<'a>(words: &ArgMatches<'a>) -> Result<Option<&'a str>, Fault> {
     match words.get_str(NAME) {
         Some(name) if !is_name(name.as_bytes()) => Err(Fault::Usage(Usage::Form)),
         name => Ok(name),
+    }
+}
+
+/// Which replies are held; `--no-persistent-sessions` says that none is.
+fn holding_in(words: &ArgMatches<'_>) -> Result<Holding, Fault> {
+    let none = words.get_flag(NO_PERSISTENT_SESSIONS);
+    match words.get_str(HOLD) {
+        None if none => Ok(Holding::Nothing),
+        None => Ok(Holding::Changes),
+        Some("none") => Ok(Holding::Nothing),
+        Some("changes") if !none => Ok(Holding::Changes),
+        Some("all") if !none => Ok(Holding::All),
+        Some(_) => Err(Fault::Usage(Usage::Form)),
     }
 }
 

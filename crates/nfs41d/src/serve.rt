@@ -67,7 +67,7 @@ fn settings_of(serving: Serving<'_>, name: Vec<u8>) -> Settings {
         forget_after: serving.forget_after,
         name,
         keeping: Keeping::Later,
-        persistent: serving.persistent,
+        holding: serving.holding,
         free_seats: serving.free_seats,
         yields_when_full: true,
         admission: Admission::Together,

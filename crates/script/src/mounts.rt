@@ -5,7 +5,7 @@ use crate::line::{Action, Line, read_line};
 use crate::user::User;
 use callers::{Caller, ScriptFault, connect, link};
 use disk::Device;
-use server::Server;
+use server::{Holding, Server};
 use std::alloc::Global;
 use std::io::{BufRead, BufWriter, ErrorKind, Read, Write};
 use std::net::Net;
@@ -85,7 +85,7 @@ where
     I: BufRead,
     O: Write,
 {
-    let mut server = link::mount(rt.alloc(), device, true)?;
+    let mut server = link::mount(rt.alloc(), device, Holding::All)?;
     run_server(rt, &mut server, users, restarted, input, out)
 }
 

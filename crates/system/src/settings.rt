@@ -1,14 +1,13 @@
 //! The settings of a server that is given none.
 
-use server::{ServerName, Settings};
+use server::{Holding, ServerName, Settings};
 use std::alloc::{AllocError, Global};
 
-/// A server of the standard name, with or without persistent sessions, whose full tables give up
-/// nothing.
-pub fn standard_settings(alloc: Global, persistent: bool) -> Result<Settings, AllocError> {
+/// A server of the standard name that holds these replies, whose full tables give up nothing.
+pub fn standard_settings(alloc: Global, holding: Holding) -> Result<Settings, AllocError> {
     Ok(Settings {
         name: ServerName::standard(alloc)?,
-        persistent,
+        holding,
         yields_when_full: false,
     })
 }

@@ -3,7 +3,7 @@
 
 use crate::device::{RowDevice, Uncounted};
 use crate::refusal::refusal;
-use server::{MountFault, Server, Settings, Unmounted};
+use server::{Holding, MountFault, Server, Settings, Unmounted};
 use std::alloc::{AllocError, Global};
 use system::standard_settings;
 use test_rows::{Choices, Host, Refusal, TrialDevice, Turn};
@@ -126,7 +126,18 @@ fn mount(
 }
 
 fn settings_of(alloc: Global, choices: Choices) -> Result<Settings, AllocError> {
-    let mut settings = standard_settings(alloc, choices.persistent)?;
+    let mut settings = standard_settings(alloc, holding_of(choices))?;
     settings.yields_when_full = choices.yields;
     Ok(settings)
+}
+
+/// Which replies are held.
+pub fn holding_of(choices: Choices) -> Holding {
+    if !choices.persistent {
+        Holding::Nothing
+    } else if choices.changes {
+        Holding::Changes
+    } else {
+        Holding::All
+    }
 }

@@ -1,6 +1,7 @@
 //! The loop of rows over sockets: that of the program, over a clock that does not go.
 
 use crate::device::{RowDevice, Uncounted};
+use crate::host::holding_of;
 use crate::refusal::refusal;
 use event_loop::{Door, Hub, Keeping, Lines, Pace, Settings};
 use std::alloc::Global;
@@ -79,7 +80,7 @@ fn begin(
     let door = Door::listen(rt, SocketAddr::from((Ipv4Addr::LOCALHOST, 0)))?;
     let address = door.address()?;
     let mut settings = Settings::standard(rt.alloc());
-    settings.persistent = choices.persistent;
+    settings.holding = holding_of(choices);
     settings.yields_when_full = choices.yields;
     settings.keeping = if choices.shared {
         Keeping::Later

@@ -7,6 +7,8 @@ use crate::fault::Fault;
 pub struct Choices {
     /// New sessions may be persistent.
     pub persistent: bool,
+    /// Of their replies only those to requests that made a change are held.
+    pub changes: bool,
     /// Full tables give up what no client holds.
     pub yields: bool,
     /// Over sockets peers share a flush.
@@ -17,16 +19,21 @@ impl Choices {
     /// Those of the run with which a row begins.
     pub const FIRST: Choices = Choices {
         persistent: true,
+        changes: false,
         yields: false,
         shared: false,
     };
 
-    /// Reads `plain`, `yielding` or nothing.
+    /// Reads `plain`, `changes`, `yielding` or nothing.
     pub fn read(words: &[&str]) -> Result<Choices, Fault> {
         match words {
             [] => Ok(Choices::FIRST),
             [word] if *word == "plain" => Ok(Choices {
                 persistent: false,
+                ..Choices::FIRST
+            }),
+            [word] if *word == "changes" => Ok(Choices {
+                changes: true,
                 ..Choices::FIRST
             }),
             [word] if *word == "yielding" => Ok(Choices {
