@@ -11,7 +11,6 @@ use std::io::ErrorKind;
 use std::net::{Net, SocketAddr};
 use std::process::Process;
 use std::{env, io, net, process};
-use system::Refused;
 
 /// The socket that a service manager hands over is this descriptor; so many are told of, and which
 /// process they are for (sd_listen_fds(3)).
@@ -49,7 +48,7 @@ impl Arrival {
 
 impl Door {
     /// Listens on this address. Port 0 is one that the system picks.
-    pub fn listen<R: Net + AllocGlobal>(rt: &R, address: SocketAddr) -> Result<Door, Refused> {
+    pub fn listen<R: Net + AllocGlobal>(rt: &R, address: SocketAddr) -> io::Result<Door> {
         Door::of(rt.alloc(), TcpListener::bind(rt, address)?)
     }
 
@@ -57,19 +56,16 @@ impl Door {
     /// LISTEN_FDS=1 and its number as LISTEN_PID.
     ///
     /// # Errors
-    /// Io where it handed none over.
-    pub fn handed_over<R: Net + Env + AllocGlobal>(
-        rt: &R,
-        process: Process,
-    ) -> Result<Door, Refused> {
+    /// NotFound if it handed none over.
+    pub fn handed_over<R: Net + Env + AllocGlobal>(rt: &R, process: Process) -> io::Result<Door> {
         if is_told(rt, HOW_MANY, 1) && is_told(rt, FOR_WHOM, process::id(process)) {
             Door::of(rt.alloc(), adopt(rt)?)
         } else {
-            Err(Refused::Io)
+            Err(ErrorKind::NotFound.into())
         }
     }
 
-    fn of(alloc: Global, listener: TcpListener) -> Result<Door, Refused> {
+    fn of(alloc: Global, listener: TcpListener) -> io::Result<Door> {
         set_timeouts(&listener);
         Ok(Door {
             listener,
@@ -157,10 +153,15 @@ impl Door {
         }
     }
 
-    /// Has a connection that was taken wait on, under the number that it had. There is room for it.
-    pub fn put_back(&mut self, number: usize, arrival: Arrival) {
-        if number <= self.waiting.len() {
-            let _ = self.waiting.insert(number, arrival);
+    /// Has a connection that was taken wait on, under the number that it had. If there is no room
+    /// for it, it is handed out.
+    pub fn put_back(&mut self, number: usize, arrival: Arrival) -> Option<Arrival> {
+        if self.waiting.len() < number {
+            return Some(arrival);
+        }
+        match self.waiting.insert(number, arrival) {
+            Ok(()) => None,
+            Err(failed) => Some(failed.value),
         }
     }
 }

@@ -286,8 +286,8 @@ impl Sockets {
         Some(Arrival { stream, from })
     }
 
-    /// Has a connection that was taken wait on. If the system tells of its changes nonetheless, it
-    /// is closed.
+    /// Has a connection that was taken wait on. If the system reports its changes nonetheless, or
+    /// there is no room for it, it is closed.
     pub fn give_back(&mut self, number: usize, arrival: Arrival) {
         let Arrival { mut stream, from } = arrival;
         if self.poll.registry().deregister(&mut stream).is_ok() {

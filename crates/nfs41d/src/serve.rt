@@ -50,8 +50,8 @@ fn name_of(rt: &HostRuntime, given: Option<&str>, file: &str) -> Result<Vec<u8>,
 
 fn door_of(rt: &HostRuntime, address: Option<SocketAddr>) -> Result<Door, Refused> {
     match address {
-        Some(address) => Door::listen(rt, address),
-        None => Door::handed_over(rt, rt.process()),
+        Some(address) => Ok(Door::listen(rt, address)?),
+        None => Ok(Door::handed_over(rt, rt.process())?),
     }
 }
 
