@@ -12,8 +12,8 @@ use std::net::{Net, SocketAddr};
 use std::process::Process;
 use std::{env, io, net, process};
 
-/// The socket that a service manager hands over is this descriptor; so many are told of, and which
-/// process they are for (sd_listen_fds(3)).
+/// The socket that a service manager hands over is this descriptor; variables have how many there
+/// are, and for which process (sd_listen_fds(3)).
 const HANDED_OVER: i32 = 3;
 
 const HOW_MANY: &str = "LISTEN_FDS";
@@ -58,7 +58,7 @@ impl Door {
     /// # Errors
     /// NotFound if it handed none over.
     pub fn handed_over<R: Net + Env + AllocGlobal>(rt: &R, process: Process) -> io::Result<Door> {
-        if is_told(rt, HOW_MANY, 1) && is_told(rt, FOR_WHOM, process::id(process)) {
+        if has_number(rt, HOW_MANY, 1) && has_number(rt, FOR_WHOM, process::id(process)) {
             Door::of(rt.alloc(), adopt(rt)?)
         } else {
             Err(ErrorKind::NotFound.into())
@@ -74,7 +74,7 @@ impl Door {
         })
     }
 
-    /// Has the system tell of connections by this token.
+    /// Has the system report connections by this token.
     pub fn register(&mut self, poll: &Poll, token: Token) -> io::Result<()> {
         poll.registry()
             .register(&mut self.listener, token, Interest::READABLE)
@@ -85,7 +85,7 @@ impl Door {
         self.listener.local_addr()
     }
 
-    /// The system told of a connection.
+    /// The system reports a connection.
     pub fn wake(&mut self) {
         self.can_accept = true;
     }
@@ -168,9 +168,9 @@ impl Door {
 
 /// Whether the environment has this number under the name. A process inherits the variables of the
 /// one that started it, and not what stood at its descriptors.
-fn is_told<R: Env + AllocGlobal>(rt: &R, name: &str, number: u32) -> bool {
+fn has_number<R: Env + AllocGlobal>(rt: &R, name: &str, number: u32) -> bool {
     match env::var(rt, name) {
-        Ok(word) => matches!(word.as_str().parse::<u32>(), Ok(told) if told == number),
+        Ok(word) => matches!(word.as_str().parse::<u32>(), Ok(found) if found == number),
         Err(_) => false,
     }
 }

@@ -8,7 +8,7 @@ use std::io;
 use std::net::{Net, SocketAddr};
 use std::time::{Duration, Instant};
 
-/// By which tokens the system tells of a visitor that waits, and of the visitor's stream.
+/// By which tokens the system reports a visitor that waits, and changes of the visitor's stream.
 pub const MONITOR: Token = Token(usize::MAX - 1);
 
 pub const VISITOR: Token = Token(usize::MAX - 2);
@@ -58,12 +58,12 @@ impl Monitor {
         self.listener.local_addr()
     }
 
-    /// The system told of a visitor that waits.
+    /// The system reports a visitor that waits.
     pub fn wake(&mut self) {
         self.can_accept = true;
     }
 
-    /// The system told of the visitor's stream.
+    /// The system reports a change of the visitor's stream.
     pub fn wake_visitor(&mut self) {
         if let Some(guest) = &mut self.visit {
             guest.can_go = true;
@@ -125,8 +125,8 @@ impl Monitor {
         }
     }
 
-    /// Takes the next visitor. One for whom there is no memory, or of whose stream the system does
-    /// not tell, is turned away.
+    /// Takes the next visitor. One for whom there is no memory, or whose stream the system does not
+    /// watch, is turned away.
     fn accept(&mut self, poll: &Poll, now: Instant) {
         if !self.can_accept {
             return;

@@ -1,4 +1,4 @@
-//! Telling a service manager that the server is ready (sd_notify(3)).
+//! Reporting to a service manager that the server is ready (sd_notify(3)).
 
 use libc::net as c;
 use os::FromRawFd;
@@ -17,9 +17,9 @@ const FAMILY_BYTES: usize = 2;
 
 const PATH_BYTES: usize = 108;
 
-/// Tells the service manager, if the environment names one, that the server is ready. If it cannot
-/// be told, it gives up on the service in time, and says so itself.
-pub fn tell_ready<R: Net + Env + AllocGlobal>(rt: &R) {
+/// Reports to the service manager, if the environment names one, that the server is ready. If that
+/// fails, the manager gives up on the service in time, and says so itself.
+pub fn report_ready<R: Net + Env + AllocGlobal>(rt: &R) {
     let Ok(path) = env::var(rt, SOCKET) else {
         return;
     };

@@ -1,5 +1,5 @@
-//! The calls of the server that the loop itself makes, each once, so that what is above need not see
-//! all that they promise.
+//! The calls of the server that the loop itself makes, each once, so that what is above need not
+//! see all that they promise.
 
 use disk::Device;
 use server::{Server, Turn};

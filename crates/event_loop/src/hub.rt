@@ -2,17 +2,16 @@
 
 use crate::counted::Counted;
 use crate::counts::Counts;
-use crate::door::{Arrival, Door};
 use crate::glance::{has_replayed, syncs_of};
 use crate::line::{Line, Listening, Session, Start};
 use crate::lines::Lines;
 use crate::page::{State, page_of};
-use crate::readiness::tell_ready;
+use crate::reminders::Reminders;
 use crate::settings::Settings;
 use crate::sockets::Sockets;
-use crate::told::Told;
 use crate::watched::Watched;
 use crate::{calls, seating};
+use daemon::{Arrival, Door, report_ready};
 use model_tree::status::Status;
 use peer::{Answered, NotAdmitted, Pace, Peers, SessionNews, Step, Stepped};
 use server::{MAX_CONNECTIONS, Server, ServerFault};
@@ -40,10 +39,10 @@ const MAX_ARRIVALS: u32 = 16;
 /// How many steps each peer has before a flush, and so how many operations it may run.
 const MAX_STEPS: u32 = 16;
 
-/// Mounts the device's volume, tells the door's address on `out`, and serves until the device, the
-/// clock or the system's telling of changes fails. Where no peer has been there for as long as the
-/// settings say, a new run of the server begins, without clients and without their seats. What an
-/// operator wants to know is told on `err`: first the title and the run.
+/// Mounts the device's volume, prints the door's address on `out`, and serves until the device, the
+/// clock or epoll fails. If no peer has been there for as long as the settings say, a new run of
+/// the server begins, without clients and without their seats. What an operator wants to know is
+/// printed on `err`: first the title and the run.
 ///
 /// # Errors
 /// As [`Hub::new`] and [`Hub::run`].
@@ -66,10 +65,10 @@ where
     let hub = Hub::new(rt, device, door, settings)?.begin(rt, title, &mut lines)?;
     writeln!(out, "serving {}", hub.address()?)?;
     out.flush()?;
-    tell_ready(rt);
+    report_ready(rt);
     let outcome = serve_runs(rt, hub, &mut lines);
     if let (Err(refused), Ok(now)) = (&outcome, Instant::now(rt)) {
-        lines.tell(&Line::Fails(*refused), now);
+        lines.print(&Line::Fails(*refused), now);
     }
     outcome
 }
@@ -105,13 +104,13 @@ pub enum End {
 pub struct Hub<D: Watched> {
     peers: Peers<D, Counted>,
     sockets: Sockets,
-    told: Told,
+    reminders: Reminders,
     counts: Counts,
     /// How soon to go on.
     pace: Pace,
     /// Whether nothing has changed since the last checkpoint.
     is_rested: bool,
-    /// Whether a client could have a persistent session, as far as was told.
+    /// Whether a client could have a persistent session, as far as the operator knows.
     has_seat: bool,
     /// Since when no peer has been there, where there was one in this run.
     alone_since: Option<Instant>,
@@ -122,7 +121,7 @@ impl<D: Watched> Hub<D> {
     /// Mounts the device's volume.
     ///
     /// # Errors
-    /// Those of a mount; Io where the system tells of no changes; Memory.
+    /// Those of a mount; Io if the system reports no changes; Memory.
     pub fn new<R>(rt: &R, device: D, door: Door, settings: Settings) -> Result<Hub<D>, Refused>
     where
         R: Net + AllocGlobal,
@@ -134,7 +133,7 @@ impl<D: Watched> Hub<D> {
     /// A loop over a server that is [mounted](calls::mounted) already.
     ///
     /// # Errors
-    /// Io where the system tells of no changes; Memory.
+    /// Io if the system reports no changes; Memory.
     pub fn of<R>(
         rt: &R,
         server: Server<D>,
@@ -167,7 +166,7 @@ impl<D: Watched> Hub<D> {
         Ok(Hub {
             peers: Peers::new(alloc, server, settings.keeping)?,
             sockets,
-            told: Told::new(),
+            reminders: Reminders::new(),
             counts: Counts::new(),
             pace: Pace::Goes,
             is_rested: true,
@@ -216,7 +215,7 @@ impl<D: Watched> Hub<D> {
         peers.into_server().into_device()
     }
 
-    /// Tells what is served, and frees the seats of earlier runs if the settings say so.
+    /// Prints what is served, and frees the seats of earlier runs if the settings say so.
     ///
     /// # Errors
     /// Device and Memory, where seats are freed; Io where the clock fails.
@@ -233,17 +232,17 @@ impl<D: Watched> Hub<D> {
             run,
             replayed,
         };
-        lines.tell(&Line::Begins(start), now);
+        lines.print(&Line::Begins(start), now);
         let mut hub = self;
         if hub.settings.free_seats {
             hub = hub.free_seats(rt, lines)?;
         }
-        seating::tell_seats(hub.peers.server(), lines, now);
+        seating::print_seats(hub.peers.server(), lines, now);
         let listening = Listening {
             address: hub.address()?,
             metrics: hub.sockets.metrics_address()?,
         };
-        lines.tell(&Line::Listens(listening), now);
+        lines.print(&Line::Listens(listening), now);
         Ok(hub)
     }
 
@@ -259,7 +258,7 @@ impl<D: Watched> Hub<D> {
         let Hub {
             peers,
             sockets,
-            told,
+            reminders,
             counts,
             settings,
             ..
@@ -268,12 +267,12 @@ impl<D: Watched> Hub<D> {
         let mut counts = counts;
         counts.change(server.change_count());
         let mut hub = Hub::over(rt.alloc(), server.into_device(), sockets, settings)?;
-        hub.told = told;
+        hub.reminders = reminders;
         hub.counts = counts;
         let now = Instant::now(rt)?;
-        lines.tell(&Line::Run(hub.restart_count()), now);
+        lines.print(&Line::Run(hub.restart_count()), now);
         let hub = hub.free_seats(rt, lines)?;
-        seating::tell_seats(hub.peers.server(), lines, now);
+        seating::print_seats(hub.peers.server(), lines, now);
         Ok(hub)
     }
 
@@ -288,7 +287,7 @@ impl<D: Watched> Hub<D> {
         let Hub {
             peers,
             sockets,
-            told,
+            reminders,
             counts,
             settings,
             ..
@@ -296,7 +295,7 @@ impl<D: Watched> Hub<D> {
         let mut server = peers.into_server();
         seating::free_dead_seats(rt.alloc(), &mut server, at, lines, now)?;
         let mut hub = Hub::with(rt.alloc(), server, sockets, settings)?;
-        hub.told = told;
+        hub.reminders = reminders;
         hub.counts = counts;
         Ok(hub)
     }
@@ -328,8 +327,8 @@ impl<D: Watched> Hub<D> {
     /// how soon to go on.
     ///
     /// # Errors
-    /// Device where the device fails; Io where the clock does, or the system's telling of changes;
-    /// Io and Memory where the listening socket does, if connections are served in turn.
+    /// Device if the device fails; Io if the clock or epoll does; Io and Memory if the listening
+    /// socket does and connections are served in turn.
     pub fn go_on<R, E>(
         &mut self,
         rt: &R,
@@ -340,8 +339,8 @@ impl<D: Watched> Hub<D> {
         R: Clock + AllocGlobal,
         E: Write + Drop,
     {
-        let was_told = self.sockets.hear(&mut self.peers, timeout)?;
-        if self.pace == Pace::Sleeps && !was_told {
+        let has_heard = self.sockets.hear(&mut self.peers, timeout)?;
+        if self.pace == Pace::Sleeps && !has_heard {
             self.rest()?;
         }
         self.pace = self.round(rt, Instant::now(rt)?, lines)?;
@@ -486,15 +485,15 @@ impl<D: Watched> Hub<D> {
         let from = arrival.from;
         if !self.settings.guests.admit(from) {
             self.counts.refuse();
-            if self.told.not_allowed.is_due(now) {
-                lines.tell(&Line::NotAllowed(from), now);
+            if self.reminders.not_allowed.is_due(now) {
+                lines.print(&Line::NotAllowed(from), now);
             }
             return;
         }
         if let Some(other) = self.sockets.keep(arrival) {
             self.counts.refuse();
-            if self.told.turned_away.is_due(now) {
-                lines.tell(&Line::TurnedAway(other.from), now);
+            if self.reminders.turned_away.is_due(now) {
+                lines.print(&Line::TurnedAway(other.from), now);
             }
         }
     }
@@ -513,7 +512,7 @@ impl<D: Watched> Hub<D> {
         }
         match self.sockets.make_way(&mut self.peers, number, now) {
             Some((from, to)) => {
-                lines.tell(&Line::GivesWay { from, to }, now);
+                lines.print(&Line::GivesWay { from, to }, now);
                 Ok(Pace::Goes)
             }
             None => Ok(Pace::Sleeps),
@@ -560,7 +559,7 @@ impl<D: Watched> Hub<D> {
         }
     }
 
-    /// Counts a peer that came, and tells of it.
+    /// Counts a peer that came, and prints that.
     fn note_peer<E>(&mut self, from: SocketAddr, now: Instant, lines: &mut Lines<E>)
     where
         E: Write + Drop,
@@ -568,7 +567,7 @@ impl<D: Watched> Hub<D> {
         self.alone_since = None;
         self.counts.accept();
         let taken = self.sockets.taken();
-        lines.tell(&Line::Comes { from, taken }, now);
+        lines.print(&Line::Comes { from, taken }, now);
     }
 
     fn step<C, E>(
@@ -618,7 +617,7 @@ impl<D: Watched> Hub<D> {
         }
     }
 
-    /// Counts what a peer's step did, by its connection and its reply, and tells of it.
+    /// Counts what a peer's step did, by its connection and its reply, and prints it.
     fn note_step<E>(
         &mut self,
         key: usize,
@@ -648,24 +647,24 @@ impl<D: Watched> Hub<D> {
         }
     }
 
-    /// Counts a reply, and tells the operator of tables that are full.
+    /// Counts a reply, and warns the operator of tables that are full.
     fn note<E>(&mut self, answered: Answered, from: SocketAddr, now: Instant, lines: &mut Lines<E>)
     where
         E: Write + Drop,
     {
         self.counts.answer(answered, now);
         if let Some(operation) = answered.delayed
-            && self.told.comes_again(operation).is_due(now)
+            && self.reminders.comes_again(operation).is_due(now)
         {
-            lines.tell(&Line::ComesAgain { operation, from }, now);
+            lines.print(&Line::ComesAgain { operation, from }, now);
         }
-        if answered.status == Some(Status::NoSpc.code()) && self.told.no_space.is_due(now) {
-            lines.tell(&Line::NoSpace(self.peers.server().room()), now);
+        if answered.status == Some(Status::NoSpc.code()) && self.reminders.no_space.is_due(now) {
+            lines.print(&Line::NoSpace(self.peers.server().room()), now);
         }
         self.note_seats(now, lines);
     }
 
-    /// Tells the operator of a session that began or ended, and remembers whose the connection is.
+    /// Prints that a session began or ended, and remembers whose the connection is.
     fn note_session<E>(&mut self, key: usize, news: SessionNews, now: Instant, lines: &mut Lines<E>)
     where
         E: Write + Drop,
@@ -684,16 +683,16 @@ impl<D: Watched> Hub<D> {
                     from,
                     persistent,
                 };
-                lines.tell(&Line::SessionBegins(session), now);
+                lines.print(&Line::SessionBegins(session), now);
             }
             SessionNews::Ended => {
                 let owner = owner_of(self.peers.server(), place.client);
-                lines.tell(&Line::SessionEnds { owner, from }, now);
+                lines.print(&Line::SessionEnds { owner, from }, now);
             }
         }
     }
 
-    /// Tells the operator when the last seat was taken.
+    /// Warns the operator once the last seat is taken.
     fn note_seats<E>(&mut self, now: Instant, lines: &mut Lines<E>)
     where
         E: Write + Drop,
@@ -701,8 +700,8 @@ impl<D: Watched> Hub<D> {
         let had_seat = self.has_seat;
         self.has_seat = !seating::are_in_use(self.peers.server());
         let is_new = had_seat && !self.has_seat && self.settings.holding.may_persist();
-        if is_new && self.told.no_seat.is_due(now) {
-            lines.tell(&Line::NoSeat, now);
+        if is_new && self.reminders.no_seat.is_due(now) {
+            lines.print(&Line::NoSeat, now);
         }
     }
 
@@ -714,7 +713,7 @@ impl<D: Watched> Hub<D> {
         if let Some(from) = self.sockets.remove(key, closed) {
             self.counts.close();
             let taken = self.sockets.taken();
-            lines.tell(&Line::Goes { from, taken }, now);
+            lines.print(&Line::Goes { from, taken }, now);
             if taken == 0 {
                 self.alone_since = Some(now);
             }

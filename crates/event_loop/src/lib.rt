@@ -2,34 +2,25 @@
 //! waited for: the loop over them sleeps where none has anything to do.
 #![tactic(auto)]
 
-mod admission;
 mod calls;
 mod counted;
 mod counts;
-mod door;
 mod glance;
-mod guests;
 mod hub;
 mod line;
 mod lines;
-mod monitor;
 mod operations;
-mod origin;
 mod page;
-mod readiness;
+mod reminders;
 mod seating;
 mod settings;
 mod sockets;
-mod timeouts;
-mod told;
 mod watched;
 
-pub use admission::Admission;
 pub use calls::mounted;
 pub use counted::Bytes;
 pub use counts::Counts;
-pub use door::Door;
-pub use guests::{Guests, Network};
+pub use daemon::{Admission, Door, Guests, Network};
 pub use hub::{End, Hub, serve};
 pub use lines::Lines;
 pub use peer::{Keeping, Pace};

@@ -1,4 +1,4 @@
-//! What an operator is told, a line an event.
+//! What an operator reads: a line for each event.
 
 use peer::Delayed;
 use server::{MAX_CONNECTIONS, Room};

@@ -25,9 +25,9 @@ pub struct Lines<E: Write + Drop> {
     out: E,
     /// What is asked whether it takes a line at once; None: it always does.
     descriptor: Option<RawFd>,
-    /// Whether a line tells how grave it is.
+    /// Whether a line says how grave it is.
     has_priorities: bool,
-    /// Whether only failures are told.
+    /// Whether only failures are printed.
     quiet: bool,
     /// When the second began in which lines are counted, and how many it has.
     second: Option<Instant>,
@@ -37,7 +37,7 @@ pub struct Lines<E: Write + Drop> {
 }
 
 impl Lines<Sink> {
-    /// Nobody is told anything.
+    /// Nothing is printed.
     pub fn nowhere(alloc: Global) -> Lines<Sink> {
         Lines {
             alloc,
@@ -73,8 +73,9 @@ impl<E: Write + Drop> Lines<E> {
         }
     }
 
-    /// Tells a line, unless it would wait or is one too many: that is told with the next one.
-    pub fn tell(&mut self, line: &Line<'_>, now: Instant) {
+    /// Prints a line, unless it would wait or is one too many: the next one says how many were left
+    /// out.
+    pub fn print(&mut self, line: &Line<'_>, now: Instant) {
         let gravity = line.gravity();
         if self.quiet && gravity != Gravity::Failure {
             return;

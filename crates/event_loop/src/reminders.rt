@@ -1,25 +1,25 @@
-//! What the operator was told, and when: what anybody may bring about is not told again for a
+//! When the operator was last warned: what anybody may bring about is not printed again for a
 //! minute.
 
 use peer::Delayed;
 use std::time::{Duration, Instant};
 
-/// How long the same is not told again.
+/// How long the same is not printed again.
 const AGAIN_SECONDS: u64 = 60;
 
-/// When something was told last.
+/// When something was printed last.
 #[derive(Clone, Copy)]
 pub struct Reminder {
     last: Option<Instant>,
 }
 
 impl Reminder {
-    /// It was not told.
+    /// It was not printed.
     pub fn new() -> Reminder {
         Reminder { last: None }
     }
 
-    /// Whether it is to be told now: not within a minute after the last time that it was.
+    /// Whether it is to be printed now: not within a minute after the last time that it was.
     pub fn is_due(&mut self, now: Instant) -> bool {
         let is_due = match self.last {
             Some(last) => now.duration_since(last) >= Duration::from_secs(AGAIN_SECONDS),
@@ -32,9 +32,9 @@ impl Reminder {
     }
 }
 
-/// When each of these was told last.
+/// When each of these was printed last.
 #[derive(Clone, Copy)]
-pub struct Told {
+pub struct Reminders {
     exchange_id: Reminder,
     create_session: Reminder,
     open: Reminder,
@@ -44,10 +44,10 @@ pub struct Told {
     pub no_space: Reminder,
 }
 
-impl Told {
-    /// Nothing was told.
-    pub fn new() -> Told {
-        Told {
+impl Reminders {
+    /// Nothing was printed.
+    pub fn new() -> Reminders {
+        Reminders {
             exchange_id: Reminder::new(),
             create_session: Reminder::new(),
             open: Reminder::new(),
@@ -58,7 +58,7 @@ impl Told {
         }
     }
 
-    /// When it was told last that this operation is to come again.
+    /// When it was printed last that this operation is to come again.
     pub fn comes_again(&mut self, operation: Delayed) -> &mut Reminder {
         match operation {
             Delayed::ExchangeId => &mut self.exchange_id,

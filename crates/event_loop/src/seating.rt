@@ -1,6 +1,6 @@
 //! The seats that earlier runs have left: who has them, and how they are freed. The server has no
-//! call for that, so the loop asks it as a client does (RFC 8881, section 18.37): one DESTROY_SESSION
-//! for each seat, over a connection without a socket.
+//! call for that, so the loop asks it as a client does (RFC 8881, section 18.37): one
+//! DESTROY_SESSION for each seat, over a connection without a socket.
 
 use crate::calls;
 use crate::line::Line;
@@ -24,7 +24,7 @@ use xdr::{Refusal, Writer};
 /// The bytes of a call's record, without its header.
 const CALL_BYTES: u32 = 92;
 
-/// The bytes of its credential, which tells user and group 0 (RFC 5531, appendix A).
+/// The bytes of its credential, which has user and group 0 (RFC 5531, appendix A).
 const CREDENTIAL_BYTES: u32 = 20;
 
 /// The number of each call: its connection has one at a time.
@@ -35,8 +35,8 @@ fn seat<D: Device>(server: &Server<D>, number: usize) -> Option<&Seat> {
     server.seats().places.get(number)?.as_ref()
 }
 
-/// Tells of each seat that is taken whose it is.
-pub fn tell_seats<D, E>(server: &Server<D>, lines: &mut Lines<E>, now: Instant)
+/// Prints of each seat that is taken whose it is.
+pub fn print_seats<D, E>(server: &Server<D>, lines: &mut Lines<E>, now: Instant)
 where
     D: Device,
     E: Write + Drop,
@@ -48,7 +48,7 @@ where
                 owner: &seat.owner,
                 run: run_of(&seat.session),
             };
-            lines.tell(&line, now);
+            lines.print(&line, now);
         }
     }
 }
@@ -68,8 +68,8 @@ pub fn are_in_use<D: Device>(server: &Server<D>) -> bool {
     })
 }
 
-/// Frees the seats whose sessions this run has not, at this moment, in nanoseconds since 1970. Where
-/// the server refuses that, the operator is told.
+/// Frees the seats whose sessions this run has not, at this moment, in nanoseconds since 1970. If
+/// the server refuses that, the operator is warned.
 ///
 /// # Errors
 /// Device and Memory, as the server answers them.
@@ -93,7 +93,7 @@ where
                     number: number.saturating_add(1),
                     status,
                 };
-                lines.tell(&line, now);
+                lines.print(&line, now);
             }
         }
     }

@@ -1,7 +1,6 @@
 //! How a volume is served.
 
-use crate::admission::Admission;
-use crate::guests::Guests;
+use daemon::{Admission, Guests};
 use peer::Keeping;
 use server::{Holding, NameFault, ServerName};
 use std::alloc::Global;

@@ -1,12 +1,9 @@
-//! The sockets of a server: the door, and what the system tells of it and of the peers.
+//! The sockets of a server: the door, and what the system reports of it and of the peers.
 
-use crate::admission::Admission;
 use crate::counted::{Bytes, Counted};
-use crate::door::{Arrival, Door};
 use crate::glance::Glance;
-use crate::monitor::{MONITOR, Monitor, VISITOR};
-use crate::origin::Origin;
 use crate::settings::Settings;
+use daemon::{Admission, Arrival, Door, MONITOR, Monitor, Origin, VISITOR};
 use disk::Device;
 use mio::event::Event;
 use mio::net::TcpStream;
@@ -18,7 +15,7 @@ use std::net::{Net, SocketAddr};
 use std::time::{Duration, Instant};
 use system::Refused;
 
-/// The most changes that the system tells of at once.
+/// The most changes that the system reports at once.
 const MAX_EVENTS: usize = 64;
 
 /// By how many places the address that has most of them is ahead of the one that is to get one, so
@@ -107,8 +104,8 @@ impl Sockets {
         }
     }
 
-    /// Waits for the system, and tells the door and the peers what it told of them. Whether it told
-    /// anything.
+    /// Waits for the system, and wakes the door and the peers of which it reports changes. Whether
+    /// it reports any.
     pub fn hear<D: Device>(
         &mut self,
         peers: &mut Peers<D, Counted>,
@@ -220,8 +217,8 @@ impl Sockets {
         self.taken() >= MAX_CONNECTIONS
     }
 
-    /// Ends the peer that gives way to the connection of this number, if one does: its sessions live
-    /// on, and its client connects again. Tells both addresses.
+    /// Ends the peer that gives way to the connection of this number, if one does: its sessions
+    /// live on, and its client connects again. Returns both addresses.
     pub fn make_way<D: Device>(
         &mut self,
         peers: &mut Peers<D, Counted>,
@@ -278,8 +275,8 @@ impl Sockets {
         })
     }
 
-    /// The connection of this number that waits, which is the caller's from now on, and of which the
-    /// system tells changes by this key; if it does not, the connection is closed.
+    /// The connection of this number that waits, which is the caller's from now on. The system
+    /// reports its changes by this key; if it does not, the connection is closed.
     pub fn take_waiting(&mut self, number: usize, key: usize) -> Option<Arrival> {
         let Arrival { stream, from } = self.door.take(number)?;
         let stream = registered(&self.poll, stream, Token(key))?;
@@ -311,7 +308,7 @@ impl Sockets {
         self.places.get_mut(key)?.as_mut()
     }
 
-    /// A peer's stream is closed, and another connection may have its place. Tells its address.
+    /// A peer's stream is closed, and another connection may have its place. Returns its address.
     pub fn remove(&mut self, key: usize, closed: Option<Counted>) -> Option<SocketAddr> {
         if let Some(stream) = closed {
             self.bytes = self.bytes.and(stream.bytes);
@@ -340,7 +337,7 @@ fn is_first(found: &Option<(usize, Rank)>, rank: Rank) -> bool {
     }
 }
 
-/// The stream, of which the system tells changes by this token from now on; if it does not, the
+/// The stream, whose changes the system reports by this token from now on; if it does not, the
 /// connection is closed.
 fn registered(poll: &Poll, mut stream: TcpStream, token: Token) -> Option<TcpStream> {
     // Without this a reply may wait in the system for the peer's acknowledgement of the one before.
@@ -353,7 +350,7 @@ fn registered(poll: &Poll, mut stream: TcpStream, token: Token) -> Option<TcpStr
     }
 }
 
-/// Tells a peer what the system told of its stream.
+/// Wakes a peer by what the system reports of its stream.
 fn wake_peer<D: Device>(peers: &mut Peers<D, Counted>, event: &Event) {
     let is_broken = is_broken(event);
     peers.wake(
@@ -371,7 +368,7 @@ fn wake_monitor(monitor: &mut Monitor, token: Token) {
     }
 }
 
-/// Whether the stream has ended or failed, which the next read or write tells.
+/// Whether the stream has ended or failed, which the next read or write returns.
 fn is_broken(event: &Event) -> bool {
     event.is_error() || event.is_read_closed() || event.is_write_closed()
 }
