@@ -1,44 +1,75 @@
 //! Why a file is not read.
 
-use std::alloc::AllocError;
-use thiserror::Error;
+use std::alloc::{AllocError, AllocFailed};
+use std::fmt;
 
 /// What is wrong with a line.
-#[derive(Clone, Copy, Debug, Error)]
+#[derive(Clone, Copy)]
 pub enum Fault {
     /// No memory.
-    #[error("no memory")]
-    Memory(#[from(alloc)] AllocError),
+    Memory(AllocError),
     /// It begins nothing, and goes on with nothing.
-    #[error("it goes on with nothing")]
     Place,
     /// The record, the row or the case that it begins has no name, or that of an earlier one.
-    #[error("not a new name")]
     Name,
     /// A word of a record is no number of four bytes in hex, and no gap.
-    #[error("a word that is not of four bytes in hex")]
     Word,
     /// A step has no form.
-    #[error("not a step")]
     Step,
     /// A step names a record that does not stand above it.
-    #[error("no record above has this name")]
     Unknown,
     /// A record has a gap that its step does not fill.
-    #[error("a gap that this step does not fill")]
     Gap,
     /// A record has not that number of bytes.
-    #[error("a record of fewer bytes")]
     Short,
     /// After `\` there are no two hexadecimal digits.
-    #[error("no two hexadecimal digits")]
     Escape,
 }
 
+impl Fault {
+    fn words(self) -> &'static str {
+        match self {
+            Fault::Memory(_) => "no memory",
+            Fault::Place => "it goes on with nothing",
+            Fault::Name => "not a new name",
+            Fault::Word => "a word that is not of four bytes in hex",
+            Fault::Step => "not a step",
+            Fault::Unknown => "no record above has this name",
+            Fault::Gap => "a gap that this step does not fill",
+            Fault::Short => "a record of fewer bytes",
+            Fault::Escape => "no two hexadecimal digits",
+        }
+    }
+}
+
+impl fmt::Display for Fault {
+    fn fmt<W: fmt::Write>(&self, f: &mut fmt::Formatter<W>) -> fmt::Result {
+        f.write_str(self.words())
+    }
+}
+
+impl From<AllocError> for Fault {
+    fn from(error: AllocError) -> Fault {
+        Fault::Memory(error)
+    }
+}
+
+impl<T: Drop> From<AllocFailed<T>> for Fault {
+    fn from(_: AllocFailed<T>) -> Fault {
+        Fault::Memory(AllocError)
+    }
+}
+
 /// The line of a file that is not read, and why.
-#[derive(Clone, Copy, Debug, Error)]
-#[error("{line}: {fault}")]
+#[derive(Clone, Copy)]
 pub struct Misread {
     pub line: u32,
     pub fault: Fault,
+}
+
+impl fmt::Display for Misread {
+    fn fmt<W: fmt::Write>(&self, f: &mut fmt::Formatter<W>) -> fmt::Result {
+        let Misread { line, fault } = *self;
+        write!(f, "{line}: {fault}")
+    }
 }

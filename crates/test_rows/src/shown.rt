@@ -3,7 +3,7 @@
 use std::fmt;
 
 /// The streams of a command.
-#[derive(Clone, Copy, Debug)]
+#[derive(Clone, Copy)]
 pub enum Stream {
     Input,
     Output,
@@ -21,7 +21,7 @@ impl fmt::Display for Stream {
 }
 
 /// Bytes, shown as words of four bytes in hex, each after a blank. Replies are whole words.
-#[derive(Debug, Drop)]
+#[derive(Drop)]
 pub struct Words(pub Vec<u8>);
 
 impl fmt::Display for Words {
@@ -31,7 +31,7 @@ impl fmt::Display for Words {
 }
 
 /// Replies, each on a line of its own.
-#[derive(Debug, Drop)]
+#[derive(Drop)]
 pub struct Answers(pub Vec<Vec<u8>>);
 
 impl fmt::Display for Answers {
@@ -61,7 +61,7 @@ fn number_of(word: &[u8]) -> u32 {
 }
 
 /// A line, shown with `\` and two hexadecimal digits for each byte that is no plain letter.
-#[derive(Debug, Drop)]
+#[derive(Drop)]
 pub struct Text(pub Vec<u8>);
 
 impl fmt::Display for Text {
