@@ -145,17 +145,13 @@ impl Display for Line<'_> {
             Line::Begins(start) => start.fmt(f),
             Line::Listens(listening) => listening.fmt(f),
             Line::Run(run) => write!(f, "run {run}"),
-            Line::Comes { from, taken } => {
-                write!(f, "connection from {from}, {}", Places(taken))
-            }
-            Line::Goes { from, taken } => {
-                write!(f, "connection from {from} ended, {}", Places(taken))
-            }
+            Line::Comes { from, taken } => show_place(f, from, "", taken),
+            Line::Goes { from, taken } => show_place(f, from, " ended", taken),
             Line::GivesWay { from, to } => {
                 write!(f, "connection from {from} gives way to one from {to}")
             }
-            Line::TurnedAway(from) => write!(f, "refused connection from {from}: too many wait"),
-            Line::NotAllowed(from) => write!(f, "refused connection from {from}: not allowed"),
+            Line::TurnedAway(from) => show_refused(f, from, "too many wait"),
+            Line::NotAllowed(from) => show_refused(f, from, "not allowed"),
             Line::ComesAgain { operation, from } => {
                 write!(f, "told to come again: {operation}, {from}")
             }
@@ -205,15 +201,21 @@ impl Display for Session<'_> {
     }
 }
 
-/// How many places are taken.
-#[derive(Clone, Copy)]
-struct Places(usize);
+/// Shows a connection that has come, or that has ended, and how many places are taken.
+fn show_place<W: Write>(
+    f: &mut Formatter<W>,
+    from: SocketAddr,
+    ended: &str,
+    taken: usize,
+) -> fmt::Result {
+    write!(
+        f,
+        "connection from {from}{ended}, {taken} of {MAX_CONNECTIONS} places taken"
+    )
+}
 
-impl Display for Places {
-    fn fmt<W: Write>(&self, f: &mut Formatter<W>) -> fmt::Result {
-        let Places(taken) = *self;
-        write!(f, "{taken} of {MAX_CONNECTIONS} places taken")
-    }
+fn show_refused<W: Write>(f: &mut Formatter<W>, from: SocketAddr, why: &str) -> fmt::Result {
+    write!(f, "refused connection from {from}: {why}")
 }
 
 /// Bytes as text: others than those of printed ASCII by their numbers.
@@ -224,14 +226,18 @@ impl Display for Escaped<'_> {
     fn fmt<W: Write>(&self, f: &mut Formatter<W>) -> fmt::Result {
         let Escaped(bytes) = *self;
         for byte in bytes.iter().take(MAX_OWNER_BYTES) {
-            match *byte {
-                b' '..=b'[' | b']'..=b'~' => f.write_char(char::from(*byte))?,
-                other => write!(f, "\\x{other:02x}")?,
-            }
+            show_byte(f, *byte)?;
         }
         if MAX_OWNER_BYTES < bytes.len() {
             f.write_str("..")?;
         }
         Ok(())
+    }
+}
+
+fn show_byte<W: Write>(f: &mut Formatter<W>, byte: u8) -> fmt::Result {
+    match byte {
+        b' '..=b'[' | b']'..=b'~' => f.write_char(char::from(byte)),
+        other => write!(f, "\\x{other:02x}"),
     }
 }
