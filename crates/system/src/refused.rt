@@ -3,46 +3,42 @@
 use disk::DiskFault;
 use server::{FormatFault, MountFault, ServerFault};
 use std::alloc::{AllocError, AllocFailed};
-use std::io;
+use std::fmt::{Debug, Display, Formatter, Write};
 use std::io::ErrorKind;
+use std::{fmt, io};
 use thiserror::Error;
 
 /// Why a program fails. It prints the name.
 #[derive(Clone, Copy, Debug, Error)]
 pub enum Refused {
     /// A file could not be opened or read.
-    #[error("Open")]
     Open,
     /// Input or output failed.
-    #[error("Io")]
     Io,
     /// No memory.
-    #[error("Memory")]
     Memory,
     /// No volume has this many sectors and nodes.
-    #[error("Size")]
     Size,
     /// The device failed.
-    #[error("Device")]
     Device,
     /// No volume.
-    #[error("NotVolume")]
     NotVolume,
     /// A volume that is not as formats and mounts leave it.
-    #[error("Damaged")]
     Damaged,
     /// A volume that was mounted as often as can be counted.
-    #[error("Worn")]
     Worn,
     /// 16 connections stand already.
-    #[error("Full")]
     Full,
     /// The server has no such connection.
-    #[error("NoConnection")]
     NoConnection,
     /// The server closed the connection.
-    #[error("Closed")]
     Closed,
+}
+
+impl Display for Refused {
+    fn fmt<W: Write>(&self, f: &mut Formatter<W>) -> fmt::Result {
+        Debug::fmt(self, f)
+    }
 }
 
 impl From<AllocError> for Refused {
