@@ -3,7 +3,7 @@
 use crate::counted::Counted;
 use crate::counts::Counts;
 use crate::glance::{has_replayed, syncs_of};
-use crate::line::{Line, Listening, Session, Start};
+use crate::line::{Line, Session, Start};
 use crate::lines::Lines;
 use crate::page::{State, page_of};
 use crate::reminders::Reminders;
@@ -21,7 +21,7 @@ use std::io::Write;
 use std::net::{Net, SocketAddr};
 use std::os::fd::AsRawFd;
 use std::time::{Clock, Duration, Instant};
-use system::{Refused, moment};
+use system::Refused;
 
 /// The pause after want of memory, or of what the system gives.
 const PAUSE_MILLIS: u64 = 10;
@@ -45,7 +45,7 @@ const MAX_STEPS: u32 = 16;
 /// printed on `err`: first the title and the run.
 ///
 /// # Errors
-/// As [`Hub::new`] and [`Hub::run`].
+/// As [`Hub::begin`] and [`Hub::run`].
 pub fn serve<R, D, O, E>(
     rt: &R,
     device: D,
@@ -62,15 +62,25 @@ where
     E: Write + AsRawFd + Drop,
 {
     let mut lines = Lines::to(rt, err, settings.quiet);
-    let hub = Hub::new(rt, device, door, settings)?.begin(rt, title, &mut lines)?;
-    writeln!(out, "serving {}", hub.address()?)?;
-    out.flush()?;
+    let hub = Hub::begin(rt, device, door, settings, title, &mut lines)?;
+    hub.print_address(out)?;
     report_ready(rt);
     let outcome = serve_runs(rt, hub, &mut lines);
-    if let (Err(refused), Ok(now)) = (&outcome, Instant::now(rt)) {
-        lines.print(&Line::Fails(*refused), now);
+    if let Err(refused) = outcome {
+        print_failure(rt, refused, &mut lines);
     }
     outcome
+}
+
+/// Prints why serving ended, if the clock still goes.
+fn print_failure<R, E>(rt: &R, refused: Refused, lines: &mut Lines<E>)
+where
+    R: Clock,
+    E: Write + Drop,
+{
+    if let Ok(now) = Instant::now(rt) {
+        lines.print(&Line::Fails(refused), now);
+    }
 }
 
 /// Serves one run after the other.
@@ -127,7 +137,8 @@ impl<D: Watched> Hub<D> {
         R: Net + AllocGlobal,
     {
         let sockets = Sockets::new(rt, door, &settings)?;
-        Hub::over(rt.alloc(), device, sockets, settings)
+        let server = mounted(rt.alloc(), device, &settings)?;
+        Hub::with(rt.alloc(), server, sockets, settings)
     }
 
     /// A loop over a server that is [mounted](calls::mounted) already.
@@ -145,16 +156,6 @@ impl<D: Watched> Hub<D> {
     {
         let sockets = Sockets::new(rt, door, &settings)?;
         Hub::with(rt.alloc(), server, sockets, settings)
-    }
-
-    fn over(
-        alloc: Global,
-        device: D,
-        sockets: Sockets,
-        settings: Settings,
-    ) -> Result<Hub<D>, Refused> {
-        let server = calls::mounted(alloc, device, settings.of_server(alloc)?)?;
-        Hub::with(alloc, server, sockets, settings)
     }
 
     fn with(
@@ -186,6 +187,11 @@ impl<D: Watched> Hub<D> {
         Ok(self.sockets.address()?)
     }
 
+    fn print_address<O: Write>(&self, out: &mut O) -> Result<(), Refused> {
+        writeln!(out, "serving {}", self.address()?)?;
+        Ok(out.flush()?)
+    }
+
     /// What was counted since the start.
     pub fn counts(&self) -> Counts {
         let mut counts = self.counts;
@@ -215,35 +221,27 @@ impl<D: Watched> Hub<D> {
         peers.into_server().into_device()
     }
 
-    /// Prints what is served, and frees the seats of earlier runs if the settings say so.
+    /// Mounts the device's volume, prints what is served, and frees the seats of earlier runs if
+    /// the settings say so.
     ///
     /// # Errors
-    /// Device and Memory, where seats are freed; Io where the clock fails.
-    pub fn begin<R, E>(self, rt: &R, title: &str, lines: &mut Lines<E>) -> Result<Hub<D>, Refused>
+    /// As [`Hub::new`]; Device and Memory, if seats are freed; Io if the clock fails.
+    pub fn begin<R, E>(
+        rt: &R,
+        device: D,
+        door: Door,
+        settings: Settings,
+        title: &str,
+        lines: &mut Lines<E>,
+    ) -> Result<Hub<D>, Refused>
     where
-        R: Clock + AllocGlobal,
+        R: Net + Clock + AllocGlobal,
         E: Write + Drop,
     {
-        let now = Instant::now(rt)?;
-        let run = self.restart_count();
-        let replayed = has_replayed(self.peers.server());
-        let start = Start {
-            title,
-            run,
-            replayed,
-        };
-        lines.print(&Line::Begins(start), now);
-        let mut hub = self;
-        if hub.settings.free_seats {
-            hub = hub.free_seats(rt, lines)?;
-        }
-        seating::print_seats(hub.peers.server(), lines, now);
-        let listening = Listening {
-            address: hub.address()?,
-            metrics: hub.sockets.metrics_address()?,
-        };
-        lines.print(&Line::Listens(listening), now);
-        Ok(hub)
+        let sockets = Sockets::new(rt, door, &settings)?;
+        let mut server = mounted(rt.alloc(), device, &settings)?;
+        begin_first_run(rt, &mut server, &sockets, &settings, title, lines)?;
+        Hub::with(rt.alloc(), server, sockets, settings)
     }
 
     /// The same without a client, a session, a seat or an open: a new run on the same device.
@@ -266,34 +264,8 @@ impl<D: Watched> Hub<D> {
         let server = peers.into_server();
         let mut counts = counts;
         counts.change(server.change_count());
-        let mut hub = Hub::over(rt.alloc(), server.into_device(), sockets, settings)?;
-        hub.reminders = reminders;
-        hub.counts = counts;
-        let now = Instant::now(rt)?;
-        lines.print(&Line::Run(hub.restart_count()), now);
-        let hub = hub.free_seats(rt, lines)?;
-        seating::print_seats(hub.peers.server(), lines, now);
-        Ok(hub)
-    }
-
-    /// Frees the seats that earlier runs have left, before there is a peer.
-    fn free_seats<R, E>(self, rt: &R, lines: &mut Lines<E>) -> Result<Hub<D>, Refused>
-    where
-        R: Clock + AllocGlobal,
-        E: Write + Drop,
-    {
-        let at = moment(rt)?;
-        let now = Instant::now(rt)?;
-        let Hub {
-            peers,
-            sockets,
-            reminders,
-            counts,
-            settings,
-            ..
-        } = self;
-        let mut server = peers.into_server();
-        seating::free_dead_seats(rt.alloc(), &mut server, at, lines, now)?;
+        let mut server = mounted(rt.alloc(), server.into_device(), &settings)?;
+        begin_next_run(rt, &mut server, lines)?;
         let mut hub = Hub::with(rt.alloc(), server, sockets, settings)?;
         hub.reminders = reminders;
         hub.counts = counts;
@@ -719,6 +691,62 @@ impl<D: Watched> Hub<D> {
             }
         }
     }
+}
+
+/// Mounts the device's volume as the settings say.
+fn mounted<D: Watched>(
+    alloc: Global,
+    device: D,
+    settings: &Settings,
+) -> Result<Server<D>, Refused> {
+    calls::mounted(alloc, device, settings.of_server(alloc)?)
+}
+
+/// Prints what is served, whose seats are taken, and where the door is.
+fn begin_first_run<R, D, E>(
+    rt: &R,
+    server: &mut Server<D>,
+    sockets: &Sockets,
+    settings: &Settings,
+    title: &str,
+    lines: &mut Lines<E>,
+) -> Result<(), Refused>
+where
+    R: Clock + AllocGlobal,
+    D: Watched,
+    E: Write + Drop,
+{
+    let now = Instant::now(rt)?;
+    let start = Start {
+        title,
+        run: calls::restart_count(server),
+        replayed: has_replayed(server),
+    };
+    lines.print(&Line::Begins(start), now);
+    if settings.free_seats {
+        seating::free_dead_seats(rt, server, lines, now)?;
+    }
+    seating::print_seats(server, lines, now);
+    lines.print(&Line::Listens(sockets.listening()?), now);
+    Ok(())
+}
+
+/// Prints the run, frees the seats of earlier ones, and prints which stay taken.
+fn begin_next_run<R, D, E>(
+    rt: &R,
+    server: &mut Server<D>,
+    lines: &mut Lines<E>,
+) -> Result<(), Refused>
+where
+    R: Clock + AllocGlobal,
+    D: Watched,
+    E: Write + Drop,
+{
+    let now = Instant::now(rt)?;
+    lines.print(&Line::Run(calls::restart_count(server)), now);
+    seating::free_dead_seats(rt, server, lines, now)?;
+    seating::print_seats(server, lines, now);
+    Ok(())
 }
 
 /// The owner id of this client; none if it has no record.

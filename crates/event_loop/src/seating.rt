@@ -16,8 +16,8 @@ use rpc::{
 use server::{Server, Turn};
 use std::alloc::Global;
 use std::io::Write;
-use std::time::Instant;
-use system::Refused;
+use std::time::{Clock, Instant};
+use system::{Refused, moment};
 use wire::Operation;
 use xdr::{Refusal, Writer};
 
@@ -68,26 +68,27 @@ pub fn are_in_use<D: Device>(server: &Server<D>) -> bool {
     })
 }
 
-/// Frees the seats whose sessions this run has not, at this moment, in nanoseconds since 1970. If
-/// the server refuses that, the operator is warned.
+/// Frees the seats whose sessions this run has not. If the server refuses that, the operator is
+/// warned.
 ///
 /// # Errors
-/// Device and Memory, as the server answers them.
-pub fn free_dead_seats<D, E>(
-    alloc: Global,
+/// Device and Memory, as the server returns them; Io if the clock fails.
+pub fn free_dead_seats<R, D, E>(
+    rt: &R,
     server: &mut Server<D>,
-    moment: u64,
     lines: &mut Lines<E>,
     now: Instant,
 ) -> Result<(), Refused>
 where
+    R: Clock + AllocGlobal,
     D: Device,
     E: Write + Drop,
 {
+    let moment = moment(rt)?;
     let conn = calls::connect(server)?;
     for number in 0..SEATS {
         if let Some(session) = dead_session(server, number) {
-            let status = destroy(alloc, server, conn, &session, moment)?;
+            let status = destroy(rt.alloc(), server, conn, &session, moment)?;
             if status != Status::Ok.code() {
                 let line = Line::SeatStays {
                     number: number.saturating_add(1),

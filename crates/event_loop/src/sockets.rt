@@ -2,6 +2,7 @@
 
 use crate::counted::{Bytes, Counted};
 use crate::glance::Glance;
+use crate::line::Listening;
 use crate::settings::Settings;
 use daemon::{Admission, Arrival, Door, MONITOR, Monitor, Origin, VISITOR};
 use disk::Device;
@@ -26,21 +27,42 @@ const DOOR: Token = Token(usize::MAX);
 
 #[derive(Drop)]
 pub struct Sockets {
-    poll: Poll,
-    events: Events,
+    changes: Changes,
     door: Door,
     /// Which connections are still accepted.
     admission: Admission,
     /// Where counts are asked for.
     monitor: Option<Monitor>,
     /// Those of the peers, by their keys.
-    places: Vec<Option<Place>>,
+    places: [Option<Place>; MAX_CONNECTIONS],
     /// The bytes of the connections that are gone.
     bytes: Bytes,
 }
 
-/// What is known of a peer besides its connection.
+/// Changes that the system reports: what asks it for them, and those that it reported last.
 #[derive(Drop)]
+struct Changes {
+    poll: Poll,
+    events: Events,
+}
+
+impl Changes {
+    /// Those of this door. Streams are registered later.
+    fn at<R: Net + AllocGlobal>(rt: &R, door: &mut Door) -> io::Result<Changes> {
+        let poll = Poll::new(rt)?;
+        door.register(&poll, DOOR)?;
+        let events = Events::with_capacity(rt.alloc(), MAX_EVENTS)?;
+        Ok(Changes { poll, events })
+    }
+
+    /// Waits for a change.
+    fn wait(&mut self, timeout: Option<Duration>) -> io::Result<()> {
+        self.poll.poll(&mut self.events, timeout)
+    }
+}
+
+/// What is known of a peer besides its connection.
+#[derive(Clone, Copy)]
 pub struct Place {
     pub from: SocketAddr,
     /// The client whose session it used last.
@@ -57,10 +79,16 @@ impl Place {
 
 /// How soon a connection gives way: later than those of addresses that have more places, and then
 /// than those that were quiet for longer.
-#[derive(Clone, Copy, PartialEq, Eq, PartialOrd, Ord)]
+#[derive(Clone, Copy)]
 struct Rank {
     places: usize,
     quiet: Duration,
+}
+
+impl Rank {
+    fn is_later_than(self, other: Rank) -> bool {
+        self.places < other.places || (self.places == other.places && self.quiet < other.quiet)
+    }
 }
 
 impl Sockets {
@@ -70,25 +98,17 @@ impl Sockets {
         door: Door,
         settings: &Settings,
     ) -> Result<Sockets, Refused> {
-        let poll = Poll::new(rt)?;
-        let monitor = match settings.metrics {
-            Some(address) => Some(Monitor::listen(rt, address, &poll)?),
-            None => None,
-        };
-        let mut sockets = Sockets {
-            poll,
-            monitor,
-            events: Events::with_capacity(rt.alloc(), MAX_EVENTS)?,
+        let mut door = door;
+        let changes = Changes::at(rt, &mut door)?;
+        let monitor = monitor_of(rt, &changes.poll, settings.metrics)?;
+        Ok(Sockets {
+            changes,
             door,
             admission: settings.admission,
-            places: Vec::with_capacity(rt.alloc(), MAX_CONNECTIONS)?,
+            monitor,
+            places: [None; MAX_CONNECTIONS],
             bytes: Bytes::NONE,
-        };
-        for _ in 0..MAX_CONNECTIONS {
-            sockets.places.push(None)?;
-        }
-        sockets.door.register(&sockets.poll, DOOR)?;
-        Ok(sockets)
+        })
     }
 
     /// Where the door listens.
@@ -96,12 +116,16 @@ impl Sockets {
         self.door.address()
     }
 
-    /// Where counts are served, if they are.
-    pub fn metrics_address(&self) -> io::Result<Option<SocketAddr>> {
-        match &self.monitor {
-            Some(monitor) => Ok(Some(monitor.address()?)),
-            None => Ok(None),
-        }
+    /// Where the door listens, and where counts are served, if they are.
+    pub fn listening(&self) -> io::Result<Listening> {
+        let metrics = match &self.monitor {
+            Some(monitor) => Some(monitor.address()?),
+            None => None,
+        };
+        Ok(Listening {
+            address: self.address()?,
+            metrics,
+        })
     }
 
     /// Waits for the system, and wakes the door and the peers of which it reports changes. Whether
@@ -111,8 +135,8 @@ impl Sockets {
         peers: &mut Peers<D, Counted>,
         timeout: Option<Duration>,
     ) -> Result<bool, Refused> {
-        self.poll.poll(&mut self.events, timeout)?;
-        for event in &self.events {
+        self.changes.wait(timeout)?;
+        for event in &self.changes.events {
             if event.token() == DOOR {
                 self.door.wake();
             } else if event.token().0 < MAX_CONNECTIONS {
@@ -121,13 +145,13 @@ impl Sockets {
                 wake_monitor(monitor, event.token());
             }
         }
-        Ok(!self.events.is_empty())
+        Ok(!self.changes.events.is_empty())
     }
 
     /// Serves whoever reads the counts: one read or one write.
     pub fn visit(&mut self, now: Instant) -> metrics::Step {
         match &mut self.monitor {
-            Some(monitor) => monitor.step(&self.poll, now),
+            Some(monitor) => monitor.step(&self.changes.poll, now),
             None => metrics::Step::Waits,
         }
     }
@@ -279,7 +303,7 @@ impl Sockets {
     /// reports its changes by this key; if it does not, the connection is closed.
     pub fn take_waiting(&mut self, number: usize, key: usize) -> Option<Arrival> {
         let Arrival { stream, from } = self.door.take(number)?;
-        let stream = registered(&self.poll, stream, Token(key))?;
+        let stream = registered(&self.changes.poll, stream, Token(key))?;
         Some(Arrival { stream, from })
     }
 
@@ -287,7 +311,8 @@ impl Sockets {
     /// there is no room for it, it is closed.
     pub fn give_back(&mut self, number: usize, arrival: Arrival) {
         let Arrival { mut stream, from } = arrival;
-        if self.poll.registry().deregister(&mut stream).is_ok() {
+        let registry = self.changes.poll.registry();
+        if registry.deregister(&mut stream).is_ok() {
             self.door.put_back(number, Arrival { stream, from });
         }
     }
@@ -329,10 +354,22 @@ impl Sockets {
     }
 }
 
+/// Serves counts at this address, if there is one.
+fn monitor_of<R: Net + AllocGlobal>(
+    rt: &R,
+    poll: &Poll,
+    address: Option<SocketAddr>,
+) -> io::Result<Option<Monitor>> {
+    match address {
+        Some(address) => Ok(Some(Monitor::listen(rt, address, poll)?)),
+        None => Ok(None),
+    }
+}
+
 /// Whether a peer of this rank gives way before the one that was found.
 fn is_first(found: &Option<(usize, Rank)>, rank: Rank) -> bool {
     match found {
-        Some((_, other)) => *other < rank,
+        Some((_, other)) => other.is_later_than(rank),
         None => true,
     }
 }
