@@ -67,12 +67,16 @@ pub struct Text(pub Vec<u8>);
 impl fmt::Display for Text {
     fn fmt<W: fmt::Write>(&self, f: &mut fmt::Formatter<W>) -> fmt::Result {
         for byte in self.0.iter() {
-            if (b' '..=b'~').contains(byte) && *byte != b'\\' {
-                write!(f, "{}", char::from(*byte))?;
-            } else {
-                write!(f, "\\{byte:02x}")?;
-            }
+            show_byte(f, *byte)?;
         }
         Ok(())
+    }
+}
+
+fn show_byte<W: fmt::Write>(f: &mut fmt::Formatter<W>, byte: u8) -> fmt::Result {
+    if (b' '..=b'~').contains(&byte) && byte != b'\\' {
+        f.write_char(char::from(byte))
+    } else {
+        write!(f, "\\{byte:02x}")
     }
 }

@@ -16,6 +16,16 @@ struct Question {
     reply: Vec<u8>,
 }
 
+/// The fronts of a record, and what is asked after each.
+#[derive(Drop)]
+struct Cuts<'a> {
+    alloc: Global,
+    line: u32,
+    connection: usize,
+    record: &'a str,
+    question: Question,
+}
+
 /// Adds what `CONNECTION RECORD FIRST LAST OTHER ASKED REPLY` says.
 pub fn add_cuts(
     alloc: Global,
@@ -24,53 +34,73 @@ pub fn add_cuts(
     words: &[&str],
     row: &mut Row<'_>,
 ) -> Result<(), Fault> {
-    let [connection, record, first, last, other, asked, reply] = words else {
+    let [connection, record, first, last, question @ ..] = words else {
         return Err(Fault::Step);
     };
-    let connection = connection_of(*connection)?;
-    let question = Question {
-        connection: connection_of(*other)?,
-        record: records.spell(alloc, *asked, None)?,
-        reply: records.spell(alloc, *reply, None)?,
+    let cuts = Cuts {
+        alloc,
+        line,
+        connection: connection_of(*connection)?,
+        record: *record,
+        question: question_of(alloc, records, question)?,
     };
     let mut number = 0_u32;
     for length in length_of(*first)?..=length_of(*last)? {
         number = number.saturating_add(1);
+        cuts.add(records, number, length, row)?;
+    }
+    Ok(())
+}
+
+/// Reads `OTHER ASKED REPLY`.
+fn question_of(alloc: Global, records: &Records<'_>, words: &[&str]) -> Result<Question, Fault> {
+    let [other, asked, reply] = words else {
+        return Err(Fault::Step);
+    };
+    Ok(Question {
+        connection: connection_of(*other)?,
+        record: records.spell(alloc, *asked, None)?,
+        reply: records.spell(alloc, *reply, None)?,
+    })
+}
+
+impl Cuts<'_> {
+    /// Adds the front of this length, as a record of its own and as it is, and the question.
+    fn add(
+        &self,
+        records: &Records<'_>,
+        number: u32,
+        length: usize,
+        row: &mut Row<'_>,
+    ) -> Result<(), Fault> {
         let filling = Filling {
             number,
             status: 0,
             words: &[],
         };
-        let record = records.spell(alloc, *record, Some(filling))?;
+        let record = records.spell(self.alloc, self.record, Some(filling))?;
         let end = HEADER.saturating_add(length);
         let front = record.get(..end).ok_or(Fault::Short)?;
-        add_front(alloc, line, connection, front, row)?;
-        row.add(line, question.ask()?)?;
+        self.add_front(front, row)?;
+        row.add(self.line, self.question.ask()?)
     }
-    Ok(())
-}
 
-/// Adds a front of a record as a record of its own, and as it is.
-fn add_front(
-    alloc: Global,
-    line: u32,
-    connection: usize,
-    front: &[u8],
-    row: &mut Row<'_>,
-) -> Result<(), Fault> {
-    let mut record = Vec::from_slice(alloc, front)?;
-    set_header(&mut record);
-    row.add(line, Step::Sends { connection, record })?;
-    add_new(line, connection, row)?;
-    let record = Vec::from_slice(alloc, front)?;
-    row.add(line, Step::Feeds { connection, record })?;
-    add_new(line, connection, row)
-}
+    fn add_front(&self, front: &[u8], row: &mut Row<'_>) -> Result<(), Fault> {
+        let connection = self.connection;
+        let mut record = Vec::from_slice(self.alloc, front)?;
+        set_header(&mut record);
+        self.add_last(Step::Sends { connection, record }, row)?;
+        let record = Vec::from_slice(self.alloc, front)?;
+        self.add_last(Step::Feeds { connection, record }, row)
+    }
 
-/// Adds that the connection is dropped, and that there is a new one.
-fn add_new(line: u32, connection: usize, row: &mut Row<'_>) -> Result<(), Fault> {
-    row.add(line, Step::HangsUp { connection })?;
-    row.add(line, Step::Connects { connection })
+    /// Adds a step, that the connection is dropped after it, and that there is a new one.
+    fn add_last(&self, step: Step, row: &mut Row<'_>) -> Result<(), Fault> {
+        let connection = self.connection;
+        row.add(self.line, step)?;
+        row.add(self.line, Step::HangsUp { connection })?;
+        row.add(self.line, Step::Connects { connection })
+    }
 }
 
 impl Question {

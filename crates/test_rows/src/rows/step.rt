@@ -125,7 +125,7 @@ pub fn add_steps(
         "tries" => add_try(alloc, records, line, words, row),
         "repeats" => add_repeats(alloc, records, line, words, row),
         "cuts" => add_cuts(alloc, records, line, words, row),
-        "meets" => row.meet(alloc, line, call_of(alloc, records, words)?),
+        "meets" => row.meet(alloc, line, call_of(alloc, records, words, None)?),
         "looks" => add_look(alloc, records, words, &mut row.aftermath),
         "goes" => add_sequel(alloc, records, words, &mut row.aftermath),
         "unshared" => {
@@ -154,8 +154,8 @@ fn read_step(
         "feeds" => feeds(alloc, records, words),
         "drips" => drips(alloc, records, words),
         "ends" => ends(alloc, records, words),
-        "asks" => Ok(Step::Asks(call_of(alloc, records, words)?)),
-        "leaves" => Ok(Step::Leaves(call_of(alloc, records, words)?)),
+        "asks" => Ok(Step::Asks(call_of(alloc, records, words, None)?)),
+        "leaves" => Ok(Step::Leaves(call_of(alloc, records, words, None)?)),
         "closes" => closes(alloc, records, words),
         "waits" => waits(alloc, records, words),
         "defers" => defers(alloc, records, words),
@@ -252,16 +252,21 @@ fn ends(alloc: Global, records: &Records<'_>, words: &[&str]) -> Result<Step, Fa
     })
 }
 
-/// Reads `CONNECTION RECORD TURNS REPLY`.
-fn call_of(alloc: Global, records: &Records<'_>, words: &[&str]) -> Result<Call, Fault> {
+/// Reads `CONNECTION RECORD TURNS REPLY`, whose gaps are filled.
+fn call_of(
+    alloc: Global,
+    records: &Records<'_>,
+    words: &[&str],
+    filling: Option<Filling<'_>>,
+) -> Result<Call, Fault> {
     let [connection, record, turns, reply] = words else {
         return Err(Fault::Step);
     };
     Ok(Call {
         connection: connection_of(*connection)?,
-        record: records.spell(alloc, *record, None)?,
+        record: records.spell(alloc, *record, filling)?,
         turns: count_of(*turns)?,
-        reply: records.spell(alloc, *reply, None)?,
+        reply: records.spell(alloc, *reply, filling)?,
     })
 }
 
@@ -305,12 +310,8 @@ fn tries(alloc: Global, records: &Records<'_>, number: u32, words: &[&str]) -> R
         status: hexadecimal(*status).ok_or(Fault::Step)?,
         words: words.as_slice(),
     };
-    Ok(Step::Asks(Call {
-        connection: connection_of(*connection)?,
-        record: records.spell(alloc, *record, Some(filling))?,
-        turns: count_of(*turns)?,
-        reply: records.spell(alloc, *reply, Some(filling))?,
-    }))
+    let call = [*connection, *record, *turns, *reply];
+    Ok(Step::Asks(call_of(alloc, records, &call, Some(filling))?))
 }
 
 pub fn connection_of(word: &str) -> Result<usize, Fault> {
