@@ -3,8 +3,9 @@
 use fs::FsFault;
 use model_tree::status::Status;
 use std::alloc::{AllocError, AllocFailed};
-use std::io;
+use std::fmt::{Debug, Display, Formatter, Write};
 use std::io::ErrorKind;
+use std::{fmt, io};
 use tar::{Kind, TarFault};
 use thiserror::Error;
 use volume::{MountFault, VolumeFault};
@@ -14,72 +15,68 @@ use xdr::Refusal;
 #[derive(Debug, Drop, Error)]
 pub enum ArchiveFault {
     /// The volume cannot be mounted.
-    #[error("{0}")]
     Mount(#[from] MountFault),
     /// The archive cannot be read.
-    #[error("{0}")]
     Tar(#[from] TarFault),
     /// The volume that is to be filled is not empty.
-    #[error("NotEmpty")]
     NotEmpty,
     /// Something is wrong with this path.
-    #[error("{reason} ({path})")]
     Path { reason: Reason, path: String },
     /// The volume's file failed.
-    #[error("Device")]
     Device,
     /// The output failed.
-    #[error("Io")]
     Io,
-    #[error("Memory")]
     Memory,
 }
 
-/// What is wrong with a path, or with what an archive has under it.
+impl Display for ArchiveFault {
+    fn fmt<W: Write>(&self, f: &mut Formatter<W>) -> fmt::Result {
+        match self {
+            ArchiveFault::Mount(fault) => Display::fmt(fault, f),
+            ArchiveFault::Tar(fault) => Display::fmt(fault, f),
+            ArchiveFault::Path { reason, path } => write!(f, "{reason} ({path})"),
+            _ => Debug::fmt(self, f),
+        }
+    }
+}
+
+/// What is wrong with a path, or with what an archive has under it. It is printed by its name.
 #[derive(Clone, Copy, Debug, PartialEq, Eq, Error)]
 pub enum Reason {
     /// It leads nowhere.
-    #[error("NoEntry")]
     NoEntry,
     /// A name within it is a file's.
-    #[error("NotDirectory")]
     NotDirectory,
     /// It leads to a directory.
-    #[error("IsDirectory")]
     IsDirectory,
     /// No name of a volume: empty, `..`, longer than 255 bytes or not UTF-8.
-    #[error("Name")]
     Name,
     /// It is there already.
-    #[error("Exists")]
     Exists,
     /// A link, which a volume does not have.
-    #[error("Link")]
     Link,
     /// A device or a pipe, which a volume does not have.
-    #[error("Special")]
     Special,
     /// A file whose holes are left out in the archive.
-    #[error("Sparse")]
     Sparse,
     /// A kind of entry that is not known.
-    #[error("Kind")]
     Kind,
     /// An access control list that no node may have.
-    #[error("Acl")]
     Acl,
     /// A file of more than 16 MiB.
-    #[error("TooLarge")]
     TooLarge,
     /// The volume has no room.
-    #[error("NoSpace")]
     NoSpace,
     /// The volume's access control lists deny it.
-    #[error("Access")]
     Access,
     /// Any other status.
-    #[error("Refused")]
     Refused,
+}
+
+impl Display for Reason {
+    fn fmt<W: Write>(&self, f: &mut Formatter<W>) -> fmt::Result {
+        Debug::fmt(self, f)
+    }
 }
 
 impl Reason {

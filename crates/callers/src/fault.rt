@@ -3,7 +3,8 @@
 use client::ClientFault;
 use server::{MountFault, ServerFault};
 use std::alloc::{AllocError, AllocFailed};
-use std::io;
+use std::fmt::{Debug, Display, Formatter, Write};
+use std::{fmt, io};
 use system::Refused;
 use thiserror::Error;
 
@@ -11,23 +12,26 @@ use thiserror::Error;
 #[derive(Clone, Copy, Debug, Error)]
 pub enum ScriptFault {
     /// A line of the script has no form, or lacks what it speaks of.
-    #[error("Script")]
     Script,
     /// The server answered another status than OK.
-    #[error("Status")]
     Status,
     /// The server denied a call, or did not accept it.
-    #[error("Rpc")]
     Rpc,
     /// A record waits for its reply.
-    #[error("Pending")]
     Pending,
     /// The server's bytes are no reply to what was sent.
-    #[error("Garbled")]
     Garbled,
     /// What any program can fail by.
-    #[error("{0}")]
     Refused(#[from] Refused),
+}
+
+impl Display for ScriptFault {
+    fn fmt<W: Write>(&self, f: &mut Formatter<W>) -> fmt::Result {
+        match self {
+            ScriptFault::Refused(refused) => Display::fmt(refused, f),
+            _ => Debug::fmt(self, f),
+        }
+    }
 }
 
 impl From<AllocError> for ScriptFault {
