@@ -23,8 +23,18 @@ where
     let server = mounted(alloc, device, settings.of_server(alloc)?)?;
     let door = Door::listen(rt, SocketAddr::from((Ipv4Addr::LOCALHOST, port)))?;
     let mut hub = Hub::of(rt, server, door, settings)?;
+    run(rt, &mut hub, out)
+}
+
+/// Prints the port, and serves.
+fn run<R, D, O>(rt: &R, hub: &mut Hub<D>, out: &mut O) -> Result<(), Refused>
+where
+    R: Machine,
+    D: Watched,
+    O: Write,
+{
     writeln!(out, "serving {}", hub.address()?.port())?;
     out.flush()?;
-    hub.run(rt, &mut Lines::nowhere(alloc))?;
+    hub.run(rt, &mut Lines::nowhere(rt.alloc()))?;
     Ok(())
 }
