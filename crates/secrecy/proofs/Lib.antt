@@ -1,0 +1,5 @@
+pub mod Hiding
+pub mod Alike
+pub mod BlindLaws
+pub mod SeenTables
+pub mod SeenRuns
