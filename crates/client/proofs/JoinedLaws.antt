@@ -1,11 +1,9 @@
 -- What a client sends is what the server runs, and what that replies is what the client tells.
-use Rattle.std.proofs.Common.{◌≡◌, ◌+◌, ◌<◌, ◌≤◌, ◌^◌, ◌==◌, ℕ, Bool, true, false, cond, List, [], ◌++◌, length, Option, None, Some, Result, Ok, Err, refl, sym, ap, ◌∙◌, subst, arith, append_assoc, append-nil, ne_eqb}
+use Rattle.std.proofs.Common.{◌≡◌, ◌+◌, ◌<◌, ◌^◌, ◌==◌, ℕ, false, cond, List, [], ◌++◌, length, Option, Some, Ok, refl, sym, ap, ◌∙◌, subst, arith, append_assoc, append-nil, ne_eqb}
 use Rattle.std.proofs.lemmas.Bool.{eq-eqb}
-use Rattle.std.specs.Prelude.{bytes_eq, option_map}
-use Rattle.std.specs.Int.{w32}
+use Rattle.std.specs.Prelude.{option_map}
 use Rattle.std.specs.Cmp.Lexicographic.{bytes_decides}
-use Rattle.xdr.specs.declared.refusal.Refusal.{Refusal}
-use Rattle.xdr.specs.Grammar.{number, unsigned_int}
+use Rattle.xdr.specs.Grammar.{number}
 use Rattle.xdr.specs.Laws.{Exact}
 use Rattle.xdr.proofs.Numbers.{int_exact}
 use Rattle.xdr.proofs.Sequences.{then_exact}
@@ -16,22 +14,21 @@ use Rattle.model.specs.Operations.Answer.{Outcome}
 use Rattle.model_tree.specs.Trees.Keyed.{at}
 use Rattle.model.specs.Operations.Operation.{Argument}
 use Rattle.model.specs.Wire.Record.{Front, Whole, front, framed}
-use Rattle.model.specs.Wire.Results.{compound_result, AreResults}
-use Rattle.model.specs.Wire.Rpc.{CallRead, Calls, Call, Reply, Success, Request, Runs, Compound, read_call, is_call_read, request_of, reply_text, compound_head, by_cred, by_head, cred_told, credential_in, cred_of, is_empty}
+use Rattle.model.specs.Wire.Results.{compound_result}
+use Rattle.model.specs.Wire.Rpc.{CallRead, Calls, Call, Reply, Success, Runs, read_call, is_call_read, request_of, reply_text, compound_head, by_cred, by_head, cred_told, cred_of}
 use Rattle.model.specs.Wire.RpcGrammar.{call_head, call_with, read_reply, reply_head, head_of}
 use Rattle.model.specs.Wire.RpcGrammar as rpc
 use Rattle.model.specs.Server.RuledOut.{request_at, request_in, request_by}
 use Rattle.model_tree.specs.Refusals.Status.{code_of}
-use Rattle.model.specs.Wire.WireTypes.{system_credential}
-use Rattle.model.specs.Server.World.{World, InProgress, Connection, Quiet, Waiting, Closed, arrives, arrives_at, arrived, connection_changed, with_connection, in_progress, result_of}
+use Rattle.model.specs.Server.World.{World, Connection, Quiet, Waiting, Closed, arrives, arrives_at, arrived, connection_changed, with_connection, in_progress, result_of}
 use Rattle.model_tree.proofs.Trees.KeyedLaws.{at-with_same}
 use Rattle.model.proofs.Wire.RecordLaws.{sent_is_read}
 use Rattle.model.proofs.Wire.ResultLaws.{result_exact, spells_results}
 use Rattle.model.proofs.Wire.RpcExact.{reads_calls, reads_credentials, reply_head_exact}
 use Rattle.client.specs.Client.{Sent}
-use Rattle.client.specs.Replies.{ReplyRead, Gives, NoReply, ending, gives_by, result_by, results_by, reply_by, told_by, message_by, behind_header, message_of, reply_read}
+use Rattle.client.specs.Replies.{Gives, ending, result_by, results_by, reply_by, told_by, message_by, behind_header, message_of, reply_read}
 use Rattle.client.specs.Requests.{credential_of, credential_text, compound_call, head_text, operations_text, call_text, record_text}
-use Rattle.client.specs.Joined.{compound_sent, CanBeSent, IsWithin, EveryRecordIsAsked, EveryReplyIsTold}
+use Rattle.client.specs.Joined.{compound_sent, CanBeSent, IsWhole, IsWithin, EveryPieceWaits, EveryRecordIsAsked, EveryReplyIsTold}
 
 -- The request
 
@@ -76,19 +73,20 @@ module _ (xid : ℕ) (cred : Cred) (tag : List ℕ) (operations : List Argument)
   runs = ap (by_cred call) known ∙ (ap (by_head cred) head_read ∙ rw counted refl)
 
   -- where it arrives
-  module _ (world : World) (number : ℕ) (within : IsWithin world text) (quiet : at number world.connections ≡ Some (Quiet [])) where
-    came : arrives_at world.limits.records (record_text xid (credential_text cred) tag operations) (Quiet []) ≡ Waiting text
+  module _ (world : World) (number : ℕ) (within : IsWithin world text) (piece : List ℕ)
+      (is : IsWhole (record_text xid (credential_text cred) tag operations) world number piece) where
+    came : arrives_at world.limits.records piece (Quiet is.so_far) ≡ Waiting text
     unfolding record_text text
     came =
         let bytes = call_text xid (credential_text cred) tag operations in
         let whole : front world.limits.records (framed bytes) ≡ Whole bytes [] =
         ap (front world.limits.records) (sym (append-nil (framed bytes))) ∙ sent_is_read world.limits.records bytes [] within.size within.short within.fragments in
-        ap (arrived (framed bytes)) whole ∙ ap (λ (read : CallRead). cond (is_call_read read) (Waiting bytes) Closed) is_read
+        ap (λ (all : List ℕ). arrived all (front world.limits.records all)) is.joins ∙ ap (arrived (framed bytes)) whole ∙ ap (λ (read : CallRead). cond (is_call_read read) (Waiting bytes) Closed) is_read
 
-    pub after_is : arrives world number (record_text xid (credential_text cred) tag operations) ≡ with_connection world number (Waiting text)
+    pub after_is : arrives world number piece ≡ with_connection world number (Waiting text)
     unfolding arrives
     after_is =
-        ap (connection_changed world number (arrives_at world.limits.records (record_text xid (credential_text cred) tag operations))) quiet
+        ap (connection_changed world number (arrives_at world.limits.records piece)) is.has
         ∙ ap (with_connection world number) came
 
     abbrev pub Asks : World → Type 0
@@ -100,12 +98,20 @@ module _ (xid : ℕ) (cred : Cred) (tag : List ℕ) (operations : List Argument)
         ap (request_at after) (at-with_same world.connections number (Waiting text))
         ∙ (ap (request_in after) is_read ∙ ap (request_by after xid) runs)
 
-    asks : Asks (arrives world number (record_text xid (credential_text cred) tag operations))
+    asks : Asks (arrives world number piece)
     asks = subst Asks (sym after_is) waits
 
 pub every_record_is_asked : EveryRecordIsAsked
 unfolding text
-every_record_is_asked world connection xid cred tag operations can within quiet = asks xid cred tag operations can world connection within quiet
+every_record_is_asked world connection xid cred tag operations piece can within is = asks xid cred tag operations can world connection within piece is
+
+pub every_piece_waits : EveryPieceWaits
+unfolding arrives
+every_piece_waits world connection so_far piece has partial =
+    let records = world.limits.records in
+    ap (λ (there : Option Connection). at connection (connection_changed world connection (arrives_at records piece) there).connections) has
+    ∙ (ap (λ (there : Front). at connection (with_connection world connection (arrived (so_far ++ piece) there)).connections) partial
+    ∙ at-with_same world.connections connection (Quiet (so_far ++ piece)))
 
 -- The reply
 

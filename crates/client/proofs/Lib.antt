@@ -11,3 +11,4 @@ pub mod WholeLaws
 pub mod ProgressLaws
 pub mod Worked
 pub mod Operates
+pub mod ResendLaws

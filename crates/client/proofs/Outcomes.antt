@@ -139,10 +139,10 @@ module _ (old : World) (number : ℕ) where
   }
 
   module _ (world : World) (same : world.connections ≡ old.connections) (executed : Option Entry) (numbered : EntryNumbered executed) where
-    ends_well : (request : InProgress) (last : Status) → TurnWell old number (ends world number request last false executed)
-    ends_well request last = record {
+    ends_well : (request : InProgress) (last : Status) (holds : Bool) → TurnWell old number (ends world number request last holds executed)
+    ends_well request last holds = record {
       numbered = numbered;
-      others = others_left world (Replied (framed (reply_text request.xid (Success (result_of request last))))) (ends world number request last false executed).world same refl;
+      others = others_left world (Replied (framed (reply_text request.xid (Success (result_of request last))))) (ends world number request last holds executed).world same refl;
     }
 
     goes_well : (request : InProgress) → TurnWell old number (goes_on world number request executed)
@@ -157,7 +157,7 @@ module _ (old : World) (number : ℕ) where
 
     closes_well : (request : InProgress) (last : Status) → TurnWell old number (closes world number request last executed)
     closes_well request last =
-        either_well (is_to_hold request world.table) _ _ (goes_well (record request { ended = Some last })) (ends_well request last)
+        either_well (is_to_hold request world.table) _ _ (goes_well (record request { ended = Some last })) (ends_well request last false)
 
     behind_well : (request : InProgress) (outcome : Outcome) → TurnWell old number (behind world number request outcome executed)
     behind_well request (Outcome.Refused operation reason) = closes_well (with_result request (Outcome.Refused operation reason)) reason
@@ -190,7 +190,7 @@ module _ (old : World) (number : ℕ) where
 
   further_well : (now : ℕ) (request : InProgress) (ended : Option Status) → TurnWell old number (further old number now request ended)
   further_well now request None = operates_well now request (next_operation request)
-  further_well now request (Some last) = ends_well old refl None tt request last
+  further_well now request (Some last) = ends_well old refl None tt request last true
 
   turned_well : (now : ℕ) (connection : Option Connection) → TurnWell old number (turned old number now connection)
   turned_well now None = idle_well

@@ -25,7 +25,7 @@ use Rattle.model.proofs.Wire.ResultLaws.{one_more}
 use Rattle.model.proofs.Server.RuledOutLaws.{one_a_turn, ends_by_holding}
 use Rattle.client.specs.Client.{Client, Sent}
 use Rattle.client.specs.Replies.{Gives, outcome_number, status_of, is_ok, ending, reply_read, reply_to, reply_to_sent}
-use Rattle.client.specs.Requests.{operations_text, credential_text, record_text, new_record}
+use Rattle.client.specs.Requests.{operations_text, credential_text, new_record}
 use Rattle.client.specs.Joined.{compound_sent}
 use Rattle.client.specs.Whole.{IsElsewhere, IsAnsweredBy, Elsewhere, Goes_on, Ends, Holds, EveryExchange}
 use Rattle.client.proofs.Elsewhere.{IsAsked, connection_stays}
@@ -358,11 +358,11 @@ pub every_exchange : EveryExchange
 every_exchange client cred operations xid world number outcomes reply exchange =
     let can = exchange.can in
     let sent = new_record xid (credential_text cred) client.tag operations in
-    let after = arrives world number (record_text xid (credential_text cred) client.tag operations) in
+    let after = arrives world number exchange.piece in
     let begun = in_progress after xid cred (compound_sent client.tag operations) in
     let stands : StandsAt xid client.tag number after [] operations = (
       begun,
-      every_record_is_asked world number xid cred client.tag operations can exchange.within exchange.quiet,
+      every_record_is_asked world number xid cred client.tag operations exchange.piece can exchange.within exchange.whole,
       record { xid_is = refl; tag_is = refl; count = omega arith; rest = refl; results = record { answered = refl; spelled = refl } },
     ) in
     let end = whole xid client.tag number after outcomes reply exchange.answered [] operations can.some exchange.fits stands in

@@ -20,9 +20,9 @@ use Rattle.model.specs.Sessions.Session.{Running, session_id, begin, started}
 use Rattle.model.specs.Operations.Step.{refusals, effect, does}
 use Rattle.model.specs.Wire.WireAnswers.{outcome_at}
 use Rattle.model.specs.Wire.WireArguments.{arguments_at}
-use Rattle.model.specs.Server.World.{World, InProgress, Quiet, Waiting, Replied, Gives, Next, Reads, Turned, next_operation, run, in_progress, outcome_text, one, arrives, connects, with_connection, with_result, result_of, state_of, has_room, in_room, refuses, executed_entry, goes_on, ends, behind, has_run, operates}
+use Rattle.model.specs.Server.World.{World, InProgress, Quiet, Waiting, Replied, Gives, Next, Reads, Turned, next_operation, run, in_progress, outcome_text, one, arrives, connects, with_connection, with_result, result_of, state_of, has_room, in_room, refuses, executed_entry, goes_on, ends, behind, noting, has_run, operates}
 use Rattle.client.specs.ExchangeExample.{ExchangeExample, caller, session, asking, client, operations, call, table, world, outcomes, reply}
-use Rattle.client.specs.Joined.{CanBeSent, IsWithin, compound_sent}
+use Rattle.client.specs.Joined.{CanBeSent, IsWhole, IsWithin, compound_sent}
 use Rattle.client.specs.Replies.{Gives as Tells, message_of, reply_read, reply_to}
 use Rattle.client.specs.Requests.{head_text, operations_text, call_text, credential_text, record_text, requested}
 use Rattle.client.specs.Whole.{IsAnsweredBy, Elsewhere, Goes_on, Ends, IsExchange}
@@ -66,12 +66,18 @@ within =
     let size : length call ≡ 112 = refl in
     subst (IsWithin world) (sym text_is) (record { size = omega (arith, size); short = omega (arith, size); fragments = omega arith })
 
+abbrev sent : List ℕ
+sent = record_text 5 (credential_text caller) [] operations
+
+whole : IsWhole sent world 0 sent
+whole = record { so_far = []; has = refl; joins = refl }
+
 -- What a turn comes to, by what it reads
 
 module _ (world : World) (number now : ℕ) (request : InProgress) (operation : Argument) (rest : List ℕ) (given : Outcome) (after : World) (left : InProgress)
     (asks : request_at world (at number world.connections) ≡ Some request) (reads : next_operation request ≡ Reads operation rest)
     (gives : in_room world (record request { rest = rest }) (operation_of operation) (run world (record request { rest = rest }) now operation) ≡ Gives given after left) where
-  came : one world number now ≡ behind after number left given (Some (executed_entry world request operation given after))
+  came : one world number now ≡ behind after number (noting world after operation left) given (Some (executed_entry world request operation given after))
   came =
       one_operates world number now request asks ∙ (ap (operates world number now request) reads
       ∙ ap (has_run world number (record request { rest = rest }) operation) gives)
@@ -92,7 +98,7 @@ begun = in_progress arrived 5 caller (compound_sent [] operations)
 
 asks_first : request_at arrived (at 0 arrived.connections) ≡ Some begun
 unfolding text
-asks_first = waits 5 caller [] operations can_be_sent world 0 within refl
+asks_first = waits 5 caller [] operations can_be_sent world 0 within sent whole
 
 abbrev rest_of : List ℕ
 rest_of = words (24 ∷ [])
@@ -184,7 +190,7 @@ gives_last =
     ∙ ap (λ (b : Bool). cond b (Gives last beside at_root) (refuses beside (record going { rest = [] }) 24 status.RepTooBig)) last_fits
 
 abbrev ended : Turned
-ended = ends beside 0 (with_result at_root last) status.Ok (Some (executed_entry beside going Argument.PutRootFh last beside))
+ended = ends beside 0 (with_result at_root last) status.Ok false (Some (executed_entry beside going Argument.PutRootFh last beside))
 
 last_came : one beside 0 2000 ≡ ended
 last_came = came beside 0 2000 going Argument.PutRootFh [] last beside at_root refl reads_last gives_last
@@ -210,9 +216,9 @@ answered_whole = Goes_on 1000 begun going first asks_first
     (has_outcome arrived 0 1000 begun (Argument.Sequence sequence) rest_of first running left asks_first reads_first gives_first gone first_came refl)
     (subst (λ (t : Turned). IsAnsweredBy 0 t.world (last ∷ []) reply) (sym first_came) answered_between)
 
-answered : IsAnsweredBy 0 (arrives world 0 (record_text 5 (credential_text caller) [] operations)) outcomes reply
+answered : IsAnsweredBy 0 (arrives world 0 sent) outcomes reply
 unfolding text
-answered = subst (λ (w : World). IsAnsweredBy 0 w outcomes reply) (sym (after_is 5 caller [] operations can_be_sent world 0 within refl)) answered_whole
+answered = subst (λ (w : World). IsAnsweredBy 0 w outcomes reply) (sym (after_is 5 caller [] operations can_be_sent world 0 within sent whole)) answered_whole
 
 exchange : IsExchange client caller operations 5 world 0 outcomes reply
 unfolding number
@@ -223,7 +229,8 @@ exchange =
       can = can_be_sent;
       fits = ((omega arith, (refl, (omega arith, (omega arith, (omega arith, tt))))), ((omega arith, tt), tt));
       within = within;
-      quiet = refl;
+      piece = record_text 5 (credential_text caller) [] operations;
+      whole = whole;
       answered = answered;
       short = omega (arith, length_is);
       told = ((omega arith, (refl, (omega arith, (omega arith, (omega arith, (omega arith, omega arith)))))), ((omega arith, tt), tt));

@@ -1,13 +1,13 @@
 -- The two ends of a connection: the record that a client sends is the COMPOUND that the server's
 -- definition runs, and of the reply that this makes the client tells its results.
-use Rattle.std.specs.Prelude.{◌≡◌, ◌<◌, ◌≤◌, ◌^◌, ℕ, List, [], length, Some}
+use Rattle.std.specs.Prelude.{◌≡◌, ◌<◌, ◌≤◌, ◌^◌, ℕ, List, ◌++◌, length, Some}
 use Rattle.xdr.specs.Laws.{IsBytes}
 use Rattle.model_tree.specs.declared.acl.Cred.{Cred}
 use Rattle.model_tree.specs.declared.status.Status.{Status}
 use Rattle.model.specs.Operations.Answer.{Outcome}
 use Rattle.model_tree.specs.Trees.Keyed.{at}
 use Rattle.model.specs.Operations.Operation.{Argument}
-use Rattle.model.specs.Wire.Record.{framed}
+use Rattle.model.specs.Wire.Record.{Partial, front, framed}
 use Rattle.model.specs.Wire.Results.{compound_result, AreResults}
 use Rattle.model.specs.Wire.Rpc.{Compound, Success, reply_text}
 use Rattle.model.specs.Server.RuledOut.{request_at}
@@ -15,7 +15,7 @@ use Rattle.model_tree.specs.Refusals.Status.{code_of}
 use Rattle.model.specs.Wire.WireTypes.{system_credential}
 use Rattle.model.specs.Server.World.{World, InProgress, Quiet, arrives, in_progress, result_of}
 use Rattle.client.specs.Client.{Sent}
-use Rattle.client.specs.Replies.{ReplyRead, Gives, ending, reply_read}
+use Rattle.client.specs.Replies.{Gives, ending, reply_read}
 use Rattle.client.specs.Requests.{credential_of, credential_text, operations_text, call_text, record_text}
 
 -- The request
@@ -45,15 +45,29 @@ pub record IsWithin (world : World) (bytes : List ℕ) : Type 0 where
   pub short : length bytes < 2 ^ 31
   pub fragments : 0 < world.limits.records.fragments
 
--- where it arrives on a connection that is quiet, the request that goes on is this caller's, with
--- these operations
+-- With this piece the bytes that came on a connection are these; the pieces before it wait there.
+pub record IsWhole (bytes : List ℕ) (world : World) (number : ℕ) (piece : List ℕ) : Type 0 where
+  pub so_far : List ℕ
+  pub has : at number world.connections ≡ Some (Quiet so_far)
+  pub joins : so_far ++ piece ≡ bytes
+
+-- a piece that ends no record waits
+abbrev pub EveryPieceWaits : Type 0
+EveryPieceWaits =
+    (world : World) (number : ℕ) (so_far piece : List ℕ)
+    → at number world.connections ≡ Some (Quiet so_far)
+    → front world.limits.records (so_far ++ piece) ≡ Partial
+    → at number (arrives world number piece).connections ≡ Some (Quiet (so_far ++ piece))
+
+-- once the record is whole, the request that goes on is this caller's, with these operations
 abbrev pub EveryRecordIsAsked : Type 0
 EveryRecordIsAsked =
     (world : World) (number xid : ℕ) (cred : Cred) (tag : List ℕ) (operations : List Argument)
+    (piece : List ℕ)
     → CanBeSent xid cred tag operations
     → IsWithin world (call_text xid (credential_text cred) tag operations)
-    → at number world.connections ≡ Some (Quiet [])
-    → let after = arrives world number (record_text xid (credential_text cred) tag operations) in
+    → IsWhole (record_text xid (credential_text cred) tag operations) world number piece
+    → let after = arrives world number piece in
     request_at after (at number after.connections)
     ≡ Some (in_progress after xid cred (compound_sent tag operations))
 

@@ -9,3 +9,4 @@ pub mod Joined
 pub mod Whole
 pub mod ExchangeExample
 pub mod Progress
+pub mod Resends

@@ -1,4 +1,4 @@
--- An exchange: the record that a client sends arrives on a quiet connection, its operations are run
+-- An exchange: the record that a client sends arrives, in pieces or at once, its operations are run
 -- one a turn, whatever else happens between, and of the reply the client tells the outcomes.
 use Rattle.std.specs.Prelude.{◌≡◌, ◌<◌, ◌^◌, ⊤, ℕ, List, [], ◌∷◌, length, None, Some}
 use Rattle.std.specs.List.{AllByRecursion}
@@ -11,11 +11,11 @@ use Rattle.model.specs.Server.RuledOut.{IsOutcome, request_at}
 use Rattle.model.specs.Server.Runs.{Event, Arrives, Turns, HangsUp, Connects, Takes, effect_of}
 use Rattle.model.specs.Wire.WireAnswers.{outcome}
 use Rattle.model.specs.Wire.WireArguments.{argument}
-use Rattle.model.specs.Server.World.{World, InProgress, Quiet, Busy, Replied, next_operation, one, arrives}
+use Rattle.model.specs.Server.World.{World, InProgress, Busy, Replied, next_operation, one, arrives}
 use Rattle.client.specs.Client.{Client}
 use Rattle.client.specs.Replies.{Gives, reply_to}
 use Rattle.client.specs.Requests.{credential_text, call_text, record_text, new_record}
-use Rattle.client.specs.Joined.{CanBeSent, IsWithin}
+use Rattle.client.specs.Joined.{CanBeSent, IsWhole, IsWithin}
 
 -- an event of another connection, or bytes, which a connection that has a request does not take
 abbrev pub IsElsewhere : (number : ℕ) → Event → Type 0
@@ -61,10 +61,11 @@ pub record IsExchange (client : Client) (cred : Cred) (operations : List Argumen
   pub can : CanBeSent xid cred client.tag operations
   pub fits : AllByRecursion argument.Fits operations
   pub within : IsWithin world (call_text xid (credential_text cred) client.tag operations)
-  pub quiet : at number world.connections ≡ Some (Quiet [])
-  pub answered : IsAnsweredBy number
-      (arrives world number (record_text xid (credential_text cred) client.tag operations))
-      outcomes reply
+  -- the last piece of it
+  pub piece : List ℕ
+  pub whole : IsWhole (record_text xid (credential_text cred) client.tag operations) world number
+      piece
+  pub answered : IsAnsweredBy number (arrives world number piece) outcomes reply
   pub short : length reply < 2 ^ 31
   pub told : AllByRecursion outcome.Fits outcomes
 

@@ -1,15 +1,18 @@
 //! What joins the client's end of a connection with the server's.
 
 ghost use Rattle.client.specs.ExchangeExample.{ExchangeExample};
-ghost use Rattle.client.specs.Joined.{EveryRecordIsAsked, EveryReplyIsTold};
+ghost use Rattle.client.specs.Joined.{EveryPieceWaits, EveryRecordIsAsked, EveryReplyIsTold};
 ghost use Rattle.client.specs.Progress.{EveryCallIsAnswered, EveryRequestIsAnswered};
+ghost use Rattle.client.specs.Resends.{EveryHeldIsFound, EveryOutcomeIsToldAgain, EveryResendIsReplayed};
 ghost use Rattle.client.specs.Whole.{EveryExchange};
 
-/// The record of a client that arrives on a quiet connection is the request of this caller with
-/// these operations; the reply of a request that ends, with results that answer a front of them, is
-/// read as these results; and of a record whose operations are run one a turn, whatever happens
-/// between, the client tells their outcomes, and no others. A reply that a slot keeps is left out.
+/// Once the record of a client is whole, in pieces or at once, it is the request of this caller with
+/// these operations. The reply to a request that ends, with results of a prefix of them, is read as
+/// these results. So of a record whose operations are run one a turn, whatever happens between, the
+/// client returns their outcomes, and no others. Of a reply that is sent again
+/// `every_resend_is_replayed` says it.
 pub fn every_exchange()
+    ensures waits { EveryPieceWaits }
     ensures asked { EveryRecordIsAsked }
     ensures told { EveryReplyIsTold }
     ensures whole { EveryExchange }
@@ -27,4 +30,13 @@ pub fn exchange_example()
 pub fn every_request_is_answered()
     ensures comes { EveryCallIsAnswered }
     ensures goes_on { EveryRequestIsAnswered }
+{}
+
+/// A record that is sent again, since its reply was lost with a connection or in a crash, runs
+/// nothing if a slot keeps its result or a seat holds it: the client is told the outcomes of the
+/// first time (RFC 8881, section 2.10.6).
+pub fn every_resend_is_replayed()
+    ensures replayed { EveryResendIsReplayed }
+    ensures held { EveryHeldIsFound }
+    ensures told { EveryOutcomeIsToldAgain }
 {}

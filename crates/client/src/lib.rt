@@ -16,4 +16,6 @@ mod stream;
 
 pub use client::Client;
 pub use fault::ClientFault;
-pub use joined::{every_exchange, every_request_is_answered, exchange_example};
+pub use joined::{
+    every_exchange, every_request_is_answered, every_resend_is_replayed, exchange_example,
+};
