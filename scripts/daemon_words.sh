@@ -239,7 +239,9 @@ options() {
         '--forget-after 86400' '--forget-after 0' '--forget-after 4294967295' \
         '--allow 192.0.2.0/28' '--allow 192.0.2.7' '--allow 2001:db8::/32' '--allow 0.0.0.0/0' \
         '--allow 192.0.2.0/28 --allow 198.51.100.7/32' '--privileged-ports' \
-        '--no-persistent-sessions' '--free-seats' '--quiet' '--metrics 127.0.0.1:0'; do
+        '--hold changes' '--hold=all' '--hold none' '--no-persistent-sessions' \
+        '--no-persistent-sessions --hold none' '--free-seats' '--quiet' \
+        '--metrics 127.0.0.1:0'; do
         serves $words v.img 127.0.0.1:0
     done
     serves serve --quiet v.img 127.0.0.1:0
@@ -255,7 +257,9 @@ options() {
         '--forget-after' '--forget-after -1' '--forget-after soon' '--forget-after 1.5' \
         '--forget-after 4294967296' '--allow' '--allow 192.0.2.0/33' '--allow 192.0.2.0/' \
         '--allow 192.0.2/24' '--allow 2001:db8::/129' '--allow example.net/24' \
-        '--privileged-ports=yes' '--no-persistent-sessions=yes' '--free-seats=yes' '--quiet=yes' \
+        '--privileged-ports=yes' '--hold' '--hold some' '--hold all --hold all' \
+        '--no-persistent-sessions --hold all' '--no-persistent-sessions --hold changes' \
+        '--no-persistent-sessions=yes' '--free-seats=yes' '--quiet=yes' \
         '--quiet --quiet' '--metrics' '--metrics 127.0.0.1' '--metrics localhost:9100' \
         '--metrics 127.0.0.1:65536' '--force' '--quiet serve'; do
         try $words v.img 127.0.0.1:0
