@@ -1,5 +1,5 @@
 -- What a part of a call leaves to the call.
-use Rattle.std.proofs.Common.{◌≡◌, ℕ, false, refl, Result, Err}
+use Rattle.std.proofs.Common.{◌≡◌, ℕ, false, refl, arith, Result, Err}
 use Rattle.disk.specs.declared.fault.DiskFault.{DiskFault}
 use Rattle.disk.proofs.MomentLemmas.{AddsOnly-same}
 use Rattle.journal.specs.declared.fault.JournalFault.TheVariants as faults
@@ -23,6 +23,7 @@ unfolding log_of
 stays_safe {D} {g} journal = record {
   size = refl;
   moments = λ k. AddsOnly-same _ (g.history journal.device);
+  brief = λ k. omega arith;
   settled = λ k up. settled_up journal k up;
 }
 
@@ -32,6 +33,7 @@ unfolding log_of
 part_is_safe {D} {g} old new before after r part = record {
   size = part.size;
   moments = part.moments;
+  brief = part.brief;
   settled = λ k up. settled_up new k up;
 }
 

@@ -5,7 +5,7 @@ use Rattle.disk.specs.declared.update.Update.{Update}
 use Rattle.disk.specs.Moments.{Image, History, SectorMayHold, Among, AddsOnly, moment, wrote, synced, seen}
 use Rattle.disk.proofs.MomentLemmas.{AddsOnly-weaken, AddsOnly-join}
 use Rattle.journal.specs.Layout.{placed, copies}
-use Rattle.journal.specs.Phase.{LeftWith, AddsUpdates, IsFixedAs}
+use Rattle.journal.specs.Phase.{LeftWith, AddsAtMost, AddsUpdates, IsFixedAs}
 use Rattle.journal.proofs.Moments.{wrote_all, AddsOnly-wrote_all, AddsOnly-synced, seen-wrote_all, moment-wrote_all, wrote_all-push}
 
 Among-front : (a b : List Update) (n : ℕ) (content : List ℕ) → Among a n content → Among (a ++ b) n content
@@ -64,6 +64,27 @@ synced_fixes all i h h1 h2 l e q =
       unsynced = ap (λ (k : History). k.now.unsynced) q;
       cost = omega (arith, ap (λ (k : History). moment k) q, ap (λ (k : History). moment k) whole, moment-wrote_all all h);
     }
+
+take_few : (i : ℕ) (all : List Update) → length (take i all) ≤ length all
+take_few zero all = omega arith
+take_few (suc i) [] = omega arith
+take_few (suc i) (u ∷ all) = omega (arith, take_few i all)
+
+-- the first i of a phase's writes are at most so many moments as the phase has
+front_brief : (all : List Update) (i : ℕ) (h h1 : History) → h1 ≡ wrote_all (take i all) h → AddsAtMost (length all) h h1
+front_brief all i h h1 e = omega (arith, ap (λ (k : History). moment k) e, moment-wrote_all (take i all) h, take_few i all)
+
+module _ (all : List Update) (i count : ℕ) (h h1 h2 : History) (many : length all ≡ count) (e : h1 ≡ wrote_all (take i all) h) where
+  pub alone_brief : h2 ≡ h1 → AddsAtMost (count + 1) h h2
+  alone_brief q = omega (arith, front_brief all i h h1 e, ap (λ (k : History). moment k) q, many)
+
+  pub synced_brief : h2 ≡ synced h1 → AddsAtMost (count + 1) h h2
+  synced_brief q = omega (arith, front_brief all i h h1 e, ap (λ (k : History). moment k) q, many)
+
+  pub failed_brief : (u : Update) → (h2 ≡ h1) ⊎ (h2 ≡ wrote u h1) → AddsAtMost (count + 1) h h2
+  failed_brief u q = ⊎_elim
+      (λ (s : h2 ≡ h1). alone_brief s)
+      (λ (s : h2 ≡ wrote u h1). omega (arith, front_brief all i h h1 e, ap (λ (k : History). moment k) s, many)) q
 
 pub length-placed : (place : ℕ) (us : List Update) → length (placed place us) ≡ length us
 length-placed place [] = refl

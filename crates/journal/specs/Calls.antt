@@ -4,16 +4,18 @@ use Rattle.disk.specs.declared.update.Update.{Update}
 use Rattle.disk.specs.Moments.{applied, put}
 use Rattle.journal.specs.Commit.{AddsEither}
 use Rattle.journal.specs.Behind.{way_cost, way_for}
-use Rattle.journal.specs.Log.{Log, AddsFronts, Costs, IsJoined, IsSettled, Moved, ListTakes, contents}
+use Rattle.journal.specs.Log.{Log, AddsFronts, Costs, IsJoined, IsSettled, MakesAtMost, Moved, ListTakes, contents}
 use Rattle.journal.specs.Phase.{FailsCounted}
 use Rattle.journal.specs.Settled.{AreSame}
 use Rattle.journal.specs.Transactions.{FitTogether, sectors_of}
 
 -- However a call answers: a crash within it leaves a front, and where the journal is still up, one
--- after it leaves the base.
+-- after it leaves the base. It takes no more writes and syncs than to copy home all that the commit
+-- record can name, and to commit as much: 2 (96 + 3).
 pub record IsSafe (keeps_word : Type 0) (old new : Log) : Type 0 where
   pub size : new.size ≡ old.size
   pub moments : keeps_word → AddsFronts old new
+  pub brief : keeps_word → MakesAtMost 198 old new
   pub settled : keeps_word → new.is_down ≡ false → IsSettled new
 
 -- the list with one transaction more
@@ -87,6 +89,7 @@ pub record HasWritten (keeps_word : Type 0) (content : List ℕ) (old new : Log)
 pub record IsPart {T E : Type 0} (keeps_word : Type 0) (old new : Log) (before after : ℕ)
     (result : Result T E) : Type 0 where
   pub moments : keeps_word → AddsFronts old new
+  pub brief : keeps_word → MakesAtMost 198 old new
   pub size : new.size ≡ old.size
   pub is_down : new.is_down ≡ is_err result
   pub failures : FailsCounted before after result

@@ -68,6 +68,10 @@ pub record ListTakes (updates : List Update) (old new : Log) : Type 0 where
 abbrev pub Costs : ℕ → Log → Log → Type 0
 Costs count old new = moment new.history ≡ moment old.history + count
 
+-- at most so many writes and syncs were done
+abbrev pub MakesAtMost : ℕ → Log → Log → Type 0
+MakesAtMost count old new = moment new.history ≤ moment old.history + count
+
 -- how a call answers by its device: Down exactly where the journal was down, and then nothing
 -- happens; Fault exactly where the device counted a failure, and then the journal is down; else it
 -- is not

@@ -28,9 +28,11 @@ pub record HasRecovered (size : ℕ) (old : History) (log : Log) : Type 0 where
   pub closed : IsClosed old → log.history ≡ synced old
   pub cost : moment log.history ≡ moment old + recovery_cost base.to
 
--- What a mount that is refused did. Damaged comes only where the gate has no form.
+-- What a mount that is refused did: at most what a recovery of 96 sectors costs. Damaged comes only
+-- where the gate has no form.
 pub record IsRecoveryRefused (size : ℕ) (old new : History) (fault : JournalFault) : Type 0 where
   pub refused : AddsOnly (SettlesAs size (seen old.now)) old new
+  pub brief : moment new ≤ moment old + 102
   pub closed_refused : IsClosed old → (new ≡ old) ⊎ (new ≡ synced old)
   pub damaged : fault ≡ faults.Damaged → LeavesOnlySynced size old new
 

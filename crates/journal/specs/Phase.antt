@@ -19,6 +19,10 @@ pub record IsFixedAs (updates : List Update) (old new : History) : Type 0 where
 abbrev pub AddsUpdates : List Update → History → History → Type 0
 AddsUpdates updates old new = AddsOnly (LeftWith updates old.now) old new
 
+-- at most so many moments came
+abbrev pub AddsAtMost : ℕ → History → History → Type 0
+AddsAtMost count old new = moment new ≤ moment old + count
+
 -- a failure is one that the device counted, and where nothing failed it counted none
 pub record FailsCounted {T E : Type 0} (before after : ℕ) (result : Result T E) : Type 0 where
   pub later : before ≤ after

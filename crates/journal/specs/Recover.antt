@@ -6,7 +6,7 @@ use Rattle.journal.specs.declared.fault.JournalFault.{JournalFault}
 use Rattle.journal.specs.declared.fault.JournalFault.TheVariants as faults
 use Rattle.journal.specs.Settled.{Settles, SettlesAs}
 use Rattle.journal.specs.Layout.{gate}
-use Rattle.journal.specs.Phase.{IsGated}
+use Rattle.journal.specs.Phase.{AddsAtMost, IsGated}
 
 -- What a mount costs: a sync; and where the commit record names sectors, the record again, a sync,
 -- each of these sectors, a sync, the cleared record, and a sync.
@@ -40,6 +40,7 @@ pub record LeavesOnlySynced (size : ℕ) (old new : History) : Type 0 where
 pub record Replays {T : Type 0} (size : ℕ) (before new : History) (result : Result T JournalFault)
     : Type 0 where
   pub moments : AddsOnly (SettlesAs size (seen before.now)) before new
+  pub brief : AddsAtMost 102 before new
   pub ok : OnOk result (Recovers size before new)
   pub closed : IsClosed before → WritesNothing before new result
   pub damaged : IsErrOf result faults.Damaged → LeavesOnlySynced size before new

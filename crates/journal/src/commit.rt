@@ -6,7 +6,7 @@ ghost use Rattle.disk.specs.Moments.{seen};
 ghost use Rattle.journal.specs.Layout.{targets, through};
 ghost use Rattle.journal.specs.Behind.{FitsGate, way_for};
 ghost use Rattle.journal.specs.Recorded.{FitsRecorded, IsStored};
-ghost use Rattle.journal.specs.Phase.{IsGated, FailsCounted};
+ghost use Rattle.journal.specs.Phase.{AddsAtMost, IsGated, FailsCounted};
 ghost use Rattle.journal.specs.Commit.{AddsEither, FitsPayload, IsRecorded, KeepsShown, IsCopiedHome, MakesWay, IsCommitted, KeepsRoom, rewritten};
 
 use crate::layout::{FIRST_TARGET, GATE, PAYLOAD_SECTORS};
@@ -30,6 +30,7 @@ pub(crate) fn commit<D: Device>(
         → AddsEither (D.size device.old) updates.now
         (through recorded.old.targets.items (seen (D.history device.old).now))
         (D.history device.old) (D.history device.new) }
+    ensures brief { D.keeps_word → AddsAtMost 198 (D.history device.old) (D.history device.new) }
     ensures ok { D.keeps_word → IsStored recorded.old (D.history device.old)
         → OnOk result (IsCommitted (D.size device.old) updates.now
         recorded.old.targets.items recorded.new.targets.items recorded.new.updates.items
@@ -61,6 +62,7 @@ pub(crate) fn make_way<D: Device>(
     ensures moments { D.keeps_word → IsStored recorded.old (D.history device.old)
         → KeepsShown (D.size device.old) recorded.old.targets.items
         (D.history device.old) (D.history device.new) }
+    ensures brief { D.keeps_word → AddsAtMost 99 (D.history device.old) (D.history device.new) }
     ensures ok { D.keeps_word → IsStored recorded.old (D.history device.old)
         → OnOk result (MakesWay (D.size device.old) to.now
         recorded.old.targets.items recorded.new.targets.items
@@ -90,6 +92,7 @@ pub(crate) fn close<D: Device>(device: &mut D, recorded: &mut Recorded) -> Resul
     ensures moments { D.keeps_word → IsStored recorded.old (D.history device.old)
         → KeepsShown (D.size device.old) recorded.old.targets.items
         (D.history device.old) (D.history device.new) }
+    ensures brief { D.keeps_word → AddsAtMost 99 (D.history device.old) (D.history device.new) }
     ensures ok { D.keeps_word → IsStored recorded.old (D.history device.old)
         → OnOk result (IsCopiedHome (D.size device.old) recorded.old.targets.items
         (D.history device.old) (D.history device.new)) }
@@ -113,6 +116,7 @@ pub(crate) fn rewrite<D: Device>(device: &mut D, named: &[u32]) -> Result<(), Di
     // On a device that keeps its word
     ensures moments { D.keeps_word → IsGated named.now (D.history device.old)
         → KeepsShown (D.size device.old) named.now (D.history device.old) (D.history device.new) }
+    ensures brief { D.keeps_word → AddsAtMost 2 (D.history device.old) (D.history device.new) }
     ensures ok { D.keeps_word → OnOk result
         (D.history device.new ≡ rewritten named.now (D.history device.old)) }
     // On any device
@@ -138,6 +142,8 @@ pub(crate) fn write_commit_record<D: Device>(
     ensures moments { D.keeps_word → IsGated shown.old.items (D.history device.old)
         → AddsEither (D.size device.old) updates.now
         (through shown.old.items (seen (D.history device.old).now))
+        (D.history device.old) (D.history device.new) }
+    ensures brief { D.keeps_word → AddsAtMost (length updates.now + 3)
         (D.history device.old) (D.history device.new) }
     ensures ok { D.keeps_word → IsGated shown.old.items (D.history device.old)
         → OnOk result (IsRecorded (D.size device.old) updates.now shown.old.items shown.new.items

@@ -9,7 +9,7 @@ ghost use Rattle.journal.specs.Format.{AddsFormats, IsFormatted};
 ghost use Rattle.journal.specs.Cached.{AreCopies};
 ghost use Rattle.journal.specs.Commit.{rewritten};
 ghost use Rattle.journal.specs.Layout.{AreTargets, copies, gate, max_updates, targets, through};
-ghost use Rattle.journal.specs.Log.{AnswersByDevice, Moved, contents};
+ghost use Rattle.journal.specs.Log.{AnswersByDevice, MakesAtMost, Moved, contents};
 ghost use Rattle.journal.specs.MountAnswers.{JournalComesBack, HasRecovered, IsNewJournal, IsRecoveryRefused};
 ghost use Rattle.journal.specs.Phase.{FailsCounted};
 ghost use Rattle.journal.specs.Transactions.{FitTogether, gathered, sectors_of};
@@ -305,6 +305,7 @@ impl<D: Device> Journal<D> {
     pub fn superblock(&mut self, content: &[u8; SECTOR]) -> Result<(), JournalFault>
         ensures moments { D.keeps_word
             → AddsFirst content.now (log_of self.old) (log_of self.new) }
+        ensures brief { D.keeps_word → MakesAtMost 2 (log_of self.old) (log_of self.new) }
         ensures ok { OnOk result
             (HasWritten D.keeps_word content.now (log_of self.old) (log_of self.new)) }
         ensures list { (log_of self.new).list ≡ (log_of self.old).list }
@@ -336,6 +337,7 @@ impl<D: Device> Journal<D> {
     /// [`JournalFault::Fault`] where the device failed, and [`JournalFault::Down`] from then on.
     pub fn checkpoint(&mut self) -> Result<(), JournalFault>
         ensures safe { IsSafe D.keeps_word (log_of self.old) (log_of self.new) }
+        ensures brief { D.keeps_word → MakesAtMost 99 (log_of self.old) (log_of self.new) }
         ensures list { (log_of self.new).list ≡ (log_of self.old).list }
         ensures ok { OnOk result (HasCheckpointed D.keeps_word (recorded_sectors self.old)
             (log_of self.old) (log_of self.new)) }
@@ -369,6 +371,7 @@ impl<D: Device> Journal<D> {
     /// [`JournalFault::Fault`] where the device failed, and [`JournalFault::Down`] from then on.
     pub fn rewrite_record(&mut self) -> Result<(), JournalFault>
         ensures safe { IsSafe D.keeps_word (log_of self.old) (log_of self.new) }
+        ensures brief { D.keeps_word → MakesAtMost 2 (log_of self.old) (log_of self.new) }
         ensures list { (log_of self.new).list ≡ (log_of self.old).list }
         ensures shown { recorded_sectors self.new ≡ recorded_sectors self.old }
         ensures ok { D.keeps_word → OnOk result (log_of self.new ≡ record (log_of self.old)

@@ -4,7 +4,7 @@ ghost use Rattle.std.specs.Prelude.{OnOk, ◌≡◌, ◌≤◌, ◌<◌, ◌+◌
 ghost use Rattle.disk.specs.Moments.{wrote, synced};
 ghost use Rattle.journal.specs.Layout.{AreTargets, placed, targets};
 ghost use Rattle.journal.specs.Format.{fresh};
-ghost use Rattle.journal.specs.Phase.{AddsUpdates, IsFixedAs, FailsCounted};
+ghost use Rattle.journal.specs.Phase.{AddsAtMost, AddsUpdates, IsFixedAs, FailsCounted};
 
 use crate::layout::{self, FIRST_TARGET, MIN_SECTORS, PAYLOAD, PAYLOAD_SECTORS};
 use crate::list;
@@ -20,6 +20,8 @@ pub(crate) fn write_payload<D: Device>(
     requires large { FIRST_TARGET ≤ D.size device.old }
     // On a device that keeps its word
     ensures moments { D.keeps_word → AddsUpdates (placed (2 + behind) updates.now)
+        (D.history device.old) (D.history device.new) }
+    ensures brief { D.keeps_word → AddsAtMost (length updates.now + 1)
         (D.history device.old) (D.history device.new) }
     ensures ok { D.keeps_word → OnOk result (IsFixedAs (placed (2 + behind) updates.now)
         (D.history device.old) (D.history device.new)) }
@@ -40,6 +42,8 @@ pub(crate) fn write_homes<D: Device>(device: &mut D, updates: &[Update]) -> Resu
     requires { AreTargets (D.size device.old) (targets updates.now) }
     // On a device that keeps its word
     ensures moments { D.keeps_word → AddsUpdates updates.now
+        (D.history device.old) (D.history device.new) }
+    ensures brief { D.keeps_word → AddsAtMost (length updates.now + 1)
         (D.history device.old) (D.history device.new) }
     ensures ok { D.keeps_word → OnOk result (IsFixedAs updates.now
         (D.history device.old) (D.history device.new)) }
@@ -64,6 +68,7 @@ pub(crate) fn write_sector<D: Device>(
     ensures moments { D.keeps_word
         → AddsUpdates ((record { target = n; content = content.now }) ∷ [])
         (D.history device.old) (D.history device.new) }
+    ensures brief { D.keeps_word → AddsAtMost 2 (D.history device.old) (D.history device.new) }
     ensures ok { D.keeps_word → OnOk result
         (IsFixedAs ((record { target = n; content = content.now }) ∷ [])
         (D.history device.old) (D.history device.new)) }

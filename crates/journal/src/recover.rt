@@ -4,7 +4,7 @@ ghost use Rattle.std.specs.Prelude.{◌≡◌, ◌≤◌, ◌<◌, ◌^◌, ℕ,
 ghost use Rattle.disk.specs.Moments.{History, AddsOnly, seen, synced};
 ghost use Rattle.journal.specs.Layout.{AreTargets, NamesTargets, copies, gate, targets};
 ghost use Rattle.journal.specs.Settled.{SettlesAs};
-ghost use Rattle.journal.specs.Phase.{FailsCounted};
+ghost use Rattle.journal.specs.Phase.{AddsAtMost, FailsCounted};
 ghost use Rattle.journal.specs.Recover.{Recovers, Replays, LeavesOnlySynced, IsClosed, WritesNothing, FaultsCounted};
 
 use crate::layout::{MIN_SECTORS, PAYLOAD, PAYLOAD_SECTORS};
@@ -24,6 +24,7 @@ pub(crate) fn recover<D: Device>(
     ensures moments { D.keeps_word
         → AddsOnly (SettlesAs (D.size device.old) (seen (D.history device.old).now))
         (D.history device.old) (D.history device.new) }
+    ensures brief { D.keeps_word → AddsAtMost 102 (D.history device.old) (D.history device.new) }
     ensures ok { D.keeps_word → OnOk result
         (Recovers (D.size device.old) (D.history device.old) (D.history device.new)) }
     ensures closed { D.keeps_word → IsClosed (D.history device.old)

@@ -1,10 +1,11 @@
-use Rattle.std.proofs.Common.{◌≡◌, ◌∙◌, [], List, ap, sym, subst, ℕ}
+use Rattle.std.proofs.Common.{◌≡◌, ◌≤◌, ◌∙◌, [], List, length, ap, arith, sym, subst, ℕ}
 use Rattle.disk.specs.declared.update.Update.{Update}
 use Rattle.disk.specs.Moments.{seen}
 use Rattle.journal.specs.Layout.{AreTargets, copies, targets}
 use Rattle.journal.specs.Phase.{AddsUpdates, IsFixedAs}
 use Rattle.journal.specs.Recorded.{IsStored}
 use Rattle.journal.proofs.Commits.{homes_moments, closing_moments, copied_home, AddsUpdates-at, AddsUpdates-gate, IsFixedAs-at, IsFixedAs-gate}
+use Rattle.journal.proofs.Images.{length-targets}
 use Rattle.journal.proofs.commit.close.Goals as goal
 use Rattle.journal.proofs.commit.close.Given.{Over}
 use Rattle.journal.proofs.commit.close.Goals.{After-deref, In_ok-write_homes}
@@ -68,3 +69,33 @@ returns-clause-ok g c = λ k stored.
     (g.D.Device.history c.write_homes.new.device) (g.D.Device.history c.write_sector.new.device)
     (fixed g here same k)
     (IsFixedAs-gate c.closed.result [] _ _ c.closed.ensures (c.in_ok-write_sector.ensures.ok k))
+
+-- at most so many are written home as one gate names
+few : (g : Over) (c : After-deref g) → length c.deref.result.now ≤ 96
+few g c = omega (
+  arith,
+  ap (λ (us : List Update). length us) c.deref.ensures.value,
+  length-targets c.args.recorded.now.updates.items,
+  ap (λ (ts : List ℕ). length ts) c.requires.fits.named,
+  c.requires.fits.fits.few,
+)
+
+pub returns-in_err-write_homes-clause-brief : goal.returns-in_err-write_homes-clause-brief
+returns-in_err-write_homes-clause-brief g c = λ k.
+    omega (arith, few g (goal.at.returns-in_err-write_homes-clause-brief g c).After-deref, c.in_err-write_homes.ensures.brief k)
+
+pub returns-in_err-write_sector-clause-brief : goal.returns-in_err-write_sector-clause-brief
+returns-in_err-write_sector-clause-brief g c = λ k. omega (
+  arith,
+  few g (goal.at.returns-in_err-write_sector-clause-brief g c).After-deref,
+  c.in_ok-write_homes.ensures.brief k,
+  c.in_err-write_sector.ensures.brief k,
+)
+
+pub returns-clause-brief : goal.returns-clause-brief
+returns-clause-brief g c = λ k. omega (
+  arith,
+  few g (goal.at.returns-clause-brief g c).After-deref,
+  c.in_ok-write_homes.ensures.brief k,
+  c.in_ok-write_sector.ensures.brief k,
+)

@@ -5,7 +5,7 @@ use Rattle.disk.specs.declared.update.Update.{Update}
 use Rattle.journal.proofs.Answerings.{counted_of, is_told, told_counted}
 use Rattle.journal.proofs.Images.{length-targets}
 use Rattle.journal.proofs.Lists.{no_update, get_or-targets}
-use Rattle.journal.proofs.Phases.{write_failed, left_alone, synced_moments, synced_fixes, wrote_more}
+use Rattle.journal.proofs.Phases.{write_failed, alone_brief, failed_brief, synced_brief, left_alone, synced_moments, synced_fixes, wrote_more}
 use Rattle.journal.proofs.phase.write_homes.Goals as goal
 
 pub returns-in_err-write-clause-moments : goal.returns-in_err-write-clause-moments
@@ -54,3 +54,18 @@ returns-in_err-write-clause-failures g c =
     c.loop-update.invariant.none c.in_err-write.ensures.cause.later
     (counted_of _ _ failed refl c.in_err-write.ensures.cause
     (λ past. omega (arith, c.in_err-write.ensures.range.0 past, c.loop-update.invariant.size, near, get_or-targets all i)))
+
+pub returns-in_err-write-clause-brief : goal.returns-in_err-write-clause-brief
+returns-in_err-write-clause-brief g c = λ k.
+    failed_brief c.args.updates.now c.loop-update.update-index _ (g.D.Device.history c.args.device.now) (g.D.Device.history c.loop-update.device)
+    (g.D.Device.history c.write.new.self) refl (c.loop-update.invariant.wrote k) _ (c.in_err-write.ensures.err k)
+
+pub returns-in_err-sync-clause-brief : goal.returns-in_err-sync-clause-brief
+returns-in_err-sync-clause-brief g c = λ k.
+    alone_brief c.args.updates.now c.loop-update.update-index _ (g.D.Device.history c.args.device.now) (g.D.Device.history c.loop-update.device)
+    (g.D.Device.history c.sync.new.self) refl (c.loop-update.invariant.wrote k) (c.in_err-sync.ensures.err k)
+
+pub returns-clause-brief : goal.returns-clause-brief
+returns-clause-brief g c = λ k.
+    synced_brief c.args.updates.now c.loop-update.update-index _ (g.D.Device.history c.args.device.now) (g.D.Device.history c.loop-update.device)
+    (g.D.Device.history c.sync.new.self) refl (c.loop-update.invariant.wrote k) (c.in_ok-sync.ensures.ok k)

@@ -1,7 +1,7 @@
 use Rattle.std.proofs.Common.{List, ◌<◌, ◌+◌, length, arith, ◌∙◌}
 use Rattle.disk.specs.declared.update.Update.{Update}
 use Rattle.journal.specs.Layout.{placed}
-use Rattle.journal.proofs.Phases.{write_failed, left_alone, synced_moments, synced_fixes, wrote_more, length-placed, payload_at}
+use Rattle.journal.proofs.Phases.{write_failed, alone_brief, failed_brief, synced_brief, left_alone, synced_moments, synced_fixes, wrote_more, length-placed, payload_at}
 use Rattle.journal.proofs.phase.write_payload.Goals as goal
 
 pub returns-in_err-write-clause-moments : goal.returns-in_err-write-clause-moments
@@ -38,3 +38,18 @@ pub returns-clause-ok : goal.returns-clause-ok
 returns-clause-ok g c = λ k.
     synced_fixes (placed (2 + c.args.behind) c.args.updates.now) c.loop-i.i (g.D.Device.history c.args.device.now) (g.D.Device.history c.loop-i.device)
     (g.D.Device.history c.sync.new.self) (omega (arith, length-placed (2 + c.args.behind) c.args.updates.now)) (c.loop-i.invariant.wrote k) (c.in_ok-sync.ensures.ok k)
+
+pub returns-in_err-write-clause-brief : goal.returns-in_err-write-clause-brief
+returns-in_err-write-clause-brief g c = λ k.
+    failed_brief (placed (2 + c.args.behind) c.args.updates.now) c.loop-i.i _ (g.D.Device.history c.args.device.now) (g.D.Device.history c.loop-i.device)
+    (g.D.Device.history c.write.new.self) (length-placed (2 + c.args.behind) c.args.updates.now) (c.loop-i.invariant.wrote k) _ (c.in_err-write.ensures.err k)
+
+pub returns-in_err-sync-clause-brief : goal.returns-in_err-sync-clause-brief
+returns-in_err-sync-clause-brief g c = λ k.
+    alone_brief (placed (2 + c.args.behind) c.args.updates.now) c.loop-i.i _ (g.D.Device.history c.args.device.now) (g.D.Device.history c.loop-i.device)
+    (g.D.Device.history c.sync.new.self) (length-placed (2 + c.args.behind) c.args.updates.now) (c.loop-i.invariant.wrote k) (c.in_err-sync.ensures.err k)
+
+pub returns-clause-brief : goal.returns-clause-brief
+returns-clause-brief g c = λ k.
+    synced_brief (placed (2 + c.args.behind) c.args.updates.now) c.loop-i.i _ (g.D.Device.history c.args.device.now) (g.D.Device.history c.loop-i.device)
+    (g.D.Device.history c.sync.new.self) (length-placed (2 + c.args.behind) c.args.updates.now) (c.loop-i.invariant.wrote k) (c.in_ok-sync.ensures.ok k)

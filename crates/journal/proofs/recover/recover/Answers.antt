@@ -1,4 +1,5 @@
-use Rattle.std.proofs.Common.{◌∙◌, ℕ, inl, refl, subst}
+use Rattle.std.proofs.Common.{◌∙◌, ℕ, ap, arith, inl, refl, subst}
+use Rattle.disk.specs.Moments.{History, moment}
 use Rattle.journal.specs.Recover.{Replays}
 use Rattle.journal.proofs.Answerings.{counted_of, is_fault}
 use Rattle.journal.proofs.Recovers.{counted_after, fault_counted, unmoved}
@@ -7,6 +8,7 @@ use Rattle.journal.proofs.recover.recover.Goals as goal
 pub returns-in_err-sync : goal.returns-in_err-sync
 returns-in_err-sync g c = rw (is_fault _ c.from_residual.ensures.1) (record {
   moments = λ k. unmoved _ _ _ (c.in_err-sync.ensures.err k);
+  brief = λ k. omega (arith, ap (λ (h : History). moment h) (c.in_err-sync.ensures.err k));
   ok = λ k. tt;
   closed = λ k closed. record { ok = tt; err = inl (c.in_err-sync.ensures.err k) };
   damaged = λ k e. absurd (cc);
@@ -21,6 +23,7 @@ returns g c =
     subst P c.in_ok-sync.ensures.size (c.replay.ensures.replays k _ (c.in_ok-sync.ensures.ok k))) in
     record {
       moments = λ k. (replays k).moments;
+      brief = λ k. (replays k).brief;
       ok = λ k. (replays k).ok;
       closed = λ k. (replays k).closed;
       damaged = λ k. (replays k).damaged;

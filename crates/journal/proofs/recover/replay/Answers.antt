@@ -1,6 +1,6 @@
 use Rattle.std.proofs.Common.{◌≡◌, ℕ, List, length, arith, sym, subst, ◌∙◌, refl, ap, vec_len, inr}
 use Rattle.std.proofs.lemmas.Bool.{eqb-true}
-use Rattle.disk.specs.Moments.{History, seen, synced}
+use Rattle.disk.specs.Moments.{History, moment, seen, synced}
 use Rattle.journal.specs.Behind.{FitsGate}
 use Rattle.journal.specs.Commit.{KeepsShown, rewritten}
 use Rattle.journal.specs.Layout.{NamesTargets, copies}
@@ -14,11 +14,15 @@ use Rattle.journal.proofs.recover.replay.Goals as goal
 use Rattle.journal.proofs.recover.replay.Given.{Over}
 use Rattle.journal.proofs.recover.replay.Goals.{In_ok-read_gate, In_ok-rewrite, In_ok-read_payload}
 
+same_moment : {h h1 : History} → h1 ≡ h → moment h1 ≡ moment h
+same_moment e = ap (λ (h : History). moment h) e
+
 pub returns-in_err-read_gate : goal.returns-in_err-read_gate
 returns-in_err-read_gate g c =
     let fault = c.in_err-read_gate.field-0.0 in
     rw (is_told _ fault c.from_residual.ensures.1) (record {
       replays = λ k before e. record {
+        brief = omega (arith, same_moment e, same_moment c.in_err-read_gate.ensures.reads.0);
         moments = synced_moments _ _ _ _ c.in_err-read_gate.ensures.reads.0 e;
         ok = tt;
         closed = λ closed. record { ok = tt; err = inr (c.in_err-read_gate.ensures.reads.0 ∙ e) };
@@ -64,6 +68,7 @@ returns-then-is_empty g c =
     let no_items : length c.read_gate.new.named.items ≡ 0 = sym c.read_gate.new.named.ok.0 ∙ none in
     record {
       replays = λ k before e. record {
+        brief = omega (arith, same_moment e, same_moment c.in_ok-read_gate.ensures.reads.0);
         moments = synced_moments _ _ _ _ c.in_ok-read_gate.ensures.reads.0 e;
         ok = recovers_closed _ _ _ _ (resynced g read before e) no_items (gated g read k before e);
         closed = λ closed. record { ok = resynced g read before e; err = tt };
@@ -129,6 +134,7 @@ returns-in_err-rewrite g c =
       replays = λ k before e.
           let set = gated g read k before e in
           record {
+            brief = omega (arith, same_moment e, same_moment c.in_ok-read_gate.ensures.reads.0, c.in_err-rewrite.ensures.brief k);
             moments = recover_moments _ _ _ _ _ (resynced g read before e) c.in_ok-read_gate.ensures.small (named_by g read k).few (named_by g read k).fit set
                 (kept_again _ _ _ _ _ _ c.in_ok-read_gate.ensures.reads.1 c.deref.ensures.value set (c.in_err-rewrite.ensures.moments k));
             ok = tt;
@@ -148,6 +154,7 @@ returns-in_err-read_payload g c =
           let set = gated g read k before e in
           let shown = kept_again _ _ _ _ _ _ c.in_ok-read_gate.ensures.reads.1 c.deref.ensures.value set (c.in_ok-rewrite.ensures.moments k) in
           record {
+            brief = omega (arith, same_moment e, same_moment c.in_ok-read_gate.ensures.reads.0, c.in_ok-rewrite.ensures.brief k, same_moment c.in_err-read_payload.ensures.reads.0);
             moments = recover_moments _ _ _ _ _ (resynced g read before e) c.in_ok-read_gate.ensures.small (named_by g read k).few (named_by g read k).fit set
                 (read_past _ _ _ _ _ c.in_err-read_payload.ensures.reads.0 shown);
             ok = tt;
@@ -189,6 +196,7 @@ returns-in_err-close g c =
           (keeps_shown_at _ _ _ _ _ size_is
           (c.in_err-close.ensures.moments k (record { gated = set_again; payload = payload_past g paid c.deref-2.ensures.value k }))) in
           record {
+            brief = omega (arith, same_moment e, same_moment c.in_ok-read_gate.ensures.reads.0, c.in_ok-rewrite.ensures.brief k, same_moment c.in_ok-read_payload.ensures.reads.0, c.in_err-close.ensures.brief k);
             moments = recover_moments _ _ _ _ _ (resynced g read before e) c.in_ok-read_gate.ensures.small (named_by g read k).few (named_by g read k).fit set shown;
             ok = tt;
             closed = λ closed. absurd (not_empty _ _ c.is_empty.ensures c.if-is_empty.false (none_named g read k before e closed));
@@ -215,6 +223,7 @@ returns g c =
           let shown = shown_again _ _ _ written set.gate_is _ _ first (keeps_shown_at _ _ _ _ _ size_is
           (c.in_ok-close.ensures.moments k (record { gated = set_again; payload = payload_past g paid c.deref-2.ensures.value k }))) in
           record {
+            brief = omega (arith, same_moment e, same_moment c.in_ok-read_gate.ensures.reads.0, c.in_ok-rewrite.ensures.brief k, same_moment c.in_ok-read_payload.ensures.reads.0, c.in_ok-close.ensures.brief k);
             moments = recover_moments _ _ _ _ _ (resynced g read before e) c.in_ok-read_gate.ensures.small (named_by g read k).few (named_by g read k).fit set shown;
             ok = recovers_copied _ _ _ _ _ _
                 (λ none. not_empty _ _ c.is_empty.ensures c.if-is_empty.false (c.read_gate.new.named.ok.0 ∙ ap (λ (ts : List ℕ). length ts) none))

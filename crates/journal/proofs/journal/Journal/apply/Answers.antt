@@ -158,7 +158,7 @@ pub returns-clause-safe : goal.returns-clause-safe
 unfolding log_of
 returns-clause-safe g c =
     let safe = part_is_safe c.args.self.now c.flush_if_full.new.self _ _ _ c.in_ok-flush_if_full.ensures.part in
-    record { size = safe.size; moments = safe.moments; settled = safe.settled }
+    record { size = safe.size; moments = safe.moments; brief = safe.brief; settled = safe.settled }
 
 pub returns-clause-answers : goal.returns-clause-answers
 unfolding log_of journal_failures

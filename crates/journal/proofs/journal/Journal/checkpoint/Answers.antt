@@ -1,4 +1,4 @@
-use Rattle.std.proofs.Common.{◌≡◌, ◌∙◌, ◌+◌, ap, sym, [], ℕ, List, false, true}
+use Rattle.std.proofs.Common.{◌≡◌, ◌∙◌, ◌+◌, ap, arith, sym, [], ℕ, List, false, true}
 use Rattle.disk.specs.declared.update.Update.{Update}
 use Rattle.disk.specs.Moments.{AddsOnly, seen, moment}
 use Rattle.journal.specs.Commit.{IsCopiedHome}
@@ -48,6 +48,7 @@ unfolding log_of
 returns-then-is_err-clause-safe g c = record {
   size = c.close.ensures.size;
   moments = λ k. moments g (goal.at.returns-then-is_err-clause-safe g c).After-is_err k;
+  brief = λ k. omega (arith, c.close.ensures.brief k);
   settled = λ k up. absurd (let never : true ≡ false = up in cc);
 }
 

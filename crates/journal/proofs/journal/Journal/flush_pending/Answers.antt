@@ -66,6 +66,7 @@ pub returns-then-is_err-clause-part : goal.returns-then-is_err-clause-part
 unfolding log_of journal_failures
 returns-then-is_err-clause-part g c = record {
   moments = λ k. moments g (goal.at.returns-then-is_err-clause-part g c).After-is_err k;
+  brief = λ k. c.commit.ensures.brief k;
   size = search rules;
   is_down = search rules;
   failures = search rules;
@@ -75,6 +76,7 @@ pub returns-clause-part : goal.returns-clause-part
 unfolding log_of journal_failures
 returns-clause-part g c = record {
   moments = λ k. moments g (goal.at.returns-clause-part g c).After-is_err k;
+  brief = λ k. c.commit.ensures.brief k;
   size = search rules;
   is_down = search rules;
   failures = search rules;

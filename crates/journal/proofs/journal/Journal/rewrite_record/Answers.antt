@@ -1,4 +1,4 @@
-use Rattle.std.proofs.Common.{◌≡◌, ◌∙◌, ap, sym, subst, length, List, ℕ, false, true}
+use Rattle.std.proofs.Common.{◌≡◌, ◌∙◌, ap, arith, sym, subst, length, List, ℕ, false, true}
 use Rattle.disk.specs.Moments.{AddsOnly, History, seen}
 use Rattle.journal.specs.Commit.{KeepsShown, rewritten}
 use Rattle.journal.specs.Journal.{log_of, recorded_sectors, listed}
@@ -37,6 +37,7 @@ unfolding log_of
 returns-then-is_err-clause-safe g c = record {
   size = c.rewrite.ensures.size;
   moments = λ k. moments g (goal.at.returns-then-is_err-clause-safe g c).After-is_err k;
+  brief = λ k. omega (arith, c.rewrite.ensures.brief k);
   settled = λ k up. absurd (let never : true ≡ false = up in cc);
 }
 
@@ -48,6 +49,7 @@ returns-clause-safe g c =
     record {
       size = c.rewrite.ensures.size;
       moments = λ k. moments g at k;
+      brief = λ k. omega (arith, c.rewrite.ensures.brief k);
       settled = λ k up. settled_of (g.D.Device.size c.rewrite.new.device) was.recorded.targets.items (g.D.Device.history c.rewrite.new.device)
           was.shown_fits.few (same_fit (g.D.Device.size was.device) (g.D.Device.size c.rewrite.new.device) was.recorded.targets.items c.rewrite.ensures.size was.shown_fits.fit)
           (gated_again _ _ _ (again g at c.if-is_err.false k) (gated g at k).gate_is);
