@@ -2,7 +2,7 @@
 use Rattle.std.proofs.Common.{◌≡◌, ℕ, Bool, true, false, refl, sym, ap, ap₂, ◌∙◌, subst, inl, inr, ⊎_elim, arith}
 use Rattle.layout.specs.Stands.{Kept}
 use Rattle.volume.specs.Changes.{Given, Ending, Done, Nothing, Broken, EndsAs}
-use Rattle.volume.specs.VolumeState.{VolumeState, IsSameVolume, IsRecent, AddsTrees}
+use Rattle.volume.specs.VolumeState.{VolumeState, IsSameVolume, IsRecent, AddsTrees, MakesAtMost}
 use Rattle.volume.specs.Shown.{ShowsAs}
 use Rattle.model_tree.specs.Trees.Tree.{Tree}
 use Rattle.fs.specs.Changes.{FsChanges, LetsWait, deferred}
@@ -19,6 +19,9 @@ same_volume old new is = record {
 adds_nothing : (old new : VolumeState) (after : Kept) → new ≡ old → AddsTrees old after new.history
 adds_nothing old new after same =
     subst (λ (held : VolumeState). AddsTrees old after held.history) (sym same) (λ recent is. record { later = omega arith; added = λ t image l left. inl left })
+
+no_calls : (old new : VolumeState) → new ≡ old → MakesAtMost 396 old new
+no_calls old new same = subst (λ (held : VolumeState). MakesAtMost 396 old held) (sym same) (omega arith)
 
 nothing_done : Nothing ≡ Done → ⊥
 nothing_done is = cc
@@ -47,6 +50,7 @@ leaves_all keeps_word given old new before after same told =
         none = λ other. told;
         moments = λ keeps kept lasts is. adds_nothing old.volume new.volume kept held;
         ends = held;
+        brief = λ keeps. no_calls old.volume new.volume held;
       };
       no_count = λ undone. ap (λ (f : FileSystem). f.changes) same;
       lets_wait = lets_nothing keeps_word given old new Nothing same (λ keeps done. absurd (nothing_done done));
@@ -78,6 +82,7 @@ answers_still keeps_word given old new before after same told up stays quiet =
             },
           );
         };
+        brief = λ keeps. no_calls old.volume new.volume held;
       };
       no_count = λ undone. ap (λ (f : FileSystem). f.changes) same;
       lets_wait = lets_nothing keeps_word given old new Done same (λ keeps done kept is. never true (quiet keeps kept true is (stays keeps kept true is)) refl);
@@ -138,6 +143,7 @@ module _ (keeps_word : Type 0) (given other : Given) (weaker : keeps_word → (a
       none = changes.volume_changes.none;
       moments = λ keeps kept lasts is. changes.volume_changes.moments keeps kept lasts (is.0, weaker keeps kept is.0 is.1, is.2);
       ends = ends_when ending changes.volume_changes.ends;
+      brief = changes.volume_changes.brief;
     };
     no_count = changes.no_count;
     lets_wait = waits_by keeps_word given other weaker old new ending changes.lets_wait;

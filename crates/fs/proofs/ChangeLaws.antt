@@ -1,7 +1,7 @@
 -- What calls do to a file system.
 use Rattle.std.proofs.Common.{◌≡◌, ◌⊎◌, ℕ, Bool, true, false, not, ◌&&◌, ◌||◌, inl, inr, ⊎_elim, refl, sym, ap, ◌∙◌, subst, arith, true≢false}
 use Rattle.std.specs.Prelude.{Result, Ok, Err, IfErr, IsErrOf}
-use Rattle.disk.specs.Moments.{AddsOnly}
+use Rattle.disk.specs.Moments.{AddsOnly, moment}
 use Rattle.disk.proofs.MomentLemmas.{AddsOnly-same}
 use Rattle.layout.specs.Stands.{Kept}
 use Rattle.model.specs.declared.not_done.NotDone.{NotDone}
@@ -45,6 +45,7 @@ module _ (keeps_word : Type 0) (given other : Given) (weaker : (after : Kept) (l
     none = changes.none;
     moments = λ keeps kept lasts is. changes.moments keeps kept lasts (weaker kept lasts is);
     ends = ends_by ending changes.ends;
+    brief = changes.brief;
   }
 
 -- and so where it is deferred
@@ -262,6 +263,7 @@ waiting keeps_word old new failed same counts mode up defers waits = later keeps
       },
     );
   };
+  brief = λ keeps. let moments = ap (λ (h : VolumeState). moment h.history) same in omega (arith, moments);
 })
 
 -- a call that ends before its change leaves all as it was
@@ -274,6 +276,7 @@ module _ (keeps_word : Type 0) (given : Given) (fs : FileSystem) (failed : ℕ) 
       none = λ other. refl;
       moments = λ keeps after lasts is recent ready. AddsOnly-same _ fs.volume.history;
       ends = refl;
+      brief = λ keeps. omega arith;
     };
     no_count = λ other. refl;
     lets_wait = record {

@@ -44,7 +44,7 @@ impl<D: Device> Fs<D> {
     ghost use Rattle.model_tree.specs.Seats.SeatViews.{seats_view};
     ghost use Rattle.volume.specs.Changes.{IsSeats, Stays};
     ghost use Rattle.volume.specs.Formed.{ShowsTree};
-    ghost use Rattle.volume.specs.VolumeState.{KeepsRecent};
+    ghost use Rattle.volume.specs.VolumeState.{KeepsRecent, MakesAtMost};
     ghost use Rattle.volume.specs.MountAnswers.{FindsSeats, MountGivesBack};
     ghost use Rattle.volume.specs.Rooms.{IsLeftOf};
 
@@ -228,6 +228,8 @@ impl<D: Device> Fs<D> {
     pub fn flush(&mut self) -> Result<(), FsFault>
         ensures flushes { FsFlushes D.keeps_word (fs_of self.old) (fs_of self.new)
             (fs_failures self.old) (fs_failures self.new) result }
+        ensures brief { D.keeps_word
+            → MakesAtMost 198 (fs_of self.old).volume (fs_of self.new).volume }
         ensures shows { OnOk result (ShowsTree D.keeps_word (fs_of self.old).volume.tree
             (fs_of self.new).volume.tree) }
         // Refused
@@ -248,6 +250,8 @@ impl<D: Device> Fs<D> {
     pub fn checkpoint(&mut self) -> Result<(), FsFault>
         ensures volume { AltersFs self.old self.new
             (Stays (fs_of self.old).volume) (fs_ending result) }
+        ensures brief { D.keeps_word
+            → MakesAtMost 99 (fs_of self.old).volume (fs_of self.new).volume }
         ensures shows { OnOk result (ShowsTree D.keeps_word (fs_of self.old).volume.tree
             (fs_of self.new).volume.tree) }
         ensures recent { D.keeps_word → OnOk result

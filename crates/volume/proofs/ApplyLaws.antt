@@ -5,7 +5,7 @@ use Rattle.std.specs.List.{IsAmong}
 use Rattle.std.specs.Prelude.{Err}
 use Rattle.disk.specs.Cause.{IsCounted}
 use Rattle.disk.specs.declared.update.Update.{Update}
-use Rattle.disk.specs.Moments.{Image, applied}
+use Rattle.disk.specs.Moments.{Image, applied, moment}
 use Rattle.tree_edits.proofs.BlankLaws.{each_outline}
 use Rattle.journal.specs.Calls.{IsSafe, HasApplied, list_with}
 use Rattle.journal.specs.Log.{Log, IsSettled, Moved, contents, applied_all, AnswersByDevice}
@@ -21,13 +21,13 @@ use Rattle.model_tree.specs.declared.limits.Limits.{Limits}
 use Rattle.model_tree.specs.Seats.Seats.{Seats}
 use Rattle.model_tree.specs.Trees.Tree.{Tree}
 use Rattle.volume.specs.Changes.{Given, Done, Broken, VolumeChanges, ending_of}
-use Rattle.volume.specs.VolumeState.{VolumeState, IsRecent, AddsTrees, fronts_from, with_tree}
+use Rattle.volume.specs.VolumeState.{VolumeState, IsRecent, AddsTrees, MakesAtMost, fronts_from, with_tree}
 use Rattle.volume.specs.Known.{IsServing, kept_in_image}
 use Rattle.volume.specs.Refusals.{fault_of}
 use Rattle.volume.specs.Stands.{VolumeStands}
 use Rattle.volume.specs.Views.{volume_state_by}
 use Rattle.volume.proofs.FrontLaws.{among_more, applied_recent, front_among}
-use Rattle.volume.proofs.ServeLaws.{flush_adds, seats_stay, still_serving, tree_stays}
+use Rattle.volume.proofs.ServeLaws.{few_for_call, flush_adds, seats_stay, still_serving, tree_stays}
 use Rattle.volume.proofs.OneTree.{Seats-set, Tree-set}
 use Rattle.volume.proofs.StandLaws.{stands_same}
 
@@ -178,6 +178,9 @@ module _ (keeps_word : Type 0) (limits : Limits) (run : ℕ) (cards is : List (O
   moments : keeps_word → (kept : Kept) (lasts : Bool) → given kept lasts → AddsTrees was kept new.history
   moments k kept lasts is_given = flush_adds limits run cards old new kept (safe.moments k)
 
+  brief : keeps_word → MakesAtMost 396 was now
+  brief k = few_for_call (moment old.history) (moment new.history) (safe.brief k)
+
   module _ (up : new.is_down ≡ false) (has : HasApplied keeps_word updates old new) (serves : keeps_word → ∥ IsServing old limits.nodes run cards ∥₁)
       (behind : keeps_word → StandsWith limits.nodes run old updates is (seated old after)) where
     abbrev between : Log
@@ -207,6 +210,7 @@ module _ (keeps_word : Type 0) (limits : Limits) (run : ℕ) (cards is : List (O
       later = later;
       none = λ other. told;
       moments = moments;
+      brief = brief;
       ends = record {
         still_up = up;
         seats = λ k kept lasts is_given. applied_seats k ∙ sym (ap (λ (of : Kept). of.seats) is_given.0);
@@ -232,6 +236,7 @@ module _ (keeps_word : Type 0) (limits : Limits) (run : ℕ) (cards is : List (O
     later = later;
     none = λ other. absurd (other refl);
     moments = moments;
+    brief = brief;
     ends = record {
       down = down;
       cause = counted;

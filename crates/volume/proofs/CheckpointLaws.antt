@@ -3,7 +3,7 @@ use Rattle.std.proofs.Common.{◌≡◌, ◌≤◌, ℕ, false, List, [], ◌∷
 use Rattle.std.proofs.Math.Logic.{∥∥₁_map, ∥∥₁_elim}
 use Rattle.std.specs.List.{IsAmong}
 use Rattle.disk.specs.declared.update.Update.{Update}
-use Rattle.disk.specs.Moments.{Image, applied}
+use Rattle.disk.specs.Moments.{Image, applied, moment}
 use Rattle.journal.specs.Calls.{IsSafe, HasCheckpointed}
 use Rattle.journal.specs.Log.{Log}
 use Rattle.journal.specs.Settled.{AreSame}
@@ -20,7 +20,7 @@ use Rattle.volume.specs.Stands.{VolumeStands}
 use Rattle.volume.specs.Views.{volume_state_by}
 use Rattle.volume.proofs.FrontLaws.{among_more, among_rest, front_among}
 use Rattle.volume.proofs.OneTree.{Seats-set, Tree-set}
-use Rattle.volume.proofs.ServeLaws.{among_one, flush_adds, seats_stay, tree_stays}
+use Rattle.volume.proofs.ServeLaws.{among_one, few_for_call, flush_adds, seats_stay, tree_stays}
 use Rattle.volume.proofs.StandLaws.{stands_same}
 
 -- each front of the one has the sectors of a front of the other
@@ -89,6 +89,7 @@ module _ (keeps_word : Type 0) (limits : Limits) (run : ℕ) (cards : List (Opti
     later = later;
     none = λ other. told;
     moments = λ k kept lasts given. flush_adds limits run cards old new kept (safe.moments k);
+    brief = λ k. few_for_call (moment old.history) (moment new.history) (safe.brief k);
     ends = record {
       still_up = up;
       seats = λ k kept lasts given. checkpoint_seats k ∙ sym (ap (λ (of : Kept). of.seats) given.0);

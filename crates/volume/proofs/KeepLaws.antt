@@ -1,10 +1,10 @@
 -- A change, and a flush after it.
-use Rattle.std.proofs.Common.{◌≡◌, ◌≤◌, ◌⊎◌, ◌↔◌, ℕ, Bool, true, false, List, inl, inr, ⊎_elim, refl, sym, ap, ◌∙◌, subst, arith, true≢false}
+use Rattle.std.proofs.Common.{◌≡◌, ◌≤◌, ◌⊎◌, ◌↔◌, ◌+◌, ℕ, Bool, true, false, List, inl, inr, ⊎_elim, refl, sym, ap, ◌∙◌, subst, arith, true≢false}
 use Rattle.std.proofs.lemmas.Bool.{cases_lt}
 use Rattle.std.specs.List.{IsAmong}
 use Rattle.std.specs.Prelude.{Result, Ok, Err, IfErr, IsErrOf}
 use Rattle.disk.specs.Cause.{IsCounted}
-use Rattle.disk.specs.Moments.{Image}
+use Rattle.disk.specs.Moments.{Image, moment}
 use Rattle.tree_edits.specs.Outlines.{without_data}
 use Rattle.disk.proofs.MomentLemmas.{AddsOnly-join, AddsOnly-same, AddsOnly-weaken}
 use Rattle.layout.specs.Stands.{Kept}
@@ -12,7 +12,7 @@ use Rattle.layout.proofs.KeptLaws.{same_kept}
 use Rattle.model_tree.specs.Trees.Tree.{Tree}
 use Rattle.volume.specs.Changes.{Given, Ending, Done, Nothing, Broken, IsTree, VolumeChanges, ending_of}
 use Rattle.volume.specs.Formed.{ShowsTree}
-use Rattle.volume.specs.VolumeState.{VolumeState, IsSameVolume, StandsForOne, IsLeft, MayAdd, AddsTrees, kept_of, with_tree}
+use Rattle.volume.specs.VolumeState.{VolumeState, IsSameVolume, StandsForOne, IsLeft, MakesAtMost, MayAdd, AddsTrees, kept_of, with_tree}
 use Rattle.volume.specs.Shown.{ShowsAs}
 use Rattle.volume.specs.Stands.{StandsFor}
 use Rattle.volume.specs.declared.fault.VolumeFault.{VolumeFault}
@@ -28,10 +28,15 @@ counted_later before between after later counted = elim counted [
   ]
 ]
 
+-- two parts of a call, of 198 writes and syncs at most each
+pub few_with_flush : (first middle last : ℕ) → middle ≤ first + 198 → last ≤ middle + 198 → last ≤ first + 396
+few_with_flush first middle last few then_few = omega (arith, few, then_few)
+
 module _ (keeps_word : Type 0) (was between now : VolumeState) (after : Tree)
     (first middle last : ℕ)
     (change : VolumeChanges keeps_word (λ kept lasts. (kept ≡ with_tree was after) × (lasts ≡ false)) was between first middle Done)
-    (shown : ShowsTree keeps_word after between.tree) where
+    (shown : ShowsTree keeps_word after between.tree)
+    (few : keeps_word → MakesAtMost 198 was between) (then_few : keeps_word → MakesAtMost 198 between now) where
   abbrev Flushes : Ending → Type 0
   Flushes ending = VolumeChanges keeps_word (IsTree between between.tree) between now middle last ending
 
@@ -66,6 +71,9 @@ module _ (keeps_word : Type 0) (was between now : VolumeState) (after : Tree)
       (one_before recent there.0 kept there.1.no_others (same_as kept k is) there.1.seats (ap (λ (of : Kept). of.seats) is))
       (flush.moments k (kept_of between) lasts refl there.0 there.1.ready))
 
+  brief : keeps_word → MakesAtMost 396 was now
+  brief k = few_with_flush (moment was.history) (moment between.history) (moment now.history) (few k) (then_few k)
+
   same_volume : (ending : Ending) → Flushes ending → IsSameVolume was now
   same_volume ending flush = record {
     sectors = flush.same.sectors ∙ change.same.sectors;
@@ -79,6 +87,7 @@ module _ (keeps_word : Type 0) (was between now : VolumeState) (after : Tree)
     later = omega (arith, change.later, flush.later);
     none = λ other. flush.none other ∙ change.none other;
     moments = moments Done flush;
+    brief = brief;
     ends = record {
       still_up = flush.ends.still_up;
       seats = λ k after_it lasts is. flush.ends.seats k (kept_of between) lasts refl ∙ change.ends.seats k after_it false (is, refl);
@@ -113,6 +122,7 @@ module _ (keeps_word : Type 0) (was between now : VolumeState) (after : Tree)
     later = omega (arith, change.later, flush.later);
     none = λ other. absurd (other refl);
     moments = moments Broken flush;
+    brief = brief;
     ends = record {
       down = flush.ends.down;
       cause = counted_later first middle last change.later flush.ends.cause;
@@ -139,6 +149,7 @@ unchanged keeps_word was now after first last Nothing never change = record {
   later = change.later;
   none = change.none;
   moments = λ k kept lasts is. change.moments k kept false (is, refl);
+  brief = change.brief;
   ends = change.ends;
 }
 unchanged keeps_word was now after first last Broken never change = record {
@@ -146,6 +157,7 @@ unchanged keeps_word was now after first last Broken never change = record {
   later = change.later;
   none = change.none;
   moments = λ k kept lasts is. change.moments k kept false (is, refl);
+  brief = change.brief;
   ends = record {
     down = change.ends.down;
     cause = change.ends.cause;
@@ -172,5 +184,6 @@ left keeps_word given held failed = record {
   later = omega arith;
   none = λ other. refl;
   moments = λ keeps after lasts is recent ready. AddsOnly-same _ held.history;
+  brief = λ keeps. omega arith;
   ends = refl;
 }

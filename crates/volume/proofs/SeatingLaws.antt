@@ -1,13 +1,12 @@
 -- Seats that are edited: a transaction of their sectors, and a flush behind it.
-use Rattle.std.proofs.Common.{◌≡◌, ◌≤◌, ◌<◌, ◌+◌, ◌-◌, ◌/◌, ◌%◌, ◌⊎◌, ◌++◌, ℕ, Bool, true, false, List, [], ◌∷◌, Option, None, Some, length, take, get_or, inl, inr, ⊎_elim, refl, sym, ap, ◌∙◌, subst, arith, true≢false}
+use Rattle.std.proofs.Common.{◌≡◌, ◌≤◌, ◌<◌, ◌+◌, ◌-◌, ◌/◌, ◌%◌, ◌⊎◌, ℕ, true, false, List, [], ◌∷◌, Option, None, length, take, inl, inr, ⊎_elim, refl, sym, ap, ◌∙◌, subst, arith, true≢false}
 use Rattle.std.proofs.Math.Logic.{∥∥₁_map, ∥∥₁_elim, ∥∥₁_prop}
 use Rattle.std.proofs.Math.Seq.{take-length}
 use Rattle.std.proofs.lemmas.Bool.{cases_eq, cases_lt}
 use Rattle.std.proofs.lemmas.List.{get_or_past, length-append, take-append-le}
-use Rattle.std.specs.List.{IsAmong}
-use Rattle.std.specs.Prelude.{Result, Ok, Err, IfErr}
+use Rattle.std.specs.Prelude.{Err}
 use Rattle.disk.specs.Cause.{IsCounted}
-use Rattle.disk.specs.Moments.{Image, applied}
+use Rattle.disk.specs.Moments.{Image, applied, moment}
 use Rattle.disk.specs.declared.update.Update.{Update}
 use Rattle.disk.proofs.MomentLemmas.{AddsOnly-join, AddsOnly-weaken}
 use Rattle.tree_edits.proofs.BlankLaws.{each_outline}
@@ -26,12 +25,12 @@ use Rattle.layout.proofs.Rewriting.{current_second, form_stays, rewritten_cards,
 use Rattle.layout.proofs.SeatLaws.{spare_seats}
 use Rattle.model_tree.specs.declared.limits.Limits.{Limits}
 use Rattle.model_tree.specs.Seats.SeatEdits.{SeatEdit, AreEdits, edited_all}
-use Rattle.model_tree.specs.Seats.Seats.{Seat, Seats}
+use Rattle.model_tree.specs.Seats.Seats.{Seats}
 use Rattle.model_tree.specs.Trees.Tree.{Tree}
 use Rattle.volume.specs.SeatTransactions.{AreUpdates}
 use Rattle.seats.specs.Spelling.{ArePlaces, seat_sector, seats_sector}
 use Rattle.volume.specs.Changes.{Done, Broken, IsSeats, VolumeChanges, ending_of}
-use Rattle.volume.specs.VolumeState.{VolumeState, Holds, IsRecent, IsSameVolume, MayAdd, StandsForOne, AddsTrees, with_tree}
+use Rattle.volume.specs.VolumeState.{VolumeState, Holds, IsRecent, IsSameVolume, MakesAtMost, MayAdd, StandsForOne, AddsTrees, with_tree}
 use Rattle.volume.specs.Known.{IsServing, kept_in_image}
 use Rattle.volume.specs.Refusals.{fault_of}
 use Rattle.volume.specs.Stands.{VolumeStands}
@@ -39,9 +38,8 @@ use Rattle.volume.specs.Views.{volume_state_by}
 use Rattle.volume.proofs.ApplyLaws.{StandsWith, listed_with, moved_seats, moved_serves, moved_tree, stands_after, then_seats, then_serves, then_tree}
 use Rattle.volume.proofs.ChangeLaws.{StandsWith-prop}
 use Rattle.volume.proofs.FrontLaws.{front_among}
-use Rattle.volume.proofs.KeepLaws.{counted_later}
-use Rattle.volume.proofs.OneTree.{Seats-set, Tree-set}
-use Rattle.volume.proofs.ServeLaws.{among_one, flush_adds, flush_keeps, flush_refused, flush_seats, holds_base, served_stands, still_serving}
+use Rattle.volume.proofs.KeepLaws.{counted_later, few_with_flush}
+use Rattle.volume.proofs.ServeLaws.{among_one, flush_adds, flush_keeps, flush_seats, holds_base, served_stands, still_serving}
 use Rattle.volume.proofs.StandLaws.{stands_same}
 
 -- What stands after the transaction: the same cached nodes and tree, with the edited seats
@@ -221,12 +219,16 @@ module _ (keeps_word : Type 0) (limits : Limits) (run : ℕ) (cards : List (Opti
         (AddsOnly-weaken (StandsForFront mid.size mid.base mid.list) (StandsForOne before (MayAdd before recent after)) mid.history new.history
         (mid_front k recent ready) (flushes.moments k)))
 
+    brief : keeps_word → MakesAtMost 396 before now_held
+    brief k = few_with_flush (moment old.history) (moment mid.history) (moment new.history) (safe.brief k) (flushes.brief k)
+
     pub seated_done : last ≡ middle → new.is_down ≡ false → HasFlushed keeps_word mid new → VolumeChanges keeps_word (IsSeats before seats) before now_held first last Done
     seated_done none is_up flushed = record {
       same = same_volume;
       later = omega (arith, later, rises);
       none = λ other. none ∙ told;
       moments = λ k kept lasts is. moments k kept is;
+      brief = brief;
       ends = record {
         still_up = is_up;
         seats = λ k kept lasts is. new_seats k ∙ sym (ap (λ (of : Kept). of.seats) is);
@@ -266,6 +268,7 @@ module _ (keeps_word : Type 0) (limits : Limits) (run : ℕ) (cards : List (Opti
       later = omega (arith, later, rises);
       none = λ other. absurd (other refl);
       moments = λ k kept lasts is. moments k kept is;
+      brief = brief;
       ends = record {
         down = down;
         cause = counted_later first middle last later counted;

@@ -1,12 +1,12 @@
 -- A volume that serves, over a flush of its journal.
-use Rattle.std.proofs.Common.{◌≡◌, ◌≤◌, ◌<◌, ◌⊎◌, ℕ, Bool, true, false, List, [], ◌∷◌, Option, Some, None, zero, suc, take, length, inl, inr, ⊎_elim, refl, sym, ap, ◌∙◌, subst, arith}
+use Rattle.std.proofs.Common.{◌≡◌, ◌≤◌, ◌<◌, ◌⊎◌, ◌+◌, ℕ, Bool, true, false, List, [], ◌∷◌, Option, Some, None, zero, suc, take, length, inl, inr, ⊎_elim, refl, sym, ap, ◌∙◌, subst, arith}
 use Rattle.std.proofs.Math.Logic.{∥∥₁_map, ∥∥₁_elim, ∥∥₁_prop}
 use Rattle.std.specs.List.{IsAmong}
 use Rattle.std.specs.Result.{IsErrAnd}
 use Rattle.std.specs.Prelude.{IfSome, IfErr, OnOk, Result, Ok, Err, get_or}
 use Rattle.std.proofs.lemmas.Bool.{false_from_ne_true}
 use Rattle.disk.specs.Cause.{IsCounted}
-use Rattle.disk.specs.Moments.{Image}
+use Rattle.disk.specs.Moments.{Image, moment}
 use Rattle.disk.proofs.MomentLemmas.{AddsOnly-weaken}
 use Rattle.tree_edits.proofs.BlankLaws.{each_outline}
 use Rattle.journal.specs.Calls.{IsSafe, HasFlushed}
@@ -125,6 +125,10 @@ pub if_some_so : {T : Type 0} (o : Option T) (P Q : T → Type 0) → ((x : T) �
 if_some_so (Some x) P Q so is = so x is
 if_some_so None P Q so is = tt
 
+-- what takes 198 writes and syncs at most takes no more than a call may
+pub few_for_call : (before after : ℕ) → after ≤ before + 198 → after ≤ before + 396
+few_for_call before after few = omega (arith, few)
+
 -- A flush of the journal, as the volume tells it
 module _ (keeps_word : Type 0) (limits : Limits) (run : ℕ) (cards : List (Option CachedNode)) (old new : Log) (before after : ℕ) where
   abbrev was : VolumeState
@@ -146,6 +150,7 @@ module _ (keeps_word : Type 0) (limits : Limits) (run : ℕ) (cards : List (Opti
       later = later;
       none = λ other. told;
       moments = λ k kept lasts given. flush_adds limits run cards old new kept (safe.moments k);
+      brief = λ k. few_for_call (moment old.history) (moment new.history) (safe.brief k);
       ends = record {
         still_up = false_from_ne_true;
         seats = λ k after lasts given. flush_seats keeps_word limits.nodes run cards old new flushed serves k ∙ sym (ap (λ (kept : Kept). kept.seats) given);
@@ -175,6 +180,7 @@ module _ (keeps_word : Type 0) (limits : Limits) (run : ℕ) (cards : List (Opti
       later = later;
       none = λ other. absurd (other refl);
       moments = λ k kept lasts of. flush_adds limits run cards old new kept (safe.moments k);
+      brief = λ k. few_for_call (moment old.history) (moment new.history) (safe.brief k);
       ends = record {
         down = down;
         cause = counted;
@@ -188,6 +194,7 @@ module _ (keeps_word : Type 0) (limits : Limits) (run : ℕ) (cards : List (Opti
       later = later;
       none = λ other. told;
       moments = λ k kept lasts of. flush_adds limits run cards old new kept (safe.moments k);
+      brief = λ k. few_for_call (moment old.history) (moment new.history) (safe.brief k);
       ends = ap (volume_state_by limits run cards) same;
     }
 

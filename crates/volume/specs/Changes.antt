@@ -8,8 +8,8 @@ use Rattle.model_tree.specs.Seats.Seats.{Seats}
 use Rattle.model_tree.specs.Trees.Tree.{Tree}
 use Rattle.volume.specs.declared.fault.VolumeFault.{VolumeFault}
 use Rattle.volume.specs.declared.fault.VolumeFault.TheVariants as fault
-use Rattle.volume.specs.VolumeState.{VolumeState, IsSameVolume, IsRecent, AddsTrees, kept_of}
-use Rattle.volume.specs.VolumeState.{with_tree}
+use Rattle.volume.specs.VolumeState.{VolumeState, IsSameVolume, IsRecent, AddsTrees, MakesAtMost}
+use Rattle.volume.specs.VolumeState.{kept_of, with_tree}
 use Rattle.volume.specs.Shown.{ShowsAs}
 
 -- how a call ends: it answered, it left all as it was, or the device failed in it
@@ -90,4 +90,7 @@ pub record VolumeChanges (keeps_word : Type 0) (given : Given) (old new : Volume
   -- at each moment of it a crash leaves a tree from before, or what is kept after it
   pub moments : keeps_word → (after : Kept) (lasts : Bool) → given after lasts
       → AddsTrees old after new.history
+  -- It makes at most 396 writes and syncs, however it ends: a flush makes at most 198, since it may
+  -- copy the log home first, and a call flushes at most twice.
+  pub brief : keeps_word → MakesAtMost 396 old new
   pub ends : EndsAs keeps_word given old new failed_before failed_after ending

@@ -4,7 +4,7 @@ use Rattle.disk.specs.Cause.{IsCounted}
 use Rattle.disk.specs.Moments.{Image, AddsOnly, moment}
 use Rattle.journal.specs.Log.{Log, Costs, IsSettled}
 use Rattle.journal.specs.declared.fault.JournalFault.{JournalFault}
-use Rattle.layout.specs.CachedNodes.{CachedNode, cards_in, tree_of}
+use Rattle.layout.specs.CachedNodes.{CachedNode, cards_in}
 use Rattle.layout.specs.Rewriting.{all_second}
 use Rattle.layout.specs.Stands as layout
 use Rattle.layout.specs.Stands.{AreKept, IsMark, Kept, MayHaveSeats, StandsNow, served_version, number_of_version, version_2}

@@ -1,8 +1,8 @@
 -- What contracts see of a volume. Where things stand on the device stays below.
-use Rattle.std.specs.Prelude.{ℕ, Bool, false, List, [], ◌∷◌, ◌≡◌, ◌⊎◌}
+use Rattle.std.specs.Prelude.{ℕ, Bool, false, List, [], ◌∷◌, ◌≡◌, ◌≤◌, ◌+◌, ◌⊎◌}
 use Rattle.std.specs.List.{IsAmong}
 use Rattle.disk.specs.declared.update.Update.{Update}
-use Rattle.disk.specs.Moments.{History, Image, Left, AddsOnly, applied}
+use Rattle.disk.specs.Moments.{History, Image, Left, AddsOnly, applied, moment}
 use Rattle.journal.specs.Settled.{Settles}
 use Rattle.layout.specs.Stands.{Kept, StandsNow}
 use Rattle.model_tree.specs.declared.limits.Limits.{Limits}
@@ -76,6 +76,10 @@ pub record IsRecent (held : VolumeState) (recent : List Tree) : Type 0 where
 -- whichever trees a crash might leave before, it may leave now, and no others
 abbrev pub KeepsRecent : (old new : VolumeState) → Type 0
 KeepsRecent old new = (recent : List Tree) → IsRecent old recent → IsRecent new recent
+
+-- so many writes and syncs were done at most
+abbrev pub MakesAtMost : ℕ → (old new : VolumeState) → Type 0
+MakesAtMost count old new = moment new.history ≤ moment old.history + count
 
 -- each map that a crash leaves is a volume of the current version, with what is kept
 abbrev pub LeavesCurrent : VolumeState → Type 0

@@ -32,6 +32,7 @@ impl<D: Device> Volume<D> {
     ghost use Rattle.volume.specs.Formed.{ShowsTree};
     ghost use Rattle.volume.specs.Shown.{ShowsAs};
     ghost use Rattle.volume.specs.Views.{volume_state, AltersVolume};
+    ghost use Rattle.volume.specs.VolumeState.{MakesAtMost};
 
     /// Whether the tree after edits has room: what [`Volume::change`] asks first. Each must be one
     /// whose room can be told in the tree that those before it give: it need not be possible, and a
@@ -90,6 +91,8 @@ impl<D: Device> Volume<D> {
             (IsEdited (volume_state self.old) edits.now) (ending_of result) }
         ensures shows { OnOk result (ShowsTree D.keeps_word
             (edited_by (volume_state self.old) edits.now) (volume_state self.new).tree) }
+        ensures brief { D.keeps_word → MakesAtMost 198 (volume_state self.old)
+            (volume_state self.new) }
         // Refused
         ensures stays { OnErr result
             (ShowsAs (volume_state self.old).tree (volume_state self.new).tree) }

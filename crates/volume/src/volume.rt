@@ -77,7 +77,7 @@ impl<D: Device> Volume<D> {
     ghost use Rattle.model_tree.specs.Seats.SeatViews.{seats_view};
     ghost use Rattle.volume.specs.Changes.{IsTree, Stays, ending_of};
     ghost use Rattle.volume.specs.Formed.{ShowsTree};
-    ghost use Rattle.volume.specs.VolumeState.{IsJustMounted, KeepsRecent};
+    ghost use Rattle.volume.specs.VolumeState.{IsJustMounted, KeepsRecent, MakesAtMost};
     ghost use Rattle.volume.specs.Loads.{HoldsBase};
     ghost use Rattle.volume.specs.MountAnswers.{FindsSeats, MountGivesBack, ComesBack};
     ghost use Rattle.volume.specs.Mounts.{IsVolumeOf, IsAtRest, HasBegun, IsNotBegun};
@@ -273,6 +273,8 @@ impl<D: Device> Volume<D> {
             (IsTree (volume_state self.old) (volume_state self.old).tree) (ending_of result) }
         ensures shows { OnOk result (ShowsTree D.keeps_word (volume_state self.old).tree
             (volume_state self.new).tree) }
+        ensures brief { D.keeps_word → MakesAtMost 198 (volume_state self.old)
+            (volume_state self.new) }
         // Refused
         ensures down { IsErrOf result VolumeFault.Down ↔ ((volume_state self.old).is_down ≡ true) }
         ensures refuses { IfErr result (λ fault.
@@ -296,6 +298,8 @@ impl<D: Device> Volume<D> {
             (volume_state self.new).tree) }
         ensures recent { D.keeps_word → OnOk result
             (KeepsRecent (volume_state self.old) (volume_state self.new)) }
+        ensures brief { D.keeps_word → MakesAtMost 99 (volume_state self.old)
+            (volume_state self.new) }
         // Refused
         ensures down { IsErrOf result VolumeFault.Down ↔ ((volume_state self.old).is_down ≡ true) }
         ensures refuses { IfErr result (λ fault.

@@ -5,7 +5,7 @@ use Rattle.tree_edits.proofs.BlankLaws.{each_outline}
 use Rattle.journal.specs.Calls.{IsSafe, HasApplied}
 use Rattle.journal.specs.Journal.{log_of, journal_failures}
 use Rattle.journal.specs.Layout.{AreTargets, targets}
-use Rattle.journal.specs.Log.{Log, AnswersByDevice, contents}
+use Rattle.journal.specs.Log.{Log, AnswersByDevice, MakesAtMost, contents}
 use Rattle.layout.specs.CachedNodes.{CachedNode}
 use Rattle.layout.specs.Health.{Health}
 use Rattle.layout.specs.Superblock.{is_size}
@@ -98,6 +98,26 @@ returns-in_err-apply-clause-volume g c =
     (subst (λ (log : Log). AnswersByDevice {T = Unit {0}} log new (journal_failures volume.store.journal) (journal_failures c.apply.new.self) (Err fault)) same
     (subst (λ (n : ℕ). AnswersByDevice {T = Unit {0}} mid new n (journal_failures c.apply.new.self) (Err fault)) failed c.in_err-apply.ensures.answers))
     c.in_err-apply.ensures.refuses)
+
+pub returns-in_err-apply-clause-brief : goal.returns-in_err-apply-clause-brief
+unfolding volume_state
+returns-in_err-apply-clause-brief g c = λ k.
+    let old : Log = log_of c.args.self.now.store.journal in
+    let mid : Log = log_of c.outcome_of.new.base.journal in
+    let new : Log = log_of c.apply.new.self in
+    let health = c.in_ok-outcome.ensures.health.stays (λ faulted. cc) in
+    let same : mid ≡ old = log_same old mid c.in_ok-outcome.ensures.kept (ap (λ (h : Health). h.is_down) health) in
+    subst (λ (log : Log). MakesAtMost 198 log new) same (c.in_err-apply.ensures.safe.brief k)
+
+pub returns-clause-brief : goal.returns-clause-brief
+unfolding volume_state
+returns-clause-brief g c = λ k.
+    let old : Log = log_of c.args.self.now.store.journal in
+    let mid : Log = log_of c.outcome_of.new.base.journal in
+    let new : Log = log_of c.apply.new.self in
+    let health = c.in_ok-outcome.ensures.health.stays (λ faulted. cc) in
+    let same : mid ≡ old = log_same old mid c.in_ok-outcome.ensures.kept (ap (λ (h : Health). h.is_down) health) in
+    subst (λ (log : Log). MakesAtMost 198 log new) same (c.in_ok-apply.ensures.safe.brief k)
 
 pub returns-in_err-apply-clause-stays : goal.returns-in_err-apply-clause-stays
 unfolding volume_state

@@ -18,4 +18,4 @@ pub returns-clause-volume : goal.returns-clause-volume
 returns-clause-volume g c =
     keep_flushed g.D.Device.keeps_word (volume_state c.args.self.now) (volume_state c.change_fitting.new.self) (volume_state c.flush.new.self) (edited_by (volume_state c.args.self.now) c.args.edits.now)
     (volume_failures c.args.self.now) (volume_failures c.change_fitting.new.self) (volume_failures c.flush.new.self)
-    c.in_ok-change_fitting.ensures.volume c.in_ok-change_fitting.ensures.shows c.flush.result c.flush.ensures.volume c.flush.ensures.down c.flush.ensures.refuses
+    c.in_ok-change_fitting.ensures.volume c.in_ok-change_fitting.ensures.shows c.in_ok-change_fitting.ensures.brief c.flush.ensures.brief c.flush.result c.flush.ensures.volume c.flush.ensures.down c.flush.ensures.refuses

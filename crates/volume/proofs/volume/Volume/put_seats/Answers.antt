@@ -1,9 +1,6 @@
-use Rattle.std.proofs.Common.{◌≡◌, ◌≤◌, ◌+◌, ◌∙◌, ℕ, false, List, Option, length, refl, sym, ap, subst, arith}
+use Rattle.std.proofs.Common.{◌≡◌, ◌≤◌, ◌∙◌, ℕ, false, length, refl, sym, ap, subst, arith}
 use Rattle.std.specs.Prelude.{IsTrue, Err}
-use Rattle.tree_edits.proofs.BlankLaws.{each_outline}
-use Rattle.journal.specs.Calls.{HasApplied, IsSafe}
 use Rattle.journal.specs.Journal.{log_of, journal_failures}
-use Rattle.journal.specs.Layout.{targets}
 use Rattle.journal.specs.Log.{Log, contents}
 use Rattle.layout.specs.Superblock.{is_size}
 use Rattle.layout.specs.Stands.{seats_at}
