@@ -1,19 +1,23 @@
 -- A run that begins: the nodes that were read are served under the next count.
-use Rattle.std.proofs.Common.{◌≡◌, ◌+◌, ◌⊎◌, ⊎_elim, ℕ, Bool, List, Option, inl, inr, sym, ap, ◌∙◌, subst}
+use Rattle.std.proofs.Common.{◌≡◌, ◌≤◌, ◌+◌, ◌⊎◌, ⊎_elim, ℕ, Bool, List, Option, None, inl, inr, sym, ap, ◌∙◌, subst, arith}
 use Rattle.std.proofs.Math.Logic.{∥∥₁_map, ∥∥₁_elim}
+use Rattle.std.specs.Prelude.{IsTrue}
 use Rattle.disk.specs.declared.update.Update.{Update}
-use Rattle.disk.specs.Moments.{Image, History, AddsOnly}
+use Rattle.disk.specs.Moments.{Image, History, AddsOnly, moment}
 use Rattle.disk.proofs.MomentLemmas.{AddsOnly-same}
 use Rattle.journal.specs.Log.{Log, applied_all, contents}
 use Rattle.layout.specs.CachedNodes.{CachedNode, tree_of, cards_in}
-use Rattle.layout.specs.Stands.{Kept, StandsAs, StandsNow, seats_at}
+use Rattle.layout.specs.Stands.{IsMark, Kept, StandsAs, StandsNow, mark_held, seats_at}
+use Rattle.layout.specs.Superblock.{is_size}
+use Rattle.layout.specs.declared.versions.VersionNumber.TheVariants.{Two}
 use Rattle.layout.proofs.KeptLaws.{now_told, same_kept, stands_by, stands_now}
+use Rattle.layout.proofs.MarkOnce.{one_mark}
 use Rattle.model_tree.specs.Seats.Seats.{Seats}
 use Rattle.model_tree.specs.declared.limits.Limits.{Limits}
 use Rattle.volume.specs.VolumeState.{Holds, LeavesCurrent}
 use Rattle.volume.specs.Known.{IsServing, kept_in_image}
 use Rattle.volume.specs.Loads.{IsLoaded, read_as}
-use Rattle.volume.specs.Mounts.{StandsOn, StandsForEither, AddsRaised, IsNotBegun}
+use Rattle.volume.specs.Mounts.{StandsOn, StandsForEither, AddsRaised, BeginsBriefly, IsNotBegun}
 use Rattle.volume.specs.Starts.{HasStarted}
 use Rattle.volume.specs.Views.{volume_state_by}
 use Rattle.volume.specs.declared.fault.MountFault.{MountFault}
@@ -21,6 +25,7 @@ use Rattle.volume.specs.declared.fault.MountFault.TheVariants as mounts
 use Rattle.volume.specs.declared.mount.Superblock.{Superblock}
 use Rattle.volume.proofs.OneTree.{Seats-set, Tree-set}
 use Rattle.volume.proofs.ServeLaws.{holds_base}
+use Rattle.volume.proofs.StandLaws.{sized}
 
 module _ (keeps_word : Type 0) (found : Superblock) (old mid new : Log) (mark : Option ℕ) (cards : List (Option CachedNode)) (seats : Seats) (places : List Bool)
     (loaded : IsLoaded keeps_word found old mark cards seats places) (started : HasStarted keeps_word found cards seats mid new)
@@ -89,6 +94,18 @@ raised_from found old mid new only adds =
     (subst (λ (history : History). AddsRaised found mid.base history new) (ap (λ (log : Log). log.history) only) adds)
 
 -- where the nodes were not read, nothing was written
+-- where nothing is marked, the base has no mark
+pub begun_brief : (found : Superblock) (base : Image) (mark : Option ℕ) (old mid new : History) → IsTrue (is_size found.sectors found.nodes) → IsMark found.version found.nodes mark
+    → base 147 ≡ mark_held mark → mid ≡ old → (found.version ≡ Two → mark ≡ None → moment new ≤ moment mid + 4) → BeginsBriefly found base old new
+begun_brief found base mark old mid new size is marked same few (two, unmarked) =
+    let parts = sized found.sectors found.nodes size in
+    let least = few two (one_mark found.version found.nodes mark None (omega (arith, parts.few)) is tt (sym marked ∙ unmarked)) in
+    omega (arith, least, ap moment same)
+
+-- where nothing was done, little was
+pub stays_brief : (found : Superblock) (base : Image) (old new : History) → new ≡ old → BeginsBriefly found base old new
+stays_brief found base old new same needs = omega (arith, ap moment same)
+
 pub not_loaded : (found : Superblock) (old mid : Log) (new : History) (fault : MountFault) → mid ≡ record old { is_down = mid.is_down } → new ≡ mid.history
     → (fault ≡ mounts.Damaged → (kept : Kept) → StandsOn found old.base kept → ⊥)
     → (fault ≡ mounts.Device) ⊎ ((fault ≡ mounts.Damaged) ⊎ (fault ≡ mounts.Memory)) → IsNotBegun found old.base old.history new fault
@@ -96,6 +113,7 @@ not_loaded found old mid new fault only is damaged reasons =
     let same : new ≡ old.history = is ∙ ap (λ (log : Log). log.history) only in
     record {
       moments = λ kept stands. subst (AddsOnly (StandsForEither found kept) old.history) (sym same) (AddsOnly-same (StandsForEither found kept) old.history);
+      brief = stays_brief found old.base old.history new same;
       no_tree = damaged;
       untouched = λ other. same;
       only = reasons;
@@ -110,9 +128,10 @@ not_damaged fault reasons damaged = ⊎_elim
 -- where the run did not begin, the device failed in it, or no memory was there for it
 pub not_started : (found : Superblock) (old mid after : Log) (new : History) (fault : MountFault) → mid ≡ record old { is_down = mid.is_down } → new ≡ after.history
     → AddsRaised found mid.base mid.history after.history → (fault ≡ mounts.Device) ⊎ (fault ≡ mounts.Memory)
-    → (fault ≡ mounts.Memory → after ≡ mid) → IsNotBegun found old.base old.history new fault
-not_started found old mid after new fault only is adds reasons memory = record {
+    → (fault ≡ mounts.Memory → after ≡ mid) → BeginsBriefly found old.base old.history after.history → IsNotBegun found old.base old.history new fault
+not_started found old mid after new fault only is adds reasons memory brief = record {
   moments = subst (AddsRaised found old.base old.history) (sym is) (raised_from found old mid after.history only adds);
+  brief = subst (BeginsBriefly found old.base old.history) (sym is) brief;
   no_tree = λ damaged. absurd (not_damaged fault reasons damaged);
   untouched = λ other. ⊎_elim
       (λ (device : fault ≡ mounts.Device). absurd (other device))

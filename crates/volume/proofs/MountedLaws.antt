@@ -1,10 +1,11 @@
 -- How a mount answers, by what its parts find.
-use Rattle.std.proofs.Common.{◌≡◌, ◌<◌, ◌⊎◌, ◌^◌, ◌∙◌, ℕ, inl, inr, ⊎_elim, refl, sym, ap, subst, arith}
+use Rattle.std.proofs.Common.{◌≡◌, ◌≤◌, ◌<◌, ◌+◌, ◌⊎◌, ◌^◌, ◌∙◌, ℕ, List, [], ◌∷◌, length, inl, inr, ⊎_elim, refl, sym, ap, subst, arith}
 use Rattle.disk.specs.Cause.{IsCounted}
-use Rattle.disk.specs.Moments.{Image, History, AddsOnly, seen, synced}
+use Rattle.disk.specs.Moments.{Image, History, AddsOnly, moment, seen, synced}
 use Rattle.journal.specs.declared.fault.JournalFault.{JournalFault}
 use Rattle.journal.specs.declared.fault.JournalFault.TheVariants as journals
-use Rattle.journal.specs.Recover.{LeavesOnlySynced}
+use Rattle.journal.specs.Layout.{payload_sectors}
+use Rattle.journal.specs.Recover.{LeavesOnlySynced, recovery_cost}
 use Rattle.journal.specs.Settled.{Settles, SettlesAs}
 use Rattle.volume.specs.declared.fault.MountFault.{MountFault}
 use Rattle.volume.specs.declared.fault.MountFault.TheVariants as mounts
@@ -12,12 +13,13 @@ use Rattle.volume.specs.declared.mount.Superblock.{Superblock}
 use Rattle.volume.specs.declared.volume.Unmounted.{Unmounted}
 use Rattle.volume.specs.declared.superblock.Verdict.TheVariants as verdicts
 use Rattle.volume.specs.VolumeState.{VolumeState, kept_of}
-use Rattle.volume.specs.MountAnswers.{first_verdict, HasMounted, OnlyReplays, HasReason, IsMountRefused, ComesBack}
-use Rattle.volume.specs.Mounts.{HasBegun, IsNotBegun}
+use Rattle.volume.specs.MountAnswers.{first_verdict, HasMounted, MountsBriefly, NeedsNoMigration, OnlyReplays, HasReason, IsMountRefused, ComesBack}
+use Rattle.volume.specs.Mounts.{BeginsBriefly, HasBegun, IsNotBegun, NeedsNoMove}
 use Rattle.volume.specs.Refusals.{gate_fault}
 use Rattle.volume.specs.Remounts.{AddsMount}
-use Rattle.volume.specs.Superblock.{superblock}
+use Rattle.volume.specs.Superblock.{superblock, version_in}
 use Rattle.disk.proofs.MomentLemmas.{AddsOnly-same}
+use Rattle.volume.proofs.FirstLaws.{version_back}
 use Rattle.volume.proofs.KeepLaws.{counted_later}
 use Rattle.volume.proofs.FoundLaws.{not_damaged, is_volume_there, count_full, settled_moments, found_stands, found_moments, seen_stands}
 
@@ -30,10 +32,27 @@ untouched_replays sectors old new same = record {
 untouched_mount : (sectors : ℕ) (old new : History) → new ≡ old → AddsMount sectors old new
 untouched_mount sectors old new same nodes run kept base = subst (AddsOnly _ old) (sym same) (AddsOnly-same _ old)
 
+-- what costs no more than a recovery does not cost more than a mount
+pub recovered_brief : (sectors : ℕ) (old new : History) → moment new ≤ moment old + 102 → MountsBriefly sectors old new
+recovered_brief sectors old new few needs = omega (arith, few)
+
+untouched_brief : (sectors : ℕ) (old new : History) → new ≡ old → MountsBriefly sectors old new
+untouched_brief sectors old new same needs = omega (arith, ap moment same)
+
+-- a recovery of what a commit record may name
+recovery_few : (to : List ℕ) → length to ≤ payload_sectors → recovery_cost to ≤ 102
+recovery_few [] few = omega arith
+recovery_few (sector ∷ to) few = omega (arith, few)
+
+pub recovered_few : (sectors : ℕ) (old new : History) (base : Image) (settles : Settles sectors (seen old.now) base) → moment new ≡ moment old + recovery_cost settles.to
+    → moment new ≤ moment old + 102
+recovered_few sectors old new base settles cost = let most = recovery_few settles.to settles.few in omega (arith, cost, most)
+
 -- nothing was asked of the device
 pub refused_untouched : (sectors : ℕ) (old new : History) (fault : MountFault) → new ≡ old → HasReason sectors old new fault → IsMountRefused sectors old new fault
 refused_untouched sectors old new fault same reason = record {
   moments = untouched_mount sectors old new same;
+  brief = untouched_brief sectors old new same;
   writes = λ other. untouched_replays sectors old new same;
   reason = reason;
 }
@@ -78,18 +97,20 @@ gate_counted before after fault reasons counted is = ⊎_elim counted
     (λ (memory : fault ≡ journals.Memory). let other : mounts.Memory ≡ mounts.Device = sym (ap gate_fault memory) ∙ is in let never : ⊥ = cc in absurd never))
     reasons
 
-module _ (sectors : ℕ) (old new : History) (sound : first_verdict sectors old ≡ verdicts.Sound) (replays : AddsOnly (SettlesAs sectors (seen old.now)) old new) where
+module _ (sectors : ℕ) (old new : History) (sound : first_verdict sectors old ≡ verdicts.Sound) (replays : AddsOnly (SettlesAs sectors (seen old.now)) old new)
+    (few : moment new ≤ moment old + 102) where
   settled_mount : AddsMount sectors old new
   settled_mount nodes run kept base = settled_moments sectors nodes run kept (seen old.now) base old new replays
 
   failed : IsMountRefused sectors old new mounts.Device
-  failed = record { moments = settled_mount; writes = λ other. absurd (other refl); reason = tt }
+  failed = record { moments = settled_mount; brief = recovered_brief sectors old new few; writes = λ other. absurd (other refl); reason = tt }
 
   pub gate_refused : (fault : JournalFault) → (fault ≡ journals.Damaged → LeavesOnlySynced sectors old new) → (fault ≡ journals.Memory → new ≡ old)
       → IsMountRefused sectors old new (gate_fault fault)
   gate_refused journals.Memory damaged memory = refused_untouched sectors old new mounts.Memory (memory refl) tt
   gate_refused journals.Damaged damaged memory = record {
     moments = settled_mount;
+    brief = recovered_brief sectors old new few;
     writes = λ other. record { moments = replays; formless = λ none. inr (damaged refl).only_synced };
     reason = record { first = inr sound; no_tree = λ nodes run kept base. (damaged refl).formless base.base base.settles };
   }
@@ -100,7 +121,16 @@ module _ (sectors : ℕ) (old new : History) (sound : first_verdict sectors old 
 -- on the base that the journal found
 module _ (sectors : ℕ) (old mid : History) (found : Superblock) (base : Image) (sectors_is : found.sectors ≡ sectors) (few : found.nodes < 2 ^ 32) (counted : found.run < 2 ^ 32)
     (sound : first_verdict sectors old ≡ verdicts.Sound) (first : seen old.now 0 ≡ superblock found.version found.sectors found.nodes found.run)
-    (settles : Settles sectors (seen old.now) base) (replays : AddsOnly (SettlesAs sectors (seen old.now)) old mid) where
+    (settles : Settles sectors (seen old.now) base) (replays : AddsOnly (SettlesAs sectors (seen old.now)) old mid) (few_moments : moment mid ≤ moment old + 102) where
+  needs_no_move : NeedsNoMigration sectors old → NeedsNoMove found base
+  needs_no_move needs = (
+    sym (version_back found.version found.sectors found.nodes found.run) ∙ (ap version_in (sym first) ∙ needs.version),
+    needs.unmarked base settles,
+  )
+
+  mounts_briefly : (new : History) → BeginsBriefly found base mid new → MountsBriefly sectors old new
+  mounts_briefly new begins needs = let least = begins (needs_no_move needs) in omega (arith, least, few_moments)
+
   pub begun_found : (held : VolumeState) → AddsOnly (SettlesAs sectors (seen old.now)) (synced old) mid → HasBegun found base mid held → HasMounted sectors old held
   begun_found held since begun = record {
     first = sound;
@@ -114,6 +144,7 @@ module _ (sectors : ℕ) (old mid : History) (found : Superblock) (base : Image)
     since_sync = λ nodes run kept stands. found_moments sectors nodes run kept (seen old.now) stands base settles found.version found.sectors found.nodes found.run sectors_is few counted first
         (synced old) mid held.history since (begun.moments kept);
     steps = omega (arith, since.later, begun.steps);
+    brief = mounts_briefly held.history begun.brief;
     current = begun.current;
     holds = begun.holds;
   }
@@ -122,6 +153,7 @@ module _ (sectors : ℕ) (old mid : History) (found : Superblock) (base : Image)
   begin_refused new fault refused = record {
     moments = λ nodes run kept stands. found_moments sectors nodes run kept (seen old.now) stands base settles found.version found.sectors found.nodes found.run sectors_is few counted first
         old mid new replays (refused.moments kept);
+    brief = mounts_briefly new refused.brief;
     writes = λ other. record {
       moments = subst (λ (h : History). AddsOnly (SettlesAs sectors (seen old.now)) old h) (sym (refused.untouched other)) replays;
       formless = λ none. absurd (none base settles);

@@ -1,5 +1,5 @@
 -- A run that begins on the nodes that were read.
-use Rattle.std.proofs.Common.{◌≡◌, ◌≤◌, ◌<◌, ◌+◌, ◌^◌, ◌∙◌, ℕ, Bool, true, List, [], Option, Some, None, is_some, length, inl, inr, refl, sym, ap, subst, arith}
+use Rattle.std.proofs.Common.{◌≡◌, ◌≤◌, ◌<◌, ◌+◌, ◌^◌, ◌∙◌, ℕ, Bool, true, false, List, [], Option, Some, None, is_some, length, inl, inr, refl, sym, ap, subst, arith}
 use Rattle.std.proofs.Math.Logic.{∥∥₁_map}
 use Rattle.std.specs.Prelude.{IsTrue, OnOk, Result, Ok, Err}
 use Rattle.std.specs.Option.{unwrap_or}
@@ -48,6 +48,9 @@ so_moves (Err fault) P Q so is = tt
 
 pub ends_at_rest : {T E : Type 0} (log : Log) (result : Result T E) → OnOk result (Rests log) → OnOk result (IsAtRest log)
 ends_at_rest log result is = so_moves result (Rests log) (IsAtRest log) (λ rests. record { up = rests.up; listed = rests.listed }) is
+
+pub one_not_two : One ≡ Two → ⊥
+one_not_two same = cc
 
 -- Nodes of version 1 move
 module _ (keeps_word : Type 0) (found : Superblock) (mark : Option ℕ) (cards : List (Option CachedNode)) (seats : Seats) (places : List Bool) (old new : Log)
@@ -185,7 +188,7 @@ module _ (found : Superblock) (mark : Option ℕ) (old : Log) (marked : IsMark f
         (raised : Log) (raises : RaisesSafely found moved raised.history) where
       both_parts : (kept : Kept) → StandsIn found mark old.base kept → AddsOnly (StandsForEither found kept) old.history raised.history
       both_parts kept stands = AddsOnly-join (StandsForEither found kept) old.history moved.history raised.history
-          (first_part kept stands) (raises then_mark kept has_moved (moves kept stands).stands)
+          (first_part kept stands) (raises.moments then_mark kept has_moved (moves kept stands).stands)
 
       pub after_raise : AddsRaised found old.base old.history raised.history
       after_raise kept stands = both_parts kept (told kept stands)
@@ -242,6 +245,16 @@ module _ (found : Superblock) (mark : Option ℕ) (old : Log) (marked : IsMark f
 
 pub then_marked : (version : VersionNumber) (nodes : ℕ) (mark : Option ℕ) (told : Bool) → told ≡ is_marked version mark → is_some (moved_mark version nodes mark) ≡ told
 then_marked version nodes mark told is = still_marked version nodes mark ∙ sym is
+
+-- where the volume has version 2 and no mark, a run begins by two writes and two syncs at most
+pub start_brief : (version : VersionNumber) (mark : Option ℕ) (old moved raised new : Log) → version ≡ Two → mark ≡ None
+    → moment moved.history ≤ moment old.history + 2 → moment raised.history ≤ moment moved.history + 2 → (is_marked version mark ≡ false → new ≡ raised)
+    → moment new.history ≤ moment old.history + 4
+start_brief One mark old moved raised new two none few more same = absurd (one_not_two two)
+start_brief Two (Some m) old moved raised new two none few more same = absurd (cc)
+start_brief Two None old moved raised new two none few more same =
+    let is : moment new.history ≡ moment raised.history = ap (λ (log : Log). moment log.history) (same refl) in
+    omega (arith, few, more, is)
 
 -- Taking the mark away
 

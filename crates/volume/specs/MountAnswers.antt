@@ -1,14 +1,16 @@
 -- What a mount says by its answer.
 use Rattle.std.specs.Prelude.{ℕ, ⊤, ◌≡◌, ◌≤◌, ◌+◌, ◌^◌, ◌⊎◌}
+use Rattle.disk.specs.Calls.{zero_sector}
 use Rattle.disk.specs.Cause.{IsCounted}
 use Rattle.disk.specs.Moments.{Image, History, AddsOnly, moment, seen, synced}
 use Rattle.journal.specs.Settled.{Settles, SettlesAs}
 use Rattle.layout.specs.Stands.{Kept}
+use Rattle.layout.specs.declared.versions.VersionNumber.TheVariants as numbers
 use Rattle.model_tree.specs.Seats.Seats.{Seats, AreOfRuns}
 use Rattle.volume.specs.VolumeState.{VolumeState, Holds, IsJustMounted, LeavesCurrent}
 use Rattle.volume.specs.Remounts.{AddsMount, IsFound}
 use Rattle.volume.specs.Stands.{IsBase}
-use Rattle.volume.specs.Superblock.{mount_verdict}
+use Rattle.volume.specs.Superblock.{mount_verdict, version_in}
 use Rattle.volume.specs.declared.fault.MountFault.{MountFault}
 use Rattle.volume.specs.declared.fault.MountFault.TheVariants as mounts
 use Rattle.volume.specs.declared.volume.Unmounted.{Unmounted}
@@ -23,6 +25,18 @@ abbrev pub NoTree : (sectors : ℕ) → History → Type 0
 NoTree sectors old =
     (nodes run : ℕ) (kept : Kept) → IsBase sectors nodes run kept (seen old.now) → ⊥
 
+-- A volume of version 2 with no mark of a migration, through the commit record that stands: a mount
+-- of it moves no node
+pub record NeedsNoMigration (sectors : ℕ) (old : History) : Type 0 where
+  pub version : version_in (seen old.now 0) ≡ numbers.Two
+  pub unmarked : (base : Image) → Settles sectors (seen old.now) base → base 147 ≡ zero_sector
+
+-- A mount of such a volume makes at most 106 writes and syncs: the journal copies home what its
+-- commit record names, up to 96 sectors, by at most 102, and the commit record and sector 0 are
+-- written, with a sync after each.
+abbrev pub MountsBriefly : (sectors : ℕ) → (old new : History) → Type 0
+MountsBriefly sectors old new = NeedsNoMigration sectors old → moment new ≤ moment old + 106
+
 -- A mount that serves: the first sector is sound, the tree that stood is served, and a crash leaves
 -- it in the current version, under the new count
 pub record HasMounted (sectors : ℕ) (old : History) (held : VolumeState) : Type 0 where
@@ -33,6 +47,7 @@ pub record HasMounted (sectors : ℕ) (old : History) (held : VolumeState) : Typ
   pub since_sync : AddsMount sectors (synced old) held.history
   -- five steps at least: a sync, the commit record, a sync, sector 0, and a sync
   pub steps : moment old + 5 ≤ moment held.history
+  pub brief : MountsBriefly sectors old held.history
   pub current : LeavesCurrent held
   pub holds : Holds held
 
@@ -80,6 +95,7 @@ HasReason sectors old new mounts.Device = ⊤
 -- device failed
 pub record IsMountRefused (sectors : ℕ) (old new : History) (fault : MountFault) : Type 0 where
   pub moments : AddsMount sectors old new
+  pub brief : MountsBriefly sectors old new
   pub writes : (fault ≡ mounts.Device → ⊥) → OnlyReplays sectors old new
   pub reason : HasReason sectors old new fault
 

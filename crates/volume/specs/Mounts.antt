@@ -1,5 +1,6 @@
 -- What a mount finds on the base of a journal.
 use Rattle.std.specs.Prelude.{ℕ, ⊤, false, [], Option, Some, Result, Ok, Err, ◌≡◌, ◌≤◌, ◌<◌, ◌+◌, ◌^◌, ◌⊎◌, List, IsTrue}
+use Rattle.disk.specs.Calls.{zero_sector}
 use Rattle.disk.specs.Moments.{Image, History, AddsOnly, moment}
 use Rattle.journal.specs.Log.{Log, Costs, IsSettled}
 use Rattle.layout.specs.CachedNodes.{cards_in}
@@ -84,11 +85,12 @@ pub record IsRaisedTo (mark : Option ℕ) (found : Superblock) (kept : Kept) (ol
       found.sectors found.nodes new (found.run + 1) kept.tree
   pub cards : all_second (cards_in found.nodes new) ≡ all_second (cards_in found.nodes old)
 
--- The count is raised with the version, once the nodes have moved
-abbrev pub RaisesSafely : Superblock → (old : Log) → (new : History) → Type 0
-RaisesSafely found old new = (mark : Option ℕ) (kept : Kept)
-    → AllHaveMoved found.version found.nodes mark → StandsIn found mark old.base kept
-    → AddsOnly (StandsForEither found kept) old.history new
+-- The count is raised with the version, once the nodes have moved, by a write and a sync
+pub record RaisesSafely (found : Superblock) (old : Log) (new : History) : Type 0 where
+  pub moments : (mark : Option ℕ) (kept : Kept)
+      → AllHaveMoved found.version found.nodes mark → StandsIn found mark old.base kept
+      → AddsOnly (StandsForEither found kept) old.history new
+  pub brief : moment new ≤ moment old.history + 2
 
 pub record IsRaised (keeps_word : Type 0) (found : Superblock) (old new : Log) : Type 0 where
   pub still_up : new.is_down ≡ false
@@ -98,6 +100,14 @@ pub record IsRaised (keeps_word : Type 0) (found : Superblock) (old new : Log) :
   pub settled : keeps_word → IsSettled new
   pub cost : keeps_word → Costs 2 old new
 
+-- version 2, with no mark of a migration: no node has to move
+abbrev pub NeedsNoMove : Superblock → (base : Image) → Type 0
+NeedsNoMove found base = (found.version ≡ numbers.Two) × (base 147 ≡ zero_sector)
+
+-- then a run begins by two writes and two syncs at most
+abbrev pub BeginsBriefly : Superblock → (base : Image) → (old new : History) → Type 0
+BeginsBriefly found base old new = NeedsNoMove found base → moment new ≤ moment old + 4
+
 -- a run that begins on a base
 pub record HasBegun (found : Superblock) (base : Image) (old : History) (held : VolumeState)
     : Type 0 where
@@ -106,6 +116,7 @@ pub record HasBegun (found : Superblock) (base : Image) (old : History) (held : 
   pub stood : ∥ StandsOn found base (kept_of held) ∥₁
   pub moments : AddsRaised found base old held.history
   pub steps : moment old + 4 ≤ moment held.history
+  pub brief : BeginsBriefly found base old held.history
   pub current : LeavesCurrent held
   pub holds : Holds held
 
@@ -113,6 +124,7 @@ pub record HasBegun (found : Superblock) (base : Image) (old : History) (held : 
 pub record IsNotBegun (found : Superblock) (base : Image) (old new : History) (fault : MountFault)
     : Type 0 where
   pub moments : AddsRaised found base old new
+  pub brief : BeginsBriefly found base old new
   pub no_tree : fault ≡ mounts.Damaged → (kept : Kept) → StandsOn found base kept → ⊥
   pub untouched : (fault ≡ mounts.Device → ⊥) → new ≡ old
   pub only : (fault ≡ mounts.Device) ⊎ ((fault ≡ mounts.Damaged) ⊎ (fault ≡ mounts.Memory))

@@ -13,7 +13,7 @@ use Rattle.layout.specs.declared.versions.VersionNumber.TheVariants.{One, Two}
 use Rattle.migration.specs.declared.fault.MigrationFault.{MigrationFault}
 use Rattle.model_tree.specs.Seats.Seats.{Seats}
 use Rattle.volume.specs.Loads.{read_as}
-use Rattle.volume.specs.Mounts.{IsAtRest, StandsIn}
+use Rattle.volume.specs.Mounts.{AddsRaised, IsAtRest, StandsIn}
 use Rattle.volume.specs.Stands.{StandsForIn}
 use Rattle.volume.specs.declared.mount.Superblock.{Superblock}
 
@@ -54,6 +54,7 @@ pub record MovesNodes (keeps_word : Type 0) (found : Superblock) (mark : Option 
   pub size : new.size ≡ old.size
   pub rests : OnOk result (IsAtRest new)
   pub steps : keeps_word → OnOk result (moment old.history + 2 ≤ moment new.history)
+  pub brief : keeps_word → found.version ≡ Two → moment new.history ≤ moment old.history + 2
   pub moments : keeps_word → (kept : Kept) → StandsIn found mark old.base kept
       → AddsOnly
       (StandsForIn (number_of_version found.version) found.sectors found.nodes found.run kept)
@@ -79,6 +80,7 @@ pub record Clears (keeps_word : Type 0) (marked : Bool) (old new : Log)
     (result : Result (Unit {0}) JournalFault) : Type 0 where
   pub size : new.size ≡ old.size
   pub rests : OnOk result (IsAtRest new)
+  pub untouched : marked ≡ false → new ≡ old
   pub settled : keeps_word → IsSettled old → OnOk result (IsSettled new)
   pub moments : keeps_word → (mark : Option ℕ) (nodes run : ℕ) (kept : Kept)
       → is_some mark ≡ marked → StandsInSecond mark old.size nodes run old.base kept
@@ -93,6 +95,12 @@ pub record ServesFrom (found : Superblock) (cards : List (Option CachedNode)) (s
     (old new : Image) : Type 0 where
   pub read : cards ≡ cards_in found.nodes new
   pub stands : StandsNow found.sectors found.nodes new (found.run + 1) (read_as old cards seats)
+
+-- However it ends: what stands does so at each moment, under either count. Where nothing moves it
+-- writes the commit record and sector 0 at most, with a sync after each.
+pub record StartsSafely (found : Superblock) (mark : Option ℕ) (old new : Log) : Type 0 where
+  pub moments : AddsRaised found old.base old.history new.history
+  pub brief : found.version ≡ Two → mark ≡ None → moment new.history ≤ moment old.history + 4
 
 pub record HasStarted (keeps_word : Type 0) (found : Superblock) (cards : List (Option CachedNode))
     (seats : Seats) (old new : Log) : Type 0 where

@@ -4,11 +4,12 @@ ghost use Rattle.std.specs.Prelude.{◌≡◌, ◌≤◌, ◌<◌, ◌⊎◌, If
 ghost use Rattle.disk.specs.Cause.{IsCounted};
 ghost use Rattle.journal.specs.Calls.{IsSafe};
 ghost use Rattle.journal.specs.Journal.{log_of, journal_failures};
+ghost use Rattle.journal.specs.Log.{MakesAtMost};
 ghost use Rattle.migration.specs.Plans.{clearing_updates};
 ghost use Rattle.model_tree.specs.Seats.SeatViews.{seats_view};
 ghost use Rattle.volume.specs.Loads.{HoldsBase, IsLoaded};
-ghost use Rattle.volume.specs.Mounts.{AddsRaised, IsAtRest, IsVolumeOf};
-ghost use Rattle.volume.specs.Starts.{Clears, Counts, HasRewritten, HasStarted, MovesNodes, is_marked};
+ghost use Rattle.volume.specs.Mounts.{IsAtRest, IsVolumeOf};
+ghost use Rattle.volume.specs.Starts.{Clears, Counts, HasRewritten, HasStarted, MovesNodes, StartsSafely, is_marked};
 
 use crate::fault::MountFault;
 use crate::load::Loaded;
@@ -25,6 +26,7 @@ use std::alloc::Global;
 fn rewrite<D: Device>(journal: &mut Journal<D>) -> Result<(), MigrationFault>
     requires rests { IsAtRest (log_of journal.old) }
     ensures safe { IsSafe D.keeps_word (log_of journal.old) (log_of journal.new) }
+    ensures brief { D.keeps_word → MakesAtMost 2 (log_of journal.old) (log_of journal.new) }
     ensures ok { OnOk result (HasRewritten D.keeps_word (log_of journal.old) (log_of journal.new)) }
     // Refused
     ensures no_memory { ¬ IsErrOf result MigrationFault.Memory }
@@ -114,8 +116,8 @@ pub(crate) fn start<D: Device>(
     requires base { D.keeps_word → HoldsBase found (log_of journal.old) }
     requires loaded { IsLoaded D.keeps_word found (log_of journal.old)
         loaded.now.mark loaded.now.table (seats_view loaded.now.seats) loaded.now.places }
-    ensures moments { D.keeps_word → AddsRaised found (log_of journal.old).base
-        (log_of journal.old).history (log_of journal.new).history }
+    ensures safe { D.keeps_word → StartsSafely found loaded.now.mark
+        (log_of journal.old) (log_of journal.new) }
     ensures started { OnOk result (HasStarted D.keeps_word found loaded.now.table
         (seats_view loaded.now.seats) (log_of journal.old) (log_of journal.new)) }
     ensures size { (log_of journal.new).size ≡ (log_of journal.old).size }

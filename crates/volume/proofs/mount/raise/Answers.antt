@@ -9,24 +9,30 @@ use Rattle.volume.proofs.MountLaws.{first_update, raise_moments, raised_base}
 use Rattle.volume.proofs.mount.raise.Goals as goal
 
 pub returns-in_err-superblock-clause-moments : goal.returns-in_err-superblock-clause-moments
-returns-in_err-superblock-clause-moments g c = λ k mark kept moved stands.
+returns-in_err-superblock-clause-moments g c = λ k.
     let found = c.args.found in
     let old : Log = log_of c.args.journal.now in
     let history = (log_of c.superblock.new.self).history in
-    raise_moments found old.base c.requires.volume.counted mark kept moved stands old.history history
-    (subst (λ (n : ℕ). AddsEither n (first_update found.sectors found.nodes (found.run + 1) ∷ []) old.base old.history history) (sym c.requires.volume.size)
-    (subst (λ (content : List ℕ). AddsEither old.size ((let u : Update = record { target = 0; content = content } in u) ∷ []) old.base old.history history) c.superblock_of-sector.ensures
-    (c.in_err-superblock.ensures.moments k)))
+    record {
+      moments = λ mark kept moved stands. raise_moments found old.base c.requires.volume.counted mark kept moved stands old.history history
+          (subst (λ (n : ℕ). AddsEither n (first_update found.sectors found.nodes (found.run + 1) ∷ []) old.base old.history history) (sym c.requires.volume.size)
+          (subst (λ (content : List ℕ). AddsEither old.size ((let u : Update = record { target = 0; content = content } in u) ∷ []) old.base old.history history) c.superblock_of-sector.ensures
+          (c.in_err-superblock.ensures.moments k)));
+      brief = c.in_err-superblock.ensures.brief k;
+    }
 
 pub returns-clause-moments : goal.returns-clause-moments
-returns-clause-moments g c = λ k mark kept moved stands.
+returns-clause-moments g c = λ k.
     let found = c.args.found in
     let old : Log = log_of c.args.journal.now in
     let history = (log_of c.superblock.new.self).history in
-    raise_moments found old.base c.requires.volume.counted mark kept moved stands old.history history
-    (subst (λ (n : ℕ). AddsEither n (first_update found.sectors found.nodes (found.run + 1) ∷ []) old.base old.history history) (sym c.requires.volume.size)
-    (subst (λ (content : List ℕ). AddsEither old.size ((let u : Update = record { target = 0; content = content } in u) ∷ []) old.base old.history history) c.superblock_of-sector.ensures
-    (c.in_ok-superblock.ensures.moments k)))
+    record {
+      moments = λ mark kept moved stands. raise_moments found old.base c.requires.volume.counted mark kept moved stands old.history history
+          (subst (λ (n : ℕ). AddsEither n (first_update found.sectors found.nodes (found.run + 1) ∷ []) old.base old.history history) (sym c.requires.volume.size)
+          (subst (λ (content : List ℕ). AddsEither old.size ((let u : Update = record { target = 0; content = content } in u) ∷ []) old.base old.history history) c.superblock_of-sector.ensures
+          (c.in_ok-superblock.ensures.moments k)));
+      brief = c.in_ok-superblock.ensures.brief k;
+    }
 
 pub returns-clause-raised : goal.returns-clause-raised
 returns-clause-raised g c =

@@ -6,7 +6,7 @@ use Rattle.layout.specs.Stands.{moved_by}
 use Rattle.model_tree.specs.Seats.SeatViews.{seats_view}
 use Rattle.migration.specs.Migrations.{HasMovedAll, MovesSafely}
 use Rattle.volume.specs.Starts.{HasMovedTo}
-use Rattle.volume.proofs.StartLaws.{begins, ends_at_rest, moved_to, moves_safely, or_else_zero, rewritten_moments, so_moves, stay_moved}
+use Rattle.volume.proofs.StartLaws.{begins, ends_at_rest, moved_to, moves_safely, one_not_two, or_else_zero, rewritten_moments, so_moves, stay_moved}
 use Rattle.volume.proofs.start.move_nodes.Goals as goal
 
 pub returns-in-One-clause-moves : goal.returns-in-One-clause-moves
@@ -21,6 +21,7 @@ returns-in-One-clause-moves g c =
       size = c.migrate.ensures.size;
       rests = ends_at_rest new c.migrate.result c.migrate.ensures.rests;
       steps = c.migrate.ensures.steps;
+      brief = λ k two. absurd (one_not_two (sym c.in-One.is ∙ two));
       moments = λ k kept stands.
           moves_safely word found loaded.mark loaded.table (seats_view loaded.seats) loaded.places old new c.requires.volume.size c.in-One.is c.requires.loaded kept stands
           (subst (λ (n : ℕ). MovesSafely n loaded.table old new) told (c.migrate.ensures.moments k) loaded.mark found.run kept.tree
@@ -41,6 +42,7 @@ returns-in-Two-clause-moves g c =
       size = c.rewrite.ensures.safe.size;
       rests = so_moves c.rewrite.result _ _ (λ is. is.rests) c.rewrite.ensures.ok;
       steps = λ k. so_moves c.rewrite.result _ _ (λ is. omega (arith, is.cost k)) c.rewrite.ensures.ok;
+      brief = λ k two. c.rewrite.ensures.brief k;
       moments = λ k kept stands. rewritten_moments g.D.Device.keeps_word found mark old new c.requires.volume.size c.requires.loaded.marked c.requires.rests.listed
           c.rewrite.ensures.safe k kept stands;
       stands = λ k. so_moves c.rewrite.result _ _

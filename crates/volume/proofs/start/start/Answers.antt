@@ -8,24 +8,32 @@ use Rattle.model_tree.specs.Seats.SeatViews.{seats_view}
 use Rattle.volume.specs.Loads.{read_as}
 use Rattle.volume.specs.Mounts.{IsRaised}
 use Rattle.volume.proofs.FormatLaws.{on_ok}
-use Rattle.volume.proofs.StartLaws.{after_moves, after_raise, after_unmark, has_moved, serves_from, then_marked, unmark_later}
+use Rattle.volume.proofs.StartLaws.{after_moves, after_raise, after_unmark, has_moved, serves_from, start_brief, then_marked, unmark_later}
 use Rattle.volume.proofs.start.start.Goals as goal
 
-pub returns-in_err-move_nodes-clause-moments : goal.returns-in_err-move_nodes-clause-moments
-returns-in_err-move_nodes-clause-moments g c = λ k.
+pub returns-in_err-move_nodes-clause-safe : goal.returns-in_err-move_nodes-clause-safe
+returns-in_err-move_nodes-clause-safe g c = λ k.
     let loaded = c.requires.loaded in
-    after_moves c.args.found c.args.loaded.now.mark (log_of c.args.journal.now) loaded.marked (loaded.marks k) (c.requires.base k)
-    (log_of c.move_nodes.new.journal) (c.in_err-move_nodes.ensures.moves.moments k)
+    let moves = c.in_err-move_nodes.ensures.moves in
+    record {
+      moments = after_moves c.args.found c.args.loaded.now.mark (log_of c.args.journal.now) loaded.marked (loaded.marks k) (c.requires.base k)
+          (log_of c.move_nodes.new.journal) (moves.moments k);
+      brief = λ two none. let few = moves.brief k two in omega (arith, few);
+    }
 
-pub returns-then-is_err-clause-moments : goal.returns-then-is_err-clause-moments
-returns-then-is_err-clause-moments g c = λ k.
+pub returns-then-is_err-clause-safe : goal.returns-then-is_err-clause-safe
+returns-then-is_err-clause-safe g c = λ k.
     let loaded = c.requires.loaded in
-    after_raise c.args.found c.args.loaded.now.mark (log_of c.args.journal.now) loaded.marked (loaded.marks k) (c.requires.base k)
-    (log_of c.move_nodes.new.journal) (c.in_ok-move_nodes.ensures.moves.moments k) (c.in_ok-move_nodes.ensures.moves.stands k)
-    (log_of c.raise.new.journal) (c.raise.ensures.moments k)
+    let moves = c.in_ok-move_nodes.ensures.moves in
+    let raises = c.raise.ensures.moments k in
+    record {
+      moments = after_raise c.args.found c.args.loaded.now.mark (log_of c.args.journal.now) loaded.marked (loaded.marks k) (c.requires.base k)
+          (log_of c.move_nodes.new.journal) (moves.moments k) (moves.stands k) (log_of c.raise.new.journal) raises;
+      brief = λ two none. let few = moves.brief k two in let more = raises.brief in omega (arith, few, more);
+    }
 
-pub returns-then-is_err-2-clause-moments : goal.returns-then-is_err-2-clause-moments
-returns-then-is_err-2-clause-moments g c = λ k.
+pub returns-then-is_err-2-clause-safe : goal.returns-then-is_err-2-clause-safe
+returns-then-is_err-2-clause-safe g c = λ k.
     let found = c.args.found in
     let mark = c.args.loaded.now.mark in
     let old : Log = log_of c.args.journal.now in
@@ -34,14 +42,18 @@ returns-then-is_err-2-clause-moments g c = λ k.
     let loaded = c.requires.loaded in
     let moves = c.in_ok-move_nodes.ensures.moves in
     let is : IsRaised g.D.Device.keeps_word found moved raised = on_ok c.raise.result _ (sym c.is_err.ensures.value ∙ c.if-is_err.false) c.raise.ensures.raised in
-    after_unmark found mark old loaded.marked (loaded.marks k) (c.requires.base k) moved (moves.moments k) (moves.stands k) raised (c.raise.ensures.moments k)
-    (c.requires.volume.size ∙ (sym moves.size ∙ sym c.raise.ensures.size))
-    (λ kept stands. is.stands k _ kept (has_moved found mark old loaded.marked (loaded.marks k) (c.requires.base k)) stands)
-    (log_of c.unmark.new.journal).history
-    (λ kept stands. c.unmark.ensures.clears.moments k _ found.nodes (found.run + 1) kept (then_marked found.version found.nodes mark c.is_marked.result c.is_marked.ensures) stands)
+    record {
+      moments = after_unmark found mark old loaded.marked (loaded.marks k) (c.requires.base k) moved (moves.moments k) (moves.stands k) raised (c.raise.ensures.moments k)
+          (c.requires.volume.size ∙ (sym moves.size ∙ sym c.raise.ensures.size))
+          (λ kept stands. is.stands k _ kept (has_moved found mark old loaded.marked (loaded.marks k) (c.requires.base k)) stands)
+          (log_of c.unmark.new.journal).history
+          (λ kept stands. c.unmark.ensures.clears.moments k _ found.nodes (found.run + 1) kept (then_marked found.version found.nodes mark c.is_marked.result c.is_marked.ensures) stands);
+      brief = λ two none. start_brief found.version mark old moved raised (log_of c.unmark.new.journal) two none (moves.brief k two) (c.raise.ensures.moments k).brief
+          (λ unmarked. c.unmark.ensures.clears.untouched (c.is_marked.ensures ∙ unmarked));
+    }
 
-pub returns-clause-moments : goal.returns-clause-moments
-returns-clause-moments g c = λ k.
+pub returns-clause-safe : goal.returns-clause-safe
+returns-clause-safe g c = λ k.
     let found = c.args.found in
     let mark = c.args.loaded.now.mark in
     let old : Log = log_of c.args.journal.now in
@@ -50,11 +62,15 @@ returns-clause-moments g c = λ k.
     let loaded = c.requires.loaded in
     let moves = c.in_ok-move_nodes.ensures.moves in
     let is : IsRaised g.D.Device.keeps_word found moved raised = on_ok c.raise.result _ (sym c.is_err.ensures.value ∙ c.if-is_err.false) c.raise.ensures.raised in
-    after_unmark found mark old loaded.marked (loaded.marks k) (c.requires.base k) moved (moves.moments k) (moves.stands k) raised (c.raise.ensures.moments k)
-    (c.requires.volume.size ∙ (sym moves.size ∙ sym c.raise.ensures.size))
-    (λ kept stands. is.stands k _ kept (has_moved found mark old loaded.marked (loaded.marks k) (c.requires.base k)) stands)
-    (log_of c.unmark.new.journal).history
-    (λ kept stands. c.unmark.ensures.clears.moments k _ found.nodes (found.run + 1) kept (then_marked found.version found.nodes mark c.is_marked.result c.is_marked.ensures) stands)
+    record {
+      moments = after_unmark found mark old loaded.marked (loaded.marks k) (c.requires.base k) moved (moves.moments k) (moves.stands k) raised (c.raise.ensures.moments k)
+          (c.requires.volume.size ∙ (sym moves.size ∙ sym c.raise.ensures.size))
+          (λ kept stands. is.stands k _ kept (has_moved found mark old loaded.marked (loaded.marks k) (c.requires.base k)) stands)
+          (log_of c.unmark.new.journal).history
+          (λ kept stands. c.unmark.ensures.clears.moments k _ found.nodes (found.run + 1) kept (then_marked found.version found.nodes mark c.is_marked.result c.is_marked.ensures) stands);
+      brief = λ two none. start_brief found.version mark old moved raised (log_of c.unmark.new.journal) two none (moves.brief k two) (c.raise.ensures.moments k).brief
+          (λ unmarked. c.unmark.ensures.clears.untouched (c.is_marked.ensures ∙ unmarked));
+    }
 
 pub returns-clause-started : goal.returns-clause-started
 returns-clause-started g c =

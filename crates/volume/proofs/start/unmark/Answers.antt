@@ -1,4 +1,4 @@
-use Rattle.std.proofs.Common.{◌≡◌, ◌∙◌, true, refl, subst}
+use Rattle.std.proofs.Common.{◌≡◌, ◌∙◌, true, refl, subst, sym, true≢false}
 use Rattle.disk.specs.Moments.{AddsOnly}
 use Rattle.layout.specs.Stands.{Kept}
 use Rattle.volume.specs.Stands.{StandsForIn}
@@ -15,6 +15,7 @@ returns-clause-clears g c =
     record {
       size = c.clear.ensures.size;
       rests = ends_at_rest new c.clear.result c.clear.ensures.rests;
+      untouched = λ none. absurd (true≢false (sym marked ∙ none));
       settled = λ k settled. c.clear.ensures.settled k;
       moments = λ k mark nodes run kept some stands.
           subst (λ (of : Kept). AddsOnly (StandsForIn 2 old.size nodes run of) old.history new.history) (is_bare_kept mark old.size nodes run old.base kept (some ∙ marked) stands)

@@ -14,7 +14,7 @@ use Rattle.volume.specs.Known.{AreKnownNodes, IsServing}
 use Rattle.volume.specs.Loads.{AreLoaded, HoldsVolume}
 use Rattle.volume.specs.Mounts.{StandsOn}
 use Rattle.volume.specs.Views.{volume_state}
-use Rattle.volume.proofs.BeginLaws.{begun_current, begun_holds, begun_serving, begun_stood, not_loaded, not_started, kept_read, raised_from, same_seats}
+use Rattle.volume.proofs.BeginLaws.{begun_brief, begun_current, begun_holds, begun_serving, begun_stood, not_loaded, not_started, kept_read, raised_from, same_seats}
 use Rattle.volume.proofs.FormedLaws.{formed_later, loaded_formed, tree_formed}
 use Rattle.volume.proofs.volume.Volume.begin.Goals as goal
 
@@ -77,7 +77,9 @@ returns-in-Ok-start-clause-begun g c = λ k.
       stood = subst (λ (kept : Kept). ∥ StandsOn found old.base kept ∥₁)
           (sym (kept_read word found old mid new loaded.mark cards (seats_view loaded.seats) loaded.places are started only size c.start.ensures.size k))
           (begun_stood word found old mid new loaded.mark cards (seats_view loaded.seats) loaded.places are started only size c.start.ensures.size k);
-      moments = raised_from found old mid new.history only (c.start.ensures.moments k);
+      moments = raised_from found old mid new.history only (c.start.ensures.safe k).moments;
+      brief = begun_brief found old.base loaded.mark old.history mid.history new.history c.requires.volume.sized are.marked (are.marks k)
+          (ap (λ (log : Log). log.history) only) (c.start.ensures.safe k).brief;
       steps = omega (arith, started.steps k, ap (λ (log : Log). moment log.history) only);
       current = begun_current word found old mid new loaded.mark cards (seats_view loaded.seats) loaded.places are started only size c.start.ensures.size limits nodes k;
       holds = begun_holds word found old mid new loaded.mark cards (seats_view loaded.seats) loaded.places are started only size c.start.ensures.size limits nodes k;
@@ -125,6 +127,15 @@ returns-in-Err-clause-refused g c = λ k.
 
 pub returns-in-Err-start-clause-refused : goal.returns-in-Err-start-clause-refused
 returns-in-Err-start-clause-refused g c = λ k.
-    not_started c.args.found (log_of c.args.journal) (log_of c.load.new.store.journal) (log_of c.start.new.journal) _ c.in-Err-start.fault c.in-Ok.ensures.loads.only
-    c.into_device-in-Err-start.ensures.history (c.start.ensures.moments k) c.in-Err-start.ensures.only
+    let found = c.args.found in
+    let old : Log = log_of c.args.journal in
+    let mid : Log = log_of c.load.new.store.journal in
+    let new : Log = log_of c.start.new.journal in
+    let are = c.in-Ok.ensures.loaded in
+    let only = c.in-Ok.ensures.loads.only in
+    let starts = c.start.ensures.safe k in
+    not_started found old mid new _ c.in-Err-start.fault only
+    c.into_device-in-Err-start.ensures.history starts.moments c.in-Err-start.ensures.only
     (λ is. c.in-Err-start.ensures.memory (ap (λ x. Err x) is))
+    (begun_brief found old.base c.in-Ok.loaded.mark old.history mid.history new.history c.requires.volume.sized are.marked (are.marks k)
+    (ap (λ (log : Log). log.history) only) starts.brief)

@@ -8,7 +8,7 @@ use Rattle.volume.specs.MountAnswers.{IsMountRefused}
 use Rattle.volume.specs.Refusals.{gate_fault}
 use Rattle.journal.proofs.First.{first_kept}
 use Rattle.volume.proofs.FoundLaws.{if_ok_all, if_err_all}
-use Rattle.volume.proofs.MountedLaws.{refused_untouched, first_reason, back_since, gate_counted, gate_refused, begun_found, begin_refused}
+use Rattle.volume.proofs.MountedLaws.{recovered_few, refused_untouched, first_reason, back_since, gate_counted, gate_refused, begun_found, begin_refused}
 use Rattle.volume.proofs.StandLaws.{sized, large}
 use Rattle.volume.proofs.volume.Volume.mount_seated.Goals as goal
 
@@ -59,7 +59,7 @@ returns-in-Err-mount_cached-clause-gives_back g c =
           let told : journal.IsRecoveryRefused sectors old new fault = subst (λ (n : ℕ). journal.IsRecoveryRefused n old new fault) c.read_mountable_superblock.ensures.same_size
           (subst (λ (h : History). journal.IsRecoveryRefused (D.size c.read_mountable_superblock.new.device) h new fault) c.read_mountable_superblock.ensures.history (c.in-Err-mount_cached.ensures.refused k)) in
           subst (IsMountRefused sectors old new) (sym c.into.ensures)
-          (gate_refused sectors old new (c.in-Ok.ensures.told k).0 told.refused fault told.damaged (λ is. ap D.history (back.memory is) ∙ c.read_mountable_superblock.ensures.history));
+          (gate_refused sectors old new (c.in-Ok.ensures.told k).0 told.refused told.brief fault told.damaged (λ is. ap D.history (back.memory is) ∙ c.read_mountable_superblock.ensures.history));
     }
 
 pub returns-in-Ok-mount_cached-clause-serves : goal.returns-in-Ok-mount_cached-clause-serves
@@ -78,7 +78,8 @@ returns-in-Ok-mount_cached-clause-serves g c =
       new = subst (λ (n : ℕ). IsJustMounted n (volume_state mounted_it.volume)) (c.in-Ok-mount_cached.ensures.new.size ∙ c.read_mountable_superblock.ensures.same_size) new;
       counted = counted ∙ (c.in-Ok-mount_cached.ensures.new.failures ∙ c.in-Ok.ensures.none (λ is. absurd (cc)));
       mounted = λ k. begun_found sectors old log.history found log.base c.in-Ok.ensures.volume.size (omega (arith, parts.few)) (omega (arith, c.in-Ok.ensures.volume.counted))
-          (c.in-Ok.ensures.told k).0 (c.in-Ok.ensures.told k).1 (mounted k).base (mounted k).moments (volume_state mounted_it.volume) (mounted k).since_sync (begun k);
+          (c.in-Ok.ensures.told k).0 (c.in-Ok.ensures.told k).1 (mounted k).base (mounted k).moments (recovered_few sectors old log.history log.base (mounted k).base (mounted k).cost)
+          (volume_state mounted_it.volume) (mounted k).since_sync (begun k);
     })
     c.begin.ensures.new c.begin.ensures.counted c.begin.ensures.begun
 
@@ -98,6 +99,7 @@ returns-in-Ok-mount_cached-clause-gives_back g c =
       back = back_since D.size D.failed sectors (D.failed c.args.device) log.size (journal_failures c.in-Ok-mount_cached.journal) unmounted
           (c.in-Ok-mount_cached.ensures.new.size ∙ c.read_mountable_superblock.ensures.same_size) (c.in-Ok-mount_cached.ensures.new.failures ∙ c.in-Ok.ensures.none (λ is. absurd (cc))) back;
       refused = λ k. begin_refused sectors old log.history found log.base c.in-Ok.ensures.volume.size (omega (arith, parts.few)) (omega (arith, c.in-Ok.ensures.volume.counted))
-          (c.in-Ok.ensures.told k).0 (c.in-Ok.ensures.told k).1 (mounted k).base (mounted k).moments (D.history unmounted.device) unmounted.fault (begun k);
+          (c.in-Ok.ensures.told k).0 (c.in-Ok.ensures.told k).1 (mounted k).base (mounted k).moments (recovered_few sectors old log.history log.base (mounted k).base (mounted k).cost)
+          (D.history unmounted.device) unmounted.fault (begun k);
     })
     c.begin.ensures.back c.begin.ensures.refused
