@@ -11,7 +11,7 @@ use Rattle.fs.specs.declared.fault.FsFault.TheVariants as faults
 use Rattle.volume.proofs.FrontLaws.{among_more}
 use Rattle.layout.specs.Stands.{Kept}
 use Rattle.volume.specs.Changes.{Stays, LeavesTrees}
-use Rattle.volume.specs.VolumeState.{VolumeState, IsSameVolume, IsRecent, KeepsRecent, AddsTrees, StandsForOne, IsLeft, MayAdd, kept_of}
+use Rattle.volume.specs.VolumeState.{VolumeState, MakesAtMost, IsSameVolume, IsRecent, KeepsRecent, AddsTrees, StandsForOne, IsLeft, MayAdd, kept_of}
 use Rattle.model_tree.specs.Trees.Keyed.{Keyed}
 use Rattle.model.specs.Sessions.Opens.{Opens}
 use Rattle.model.specs.Server.Runs.{Serving, Event, Left, left_after}
@@ -72,8 +72,8 @@ module _ (old new : FileSystem) (table : Table) (opens : Opens) (connections : K
 
   -- where it is done
   pub checkpointed : new.volume.tree ≡ old.volume.tree → new.volume.seats ≡ old.volume.seats → old.volume.is_down ≡ false → new.volume.is_down ≡ false → KeepsRecent old.volume new.volume
-      → AddsTrees old.volume (kept_of old.volume) new.volume.history → (recent : List Tree) → IsRecent old.volume recent → Keeps recent recent
-  checkpointed trees seats up still_up keeps adds recent ready = record {
+      → AddsTrees old.volume (kept_of old.volume) new.volume.history → MakesAtMost 396 old.volume new.volume → (recent : List Tree) → IsRecent old.volume recent → Keeps recent recent
+  checkpointed trees seats up still_up keeps adds brief recent ready = record {
     serving =
         ap (λ (world : World). serving_by world (beside new.volume.seats recent) new.volume.is_down new.waits) (kept_world old new table opens connections same changes trees)
         ∙ (ap (λ (kept : Seats). serving_by (world_by (shared old table opens) connections) (beside kept recent) new.volume.is_down new.waits) seats
@@ -82,18 +82,19 @@ module _ (old new : FileSystem) (table : Table) (opens : Opens) (connections : K
       moments = keeping_moments (world_by (shared old table opens) connections) old.waits old.volume recent new.volume.history ready adds event;
       leaves = leaves_now new.volume recent (keeps recent ready).leaves;
       same = same;
+      brief = brief;
     };
     ready = ready_beside new.volume new.volume.seats recent (keeps recent ready);
   }
 
   -- where the device fails in it
-  pub checkpoint_fails : old.volume.is_down ≡ false → new.volume.is_down ≡ true → AddsTrees old.volume (kept_of old.volume) new.volume.history
+  pub checkpoint_fails : old.volume.is_down ≡ false → new.volume.is_down ≡ true → AddsTrees old.volume (kept_of old.volume) new.volume.history → MakesAtMost 396 old.volume new.volume
       → (event : Event) (recent : List Tree) → IsRecent old.volume recent → (left : List Left)
       × Breaks (record { serving = serving_of old recent; volume = old.volume }) event (record {
         serving = serving_by (record (world_by (shared new table opens) connections) { tree = old.volume.tree }) left new.volume.is_down new.waits;
         volume = new.volume;
       })
-  checkpoint_fails up down adds event recent ready = (
+  checkpoint_fails up down adds brief event recent ready = (
     left_of (kept_of old.volume) ∷ beside old.volume.seats recent,
     record {
       fails = record {
@@ -111,6 +112,7 @@ module _ (old new : FileSystem) (table : Table) (opens : Opens) (connections : K
         moments = keeping_moments (world_by (shared old table opens) connections) old.waits old.volume recent new.volume.history ready adds event;
         leaves = broken_leaves old.volume new.volume (kept_of old.volume) recent ready adds same;
         same = same;
+        brief = brief;
       };
     },
   )
@@ -136,9 +138,9 @@ module _ (old new : FileSystem) (table : Table) (opens : Opens) (connections : K
 
   -- where it is done
   pub flushed_all : new.volume.tree ≡ old.volume.tree → new.volume.seats ≡ old.volume.seats → table.seats ≡ old.volume.seats → old.volume.is_down ≡ false → new.volume.is_down ≡ false → new.waits ≡ false
-      → AddsTrees old.volume (kept_of old.volume) new.volume.history → LeavesTrees old.volume new.volume (kept_of old.volume) true
+      → AddsTrees old.volume (kept_of old.volume) new.volume.history → MakesAtMost 396 old.volume new.volume → LeavesTrees old.volume new.volume (kept_of old.volume) true
       → (recent : List Tree) → IsRecent old.volume recent → (after : List Tree) × FlushesAll (seen_of old recent) (seen_of new after)
-  flushed_all trees seats seated up still_up none_waits adds leaves recent ready =
+  flushed_all trees seats seated up still_up none_waits adds brief leaves recent ready =
       let left = leaves recent ready in (
         left.0,
         record {
@@ -155,6 +157,7 @@ module _ (old new : FileSystem) (table : Table) (opens : Opens) (connections : K
             moments = keeping_moments (world_by (shared old table opens) connections) old.waits old.volume recent new.volume.history ready adds event;
             leaves = leaves_now new.volume left.0 left.1.ready.leaves;
             same = same;
+            brief = brief;
           };
           ready = ready_beside new.volume new.volume.seats left.0 left.1.ready;
         },

@@ -57,6 +57,7 @@ moves_none old new event held leaves = record {
   moments = AddsOnly-same (StandsForOne held (MayKeepDuring old event)) held.history;
   leaves = leaves;
   same = same_volume held held refl;
+  brief = omega arith;
 }
 
 stands_on : (old new : VolumeState) (kept : Kept) (image : Image) → IsSameVolume old new

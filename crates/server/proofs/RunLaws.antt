@@ -1,4 +1,4 @@
-use Rattle.std.proofs.Common.{◌≡◌, ℕ, List, ◌∷◌, Option, Some, None, Bool, true, false, cond, refl, ap, subst, arith}
+use Rattle.std.proofs.Common.{◌≡◌, ◌≤◌, ◌+◌, ◌*◌, ℕ, suc, List, ◌∷◌, Option, Some, None, Bool, true, false, cond, refl, ap, subst, arith}
 use Rattle.std.specs.List.{IsAmong}
 use Rattle.volume.proofs.RemountLaws.{seen_left}
 use Rattle.model.specs.Operations.Answer.{Answer, Outcome}
@@ -10,9 +10,9 @@ use Rattle.model.specs.Wire.Rpc.{CallRead, NoCall, OtherVersion, Calls, Request,
 use Rattle.model.specs.Server.Runs as runs
 use Rattle.model.specs.Server.World as world
 use Rattle.model.specs.Server.World.{World, Idle, InProgress, Next, Refuses, Reads, HasRun, Gives, Replays, Entry, Connection, Quiet, Waiting, Busy, Replied, Closed, one, turned, called, further, operates, behind, closes, has_run, is_last, is_to_hold, next_operation, in_room, run, noting}
-use Rattle.disk.specs.Moments.{seen}
-use Rattle.server.specs.RunLaws.{IsSeenReady, HangUpIsCalls, NeverEmpty, IsIdle, OnlyIdle}
-use Rattle.server.specs.Seen.{Seen, ServerCall, Did, IsServed, IsTurned, Stays, left_of}
+use Rattle.disk.specs.Moments.{moment, seen}
+use Rattle.server.specs.RunLaws.{IsSeenReady, HangUpIsCalls, IsBounded, NeverEmpty, IsIdle, OnlyIdle}
+use Rattle.server.specs.Seen.{Seen, ServerCall, Did, IsServed, IsTurned, Stays, count_of, left_of}
 use Rattle.server.specs.Seen as served
 use Rattle.server.proofs.Stops.{joined, mounted_leaves}
 
@@ -29,6 +29,17 @@ still_ready connection now old new (served.Goes_on {between = between} busy does
 
 pub hang_up_is_calls : HangUpIsCalls
 hang_up_is_calls connection now first old new calls before turned = (further_calls connection now first old new calls before turned, still_ready connection now old new turned)
+
+one_more : (first middle last count : ℕ) → middle ≤ first + 396 * count → last ≤ middle + 396 → last ≤ first + 396 * suc count
+one_more first middle last count so_far call = omega (arith, so_far, call)
+
+pub is_bounded : IsBounded
+is_bounded first last calls served.IsServed.Begins = omega arith
+is_bounded first last calls (served.IsServed.Goes_on event said before does) = one_more _ _ _ (count_of before) (is_bounded first _ _ before) does.moves.brief
+is_bounded first last calls (served.IsServed.Fails_at event before breaks) = one_more _ _ _ (count_of before) (is_bounded first _ _ before) breaks.moves.brief
+is_bounded first last calls (served.IsServed.Stays_down connection said before gives) = one_more _ _ _ (count_of before) (is_bounded first _ _ before) gives.moves.brief
+is_bounded first last calls (served.IsServed.Keeps_on before checkpoints) = one_more _ _ _ (count_of before) (is_bounded first _ _ before) (checkpoints.moves (runs.Takes 0)).brief
+is_bounded first last calls (served.IsServed.Flushed before flushes) = one_more _ _ _ (count_of before) (is_bounded first _ _ before) (flushes.moves (runs.Takes 0)).brief
 
 pub never_empty : NeverEmpty
 never_empty settings run start first last calls mounted served none =

@@ -1,10 +1,10 @@
 -- What a call of the server that is refused leaves.
-use Rattle.std.specs.Prelude.{ℕ, Bool, true, false, Option, Some, None, ◌≡◌, ◌⊎◌}
+use Rattle.std.specs.Prelude.{ℕ, Bool, true, false, Option, Some, None, ◌≡◌, ◌≤◌, ◌⊎◌}
 use Rattle.disk.specs.Cause.{IsCounted}
 use Rattle.disk.specs.declared.device.Device.{Ghosts}
 use Rattle.model_tree.specs.Trees.Keyed.{at}
 use Rattle.model.specs.Server.World.{World, Connection, Closed, one}
-use Rattle.volume.specs.VolumeState.{VolumeState, IsSameVolume}
+use Rattle.volume.specs.VolumeState.{VolumeState, IsSameVolume, MakesAtMost}
 use Rattle.server.specs.Connections.{HasGoneOn}
 use Rattle.server.specs.declared.fault.ServerFault.{ServerFault}
 use Rattle.server.specs.declared.fault.ServerFault.TheVariants as faults
@@ -32,6 +32,12 @@ abbrev pub IsUntouched : (old new : View) → Type 0
 IsUntouched old new =
     (new.world ≡ old.world) × (new.volume ≡ old.volume) × (new.failures ≡ old.failures)
     × (new.waits ≡ old.waits)
+
+-- What a call may do to the device, however it ends: the count of its failures does not fall, and
+-- at most so many writes and syncs are made.
+pub record UsesDevice (keeps_word : Type 0) (most : ℕ) (old new : View) : Type 0 where
+  pub later : old.failures ≤ new.failures
+  pub brief : keeps_word → MakesAtMost most old.volume new.volume
 
 abbrev pub connection_at : View → (number : ℕ) → Option Connection
 connection_at server number = at number server.world.connections

@@ -1,12 +1,13 @@
 -- What follows of every run.
-use Rattle.std.specs.Prelude.{ℕ, List, [], Option, Some, ◌≡◌, ◌↔◌}
+use Rattle.std.specs.Prelude.{ℕ, List, [], Option, Some, ◌≡◌, ◌≤◌, ◌+◌, ◌*◌, ◌↔◌}
+use Rattle.disk.specs.Moments.{moment}
 use Rattle.layout.specs.Stands.{Kept}
 use Rattle.model_tree.specs.Trees.Keyed.{at}
 use Rattle.model.specs.Wire.Rpc.{NoCall, read_call}
 use Rattle.model.specs.Server.World.{World, Connection, Waiting, Busy, Idle, one}
 use Rattle.volume.specs.VolumeState.{IsRecent}
 use Rattle.server.specs.Headline.{IsMounted}
-use Rattle.server.specs.Seen.{Seen, ServerCall, IsServed, IsTurned, trees_of}
+use Rattle.server.specs.Seen.{Seen, ServerCall, IsServed, IsTurned, count_of, trees_of}
 use Rattle.model.specs.Sessions.Session.{Settings}
 
 -- the next call can be made
@@ -20,6 +21,12 @@ HangUpIsCalls =
     (connection now : ℕ) (first old new : Seen) (calls : List ServerCall) → IsServed first calls old
     → IsTurned connection now old new
     → ((more : List ServerCall) × IsServed first more new) × (IsSeenReady old → IsSeenReady new)
+
+-- A run makes at most 396 writes and syncs a call, also in the call in which the device fails.
+abbrev pub IsBounded : Type 0
+IsBounded =
+    (first last : Seen) (calls : List ServerCall) (served : IsServed first calls last)
+    → moment last.volume.history ≤ moment first.volume.history + 396 * count_of served
 
 -- one that claims that a crash leaves nothing
 abbrev pub NeverEmpty : Type 0

@@ -1,10 +1,10 @@
 -- A server as its caller sees it from call to call: the machine of the headline, and the volume
 -- below it.
-use Rattle.std.specs.Prelude.{ℕ, true, false, List, [], ◌∷◌, Option, Some, None, ◌≡◌, map}
+use Rattle.std.specs.Prelude.{ℕ, suc, true, false, List, [], ◌∷◌, Option, Some, None, ◌≡◌, map}
 use Rattle.std.specs.List.{IsAmong}
 use Rattle.disk.specs.Moments.{Image, AddsOnly, Left}
 use Rattle.layout.specs.Stands.{Kept}
-use Rattle.volume.specs.VolumeState.{VolumeState, IsSameVolume, StandsForOne, IsRecent}
+use Rattle.volume.specs.VolumeState.{VolumeState, IsSameVolume, MakesAtMost, StandsForOne, IsRecent}
 use Rattle.model_tree.specs.Trees.Keyed.{at}
 use Rattle.model_tree.specs.Trees.Tree.{Tree}
 use Rattle.model.specs.Server.Runs.{Serving, Event, Arrives, Turns, HangsUp, Connects, Takes, Happens, Flushes, DeviceFails, StaysDown, RunHistory, no_history, history_after, history_failing, effect_of, MayBeLeft}
@@ -45,6 +45,8 @@ pub record Moves (old : Seen) (event : Event) (new : Seen) : Type 0 where
       new.volume.history
   pub leaves : LeavesNow new
   pub same : IsSameVolume old.volume new.volume
+  -- it makes at most 396 writes and syncs
+  pub brief : MakesAtMost 396 old.volume new.volume
 
 -- What a call answers
 
@@ -125,6 +127,15 @@ pub data IsServed (first : Seen) : List ServerCall → Seen → Type 0 where
       → Checkpoints old new → IsServed first calls new
   Flushed : {calls : List ServerCall} {old new : Seen} → IsServed first calls old
       → FlushesAll old new → IsServed first calls new
+
+-- how many calls were made, checkpoints and flushes too
+abbrev pub count_of : {first last : Seen} {calls : List ServerCall} → IsServed first calls last → ℕ
+count_of Begins = 0
+count_of (Goes_on event said before does) = suc (count_of before)
+count_of (Fails_at event before breaks) = suc (count_of before)
+count_of (Stays_down connection said before gives) = suc (count_of before)
+count_of (Keeps_on before checkpoints) = suc (count_of before)
+count_of (Flushed before flushes) = suc (count_of before)
 
 -- By the definition
 

@@ -2,7 +2,7 @@
 
 ghost use Rattle.server.specs.Headline.{EveryRun, EveryStop, EveryTrace, EveryLife, EveryStamping, EveryFirst, NeverLost, EveryAnswer};
 ghost use Rattle.server.specs.LifeLaws.{EveryHeld, EveryStays, EveryFollows, EveryDead, EveryOnce, EveryRetried, EverySits, EveryStored, EveryAsked, EveryEnded};
-ghost use Rattle.server.specs.RunLaws.{HangUpIsCalls, NeverEmpty, OnlyIdle};
+ghost use Rattle.server.specs.RunLaws.{HangUpIsCalls, IsBounded, NeverEmpty, OnlyIdle};
 
 /// Whatever bytes arrive on whatever connections, and wherever the server crashes: however often
 /// the volume is mounted since, in the same power cycle or after further crashes, and those mounts
@@ -33,6 +33,8 @@ pub fn every_run()
     // Idle exactly where there is nothing to do
     ensures idle { OnlyIdle }
     ensures hang_up { HangUpIsCalls }
+    // each call makes at most a stated number of writes and syncs
+    ensures bounded { IsBounded }
     // and no run claims that a crash leaves nothing
     ensures empty { NeverEmpty }
 {}

@@ -53,7 +53,7 @@ impl<D: Device> Server<D> {
     ghost use Rattle.model_tree.specs.Trees.Tree.{Tree};
     ghost use Rattle.model.specs.Server.World.{Closed, is_busy, can_connect};
     ghost use Rattle.server.specs.Connections.{turn_view};
-    ghost use Rattle.server.specs.Refused.{view, IsUntouched, connection_at, HasKept, HasRunOn, HasTurned, RefusesCheckpoint, RefusesTurn, RefusesHangUp};
+    ghost use Rattle.server.specs.Refused.{view, IsUntouched, connection_at, HasKept, HasRunOn, HasTurned, RefusesCheckpoint, RefusesTurn, RefusesHangUp, UsesDevice};
     ghost use Rattle.server.specs.Seen.{Does, Breaks, Took, Turned, Done};
     ghost use Rattle.server.specs.Views.{world_of, files_of, volume_of, waits_of, server_failures, most_connections, seen_with, seen_down, gave, Serves, ServesLater, ServesAs, LetsWait, FlushesServer, ServerFails, GivesReply, Keeps, Turning};
 
@@ -229,7 +229,7 @@ impl<D: Device> Server<D> {
             → connection_at (view self.old) conn ≡ None → IsErrOf result ServerFault.NoConnection }
         ensures is_closed { (volume_of self.old).is_down ≡ false
             → connection_at (view self.old) conn ≡ Some Closed → IsErrOf result ServerFault.Closed }
-        ensures later { server_failures self.old ≤ server_failures self.new }
+        ensures device { UsesDevice D.keeps_word 396 (view self.old) (view self.new) }
     {
         self.defer(false);
         self.take_turn(conn, now)
@@ -261,7 +261,7 @@ impl<D: Device> Server<D> {
             → connection_at (view self.old) conn ≡ None → IsErrOf result ServerFault.NoConnection }
         ensures is_closed { (volume_of self.old).is_down ≡ false
             → connection_at (view self.old) conn ≡ Some Closed → IsErrOf result ServerFault.Closed }
-        ensures later { server_failures self.old ≤ server_failures self.new }
+        ensures device { UsesDevice D.keeps_word 396 (view self.old) (view self.new) }
     {
         self.defer(true);
         self.take_turn(conn, now)
@@ -299,7 +299,7 @@ impl<D: Device> Server<D> {
             → connection_at (view self.old) conn ≡ None → IsErrOf result ServerFault.NoConnection }
         ensures is_closed { (volume_of self.old).is_down ≡ false
             → connection_at (view self.old) conn ≡ Some Closed → IsErrOf result ServerFault.Closed }
-        ensures later { server_failures self.old ≤ server_failures self.new }
+        ensures device { UsesDevice D.keeps_word 396 (view self.old) (view self.new) }
     {
         if self.fs.is_down() {
             return Err(ServerFault::Device);
@@ -336,6 +336,7 @@ impl<D: Device> Server<D> {
         // The device fails in it
         ensures fails { D.keeps_word → (volume_of self.old).is_down ≡ false
             → OnErr result ((event : runs.Event) → ServerFails self.old self.new event) }
+        ensures device { UsesDevice D.keeps_word 198 (view self.old) (view self.new) }
         // Refused
         ensures refused { IfErr result (RefusesCheckpoint (view self.old) (view self.new)) }
         ensures waits { OnErr result (waits_of self.new ≡ waits_of self.old) }
@@ -427,6 +428,7 @@ impl<D: Device> Server<D> {
         // The device fails in it
         ensures fails { D.keeps_word → (volume_of self.old).is_down ≡ false
             → OnErr result ((event : runs.Event) → ServerFails self.old self.new event) }
+        ensures device { UsesDevice D.keeps_word 99 (view self.old) (view self.new) }
         // Refused
         ensures refused { IfErr result (RefusesCheckpoint (view self.old) (view self.new)) }
         ensures is_down { (volume_of self.old).is_down ≡ true

@@ -1,4 +1,4 @@
-use Rattle.server.proofs.RunLaws.{hang_up_is_calls, never_empty, only_idle}
+use Rattle.server.proofs.RunLaws.{hang_up_is_calls, is_bounded, never_empty, only_idle}
 use Rattle.server.proofs.Stops.{every_run_again, every_first, never_lost, every_stop, every_trace, every_life, every_stamping, every_answer}
 use Rattle.server.proofs.laws.every_run.Goals as goal
 
@@ -14,5 +14,6 @@ returns c = record {
   answers = every_answer;
   idle = only_idle;
   hang_up = hang_up_is_calls;
+  bounded = is_bounded;
   empty = never_empty;
 }

@@ -36,7 +36,7 @@ returns-in-Ok-clause-ok g c = λ keeps.
     let volume = did.volume.volume_changes in
     checkpointed (fs_of s.fs) (fs_of c.checkpoint.new.self) (table_of s.table) (opens_of s.opens) (connections_of s.connections) volume.same did.changes did.waits
     (did.shows.tree_is keeps) (volume.ends.seats keeps (kept_of (fs_of s.fs).volume) false (false, (refl, refl), inl refl)) (sym c.if-is_down.ensures) volume.ends.still_up (did.recent keeps)
-    (volume.moments keeps (kept_of (fs_of s.fs).volume) false (false, (refl, refl), inl refl))
+    (volume.moments keeps (kept_of (fs_of s.fs).volume) false (false, (refl, refl), inl refl)) (volume.brief keeps)
 
 pub returns-in-Ok-clause-kept : goal.returns-in-Ok-clause-kept
 unfolding world_of volume_of server_failures
@@ -63,7 +63,7 @@ returns-in-Err-clause-fails g c = λ keeps up.
     (λ down. true≢false (sym (did.down.0 (ap Err down)) ∙ up)) in
     let failed = rw device at did.volume in
     checkpoint_fails (fs_of s.fs) (fs_of c.checkpoint.new.self) (table_of s.table) (opens_of s.opens) (connections_of s.connections) volume.same did.changes did.waits
-    up failed.volume_changes.ends.down (volume.moments keeps (kept_of (fs_of s.fs).volume) false (false, (refl, refl), inl refl))
+    up failed.volume_changes.ends.down (volume.moments keeps (kept_of (fs_of s.fs).volume) false (false, (refl, refl), inl refl)) (volume.brief keeps)
 
 pub returns-in-Err-clause-refused : goal.returns-in-Err-clause-refused
 unfolding world_of volume_of server_failures
@@ -81,3 +81,15 @@ returns-in-Err-clause-refused g c =
       cause = inr failed.volume_changes.ends.cause;
       down = failed.volume_changes.ends.down;
     }
+
+pub returns-then-is_down-clause-device : goal.returns-then-is_down-clause-device
+unfolding volume_of server_failures
+returns-then-is_down-clause-device g c = record { later = omega arith; brief = λ keeps. omega arith }
+
+pub returns-in-Ok-clause-device : goal.returns-in-Ok-clause-device
+unfolding volume_of server_failures
+returns-in-Ok-clause-device g c = record { later = c.checkpoint.ensures.volume.volume_changes.later; brief = c.checkpoint.ensures.brief }
+
+pub returns-in-Err-clause-device : goal.returns-in-Err-clause-device
+unfolding volume_of server_failures
+returns-in-Err-clause-device g c = record { later = c.checkpoint.ensures.volume.volume_changes.later; brief = c.checkpoint.ensures.brief }

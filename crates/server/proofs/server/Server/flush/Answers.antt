@@ -37,7 +37,7 @@ returns-in-Ok-clause-ok g c = λ keeps was.
     let up = sym c.if-is_down.ensures in
     flushed_all (fs_of s.fs) (fs_of c.flush.new.self) (table_of s.table) (opens_of s.opens) (connections_of s.connections) volume.same did.flushes.no_count
     (did.shows.tree_is keeps) (volume.ends.seats keeps (kept_of (fs_of s.fs).volume) true refl) (s.agrees keeps up).seats up volume.ends.still_up did.flushes.waits
-    (volume.moments keeps (kept_of (fs_of s.fs).volume) true refl) (volume.ends.leaves keeps (kept_of (fs_of s.fs).volume) true refl)
+    (volume.moments keeps (kept_of (fs_of s.fs).volume) true refl) (volume.brief keeps) (volume.ends.leaves keeps (kept_of (fs_of s.fs).volume) true refl)
 
 pub returns-in-Ok-clause-kept : goal.returns-in-Ok-clause-kept
 unfolding world_of volume_of waits_of server_failures
@@ -64,7 +64,7 @@ returns-in-Err-clause-fails g c = λ keeps up.
     (λ down. true≢false (sym (did.down.0 (ap Err down)) ∙ up)) in
     let failed = rw device at did.flushes in
     checkpoint_fails (fs_of s.fs) (fs_of c.flush.new.self) (table_of s.table) (opens_of s.opens) (connections_of s.connections) volume.same did.flushes.no_count did.flushes.waits
-    up failed.volume_changes.ends.down (volume.moments keeps (kept_of (fs_of s.fs).volume) true refl)
+    up failed.volume_changes.ends.down (volume.moments keeps (kept_of (fs_of s.fs).volume) true refl) (volume.brief keeps)
 
 pub returns-in-Err-clause-refused : goal.returns-in-Err-clause-refused
 unfolding world_of volume_of waits_of server_failures
@@ -82,3 +82,19 @@ returns-in-Err-clause-refused g c =
       cause = inr failed.volume_changes.ends.cause;
       down = failed.volume_changes.ends.down;
     }
+
+pub returns-then-is_down-clause-device : goal.returns-then-is_down-clause-device
+unfolding volume_of server_failures
+returns-then-is_down-clause-device g c = record { later = omega arith; brief = λ keeps. omega arith }
+
+pub returns-then-not-waits-clause-device : goal.returns-then-not-waits-clause-device
+unfolding volume_of server_failures
+returns-then-not-waits-clause-device g c = record { later = omega arith; brief = λ keeps. omega arith }
+
+pub returns-in-Ok-clause-device : goal.returns-in-Ok-clause-device
+unfolding volume_of server_failures
+returns-in-Ok-clause-device g c = record { later = c.flush.ensures.flushes.volume_changes.later; brief = c.flush.ensures.brief }
+
+pub returns-in-Err-clause-device : goal.returns-in-Err-clause-device
+unfolding volume_of server_failures
+returns-in-Err-clause-device g c = record { later = c.flush.ensures.flushes.volume_changes.later; brief = c.flush.ensures.brief }

@@ -66,7 +66,7 @@ loop-self-preserved g c =
             once_on c.args.conn c.args.now (seen_with old recent) (seen_with mid was.0) (seen_with new does.0) _ was.1 busy does.1 was.2 does.2,
             recent_beside (volume_of new) (volume_of new).seats does.0 does.1.ready,
           );
-      later = omega (arith, inv.later, c.turn.ensures.later);
+      later = omega (arith, inv.later, c.turn.ensures.device.later);
       waits = c.turn.ensures.waits ∙ inv.waits;
     }
 

@@ -111,6 +111,7 @@ returns-in_err-turn-clause-fails g c =
           moments = turning_moments (shared_of s.fs s.table s.opens) (connections_of s.connections) c.args.conn c.args.now recent _ ready up adds;
           leaves = broken_leaves (fs_of s.fs).volume (fs_of c.turn.new.engine.fs.now).volume left recent ready adds volume.same;
           same = volume.same;
+          brief = volume.brief keeps;
         };
       },
     )
@@ -181,6 +182,7 @@ returns-clause-ok g c =
           moments = turning_moments (shared_of s.fs s.table s.opens) (connections_of s.connections) c.args.conn c.args.now recent _ ready up (volume.moments keeps _ _ gives);
           leaves = leaves_now (fs_of c.turn.new.engine.fs.now).volume left.0 left.1.ready.leaves;
           same = volume.same;
+          brief = volume.brief keeps;
         };
         ready = ready_beside (fs_of c.turn.new.engine.fs.now).volume (fs_of c.turn.new.engine.fs.now).volume.seats left.0 left.1.ready;
       },
@@ -223,3 +225,23 @@ returns-clause-turned g c =
           (connection_view before) (connection_view after) written c.in_ok-turn.field-0
           ((rw c.in_ok-turn.was at c.turn.ensures.turn) keeps) (numbers_rise s.connections) there volume.same).1;
     }
+
+pub returns-then-is_down-clause-device : goal.returns-then-is_down-clause-device
+unfolding volume_of server_failures
+returns-then-is_down-clause-device g c = record { later = omega arith; brief = λ keeps. omega arith }
+
+pub returns-in_default-clause-device : goal.returns-in_default-clause-device
+unfolding volume_of server_failures
+returns-in_default-clause-device g c = record { later = omega arith; brief = λ keeps. omega arith }
+
+pub returns-then-is_closed-clause-device : goal.returns-then-is_closed-clause-device
+unfolding volume_of server_failures
+returns-then-is_closed-clause-device g c = record { later = omega arith; brief = λ keeps. omega arith }
+
+pub returns-in_err-turn-clause-device : goal.returns-in_err-turn-clause-device
+unfolding volume_of server_failures
+returns-in_err-turn-clause-device g c = record { later = c.turn.ensures.volume.volume_changes.later; brief = c.turn.ensures.volume.volume_changes.brief }
+
+pub returns-clause-device : goal.returns-clause-device
+unfolding volume_of server_failures
+returns-clause-device g c = record { later = c.turn.ensures.volume.volume_changes.later; brief = c.turn.ensures.volume.volume_changes.brief }

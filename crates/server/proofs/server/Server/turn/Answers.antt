@@ -1,8 +1,8 @@
-use Rattle.std.proofs.Common.{◌≡◌, ◌≤◌, ℕ, Bool, false, OnOk, OnErr, IfErr, ap, sym, refl, ◌∙◌, subst}
+use Rattle.std.proofs.Common.{◌≡◌, Bool, false, OnOk, OnErr, IfErr, ap, sym, refl, ◌∙◌, subst}
 use Rattle.model.specs.Server.Runs as runs
 use Rattle.server.specs.Connections.{turn_view}
 use Rattle.server.specs.declared.turn.Turn.{Turn}
-use Rattle.server.specs.Refused.{View, view, connection_at, IsUntouched, HasTurned, RefusesTurn}
+use Rattle.server.specs.Refused.{View, view, connection_at, IsUntouched, HasTurned, RefusesTurn, UsesDevice}
 use Rattle.volume.specs.VolumeState.{VolumeState}
 use Rattle.server.specs.Seen.{Turned}
 use Rattle.server.specs.Views.{files_of, waits_of, server_failures, Serves, ServesLater, ServesAs}
@@ -42,8 +42,9 @@ pub returns-clause-is_closed : goal.returns-clause-is_closed
 returns-clause-is_closed g c up closed =
     c.take_turn.ensures.is_closed (ap (λ (h : VolumeState). h.is_down) c.defer.ensures.volume ∙ up) (ap (λ (v : View). connection_at v c.args.conn) (same_view c.args.self.now c.defer.new.self c.defer.ensures.world c.defer.ensures.volume c.defer.ensures.waits c.defer.ensures.failures) ∙ closed)
 
-pub returns-clause-later : goal.returns-clause-later
-returns-clause-later g c = subst (λ (n : ℕ). n ≤ server_failures c.take_turn.new.self) c.defer.ensures.failures c.take_turn.ensures.later
+pub returns-clause-device : goal.returns-clause-device
+returns-clause-device g c =
+    subst (λ (v : View). UsesDevice g.D.Device.keeps_word 396 v (view c.take_turn.new.self)) (same_view c.args.self.now c.defer.new.self c.defer.ensures.world c.defer.ensures.volume c.defer.ensures.waits c.defer.ensures.failures) c.take_turn.ensures.device
 
 pub returns-clause-waits : goal.returns-clause-waits
 returns-clause-waits g c = c.take_turn.ensures.waits.1 c.defer.ensures.defers ∙ c.defer.ensures.waits
