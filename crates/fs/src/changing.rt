@@ -260,56 +260,12 @@ impl<D: Device> Fs<D> {
             (fault ≡ FsFault.Memory) ⊎ (fault ≡ FsFault.Device)) }
     {
         if self.defers {
-            self.change_later(edits)
+            self.volume.change_fitting(edits)?;
+            self.waits = true;
         } else {
-            self.change_at_once(edits)
+            self.volume.keep_fitting(edits)?;
         }
-    }
-
-    /// Keeps a change, and counts it.
-    fn change_at_once(&mut self, edits: &[Edit<'_>]) -> Result<(), FsFault>
-        // A change that may be made
-        requires up { (fs_of self.old).volume.is_down ≡ false }
-        requires planned { IsPlanned (fs_of self.old) edits.now }
-        requires at_once { (fs_of self.old).defers ≡ false }
-        // In any case
-        ensures volume { AltersFs self.old self.new
-            (IsTree (fs_of self.old).volume
-            (edited_by (fs_of self.old).volume edits.now)) (fs_ending result) }
-        // Done
-        ensures shows { OnOk result (ShowsTree D.keeps_word
-            (edited_by (fs_of self.old).volume edits.now) (fs_of self.new).volume.tree) }
-        ensures counted { OnOk result ((fs_of self.new).changes ≡ (fs_of self.old).changes + 1) }
-        // Refused
-        ensures only { IfErr result (λ fault.
-            (fault ≡ FsFault.Memory) ⊎ (fault ≡ FsFault.Device)) }
-    {
-        self.volume.keep_fitting(edits)?;
         self.changes += 1;
-        Ok(())
-    }
-
-    /// Makes a change that the next flush is to keep, and counts it.
-    fn change_later(&mut self, edits: &[Edit<'_>]) -> Result<(), FsFault>
-        // A change that may be made
-        requires up { (fs_of self.old).volume.is_down ≡ false }
-        requires planned { IsPlanned (fs_of self.old) edits.now }
-        requires defers { (fs_of self.old).defers ≡ true }
-        // In any case
-        ensures volume { AltersFs self.old self.new
-            (IsTree (fs_of self.old).volume
-            (edited_by (fs_of self.old).volume edits.now)) (fs_ending result) }
-        // Done
-        ensures shows { OnOk result (ShowsTree D.keeps_word
-            (edited_by (fs_of self.old).volume edits.now) (fs_of self.new).volume.tree) }
-        ensures counted { OnOk result ((fs_of self.new).changes ≡ (fs_of self.old).changes + 1) }
-        // Refused
-        ensures only { IfErr result (λ fault.
-            (fault ≡ FsFault.Memory) ⊎ (fault ≡ FsFault.Device)) }
-    {
-        self.volume.change_fitting(edits)?;
-        self.changes += 1;
-        self.waits = true;
         Ok(())
     }
 }
