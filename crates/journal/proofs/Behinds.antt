@@ -1,22 +1,24 @@
 -- What goes behind a gate.
-use Rattle.std.proofs.Common.{◌≡◌, ◌≤◌, ◌<◌, ◌+◌, ◌&&◌, ◌||◌, ℕ, suc, zero, Bool, true, false, not, leb, List, [], ◌∷◌, ◌++◌, length, take, get_or, refl, sym, ap, ◌∙◌, subst, arith, if◌then◌else◌}
+use Rattle.std.proofs.Common.{◌≡◌, ◌≤◌, ◌<◌, ◌+◌, ◌&&◌, ◌||◌, ℕ, suc, zero, Bool, true, false, not, leb, List, [], ◌∷◌, ◌++◌, length, take, get_or, refl, sym, ap, ◌∙◌, arith, if◌then◌else◌}
 use Rattle.std.proofs.lemmas.Bool.{leb-true}
 use Rattle.std.proofs.lemmas.List.{append_assoc, length-append, take_more}
 use Rattle.std.proofs.lemmas.List.Folds.{list_any_at, list_any_more}
-use Rattle.journal.specs.Layout.{AreTargets}
+use Rattle.journal.specs.declared.layout.LogArea.{LogArea}
+use Rattle.journal.specs.Layout.{AreNamed}
 use Rattle.journal.specs.Behind.{FitsGate, meets, goes_behind, way_for}
 use Rattle.journal.specs.Transactions.{has}
-use Rattle.journal.proofs.Images.{Out, Fit, Fit-front, Out-join}
+use Rattle.journal.proofs.Images.{Out, Fit, Named-join, Out-join, are_named, named_of}
 use Rattle.journal.proofs.Lists.{Away, not_has-out, targets_of-Fit}
-use Rattle.journal.proofs.Stages.{Fit-of}
+use Rattle.journal.proofs.Stages.{fit_once, front_named}
 
 neither : (a b : Bool) → (a || b) ≡ false → (a ≡ false) × (b ≡ false)
 neither true b e = absurd (let w : true ≡ false = e in cc)
 neither false b e = (refl, e)
 
-both : (a b : Bool) → (not a && b) ≡ true → (a ≡ false) × (b ≡ true)
-both true b e = absurd (let w : false ≡ true = e in cc)
-both false b e = (refl, e)
+both : (once a b : Bool) → ((not once || not a) && b) ≡ true → (once ≡ true → a ≡ false) × (b ≡ true)
+both false a b e = ((λ q. absurd (let w : false ≡ true = q in cc)), e)
+both true true b e = absurd (let w : false ≡ true = e in cc)
+both true false b e = ((λ q. refl), e)
 
 away_of : (named to : List ℕ) → meets named to ≡ false → Away named to
 away_of named [] e = tt
@@ -34,33 +36,29 @@ Fit-join : (size : ℕ) (a b : List ℕ) → Fit size a → Fit size b → Away 
 Fit-join size [] b f g w = g
 Fit-join size (t ∷ a) b f g w = (f.0, f.1, Out-join a b t f.2 (Away-first t a b w), Fit-join size a b f.3 g (Away-rest t a b w))
 
-behind_fits : (size : ℕ) (named to : List ℕ) → FitsGate size named → AreTargets size to → goes_behind named to ≡ true → FitsGate size (named ++ to)
-behind_fits size named to fits fit e =
-    let each = both (meets named to) (leb (length named + length to) 96) e in
+behind_fits : (area : LogArea) (named to : List ℕ) → FitsGate area named → AreNamed area to → goes_behind area named to ≡ true → FitsGate area (named ++ to)
+behind_fits area named to fits fit e =
+    let each = both area.once (meets named to) (leb (length named + length to) area.sectors) e in
     record {
-      few = omega (arith, length-append named to, leb-true (length named + length to) 96 each.1);
-      fit = targets_of-Fit size (named ++ to)
-          (Fit-join size named to (Fit-of size named fits.fit) (Fit-of size to fit) (away_of named to each.0));
+      few = omega (arith, length-append named to, leb-true (length named + length to) area.sectors each.1);
+      fit = are_named area (named ++ to) (Named-join area.end named to (named_of area named fits.fit) (named_of area to fit)) (λ once.
+          (targets_of-Fit area.end (named ++ to) (Fit-join area.end named to (fit_once area named fits.fit once) (fit_once area to fit once) (away_of named to (each.0 once)))).apart);
     }
 
-fits_for : (size : ℕ) (named to : List ℕ) (b : Bool) → goes_behind named to ≡ b → FitsGate size named → length to ≤ 96 → AreTargets size to
-    → FitsGate size ((if b then named else []) ++ to)
-fits_for size named to true e fits few fit = behind_fits size named to fits fit e
-fits_for size named to false e fits few fit = record { few = few; fit = fit }
+fits_for : (area : LogArea) (named to : List ℕ) (b : Bool) → goes_behind area named to ≡ b → FitsGate area named → length to ≤ area.sectors → AreNamed area to
+    → FitsGate area ((if b then named else []) ++ to)
+fits_for area named to true e fits few fit = behind_fits area named to fits fit e
+fits_for area named to false e fits few fit = record { few = few; fit = fit }
 
 -- once there is a way for them, the gate can name them too
-pub way_fits : (size : ℕ) (named to : List ℕ) → FitsGate size named → length to ≤ 96 → AreTargets size to → FitsGate size (way_for named to ++ to)
-way_fits size named to fits few fit = fits_for size named to (goes_behind named to) refl fits few fit
+pub way_fits : (area : LogArea) (named to : List ℕ) → FitsGate area named → length to ≤ area.sectors → AreNamed area to → FitsGate area (way_for area named to ++ to)
+way_fits area named to fits few fit = fits_for area named to (goes_behind area named to) refl fits few fit
 
-pub front_fits : (size : ℕ) (named to : List ℕ) → FitsGate size (named ++ to) → FitsGate size named
-front_fits size named to fits = record {
+pub front_fits : (area : LogArea) (named to : List ℕ) → FitsGate area (named ++ to) → FitsGate area named
+front_fits area named to fits = record {
   few = omega (arith, length-append named to, fits.few);
-  fit = targets_of-Fit size named (Fit-front size named to (Fit-of size (named ++ to) fits.fit));
+  fit = front_named area named to fits.fit;
 }
-
--- the device's size stays
-pub fits_at : (old new : ℕ) (to : List ℕ) → new ≡ old → FitsGate old to → FitsGate new to
-fits_at old new to e fits = let P : ℕ → Type 0 = λ size. FitsGate size to in subst P (sym e) fits
 
 -- looking for a target that is named, one after the other
 pub meets_one : (named to : List ℕ) (i : ℕ) → i < length to → has named (get_or to i 0) ≡ true → meets named to ≡ true
@@ -84,11 +82,18 @@ take_whole (x ∷ xs) (suc i) l = ap (λ ys. x ∷ ys) (take_whole xs i (omega a
 pub meets_all : (named to : List ℕ) (i : ℕ) → length to ≤ i → meets named (take i to) ≡ false → meets named to ≡ false
 meets_all named to i l e = ap (λ (ts : List ℕ). meets named ts) (sym (take_whole to i l)) ∙ e
 
-pub stays_before : (named to : List ℕ) → meets named to ≡ true → goes_behind named to ≡ false
-stays_before named to e = ap (λ (b : Bool). not b && leb (length named + length to) 96) e
+pub stays_before : (area : LogArea) (named to : List ℕ) → area.once ≡ true → meets named to ≡ true → goes_behind area named to ≡ false
+stays_before area named to once e =
+    ap (λ (b : Bool). (not area.once || not b) && leb (length named + length to) area.sectors) e
+    ∙ ap (λ (b : Bool). (not b || false) && leb (length named + length to) area.sectors) once
 
-pub goes_by_count : (named to : List ℕ) → meets named to ≡ false → goes_behind named to ≡ leb (length named + length to) 96
-goes_by_count named to e = ap (λ (b : Bool). not b && leb (length named + length to) 96) e
+any_way : (once b c : Bool) → (once ≡ true → b ≡ false) → ((not once || not b) && c) ≡ c
+any_way false b c e = refl
+any_way true b c e = ap (λ (d : Bool). not d && c) (e refl)
+
+pub goes_by_count : (area : LogArea) (named to : List ℕ) → (area.once ≡ true → meets named to ≡ false)
+    → goes_behind area named to ≡ leb (length named + length to) area.sectors
+goes_by_count area named to e = any_way area.once (meets named to) (leb (length named + length to) area.sectors) e
 
 -- naming them one after the other
 pub named_more : (was to now next : List ℕ) (i : ℕ) → i < length to → now ≡ was ++ take i to → next ≡ now ++ get_or to i 0 ∷ [] → next ≡ was ++ take (i + 1) to

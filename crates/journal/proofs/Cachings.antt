@@ -12,6 +12,7 @@ use Rattle.lru.proofs.Splits.{Contains-head, Contains-tail, Contains-cons, Conta
 use Rattle.disk.specs.declared.update.Update.{Update}
 use Rattle.disk.specs.Moments.{Image, History, applied, put, seen}
 use Rattle.journal.specs.Cached.{AreAmong, AreCopies}
+use Rattle.journal.specs.declared.layout.LogArea.{LogArea}
 use Rattle.journal.specs.Layout.{targets, through}
 use Rattle.journal.specs.Settled.{AreSame}
 use Rattle.journal.specs.Transactions.{has}
@@ -60,38 +61,38 @@ pub copies_among : (size : ℕ) (image : Image) (old new : List (ℕ × List ℕ
 copies_among size image old new copies among = record { each = λ n content there. copies.each n content (among (n, content) there) }
 
 -- where a flush took the list
-pub copies_flushed : (size size1 : ℕ) (us next : List Update) (a b : Image) (es : List (ℕ × List ℕ)) → size1 ≡ size → next ≡ []
-    → AreSame size (applied us a) b → AreCopies size (applied us a) es → AreCopies size1 (applied next b) es
-copies_flushed size size1 us next a b es at none same copies = record {
+pub copies_flushed : (size : ℕ) (us next : List Update) (a b : Image) (es : List (ℕ × List ℕ)) → next ≡ []
+    → AreSame size (applied us a) b → AreCopies size (applied us a) es → AreCopies size (applied next b) es
+copies_flushed size us next a b es none same copies = record {
   each = λ n content there.
       let was = copies.each n content there in (
         was.0,
-        omega (arith, was.1, at),
+        was.1,
         was.2 ∙ same n (inr was.0, was.1) ∙ ap (λ (xs : List Update). applied xs b n) (sym none),
       );
 }
 
 -- where the base was brought home
-pub copies_home : (size size1 : ℕ) (us : List Update) (a b : Image) (es : List (ℕ × List ℕ)) → size1 ≡ size
-    → AreSame size a b → AreCopies size (applied us a) es → AreCopies size1 (applied us b) es
-copies_home size size1 us a b es at same copies = record {
+pub copies_home : (size : ℕ) (us : List Update) (a b : Image) (es : List (ℕ × List ℕ))
+    → AreSame size a b → AreCopies size (applied us a) es → AreCopies size (applied us b) es
+copies_home size us a b es same copies = record {
   each = λ n content there.
       let was = copies.each n content there in (
         was.0,
-        omega (arith, was.1, at),
+        was.1,
         was.2 ∙ applied_keeps size us a b same n (inr was.0, was.1),
       );
 }
 
 -- where sector 0 was written
-pub copies_beside : (size size1 : ℕ) (us : List Update) (a b : Image) (first : List ℕ) (es : List (ℕ × List ℕ)) → size1 ≡ size
-    → (let u : Update = record { target = 0; content = first } in AreSame size (put a u) b) → AreCopies size (applied us a) es → AreCopies size1 (applied us b) es
-copies_beside size size1 us a b first es at same copies = record {
+pub copies_beside : (size : ℕ) (us : List Update) (a b : Image) (first : List ℕ) (es : List (ℕ × List ℕ))
+    → (let u : Update = record { target = 0; content = first } in AreSame size (put a u) b) → AreCopies size (applied us a) es → AreCopies size (applied us b) es
+copies_beside size us a b first es same copies = record {
   each = λ n content there.
       let u : Update = record { target = 0; content = first } in
       let was = copies.each n content there in (
         was.0,
-        omega (arith, was.1, at),
+        was.1,
         was.2 ∙ applied_at us a b n (sym (put_other a u n (λ e. omega (arith, e, was.0))) ∙ same n (inr was.0, was.1)),
       );
 }
@@ -108,22 +109,22 @@ copies_applied size us named a b old new copies among gone same is = record {
 }
 
 -- one more that was read
-pub copies_more : (size size1 n : ℕ) (us : List Update) (to : List ℕ) (h h1 : History) (content : List ℕ) (old new : List (ℕ × List ℕ)) → size1 ≡ size → h1 ≡ h
-    → AreCopies size (applied us (through to (seen h.now))) old
-    → ((entry : ℕ × List ℕ) → Contains new entry → Contains old entry ⊎ ((98 ≤ n) × (entry ≡ (n, content))))
-    → n < size → content ≡ applied us (through to (seen h.now)) n → AreCopies size1 (applied us (through to (seen h1.now))) new
-copies_more size size1 n us to h h1 content old new at same copies either near is = record {
+pub copies_more : (area : LogArea) (n : ℕ) (us : List Update) (to : List ℕ) (h h1 : History) (content : List ℕ) (old new : List (ℕ × List ℕ)) → h1 ≡ h
+    → AreCopies area.end (applied us (through area to (seen h.now))) old
+    → ((entry : ℕ × List ℕ) → Contains new entry → Contains old entry ⊎ ((98 ≤ n) × (n < area.end) × (entry ≡ (n, content))))
+    → content ≡ applied us (through area to (seen h.now)) n → AreCopies area.end (applied us (through area to (seen h1.now))) new
+copies_more area n us to h h1 content old new same copies either is = record {
   each = λ m kept there.
-      let now : applied us (through to (seen h.now)) m ≡ applied us (through to (seen h1.now)) m =
-      ap (λ (k : History). applied us (through to (seen k.now)) m) (sym same) in
+      let now : applied us (through area to (seen h.now)) m ≡ applied us (through area to (seen h1.now)) m =
+      ap (λ (k : History). applied us (through area to (seen k.now)) m) (sym same) in
       ⊎_elim
       (λ (was : Contains old (m, kept)).
-      let it = copies.each m kept was in (it.0, omega (arith, it.1, at), it.2 ∙ now))
-      (λ (one : (98 ≤ n) × ((m, kept) ≡ (n, content))).
-      let key : m ≡ n = ap (λ (p : ℕ × List ℕ). p.0) one.1 in (
+      let it = copies.each m kept was in (it.0, it.1, it.2 ∙ now))
+      (λ (one : (98 ≤ n) × (n < area.end) × ((m, kept) ≡ (n, content))).
+      let key : m ≡ n = ap (λ (p : ℕ × List ℕ). p.0) one.2 in (
         omega (arith, key, one.0),
-        omega (arith, key, near, at),
-        ap (λ (p : ℕ × List ℕ). p.1) one.1 ∙ is ∙ ap (λ (k : ℕ). applied us (through to (seen h.now)) k) (sym key) ∙ now,
+        omega (arith, key, one.1),
+        ap (λ (p : ℕ × List ℕ). p.1) one.2 ∙ is ∙ ap (λ (k : ℕ). applied us (through area to (seen h.now)) k) (sym key) ∙ now,
       ))
       (either (m, kept) there);
 }

@@ -20,15 +20,15 @@ every_stop old new settled adds image left = ⊎_elim
     (λ (now : Left old.history.now image). record { count = 0; within = omega arith; settles = settled image now })
     (λ (past : LeftWithin old.history.past (moment old.history) image). absurd (none_later old.history.past (moment old.history) image (omega arith) past))
     before)
-    (λ (front : StandsForFront old.size old.base old.list image). front)
+    (λ (front : StandsForFront old.area old.base old.list image). front)
     (adds.added (moment old.history) image (omega arith) (inl left))
 
 pub every_mount : EveryMount
-every_mount old new found small settled adds mounted =
+every_mount old new found is small settled adds mounted =
     let image = seen new.history.now in
     let front = every_stop old new settled adds image (λ n. seen-may_hold new.history.now.unsynced new.history.now.fixed n) in
     record {
       count = front.count;
       within = front.within;
-      same = settles_once old.size image (applied_all (take front.count old.list) old.base) found.base small front.settles mounted.base;
+      same = settles_once old.area is image (applied_all (take front.count old.list) old.base) found.base small front.settles mounted.base;
     }

@@ -7,6 +7,7 @@ use Rattle.disk.specs.declared.update.Update.{Update}
 use Rattle.disk.specs.Moments.{Image, History, LeftSince, SectorMayHold, Among, seen, put, applied}
 use Rattle.disk.specs.Calls.{zero_sector}
 use Rattle.disk.proofs.MomentLemmas.{AddsOnly-weaken, AddsOnly-join}
+use Rattle.journal.specs.declared.layout.LogArea.{LogArea}
 use Rattle.journal.specs.Layout.{AreTargets, gate, targets}
 use Rattle.journal.specs.Settled.{Settles}
 use Rattle.journal.specs.Phase.{LeftWith, AddsUpdates, IsFixedAs}
@@ -37,29 +38,29 @@ range_applied f a (suc k) n F t l h = ⊎_elim
     (cases_eq a n)
 
 -- an image as a format leaves it
-settles_formatted : (size : ℕ) (sector0 : List ℕ) (updates : List Update) (image : Image) → 256 ≤ size → AreTargets size (targets updates) → image 0 ≡ sector0
-    → ((n : ℕ) → 1 ≤ n → n < size → image n ≡ applied updates (λ _. zero_sector) n) → Settles size image (formatted sector0 updates)
+settles_formatted : (area : LogArea) (size : ℕ) (sector0 : List ℕ) (updates : List Update) (image : Image) → 2 ≤ size → area.end ≤ size → AreTargets area.end (targets updates) → image 0 ≡ sector0
+    → ((n : ℕ) → 1 ≤ n → n < size → image n ≡ applied updates (λ _. zero_sector) n) → Settles area image (formatted sector0 updates)
 unfolding gate
-settles_formatted size sector0 updates image large fit e rest =
+settles_formatted area size sector0 updates image large within fit e rest =
     let base : Image = λ n. if n == 0 then sector0 else zero_sector in
     record {
       to = [];
       few = omega arith;
-      fit = no_targets size;
-      gate_is = rest 1 (omega arith) (omega arith) ∙ applied_out updates (λ _. zero_sector) 1 (low_out size (targets updates) 1 (Fit-of size (targets updates) fit) (omega arith));
+      fit = no_targets area;
+      gate_is = rest 1 (omega arith) (omega arith) ∙ applied_out updates (λ _. zero_sector) 1 (low_out area.end (targets updates) 1 (Fit-of area.end (targets updates) fit) (omega arith));
       same = λ n k. ⊎_elim
-          (λ (q : n ≡ 0). applied_out updates base n (low_out size (targets updates) n (Fit-of size (targets updates) fit) (omega arith))
+          (λ (q : n ≡ 0). applied_out updates base n (low_out area.end (targets updates) n (Fit-of area.end (targets updates) fit) (omega arith))
           ∙ if_same n 0 sector0 zero_sector q ∙ sym e ∙ ap image (sym q))
           (λ (q : n ≡ 0 → ⊥). applied_at updates base (λ _. zero_sector) n (if_other n 0 sector0 zero_sector q)
-          ∙ sym (rest n (⊎_elim (λ (z : n ≡ 0). absurd (q z)) (λ (z : 98 ≤ n). omega arith) k.0) k.1))
+          ∙ sym (rest n (⊎_elim (λ (z : n ≡ 0). absurd (q z)) (λ (z : 98 ≤ n). omega arith) k.0) (omega (arith, k.1, within))))
           (cases_eq n 0);
     }
 
 abbrev pub zero_update : Update
 zero_update = record { target = 0; content = zero_sector }
 
-module _ (size : ℕ) (sector0 : List ℕ) (updates : List Update) (h : History) (large : 256 ≤ size) (fit : AreTargets size (targets updates)) where
-  erased_moments : (h1 : History) → AddsUpdates (zero_update ∷ []) h h1 → AddsFormats size sector0 updates h h1
+module _ (area : LogArea) (size : ℕ) (sector0 : List ℕ) (updates : List Update) (h : History) (large : 2 ≤ size) (within : area.end ≤ size) (fit : AreTargets area.end (targets updates)) where
+  erased_moments : (h1 : History) → AddsUpdates (zero_update ∷ []) h h1 → AddsFormats area sector0 updates h h1
   erased_moments h1 w = record {
     later = w.later;
     added = λ t image l left. ⊎_elim
@@ -77,9 +78,9 @@ module _ (size : ℕ) (sector0 : List ℕ) (updates : List Update) (h : History)
         (w.added t image l left);
   }
 
-  fresh_moments : (h1 h2 : History) → IsFixedAs (zero_update ∷ []) h h1 → AddsUpdates (fresh size updates) h1 h2 → AddsFormats size sector0 updates h1 h2
+  fresh_moments : (h1 h2 : History) → IsFixedAs (zero_update ∷ []) h h1 → AddsUpdates (fresh size updates) h1 h2 → AddsFormats area sector0 updates h1 h2
   fresh_moments h1 h2 f w =
-      AddsOnly-weaken (LeftWith (fresh size updates) h1.now) (λ image. (image 0 ≡ zero_sector) ⊎ Settles size image (formatted sector0 updates)) h1 h2
+      AddsOnly-weaken (LeftWith (fresh size updates) h1.now) (λ image. (image 0 ≡ zero_sector) ⊎ Settles area image (formatted sector0 updates)) h1 h2
       (λ image l. inl (between_out (put (seen h.now) zero_update) (fresh size updates) image 0
       (between_after (zero_update ∷ []) (fresh size updates) h h1 image f l)
       (range_out (fresh_at updates) 1 (size - 1) 0 (λ m. refl) (omega arith))
@@ -98,32 +99,32 @@ module _ (size : ℕ) (sector0 : List ℕ) (updates : List Update) (h : History)
       ∙ put_same (seen h.now) zero_update 0 refl
 
   last_moments : (h1 h2 h3 : History) → IsFixedAs (zero_update ∷ []) h h1 → IsFixedAs (fresh size updates) h1 h2
-      → (let u : Update = record { target = 0; content = sector0 } in AddsUpdates (u ∷ []) h2 h3) → AddsFormats size sector0 updates h2 h3
+      → (let u : Update = record { target = 0; content = sector0 } in AddsUpdates (u ∷ []) h2 h3) → AddsFormats area sector0 updates h2 h3
   last_moments h1 h2 h3 e f w =
       let u : Update = record { target = 0; content = sector0 } in
-      AddsOnly-weaken (LeftWith (u ∷ []) h2.now) (λ image. (image 0 ≡ zero_sector) ⊎ Settles size image (formatted sector0 updates)) h2 h3
+      AddsOnly-weaken (LeftWith (u ∷ []) h2.now) (λ image. (image 0 ≡ zero_sector) ⊎ Settles area image (formatted sector0 updates)) h2 h3
       (λ image l.
       let one = between_one (seen h2.now) u image (between_of (u ∷ []) h2.now image f.unsynced l) in
       ⊎_elim
       (λ (q : image 0 ≡ seen h2.now 0). inl (q ∙ fresh_zero h1 h2 e f))
-      (λ (q : image 0 ≡ sector0). inr (settles_formatted size sector0 updates image large fit q
+      (λ (q : image 0 ≡ sector0). inr (settles_formatted area size sector0 updates image large within fit q
       (λ n l u. one.1 n (λ z. omega arith) ∙ fresh_seen h1 h2 f n l u)))
       one.0) w
 
   pub format_fresh : (h1 h2 : History) → AddsUpdates (zero_update ∷ []) h h1 → IsFixedAs (zero_update ∷ []) h h1 → AddsUpdates (fresh size updates) h1 h2
-      → AddsFormats size sector0 updates h h2
+      → AddsFormats area sector0 updates h h2
   format_fresh h1 h2 w e v =
-      AddsOnly-join (λ image. (image 0 ≡ zero_sector) ⊎ Settles size image (formatted sector0 updates)) h h1 h2 (erased_moments h1 w) (fresh_moments h1 h2 e v)
+      AddsOnly-join (λ image. (image 0 ≡ zero_sector) ⊎ Settles area image (formatted sector0 updates)) h h1 h2 (erased_moments h1 w) (fresh_moments h1 h2 e v)
 
   pub format_last : (h1 h2 h3 : History) → AddsUpdates (zero_update ∷ []) h h1 → IsFixedAs (zero_update ∷ []) h h1 → AddsUpdates (fresh size updates) h1 h2
       → IsFixedAs (fresh size updates) h1 h2
-      → (let u : Update = record { target = 0; content = sector0 } in AddsUpdates (u ∷ []) h2 h3) → AddsFormats size sector0 updates h h3
+      → (let u : Update = record { target = 0; content = sector0 } in AddsUpdates (u ∷ []) h2 h3) → AddsFormats area sector0 updates h h3
   format_last h1 h2 h3 w e v f x =
-      AddsOnly-join (λ image. (image 0 ≡ zero_sector) ⊎ Settles size image (formatted sector0 updates)) h h2 h3
+      AddsOnly-join (λ image. (image 0 ≡ zero_sector) ⊎ Settles area image (formatted sector0 updates)) h h2 h3
       (format_fresh h1 h2 w e v) (last_moments h1 h2 h3 e f x)
 
   pub format_done : (h1 h2 h3 : History) → IsFixedAs (fresh size updates) h1 h2
-      → (let u : Update = record { target = 0; content = sector0 } in IsFixedAs (u ∷ []) h2 h3) → IsFormatted size sector0 updates h3
+      → (let u : Update = record { target = 0; content = sector0 } in IsFixedAs (u ∷ []) h2 h3) → IsFormatted area sector0 updates h3
   format_done h1 h2 h3 f x image left =
       let u : Update = record { target = 0; content = sector0 } in
       let same : (n : ℕ) → image n ≡ put (seen h2.now) u n = λ n. ⊎_elim
@@ -131,7 +132,7 @@ module _ (size : ℕ) (sector0 : List ℕ) (updates : List Update) (h : History)
       (λ (q : Among h3.now.unsynced n (image n)).
       let Q : List Update → Type 0 = λ unsynced. Among unsynced n (image n) in absurd (subst Q x.unsynced q))
       (left n) in
-      settles_formatted size sector0 updates image large fit (same 0 ∙ put_same (seen h2.now) u 0 refl)
+      settles_formatted area size sector0 updates image large within fit (same 0 ∙ put_same (seen h2.now) u 0 refl)
       (λ n l b. same n ∙ put_other (seen h2.now) u n (λ z. omega arith) ∙ fresh_seen h1 h2 f n l b)
 
 -- sector 0's zeros, as they are written

@@ -5,7 +5,8 @@ use Rattle.std.proofs.lemmas.Bool.{cases_eq}
 use Rattle.disk.specs.declared.update.Update.{Update}
 use Rattle.disk.specs.Moments.{Image, History, AddsOnly, Left, Among, applied, put, seen, newest}
 use Rattle.disk.proofs.MomentLemmas.{AddsOnly-weaken}
-use Rattle.journal.specs.Layout.{AreTargets, through, targets}
+use Rattle.journal.specs.declared.layout.LogArea.{LogArea}
+use Rattle.journal.specs.Layout.{AreNamed, IsArea, through, targets}
 use Rattle.journal.specs.Settled.{AreSame, Settles}
 use Rattle.journal.specs.Phase.{IsGated}
 use Rattle.journal.specs.Behind.{way_cost}
@@ -18,8 +19,8 @@ use Rattle.journal.proofs.Images.{length-targets, put_same, put_other}
 use Rattle.journal.proofs.Lists.{Apart, gathered-append, gathered_apart}
 use Rattle.journal.proofs.Stages.{gated_stage}
 
-pub settles_same : (size : ℕ) (image a b : Image) → AreSame size a b → Settles size image a → Settles size image b
-settles_same size image a b e s = record {
+pub settles_same : (area : LogArea) (image a b : Image) → AreSame area.end a b → Settles area image a → Settles area image b
+settles_same area image a b e s = record {
   to = s.to;
   few = s.few;
   fit = s.fit;
@@ -42,10 +43,10 @@ applied_all-push [] us base = refl
 applied_all-push (vs ∷ list) us base = applied_all-push list us (applied vs base)
 
 -- what a crash leaves while nothing is under way
-pub settled_of : (size : ℕ) (to : List ℕ) (h : History) → length to ≤ 96 → AreTargets size to → IsGated to h
-    → (image : Image) → Left h.now image → Settles size image (through to (seen h.now))
-settled_of size to h few fit gated image left =
-    gated_stage size to (seen h.now) few fit gated.gate_is image (λ n.
+pub settled_of : (area : LogArea) → IsArea area → (to : List ℕ) (h : History) → length to ≤ area.sectors → AreNamed area to → IsGated to h
+    → (image : Image) → Left h.now image → Settles area image (through area to (seen h.now))
+settled_of area is to h few fit gated image left =
+    gated_stage area is to (seen h.now) few fit gated.gate_is image (λ n.
     let P : List Update → Type 0 = λ unsynced. image n ≡ newest unsynced h.now.fixed n in
     subst P (sym gated.rests) (⊎_elim
     (λ (e : image n ≡ h.now.fixed n). e)
@@ -58,16 +59,16 @@ pub listed_applied : (us : List Update) (image : Image) → applied_all (listed 
 listed_applied [] image = refl
 listed_applied (u ∷ us) image = refl
 
-pub fronts_either : (size : ℕ) (us : List Update) (base : Image) (h h1 : History) → AddsEither size us base h h1
-    → AddsOnly (StandsForFront size base (listed us)) h h1
-fronts_either size us base h h1 w =
-    AddsOnly-weaken (λ image. Settles size image base ⊎ Settles size image (applied us base)) (StandsForFront size base (listed us)) h h1 (front us) w
+pub fronts_either : (area : LogArea) (us : List Update) (base : Image) (h h1 : History) → AddsEither area us base h h1
+    → AddsOnly (StandsForFront area base (listed us)) h h1
+fronts_either area us base h h1 w =
+    AddsOnly-weaken (λ image. Settles area image base ⊎ Settles area image (applied us base)) (StandsForFront area base (listed us)) h h1 (front us) w
   where
-    front : (vs : List Update) (image : Image) → Settles size image base ⊎ Settles size image (applied vs base) → StandsForFront size base (listed vs) image
-    front [] image s = record { count = 0; within = omega arith; settles = ⊎_elim (λ (q : Settles size image base). q) (λ (q : Settles size image base). q) s }
+    front : (vs : List Update) (image : Image) → Settles area image base ⊎ Settles area image (applied vs base) → StandsForFront area base (listed vs) image
+    front [] image s = record { count = 0; within = omega arith; settles = ⊎_elim (λ (q : Settles area image base). q) (λ (q : Settles area image base). q) s }
     front (v ∷ vs) image s = ⊎_elim
-        (λ (q : Settles size image base). record { count = 0; within = omega arith; settles = q })
-        (λ (q : Settles size image (applied (v ∷ vs) base)). record { count = 1; within = omega arith; settles = q }) s
+        (λ (q : Settles area image base). record { count = 0; within = omega arith; settles = q })
+        (λ (q : Settles area image (applied (v ∷ vs) base)). record { count = 1; within = omega arith; settles = q }) s
 
 take_whole : (list : List (List Update)) → take (length list) list ≡ list
 take_whole [] = refl
@@ -89,9 +90,9 @@ none_joined : (list : List (List Update)) → list ≡ [] → IsJoined list []
 none_joined list e image n = ap (λ (xs : List (List Update)). applied_all xs image n) (sym e)
 
 -- where the base alone is left, none of the list is
-pub fronts_base : (size : ℕ) (list : List (List Update)) (base : Image) (h h1 : History) → AddsOnly (λ image. Settles size image base) h h1
-    → AddsOnly (StandsForFront size base list) h h1
-fronts_base size list base h h1 adds = AddsOnly-weaken (λ image. Settles size image base) (StandsForFront size base list) h h1
+pub fronts_base : (area : LogArea) (list : List (List Update)) (base : Image) (h h1 : History) → AddsOnly (λ image. Settles area image base) h h1
+    → AddsOnly (StandsForFront area base list) h h1
+fronts_base area list base h h1 adds = AddsOnly-weaken (λ image. Settles area image base) (StandsForFront area base list) h h1
     (λ image settles. record { count = 0; within = omega arith; settles = settles }) adds
 
 -- what it costs to copy them home
@@ -131,7 +132,7 @@ moved_takes old new us takes = record {
   list = takes.list;
 }
 
-pub moved_flushed : (old new : Log) (us : List Update) → AreSame old.size (contents old) new.base → IsJoined (us ∷ []) new.list
+pub moved_flushed : (old new : Log) (us : List Update) → AreSame old.area.end (contents old) new.base → IsJoined (us ∷ []) new.list
     → Moved (old.list ++ us ∷ []) old new
 moved_flushed old new us same joined = record {
   count = length old.list;
@@ -141,7 +142,7 @@ moved_flushed old new us same joined = record {
 }
 
 -- a flush that took all
-pub moved_all : (old new : Log) → AreSame old.size (contents old) new.base → new.list ≡ [] → Moved old.list old new
+pub moved_all : (old new : Log) → AreSame old.area.end (contents old) new.base → new.list ≡ [] → Moved old.list old new
 moved_all old new same e = record {
   count = length old.list;
   within = omega arith;
@@ -160,12 +161,12 @@ listed_sectors_are [] = refl
 listed_sectors_are (u ∷ us) = append-nil (targets (u ∷ us))
 
 -- what it costs to take them through the gate
-pub listed_cost : (was : List ℕ) (us : List Update) → (length us ≡ 0 → ⊥)
-    → flush_cost was (sectors_of (listed us)) ≡ way_cost was (targets us) + (length us + 3)
-listed_cost was [] filled = absurd (filled refl)
-listed_cost was (u ∷ us) filled =
-    ap (λ (ts : List ℕ). flush_cost was ts) (append-nil (targets (u ∷ us)))
-    ∙ ap (λ (n : ℕ). way_cost was (targets (u ∷ us)) + (n + 3)) (length-targets (u ∷ us))
+pub listed_cost : (area : LogArea) (was : List ℕ) (us : List Update) → (length us ≡ 0 → ⊥)
+    → flush_cost area was (sectors_of (listed us)) ≡ way_cost area was (targets us) + (length us + 3)
+listed_cost area was [] filled = absurd (filled refl)
+listed_cost area was (u ∷ us) filled =
+    ap (λ (ts : List ℕ). flush_cost area was ts) (append-nil (targets (u ∷ us)))
+    ∙ ap (λ (n : ℕ). way_cost area was (targets (u ∷ us)) + (n + 3)) (length-targets (u ∷ us))
 
 pushed_sectors : (us vs : List Update) → sectors_of (listed us ++ vs ∷ []) ≡ targets us ++ targets vs
 pushed_sectors [] vs = append-nil (targets vs)

@@ -1,5 +1,5 @@
 -- A gate sector has one list of targets: its words give them back.
-use Rattle.std.proofs.Common.{◌≡◌, ◌≤◌, ◌<◌, ◌+◌, ◌-◌, ◌*◌, ◌^◌, ◌==◌, ℕ, suc, zero, Bool, true, false, List, [], ◌∷◌, ◌++◌, length, take, drop, map, get_or, replicate, refl, sym, ap, ◌∙◌, subst, arith, eqb, eq-eqb, ◌&&◌}
+use Rattle.std.proofs.Common.{◌≡◌, ◌≤◌, ◌<◌, ◌+◌, ◌-◌, ◌*◌, ◌^◌, ◌==◌, ℕ, suc, zero, Bool, true, false, List, [], ◌∷◌, ◌++◌, length, take, drop, map, get_or, replicate, refl, sym, ap, ◌∙◌, subst, arith, eqb, eq-eqb, ne_eqb, ◌&&◌, ◌||◌, AllPairs, ◌≢◌}
 use lib.Pointwise.{pointwise}
 use Rattle.std.specs.List.{range_with_len, list_any}
 use Rattle.std.proofs.lemmas.Bool.{eqb-false, or_parts}
@@ -7,10 +7,11 @@ use Rattle.std.proofs.lemmas.List.{drop-drop, take_more}
 use Rattle.byteorder.specs.Endian.{big_bytes, big_number}
 use Rattle.byteorder.specs.Numbers.{big_number-reads_back}
 use Rattle.disk.specs.Calls.{zero_sector}
-use Rattle.journal.specs.Layout.{AreTargets, NamesTargets, gate, gate_words, words, words_in}
-use Rattle.journal.proofs.Images.{Out}
+use Rattle.journal.specs.declared.layout.LogArea.{LogArea}
+use Rattle.journal.specs.Layout.{AreNamed, AreTargets, IsArea, NamesTargets, gate, gate_words, words, words_in}
+use Rattle.journal.proofs.Images.{Named-join, Out, are_named, named_of}
 use Rattle.journal.proofs.Lists.{Fit-push, targets_of-Fit}
-use Rattle.journal.proofs.Stages.{Fit-of}
+use Rattle.journal.proofs.Stages.{Fit-of, fit_once}
 
 Out-any : (ts : List ℕ) (n : ℕ) → list_any (λ t. t == n) ts ≡ false → Out ts n
 Out-any [] n e = tt
@@ -18,13 +19,30 @@ Out-any (t ∷ ts) n e =
     let q = or_parts (t == n) (list_any (λ t. t == n) ts) e in
     (eqb-false t n q.0, Out-any ts n q.1)
 
--- one more target
+-- one more target of a transaction, and of a gate
 pub AreTargets-more : (size : ℕ) (to : List ℕ) (i t : ℕ) → i < length to → get_or to i 0 ≡ t → AreTargets size (take i to) → 98 ≤ t → t < size
     → list_any (λ s. s == t) (take i to) ≡ false → AreTargets size (take (i + 1) to)
 AreTargets-more size to i t l at a from below none =
     let more : take (i + 1) to ≡ take i to ++ t ∷ [] = take_more to i 0 l ∙ ap (λ (s : ℕ). take i to ++ s ∷ []) at in
     let P : List ℕ → Type 0 = λ xs. AreTargets size xs in
     subst P (sym more) (targets_of-Fit size (take i to ++ t ∷ []) (Fit-push size (take i to) t (Fit-of size (take i to) a) from below (Out-any (take i to) t none)))
+
+pub AreNamed-more : (area : LogArea) (to : List ℕ) (i t : ℕ) → i < length to → get_or to i 0 ≡ t → AreNamed area (take i to) → 98 ≤ t → t < area.end
+    → (area.once ≡ true → list_any (λ s. s == t) (take i to) ≡ false) → AreNamed area (take (i + 1) to)
+AreNamed-more area to i t l at a from below none =
+    let more : take (i + 1) to ≡ take i to ++ t ∷ [] = take_more to i 0 l ∙ ap (λ (s : ℕ). take i to ++ s ∷ []) at in
+    let P : List ℕ → Type 0 = λ xs. AreNamed area xs in
+    subst P (sym more) (are_named area (take i to ++ t ∷ []) (Named-join area.end (take i to) (t ∷ []) (named_of area (take i to) a) (from, below, tt)) (λ once.
+    (targets_of-Fit area.end (take i to ++ t ∷ []) (Fit-push area.end (take i to) t (fit_once area (take i to) a once) from below (Out-any (take i to) t (none once)))).apart))
+
+-- one that is named again is not different
+pub named_twice : (to : List ℕ) (i : ℕ) → AllPairs (λ a b. a ≢ b) to → i < length to → list_any (λ s. s == get_or to i 0) (take i to) ≡ true → ⊥
+named_twice [] i apart l e = absurd (omega arith)
+named_twice (t ∷ ts) zero apart l e = let never : false ≡ true = e in cc
+named_twice (t ∷ ts) (suc i) apart l e =
+    let other : (t == get_or ts i 0) ≡ false = ne_eqb t (get_or ts i 0) (apart 0 (suc i) 0 (omega arith) l) in
+    named_twice ts i (λ j k d m n. apart (suc j) (suc k) d (omega arith) (omega arith)) (omega arith)
+    (ap (λ (b : Bool). b || list_any (λ s. s == get_or ts i 0) (take i ts)) (sym other) ∙ e)
 
 range_push : (a n : ℕ) → range_with_len a (suc n) ≡ range_with_len a n ++ (a + n) ∷ []
 range_push a zero = ap (λ (x : ℕ). x ∷ []) (omega arith)
@@ -60,7 +78,7 @@ word_at to rest i l fits =
     ∙ big_number-reads_back 4 (get_or to i 0) (words (drop (suc i) to) ++ rest) fits
 
 -- how many targets a gate sector's words tell of
-pub count_in : (to : List ℕ) → length to ≤ 96 → big_number 4 (drop 4 (gate to)) ≡ length to
+pub count_in : (to : List ℕ) → length to ≤ 1022 → big_number 4 (drop 4 (gate to)) ≡ length to
 unfolding gate zero_sector
 count_in [] few = refl
 count_in (t ∷ ts) few =
@@ -73,20 +91,20 @@ target_in (t ∷ ts) i l fits =
     word_at (gate_words (t ∷ ts)) (replicate (4096 - 4 * length (gate_words (t ∷ ts))) 0) (suc (suc i)) (omega arith) fits
 
 -- a gate sector's words give back its targets
-pub words_in_gate : (to : List ℕ) → length to ≤ 96 → ((k : ℕ) → k < length to → get_or to k 0 < 2 ^ 32) → words_in (gate to) ≡ to
+pub words_in_gate : (to : List ℕ) → length to ≤ 1022 → ((k : ℕ) → k < length to → get_or to k 0 < 2 ^ 32) → words_in (gate to) ≡ to
 words_in_gate to few fits =
     let f : ℕ → ℕ = λ i. big_number 4 (drop (8 + 4 * i) (gate to)) in
     ap (λ (n : ℕ). map f (range_with_len 0 n)) (count_in to few) ∙ map_range f to 0 (λ i l.
     ap (λ (n : ℕ). big_number 4 (drop n (gate to))) (let q : 8 + 4 * (0 + i) ≡ 4 * suc (suc i) = omega arith in q) ∙ target_in to i l (fits i l))
 
 -- below the device's end, which is below 2^32
-pub words_fit : (size : ℕ) (to : List ℕ) → size < 2 ^ 32 → AreTargets size to → (k : ℕ) → k < length to → get_or to k 0 < 2 ^ 32
-words_fit size to small fit k l = omega (arith, fit.on_device k 0 l)
+pub words_fit : (area : LogArea) (to : List ℕ) → area.end < 2 ^ 32 → AreNamed area to → (k : ℕ) → k < length to → get_or to k 0 < 2 ^ 32
+words_fit area to small fit k l = omega (arith, fit.on_device k 0 l)
 
 -- a gate sector names one list of targets
-pub names_one : (size : ℕ) (sector to : List ℕ) → size < 2 ^ 32 → NamesTargets size sector to → words_in sector ≡ to
-names_one size sector to small names =
-    ap (λ (xs : List ℕ). words_in xs) names.gate_is ∙ words_in_gate to names.few (words_fit size to small names.fit)
+pub names_one : (area : LogArea) → IsArea area → (sector to : List ℕ) → area.end < 2 ^ 32 → NamesTargets area sector to → words_in sector ≡ to
+names_one area is sector to small names =
+    ap (λ (xs : List ℕ). words_in xs) names.gate_is ∙ words_in_gate to (omega (arith, names.few, is.few)) (words_fit area to small names.fit)
 
 pointwise_all : (xs : List ℕ) → pointwise eqb xs xs ≡ true
 pointwise_all [] = refl

@@ -59,25 +59,25 @@ whole_of_joined list (us ∷ joined) j image n =
 
 -- a front after a call that moved the list's first transactions into the base gives what one of the list's does
 pub front_moved : (all : List (List Update)) (old mid : Log) → Moved all old mid → (count : ℕ) → count ≤ length mid.list
-    → (before : ℕ) × (before ≤ length all) × AreSame old.size (applied_all (take before all) old.base) (applied_all (take count mid.list) mid.base)
+    → (before : ℕ) × (before ≤ length all) × AreSame old.area.end (applied_all (take before all) old.base) (applied_all (take count mid.list) mid.base)
 front_moved all old mid moved count few =
     let there = front_of_joined (drop moved.count all) mid.list moved.list count few in (
       moved.count + there.0,
       omega (arith, moved.within, there.1, length-drop moved.count all),
       (λ n k. ap (λ (f : Image). f n) (sym (applied_all-front all moved.count there.0 old.base))
-          ∙ all_keeps old.size (take there.0 (drop moved.count all)) (applied_all (take moved.count all) old.base) mid.base moved.base n k
+          ∙ all_keeps old.area.end (take there.0 (drop moved.count all)) (applied_all (take moved.count all) old.base) mid.base moved.base n k
           ∙ sym (there.2 mid.base n)),
     )
 
 -- what reads give after a call that moved the list's first transactions into the base
-pub moved_contents : (all : List (List Update)) (old mid : Log) → Moved all old mid → AreSame old.size (applied_all all old.base) (contents mid)
+pub moved_contents : (all : List (List Update)) (old mid : Log) → Moved all old mid → AreSame old.area.end (applied_all all old.base) (contents mid)
 moved_contents all old mid moved n k =
     ap (λ (xs : List (List Update)). applied_all xs old.base n) (sym (take-append-drop moved.count all))
     ∙ ap (λ (f : Image). f n) (applied_all-append (take moved.count all) (drop moved.count all) old.base)
-    ∙ all_keeps old.size (drop moved.count all) (applied_all (take moved.count all) old.base) mid.base moved.base n k
+    ∙ all_keeps old.area.end (drop moved.count all) (applied_all (take moved.count all) old.base) mid.base moved.base n k
     ∙ sym (whole_of_joined (drop moved.count all) mid.list moved.list mid.base n)
 
 -- what reads give after one more transaction
-pub pushed_contents : (us : List Update) (old new : Log) → Moved (old.list ++ us ∷ []) old new → AreSame old.size (applied us (contents old)) (contents new)
+pub pushed_contents : (us : List Update) (old new : Log) → Moved (old.list ++ us ∷ []) old new → AreSame old.area.end (applied us (contents old)) (contents new)
 pushed_contents us old new moved n k =
     ap (λ (f : Image). f n) (sym (applied_all-push old.list us old.base)) ∙ moved_contents (old.list ++ us ∷ []) old new moved n k

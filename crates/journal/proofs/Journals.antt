@@ -4,15 +4,12 @@ use Rattle.std.proofs.lemmas.List.{take_more}
 use Rattle.disk.specs.declared.update.Update.{Update}
 use Rattle.disk.specs.Moments.{Image, History, seen}
 use Rattle.journal.specs.declared.recorded.Recorded.{Recorded}
-use Rattle.journal.specs.Layout.{AreTargets, copies, gate, targets}
+use Rattle.journal.specs.declared.layout.LogArea.{LogArea}
+use Rattle.journal.specs.Layout.{copies, gate, targets}
 use Rattle.journal.specs.Phase.{IsGated}
 use Rattle.journal.specs.Recorded.{IsStored}
 use Rattle.journal.specs.Commit.{AddsEither, IsCommitted}
 use Rattle.journal.proofs.Lists.{targets-append, targets-push}
-
--- the device's size stays
-pub same_fit : (old new : ℕ) (to : List ℕ) → new ≡ old → AreTargets old to → AreTargets new to
-same_fit old new to e a = let P : ℕ → Type 0 = λ size. AreTargets size to in subst P (sym e) a
 
 none_of : (us : List Update) → length us ≡ 0 → us ≡ []
 none_of [] e = refl
@@ -31,18 +28,18 @@ pub targets_more : (us : List Update) (i : ℕ) (d : Update) → i < length us
 targets_more us i d l = ap (λ xs. targets xs) (take_more us i d l) ∙ targets-push (take i us) (get_or us i d)
 
 -- a commit that went well
-pub committed_at : {T E : Type 0} (r : Result T E) (size : ℕ) (xs ys : List Update) (was shown : List ℕ) (stay : List Update) (h h1 : History)
-    → is_err r ≡ false → xs ≡ ys → OnOk r (IsCommitted size xs was shown stay h h1) → IsCommitted size ys was shown stay h h1
-committed_at r size xs ys was shown stay h h1 ok e w =
-    let P : List Update → Type 0 = λ us. OnOk r (IsCommitted size us was shown stay h h1) in on_ok r ok (subst P e w)
+pub committed_at : {T E : Type 0} (r : Result T E) (area : LogArea) (xs ys : List Update) (was shown : List ℕ) (stay : List Update) (h h1 : History)
+    → is_err r ≡ false → xs ≡ ys → OnOk r (IsCommitted area xs was shown stay h h1) → IsCommitted area ys was shown stay h h1
+committed_at r area xs ys was shown stay h h1 ok e w =
+    let P : List Update → Type 0 = λ us. OnOk r (IsCommitted area us was shown stay h h1) in on_ok r ok (subst P e w)
 
-pub either_at : (size : ℕ) (xs ys : List Update) (base : Image) (h h1 : History) → xs ≡ ys → AddsEither size xs base h h1 → AddsEither size ys base h h1
-either_at size xs ys base h h1 e w = let P : List Update → Type 0 = λ us. AddsEither size us base h h1 in subst P e w
+pub either_at : (area : LogArea) (xs ys : List Update) (base : Image) (h h1 : History) → xs ≡ ys → AddsEither area xs base h h1 → AddsEither area ys base h h1
+either_at area xs ys base h h1 e w = let P : List Update → Type 0 = λ us. AddsEither area us base h h1 in subst P e w
 
 -- what is recorded of a journal that is up
-pub stored_of : (recorded : Recorded) (h : History) → length h.now.unsynced ≡ 0 → seen h.now 1 ≡ gate recorded.targets.items
-    → copies (seen h.now) 2 recorded.targets.items ≡ recorded.updates.items → IsStored recorded h
-stored_of recorded h rests open_for payload = record { gated = gated_of recorded.targets.items h rests open_for; payload = payload }
+pub stored_of : (area : LogArea) (recorded : Recorded) (h : History) → length h.now.unsynced ≡ 0 → seen h.now 1 ≡ gate recorded.targets.items
+    → copies (seen h.now) area.first recorded.targets.items ≡ recorded.updates.items → IsStored area recorded h
+stored_of area recorded h rests open_for payload = record { gated = gated_of recorded.targets.items h rests open_for; payload = payload }
 
 -- once a flush took them over, the updates are those of what the gate names
 pub taken_named : (kept us now : List Update) (way to : List ℕ) → targets kept ≡ way → to ≡ targets us → now ≡ kept ++ us → targets now ≡ way ++ to

@@ -1,4 +1,5 @@
 pub mod Answerings
+pub mod Areas
 pub mod Behinds
 pub mod Ends
 pub mod Cachings

@@ -15,12 +15,13 @@ use Rattle.journal.proofs.Journals.{gated_of}
 pub settled_up : {D : _} {g : _} (journal : Journal D g) → g.keeps_word → journal.is_down ≡ false → IsSettled (log_of journal)
 unfolding log_of
 settled_up {D} {g} journal k up =
-    settled_of (g.size journal.device) journal.recorded.targets.items (g.history journal.device) journal.shown_fits.few journal.shown_fits.fit
+    settled_of journal.area journal.is_area journal.recorded.targets.items (g.history journal.device) journal.shown_has.fits.few journal.shown_has.fits.fit
     (gated_of journal.recorded.targets.items (g.history journal.device) (journal.rests k up) (journal.gate_is k up))
 
 pub stays_safe : {D : _} {g : _} (journal : Journal D g) → IsSafe g.keeps_word (log_of journal) (log_of journal)
 unfolding log_of
 stays_safe {D} {g} journal = record {
+  area = refl;
   size = refl;
   moments = λ k. AddsOnly-same _ (g.history journal.device);
   brief = λ k. omega arith;
@@ -31,6 +32,7 @@ pub part_is_safe : {D : _} {g : _} {T E : Type 0} (old new : Journal D g) (befor
     → IsPart g.keeps_word (log_of old) (log_of new) before after r → IsSafe g.keeps_word (log_of old) (log_of new)
 unfolding log_of
 part_is_safe {D} {g} old new before after r part = record {
+  area = part.area;
   size = part.size;
   moments = part.moments;
   brief = part.brief;

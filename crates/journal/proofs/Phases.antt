@@ -124,17 +124,17 @@ payload_at place us i l =
     get_or-placed place us i u no_update l
 
 -- one more sector of the payload was read
-pub copied_more : (image : Image) (to : List ℕ) (i : ℕ) (us next : List Update) (content : List ℕ) → i < length to → us ≡ take i (copies image 2 to)
-    → content ≡ image (2 + i) → (let u : Update = record { target = get_or to i 0; content = content } in next ≡ us ++ u ∷ [])
-    → next ≡ take (i + 1) (copies image 2 to)
-copied_more image to i us next content l e read more =
+pub copied_more : (place : ℕ) (image : Image) (to : List ℕ) (i : ℕ) (us next : List Update) (content : List ℕ) → i < length to → us ≡ take i (copies image place to)
+    → content ≡ image (place + i) → (let u : Update = record { target = get_or to i 0; content = content } in next ≡ us ++ u ∷ [])
+    → next ≡ take (i + 1) (copies image place to)
+copied_more place image to i us next content l e read more =
     let u : Update = record { target = get_or to i 0; content = content } in
-    let all : List Update = copies image 2 to in
+    let all : List Update = copies image place to in
     let at : get_or all i u ≡ u =
-    get_or-copies image 2 to i u l
+    get_or-copies image place to i u l
     ∙ ap (λ (bytes : List ℕ). let r : Update = record { target = get_or to i 0; content = bytes } in r) (sym read) in
     more ∙ ap (λ (vs : List Update). vs ++ u ∷ []) e
-    ∙ sym (take_more all i u (omega (arith, length-copies image 2 to)) ∙ ap (λ (v : Update). take i all ++ v ∷ []) at)
+    ∙ sym (take_more all i u (omega (arith, length-copies image place to)) ∙ ap (λ (v : Update). take i all ++ v ∷ []) at)
 
-pub copied_whole : (image : Image) (to : List ℕ) (i : ℕ) (us : List Update) → length to ≤ i → us ≡ take i (copies image 2 to) → copies image 2 to ≡ us
-copied_whole image to i us l e = sym (e ∙ take_past i (copies image 2 to) (omega (arith, length-copies image 2 to)))
+pub copied_whole : (place : ℕ) (image : Image) (to : List ℕ) (i : ℕ) (us : List Update) → length to ≤ i → us ≡ take i (copies image place to) → copies image place to ≡ us
+copied_whole place image to i us l e = sym (e ∙ take_past i (copies image place to) (omega (arith, length-copies image place to)))

@@ -6,7 +6,8 @@ use Rattle.disk.specs.Cause.{IsCounted}
 use Rattle.disk.proofs.MomentLemmas.{AddsOnly-same, AddsOnly-weaken, AddsOnly-join}
 use Rattle.journal.specs.declared.fault.JournalFault.{JournalFault}
 use Rattle.journal.specs.declared.fault.JournalFault.TheVariants as faults
-use Rattle.journal.specs.Layout.{AreTargets, NamesTargets, gate, through}
+use Rattle.journal.specs.declared.layout.LogArea.{LogArea}
+use Rattle.journal.specs.Layout.{AreNamed, IsArea, NamesTargets, gate, through}
 use Rattle.journal.specs.Log.{Log}
 use Rattle.journal.specs.MountAnswers.{HasRecovered}
 use Rattle.journal.specs.Settled.{AreSame, Settles, SettlesAs}
@@ -20,50 +21,44 @@ use Rattle.journal.proofs.Moments.{AddsOnly-synced}
 use Rattle.journal.proofs.Fronts.{settled_of, settles_same}
 
 -- an image settles to one image
-pub settles_once : (size : ℕ) (image a b : Image) → size < 2 ^ 32 → Settles size image a → Settles size image b → AreSame size a b
-settles_once size image a b small s t n k =
-    let named_s : NamesTargets size (image 1) s.to = record { few = s.few; fit = s.fit; gate_is = s.gate_is } in
-    let named_t : NamesTargets size (image 1) t.to = record { few = t.few; fit = t.fit; gate_is = t.gate_is } in
-    let same : s.to ≡ t.to = sym (names_one size (image 1) s.to small named_s) ∙ names_one size (image 1) t.to small named_t in
-    s.same n k ∙ ap (λ (to : List ℕ). through to image n) same ∙ sym (t.same n k)
+pub settles_once : (area : LogArea) → IsArea area → (image a b : Image) → area.end < 2 ^ 32 → Settles area image a → Settles area image b → AreSame area.end a b
+settles_once area is image a b small s t n k =
+    let named_s : NamesTargets area (image 1) s.to = record { few = s.few; fit = s.fit; gate_is = s.gate_is } in
+    let named_t : NamesTargets area (image 1) t.to = record { few = t.few; fit = t.fit; gate_is = t.gate_is } in
+    let same : s.to ≡ t.to = sym (names_one area is (image 1) s.to small named_s) ∙ names_one area is (image 1) t.to small named_t in
+    s.same n k ∙ ap (λ (to : List ℕ). through area to image n) same ∙ sym (t.same n k)
 
 pub synced_moments : (P : Image → Type 0) (h h1 h2 : History) → h2 ≡ h1 → h1 ≡ synced h → AddsOnly P h h2
 synced_moments P h h1 h2 q e = let Q : History → Type 0 = λ k. AddsOnly P h k in subst Q (sym (q ∙ e)) (AddsOnly-synced P h)
 
 -- copying home keeps what the image settled to
-pub recover_moments : (size : ℕ) (h h2 h3 : History) (to : List ℕ) → h2 ≡ synced h → size < 2 ^ 32 → length to ≤ 96 → AreTargets size to → IsGated to h2
-    → KeepsShown size to h2 h3 → AddsOnly (SettlesAs size (seen h.now)) h h3
-recover_moments size h h2 h3 to e small few fit gated w =
-    let P : Image → Type 0 = λ image. SettlesAs size (seen h.now) image in
+pub recover_moments : (area : LogArea) → IsArea area → (h h2 h3 : History) (to : List ℕ) → h2 ≡ synced h → area.end < 2 ^ 32 → length to ≤ area.sectors → AreNamed area to → IsGated to h2
+    → KeepsShown area to h2 h3 → AddsOnly (SettlesAs area (seen h.now)) h h3
+recover_moments area is h h2 h3 to e small few fit gated w =
+    let P : Image → Type 0 = λ image. SettlesAs area (seen h.now) image in
     let first : AddsOnly P h h2 = synced_moments P h h2 h2 refl e in
     let same : seen h2.now ≡ seen h.now = ap (λ (k : History). seen k.now) e in
     AddsOnly-join P h h2 h3 first
-    (AddsOnly-weaken (λ image. Settles size image (through to (seen h2.now))) P h2 h3
+    (AddsOnly-weaken (λ image. Settles area image (through area to (seen h2.now))) P h2 h3
     (λ image s settled t.
-    let Q : Image → Type 0 = λ seen_image. Settles size seen_image settled in
-    settles_same size image (through to (seen h2.now)) settled
-    (settles_once size (seen h2.now) (through to (seen h2.now)) settled small
-    (gated_stage size to (seen h2.now) few fit gated.gate_is (seen h2.now) (λ n. refl)) (subst Q (sym same) t)) s) w)
+    let Q : Image → Type 0 = λ seen_image. Settles area seen_image settled in
+    settles_same area image (through area to (seen h2.now)) settled
+    (settles_once area is (seen h2.now) (through area to (seen h2.now)) settled small
+    (gated_stage area is to (seen h2.now) few fit gated.gate_is (seen h2.now) (λ n. refl)) (subst Q (sym same) t)) s) w)
 
 -- from the sync on
-pub recover_since : (size : ℕ) (h h2 h3 : History) (to : List ℕ) → h2 ≡ synced h → size < 2 ^ 32 → length to ≤ 96 → AreTargets size to → IsGated to h2
-    → KeepsShown size to h2 h3 → AddsOnly (SettlesAs size (seen h.now)) (synced h) h3
-recover_since size h h2 h3 to e small few fit gated w =
-    let P : Image → Type 0 = λ image. SettlesAs size (seen h.now) image in
+pub recover_since : (area : LogArea) → IsArea area → (h h2 h3 : History) (to : List ℕ) → h2 ≡ synced h → area.end < 2 ^ 32 → length to ≤ area.sectors → AreNamed area to → IsGated to h2
+    → KeepsShown area to h2 h3 → AddsOnly (SettlesAs area (seen h.now)) (synced h) h3
+recover_since area is h h2 h3 to e small few fit gated w =
+    let P : Image → Type 0 = λ image. SettlesAs area (seen h.now) image in
     let same : seen h2.now ≡ seen h.now = ap (λ (k : History). seen k.now) e in
     subst (λ (k : History). AddsOnly P k h3) e
-    (AddsOnly-weaken (λ image. Settles size image (through to (seen h2.now))) P h2 h3
+    (AddsOnly-weaken (λ image. Settles area image (through area to (seen h2.now))) P h2 h3
     (λ image s settled t.
-    let Q : Image → Type 0 = λ seen_image. Settles size seen_image settled in
-    settles_same size image (through to (seen h2.now)) settled
-    (settles_once size (seen h2.now) (through to (seen h2.now)) settled small
-    (gated_stage size to (seen h2.now) few fit gated.gate_is (seen h2.now) (λ n. refl)) (subst Q (sym same) t)) s) w)
-
-pub keeps_shown_at : (old new : ℕ) (to : List ℕ) (h h1 : History) → new ≡ old → KeepsShown new to h h1 → KeepsShown old to h h1
-keeps_shown_at old new to h h1 e keeps = let P : ℕ → Type 0 = λ size. KeepsShown size to h h1 in subst P e keeps
-
-pub copied_home_at : (old new : ℕ) (to : List ℕ) (h h1 : History) → new ≡ old → IsCopiedHome new to h h1 → IsCopiedHome old to h h1
-copied_home_at old new to h h1 e copied = let P : ℕ → Type 0 = λ size. IsCopiedHome size to h h1 in subst P e copied
+    let Q : Image → Type 0 = λ seen_image. Settles area seen_image settled in
+    settles_same area image (through area to (seen h2.now)) settled
+    (settles_once area is (seen h2.now) (through area to (seen h2.now)) settled small
+    (gated_stage area is to (seen h2.now) few fit gated.gate_is (seen h2.now) (λ n. refl)) (subst Q (sym same) t)) s) w)
 
 pub gated_after : (h h1 h2 : History) (to : List ℕ) → h2 ≡ h1 → h1 ≡ synced h → seen h1.now 1 ≡ gate to → IsGated to h2
 gated_after h h1 h2 to q e names = record {
@@ -72,10 +67,10 @@ gated_after h h1 h2 to q e names = record {
 }
 
 -- a cleared commit record names no targets
-pub closed_none : (size : ℕ) (sector to : List ℕ) → size < 2 ^ 32 → NamesTargets size sector to → sector ≡ gate [] → to ≡ []
-closed_none size sector to small names e =
-    let none : NamesTargets size sector [] = record { few = omega arith; fit = no_targets size; gate_is = e } in
-    sym (names_one size sector to small names) ∙ names_one size sector [] small none
+pub closed_none : (area : LogArea) → IsArea area → (sector to : List ℕ) → area.end < 2 ^ 32 → NamesTargets area sector to → sector ≡ gate [] → to ≡ []
+closed_none area is sector to small names e =
+    let none : NamesTargets area sector [] = record { few = omega arith; fit = no_targets area; gate_is = e } in
+    sym (names_one area is sector to small names) ∙ names_one area is sector [] small none
 
 pub damaged_counted : {T : Type 0} (before after : ℕ) → after ≡ before → FaultsCounted {T = T} before after (Err faults.Damaged)
 damaged_counted before after l = record {
@@ -113,21 +108,21 @@ pub not_empty : (is_empty : Bool) (n : ℕ) → is_empty ≡ eqb n 0 → is_empt
 not_empty is_empty n is filled zero = let w : true ≡ false = sym (eq-eqb n 0 zero) ∙ sym is ∙ filled in cc
 
 -- a cleared commit record leaves nothing to copy
-pub recovers_closed : (size : ℕ) (h h2 : History) (to : List ℕ) → h2 ≡ synced h → length to ≡ 0 → IsGated to h2 → Recovers size h h2
-recovers_closed size h h2 to e none gated =
+pub recovers_closed : (area : LogArea) (h h2 : History) (to : List ℕ) → h2 ≡ synced h → length to ≡ 0 → IsGated to h2 → Recovers area h h2
+recovers_closed area h h2 to e none gated =
     let P : List ℕ → Type 0 = λ ts. IsGated ts h2 in
-    let Q : History → Type 0 = λ k. AddsOnly (SettlesAs size (seen h.now)) k h2 in
+    let Q : History → Type 0 = λ k. AddsOnly (SettlesAs area (seen h.now)) k h2 in
     let closed = subst P (no_elements to none) gated in
     record {
       gated = closed;
       settles = record {
         to = [];
         few = omega arith;
-        fit = no_targets size;
+        fit = no_targets area;
         gate_is = sym (ap (λ (k : History). seen k.now 1) e) ∙ closed.gate_is;
         same = λ n kept. ap (λ (k : History). seen k.now n) e;
       };
-      since_sync = subst Q e (AddsOnly-same (SettlesAs size (seen h.now)) h2);
+      since_sync = subst Q e (AddsOnly-same (SettlesAs area (seen h.now)) h2);
       cost = omega (arith, ap moment e);
     }
 
@@ -135,32 +130,33 @@ recovery_cost_is : (to : List ℕ) → (to ≡ [] → ⊥) → recovery_cost to 
 recovery_cost_is [] some = absurd (some refl)
 recovery_cost_is (t ∷ to) some = refl
 
-pub recovers_copied : (size : ℕ) (h h2 h3 h4 : History) (to : List ℕ) → (to ≡ [] → ⊥) → h2 ≡ synced h → size < 2 ^ 32 → length to ≤ 96 → AreTargets size to → IsGated to h2
-    → h3 ≡ rewritten to h2 → KeepsShown size to h2 h4 → IsCopiedHome size to h3 h4 → Recovers size h h4
-recovers_copied size h h2 h3 h4 to some e small few fit gated again shown copied = record {
+pub recovers_copied : (area : LogArea) → IsArea area → (h h2 h3 h4 : History) (to : List ℕ) → (to ≡ [] → ⊥) → h2 ≡ synced h → area.end < 2 ^ 32 → length to ≤ area.sectors → AreNamed area to → IsGated to h2
+    → h3 ≡ rewritten to h2 → KeepsShown area to h2 h4 → IsCopiedHome area to h3 h4 → Recovers area h h4
+recovers_copied area is h h2 h3 h4 to some e small few fit gated again shown copied = record {
   gated = copied.gated;
   settles = record {
     to = to;
     few = few;
     fit = fit;
     gate_is = sym (ap (λ (k : History). seen k.now 1) e) ∙ gated.gate_is;
-    same = λ n kept. sym (copied.same n kept) ∙ (ap (λ (F : Image). through to F n) (seen_again to h2 h3 again gated.gate_is) ∙ ap (λ (k : History). through to (seen k.now) n) e);
+    same = λ n kept. sym (copied.same n kept) ∙ (ap (λ (F : Image). through area to F n) (seen_again area to h2 h3 again gated.gate_is) ∙ ap (λ (k : History). through area to (seen k.now) n) e);
   };
-  since_sync = recover_since size h h2 h4 to e small few fit gated shown;
+  since_sync = recover_since area is h h2 h4 to e small few fit gated shown;
   cost = omega (arith, copied.cost, ap moment again, ap moment e, recovery_cost_is to some);
 }
 
 -- the journal that a recovery makes
-pub has_recovered : (size size1 : ℕ) (h h1 : History) (to : List ℕ) (list : List (List Update)) → size1 ≡ size → to ≡ [] → AddsOnly (SettlesAs size (seen h.now)) h h1
-    → Recovers size h h1 → (IsClosed h → h1 ≡ synced h) → ((n : ℕ) → n < size1 → IsSector (seen h1.now n))
-    → (let log : Log = record { base = through to (seen h1.now); list = list; is_down = false; size = size1; history = h1 } in HasRecovered size h log)
-has_recovered size size1 h h1 to list at none moments is closed sectors =
-    subst (λ (ts : List ℕ). let log : Log = record { base = through ts (seen h1.now); list = list; is_down = false; size = size1; history = h1 } in HasRecovered size h log) (sym none) (record {
+pub has_recovered : (area now : LogArea) → IsArea area → (size : ℕ) (h h1 : History) (to : List ℕ) (list : List (List Update)) → now ≡ area → to ≡ []
+    → AddsOnly (SettlesAs area (seen h.now)) h h1 → Recovers area h h1 → (IsClosed h → h1 ≡ synced h) → ((n : ℕ) → n < size → IsSector (seen h1.now n))
+    → (let log : Log = record { base = through now to (seen h1.now); list = list; is_down = false; area = now; size = size; history = h1 } in HasRecovered area h log)
+has_recovered area now is_area size h h1 to list at none moments is closed sectors =
+    subst (λ (a : LogArea). let log : Log = record { base = through a to (seen h1.now); list = list; is_down = false; area = a; size = size; history = h1 } in HasRecovered area h log) (sym at)
+    (subst (λ (ts : List ℕ). let log : Log = record { base = through area ts (seen h1.now); list = list; is_down = false; area = area; size = size; history = h1 } in HasRecovered area h log) (sym none) (record {
       base = is.settles;
-      sectors = λ n within. sectors n (omega (arith, within, at));
-      settled = settled_of size1 [] h1 (omega arith) (no_targets size1) is.gated;
+      sectors = sectors;
+      settled = settled_of area is_area [] h1 (omega arith) (no_targets area) is.gated;
       moments = moments;
       since_sync = is.since_sync;
       closed = closed;
       cost = is.cost;
-    })
+    }))

@@ -9,6 +9,6 @@ abbrev pub AreAmong : List (ℕ × List ℕ) → List (ℕ × List ℕ) → Type
 AreAmong new old = (entry : ℕ × List ℕ) → Contains new entry → Contains old entry
 
 -- each entry is a sector that a transaction may write, with what the image has there
-pub record AreCopies (size : ℕ) (image : Image) (entries : List (ℕ × List ℕ)) : Type 0 where
+pub record AreCopies (end : ℕ) (image : Image) (entries : List (ℕ × List ℕ)) : Type 0 where
   pub each : (n : ℕ) (content : List ℕ) → Contains entries (n, content)
-      → (first_target ≤ n) × (n < size) × (content ≡ image n)
+      → (first_target ≤ n) × (n < end) × (content ≡ image n)

@@ -4,6 +4,7 @@ use Rattle.std.specs.List.{range_with_len}
 use Rattle.disk.specs.declared.update.Update.{Update}
 use Rattle.disk.specs.Moments.{Image, History, AddsOnly, Left, applied}
 use Rattle.disk.specs.Calls.{zero_sector}
+use Rattle.journal.specs.declared.layout.LogArea.{LogArea}
 use Rattle.journal.specs.Settled.{Settles}
 
 -- zeros, with this sector 0 and these updates
@@ -19,12 +20,12 @@ abbrev pub fresh : ℕ → List Update → List Update
 fresh size updates = map (fresh_at updates) (range_with_len 1 (size - 1))
 
 -- at every moment since, a map left is one left before, or has a sector 0 of zeros, or is formatted
-abbrev pub AddsFormats : ℕ → List ℕ → List Update → History → History → Type 0
-AddsFormats size sector0 updates old new =
-    AddsOnly (λ image. (image 0 ≡ zero_sector) ⊎ Settles size image (formatted sector0 updates))
+abbrev pub AddsFormats : LogArea → List ℕ → List Update → History → History → Type 0
+AddsFormats area sector0 updates old new =
+    AddsOnly (λ image. (image 0 ≡ zero_sector) ⊎ Settles area image (formatted sector0 updates))
     old new
 
 -- every map that a crash leaves now is formatted
-abbrev pub IsFormatted : ℕ → List ℕ → List Update → History → Type 0
-IsFormatted size sector0 updates new = (image : Image) → Left new.now image
-    → Settles size image (formatted sector0 updates)
+abbrev pub IsFormatted : LogArea → List ℕ → List Update → History → Type 0
+IsFormatted area sector0 updates new = (image : Image) → Left new.now image
+    → Settles area image (formatted sector0 updates)

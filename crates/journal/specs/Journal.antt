@@ -13,9 +13,11 @@ listed (update ∷ updates) = (update ∷ updates) ∷ []
 
 unfoldable pub log_of : {D : _} {g : _} → Journal D g → Log
 log_of {D} {g} journal = record {
-  base = through journal.recorded.targets.items (seen (g.history journal.device).now);
+  base = through journal.area journal.recorded.targets.items
+      (seen (g.history journal.device).now);
   list = listed journal.pending.items;
   is_down = journal.is_down;
+  area = journal.area;
   size = g.size journal.device;
   history = g.history journal.device;
 }

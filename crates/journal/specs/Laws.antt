@@ -2,26 +2,27 @@
 use Rattle.std.specs.Prelude.{◌≤◌, ◌<◌, ◌^◌, List, ℕ, length, take}
 use Rattle.disk.specs.declared.update.Update.{Update}
 use Rattle.disk.specs.Moments.{Image, Left}
+use Rattle.journal.specs.Layout.{IsArea}
 use Rattle.journal.specs.Log.{Log, AddsFronts, IsSettled, StandsForFront, applied_all}
 use Rattle.journal.specs.MountAnswers.{HasRecovered}
 use Rattle.journal.specs.Settled.{AreSame}
 
 -- a base is that of a journal with a front of its list
-pub record IsListFront (size : ℕ) (base : Image) (list : List (List Update)) (found : Image)
+pub record IsListFront (end : ℕ) (base : Image) (list : List (List Update)) (found : Image)
     : Type 0 where
   pub count : ℕ
   pub within : count ≤ length list
-  pub same : AreSame size (applied_all (take count list) base) found
+  pub same : AreSame end (applied_all (take count list) base) found
 
 -- what a crash leaves after a call is a front of what the journal was, one that holds all that was
 -- flushed before
 abbrev pub CrashLeavesFront : Type 0
 CrashLeavesFront = (old new : Log) → IsSettled old → AddsFronts old new
     → (image : Image) → Left new.history.now image
-    → StandsForFront old.size old.base old.list image
+    → StandsForFront old.area old.base old.list image
 
 -- and a mount of the device as the call left it, without a crash, finds one too
 abbrev pub EveryMount : Type 0
-EveryMount = (old new found : Log) → old.size < 2 ^ 32 → IsSettled old → AddsFronts old new
-    → HasRecovered old.size new.history found
-    → IsListFront old.size old.base old.list found.base
+EveryMount = (old new found : Log) → IsArea old.area → old.area.end < 2 ^ 32 → IsSettled old
+    → AddsFronts old new → HasRecovered old.area new.history found
+    → IsListFront old.area.end old.base old.list found.base

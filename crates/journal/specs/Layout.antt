@@ -1,21 +1,18 @@
 -- Where the journal stands on a device, and what its gate looks like.
 --
---   sector 0            the caller's, written by itself
---   sector 1            the gate
---   sectors 2 to 97     the payload
---   from sector 98 on   the caller's, written by transactions
-use Rattle.std.specs.Prelude.{◌≡◌, ◌≢◌, ◌≤◌, ◌<◌, ◌==◌, ◌+◌, ◌*◌, ◌-◌, ℕ, List, [], ◌∷◌, ◌++◌, length, replicate, flat_map, map, drop, All, AllPairs, if◌then◌else◌}
+--   sector 0                       the caller's, written by itself
+--   sector 1                       the gate
+--   from 98 to below area.end      the caller's, written by transactions
+--   area.sectors from area.first   the payload, in front of these or behind them
+use Rattle.std.specs.Prelude.{◌≡◌, ◌≢◌, ◌≤◌, ◌<◌, ◌==◌, ◌+◌, ◌*◌, ◌^◌, ◌-◌, ℕ, max, true, List, [], ◌∷◌, ◌++◌, length, replicate, flat_map, map, drop, All, AllPairs, if◌then◌else◌}
 use Rattle.std.specs.List.{range_with_len}
 use Rattle.byteorder.specs.Endian.{big_bytes, big_number}
 use Rattle.disk.specs.declared.update.Update.{Update}
 use Rattle.disk.specs.Moments.{Image}
 use Rattle.disk.specs.Calls.{zero_sector}
+use Rattle.journal.specs.declared.layout.LogArea.{LogArea}
 
--- how many sectors the payload has
-abbrev pub payload_sectors : ℕ
-payload_sectors = 96
-
--- the first sector after it
+-- the first sector that a transaction may write
 abbrev pub first_target : ℕ
 first_target = 98
 
@@ -23,12 +20,35 @@ first_target = 98
 abbrev pub max_updates : ℕ
 max_updates = 48
 
--- sectors that a transaction may write: from the first one after the payload on, on the device, and
--- all different
-pub record AreTargets (size : ℕ) (to : List ℕ) : Type 0 where
+-- the log between the gate and the sectors that transactions write, up to the device's end
+abbrev pub in_front : ℕ → LogArea
+in_front size = record { first = 2; sectors = 96; end = size; once = true }
+
+-- A log is behind the gate, and has no sector that a transaction may write: it is behind their end,
+-- or else in front of the first of them. Its sectors have numbers, one gate can name them all, and
+-- they are room for one transaction.
+pub record IsArea (area : LogArea) : Type 0 where
+  pub behind : 2 ≤ area.first
+  pub beside : area.first < area.end → area.first + area.sectors ≤ first_target
+  pub numbers : area.first + area.sectors < 2 ^ 32
+  pub few : area.sectors ≤ 1022
+  pub room : max_updates ≤ area.sectors
+
+-- how many sectors a device needs for it
+abbrev pub area_end : LogArea → ℕ
+area_end area = max area.end (area.first + area.sectors)
+
+-- sectors that a transaction may write: from the first one on, below the end, and all different
+pub record AreTargets (end : ℕ) (to : List ℕ) : Type 0 where
   pub from_first : All (λ t. first_target ≤ t) to
-  pub on_device : All (λ t. t < size) to
+  pub on_device : All (λ t. t < end) to
   pub apart : AllPairs (λ a b. a ≢ b) to
+
+-- sectors that a gate may name: the same, but one may stand more than once, unless each stands once
+pub record AreNamed (area : LogArea) (to : List ℕ) : Type 0 where
+  pub from_first : All (λ t. first_target ≤ t) to
+  pub on_device : All (λ t. t < area.end) to
+  pub apart : area.once ≡ true → AllPairs (λ a b. a ≢ b) to
 
 -- numbers one after the other, each in four bytes, the highest first
 abbrev pub words : List ℕ → List ℕ
@@ -45,15 +65,21 @@ gate (target ∷ targets) =
     words (gate_words (target ∷ targets))
     ++ replicate (4096 - 4 * length (gate_words (target ∷ targets))) 0
 
+-- where sector n stands behind these targets, where it was found in front of them: the last of
+-- several counts
+abbrev pub home_from : ℕ → List ℕ → ℕ → ℕ → ℕ
+home_from found [] place n = found
+home_from found (target ∷ targets) place n =
+    home_from (if n == target then place else found) targets (place + 1) n
+
 -- where sector n stands while the commit record is set: its content is in the payload if it is a
 -- target
 abbrev pub home : List ℕ → ℕ → ℕ → ℕ
-home [] place n = n
-home (target ∷ targets) place n = if n == target then place else home targets (place + 1) n
+home to place n = home_from n to place n
 
 -- the image as it reads through the gate
-abbrev pub through : List ℕ → Image → Image
-through to image = λ n. image (home to 2 n)
+abbrev pub through : LogArea → List ℕ → Image → Image
+through area to image = λ n. image (home to area.first n)
 
 -- the sectors that updates write
 abbrev pub targets : List Update → List ℕ
@@ -73,9 +99,9 @@ copies image place (target ∷ targets) =
     (record { target = target; content = image place }) ∷ copies image (place + 1) targets
 
 -- a gate sector names these targets
-pub record NamesTargets (size : ℕ) (sector : List ℕ) (to : List ℕ) : Type 0 where
-  pub few : length to ≤ payload_sectors
-  pub fit : AreTargets size to
+pub record NamesTargets (area : LogArea) (sector : List ℕ) (to : List ℕ) : Type 0 where
+  pub few : length to ≤ area.sectors
+  pub fit : AreNamed area to
   pub gate_is : sector ≡ gate to
 
 -- the targets that a gate sector's words tell of: the second word's number of them, from the third

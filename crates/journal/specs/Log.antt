@@ -6,12 +6,14 @@ use Rattle.disk.specs.Moments.{Image, History, Left, AddsOnly, applied, moment}
 use Rattle.disk.specs.Cause.{IsCounted}
 use Rattle.journal.specs.declared.fault.JournalFault.{JournalFault}
 use Rattle.journal.specs.declared.fault.JournalFault.TheVariants as faults
+use Rattle.journal.specs.declared.layout.LogArea.{LogArea}
 use Rattle.journal.specs.Settled.{AreSame, Settles}
 
 pub record Log : Type 0 where
   pub base : Image
   pub list : List (List Update)
   pub is_down : Bool
+  pub area : LogArea
   pub size : ℕ
   pub history : History
 
@@ -25,20 +27,20 @@ abbrev pub contents : Log → Image
 contents log = applied_all log.list log.base
 
 -- an image settles to a base with a front of a list of transactions
-pub record StandsForFront (size : ℕ) (base : Image) (list : List (List Update)) (image : Image)
-    : Type 0 where
+pub record StandsForFront (area : LogArea) (base : Image) (list : List (List Update))
+    (image : Image) : Type 0 where
   pub count : ℕ
   pub within : count ≤ length list
-  pub settles : Settles size image (applied_all (take count list) base)
+  pub settles : Settles area image (applied_all (take count list) base)
 
 -- at every moment since, a map left is one left before, or the old base with a front of the old
 -- list
 abbrev pub AddsFronts : Log → Log → Type 0
-AddsFronts old new = AddsOnly (StandsForFront old.size old.base old.list) old.history new.history
+AddsFronts old new = AddsOnly (StandsForFront old.area old.base old.list) old.history new.history
 
 -- what a crash leaves now settles to the base: none of the list is lost that ever went into it
 abbrev pub IsSettled : Log → Type 0
-IsSettled log = (image : Image) → Left log.history.now image → Settles log.size image log.base
+IsSettled log = (image : Image) → Left log.history.now image → Settles log.area image log.base
 
 -- a transaction that does what these do, one after the other
 abbrev pub DoesAs : List Update → List (List Update) → Type 0
@@ -56,7 +58,7 @@ IsJoined list (updates ∷ joined) = (count : ℕ) × (count ≤ length list)
 pub record Moved (all : List (List Update)) (old new : Log) : Type 0 where
   pub count : ℕ
   pub within : count ≤ length all
-  pub base : AreSame old.size (applied_all (take count all) old.base) new.base
+  pub base : AreSame old.area.end (applied_all (take count all) old.base) new.base
   pub list : IsJoined (drop count all) new.list
 
 -- one more transaction was put at the list's end, and nothing else happened

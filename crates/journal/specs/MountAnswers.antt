@@ -5,36 +5,40 @@ use Rattle.disk.specs.Moments.{History, IsSector, AddsOnly, moment, seen, synced
 use Rattle.journal.specs.declared.fault.JournalFault.{JournalFault}
 use Rattle.journal.specs.declared.fault.JournalFault.TheVariants as faults
 use Rattle.journal.specs.declared.fault.Unmounted.{Unmounted}
+use Rattle.journal.specs.declared.layout.LogArea.{LogArea}
 use Rattle.journal.specs.Log.{Log, IsSettled}
 use Rattle.journal.specs.Recover.{IsClosed, LeavesOnlySynced, recovery_cost}
 use Rattle.journal.specs.Settled.{Settles, SettlesAs}
 
 -- the journal of a device of so many sectors and failures: it is up, and nothing waits
-pub record IsNewJournal (sectors before : ℕ) (log : Log) (after : ℕ) : Type 0 where
+pub record IsNewJournal (area : LogArea) (sectors before : ℕ) (log : Log) (after : ℕ)
+    : Type 0 where
   pub list : log.list ≡ []
   pub is_down : log.is_down ≡ false
+  pub same_area : log.area ≡ area
   pub size : log.size ≡ sectors
   pub failures : after ≡ before
 
 -- The base is what the device settled to, sectors of bytes. Each map that a crash leaves within the
 -- mount settles as the device did, and from its first sync on no other is left. A closed gate asks
 -- for that sync alone.
-pub record HasRecovered (size : ℕ) (old : History) (log : Log) : Type 0 where
-  pub base : Settles size (seen old.now) log.base
-  pub sectors : (n : ℕ) → n < size → IsSector (log.base n)
+pub record HasRecovered (area : LogArea) (old : History) (log : Log) : Type 0 where
+  pub base : Settles area (seen old.now) log.base
+  pub sectors : (n : ℕ) → n < log.size → IsSector (log.base n)
   pub settled : IsSettled log
-  pub moments : AddsOnly (SettlesAs size (seen old.now)) old log.history
-  pub since_sync : AddsOnly (SettlesAs size (seen old.now)) (synced old) log.history
+  pub moments : AddsOnly (SettlesAs area (seen old.now)) old log.history
+  pub since_sync : AddsOnly (SettlesAs area (seen old.now)) (synced old) log.history
   pub closed : IsClosed old → log.history ≡ synced old
   pub cost : moment log.history ≡ moment old + recovery_cost base.to
 
--- What a mount that is refused did: at most what a recovery of 96 sectors costs. Damaged comes only
--- where the gate has no form.
-pub record IsRecoveryRefused (size : ℕ) (old new : History) (fault : JournalFault) : Type 0 where
-  pub refused : AddsOnly (SettlesAs size (seen old.now)) old new
-  pub brief : moment new ≤ moment old + 102
+-- What a mount that is refused did: at most what the recovery of a full log costs. Damaged comes
+-- only where the gate has no form.
+pub record IsRecoveryRefused (area : LogArea) (old new : History) (fault : JournalFault)
+    : Type 0 where
+  pub refused : AddsOnly (SettlesAs area (seen old.now)) old new
+  pub brief : moment new ≤ moment old + (area.sectors + 6)
   pub closed_refused : IsClosed old → (new ≡ old) ⊎ (new ≡ synced old)
-  pub damaged : fault ≡ faults.Damaged → LeavesOnlySynced size old new
+  pub damaged : fault ≡ faults.Damaged → LeavesOnlySynced area old new
 
 -- The device that comes back, with the reason: Fault is answered exactly where it counted a failure
 pub record JournalComesBack {D : Type 0} (size failed : D → ℕ) (device : D) (refused : Unmounted D)

@@ -4,6 +4,7 @@ use Rattle.disk.specs.Moments.{Image, History, AddsOnly, seen, synced, moment}
 use Rattle.disk.specs.Cause.{IsCounted}
 use Rattle.journal.specs.declared.fault.JournalFault.{JournalFault}
 use Rattle.journal.specs.declared.fault.JournalFault.TheVariants as faults
+use Rattle.journal.specs.declared.layout.LogArea.{LogArea}
 use Rattle.journal.specs.Settled.{Settles, SettlesAs}
 use Rattle.journal.specs.Layout.{gate}
 use Rattle.journal.specs.Phase.{AddsAtMost, IsGated}
@@ -16,10 +17,10 @@ recovery_cost (sector ∷ sectors) = length (sector ∷ sectors) + 6
 
 -- The commit record is cleared, and the device reads as what it settled to. From the first sync on
 -- each map left settles to that.
-pub record Recovers (size : ℕ) (old new : History) : Type 0 where
+pub record Recovers (area : LogArea) (old new : History) : Type 0 where
   pub gated : IsGated [] new
-  pub settles : Settles size (seen old.now) (seen new.now)
-  pub since_sync : AddsOnly (SettlesAs size (seen old.now)) (synced old) new
+  pub settles : Settles area (seen old.now) (seen new.now)
+  pub since_sync : AddsOnly (SettlesAs area (seen old.now)) (synced old) new
   pub cost : moment new ≡ moment old + recovery_cost settles.to
 
 -- the commit record of what a read gives is cleared
@@ -32,18 +33,18 @@ pub record WritesNothing {T E : Type 0} (old new : History) (result : Result T E
   pub err : OnErr result ((new ≡ old) ⊎ (new ≡ synced old))
 
 -- the gate had no form, and nothing was written
-pub record LeavesOnlySynced (size : ℕ) (old new : History) : Type 0 where
-  pub formless : (settled : Image) → Settles size (seen old.now) settled → ⊥
+pub record LeavesOnlySynced (area : LogArea) (old new : History) : Type 0 where
+  pub formless : (settled : Image) → Settles area (seen old.now) settled → ⊥
   pub only_synced : new ≡ synced old
 
 -- what a replay did that began with the sync of this history
-pub record Replays {T : Type 0} (size : ℕ) (before new : History) (result : Result T JournalFault)
-    : Type 0 where
-  pub moments : AddsOnly (SettlesAs size (seen before.now)) before new
-  pub brief : AddsAtMost 102 before new
-  pub ok : OnOk result (Recovers size before new)
+pub record Replays {T : Type 0} (area : LogArea) (before new : History)
+    (result : Result T JournalFault) : Type 0 where
+  pub moments : AddsOnly (SettlesAs area (seen before.now)) before new
+  pub brief : AddsAtMost (area.sectors + 6) before new
+  pub ok : OnOk result (Recovers area before new)
   pub closed : IsClosed before → WritesNothing before new result
-  pub damaged : IsErrOf result faults.Damaged → LeavesOnlySynced size before new
+  pub damaged : IsErrOf result faults.Damaged → LeavesOnlySynced area before new
 
 -- a mount's failures: of the device, which counted it, or the gate's, and then it counted none
 pub record FaultsCounted {T : Type 0} (before after : ℕ) (result : Result T JournalFault)

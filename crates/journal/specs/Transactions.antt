@@ -2,7 +2,8 @@
 use Rattle.std.specs.Prelude.{◌≡◌, ℕ, Bool, false, List, [], ◌∷◌, ◌++◌, ◌==◌, ◌+◌, ◌<◌, ◌≤◌, length, drop, get_or, if◌then◌else◌}
 use Rattle.std.specs.List.{list_any}
 use Rattle.disk.specs.declared.update.Update.{Update}
-use Rattle.journal.specs.Layout.{payload_sectors, targets}
+use Rattle.journal.specs.declared.layout.LogArea.{LogArea}
+use Rattle.journal.specs.Layout.{targets}
 
 -- the sectors that they write, one after the other
 abbrev pub sectors_of : List (List Update) → List ℕ
@@ -20,8 +21,8 @@ gathered seen (number ∷ numbers) =
     gathered (if has seen number then seen else seen ++ number ∷ []) numbers
 
 -- transactions whose different sectors the payload has room for
-abbrev pub FitTogether : List (List Update) → Type 0
-FitTogether list = length (gathered [] (sectors_of list)) ≤ payload_sectors
+abbrev pub FitTogether : LogArea → List (List Update) → Type 0
+FitTogether area list = length (gathered [] (sectors_of list)) ≤ area.sectors
 
 -- the last place of a number
 pub record IsLastPlace (numbers : List ℕ) (number place : ℕ) : Type 0 where

@@ -4,29 +4,31 @@ use Rattle.disk.specs.Cause.{IsCounted}
 use Rattle.disk.specs.Moments.{Image, History, IsSector, seen}
 use Rattle.journal.specs.declared.fault.JournalFault.{JournalFault}
 use Rattle.journal.specs.declared.fault.JournalFault.TheVariants as faults
+use Rattle.journal.specs.declared.layout.LogArea.{LogArea}
 use Rattle.journal.specs.Layout.{through}
 use Rattle.journal.specs.Log.{Log}
 use Rattle.journal.specs.Settled.{Settles}
 
 -- the log of a journal in which nothing waits, and whose base is read through a gate of these
 -- targets
-abbrev pub viewed : (to : List ℕ) → (size : ℕ) → History → Log
-viewed to size h = record {
-  base = through to (seen h.now);
+abbrev pub viewed : (area : LogArea) → (to : List ℕ) → (size : ℕ) → History → Log
+viewed area to size h = record {
+  base = through area to (seen h.now);
   list = [];
   is_down = false;
+  area = area;
   size = size;
   history = h;
 }
 
 -- the base is what the device settles to, sectors of bytes
-pub record HasViewed (size : ℕ) (old : History) (log : Log) : Type 0 where
-  pub base : Settles size (seen old.now) log.base
-  pub sectors : (n : ℕ) → n < size → IsSector (log.base n)
+pub record HasViewed (area : LogArea) (old : History) (log : Log) : Type 0 where
+  pub base : Settles area (seen old.now) log.base
+  pub sectors : (n : ℕ) → n < log.size → IsSector (log.base n)
 
 -- the gate has no form
-abbrev pub HasNoForm : (size : ℕ) → History → Type 0
-HasNoForm size old = (settled : Image) → Settles size (seen old.now) settled → ⊥
+abbrev pub HasNoForm : (area : LogArea) → History → Type 0
+HasNoForm area old = (settled : Image) → Settles area (seen old.now) settled → ⊥
 
 -- A device of which there is no view, as it was: Fault is answered exactly where it counted a
 -- failure.

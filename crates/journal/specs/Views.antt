@@ -9,9 +9,11 @@ use Rattle.journal.specs.Log.{Log}
 
 unfoldable pub view_of : {D : _} {g : _} → View D g → Log
 view_of {D} {g} view = record {
-  base = through (take view.count view.targets) (seen (g.history view.device.now).now);
+  base = through view.area (take view.count view.targets)
+      (seen (g.history view.device.now).now);
   list = [];
   is_down = view.is_down;
+  area = view.area;
   size = g.size view.device.now;
   history = g.history view.device.now;
 }

@@ -1,6 +1,6 @@
 //! The sectors that were read last.
 
-ghost use Rattle.std.specs.Prelude.{◌≡◌, ◌≤◌, ◌⊎◌, ℕ, List, [], false, IsTrue, IfOk};
+ghost use Rattle.std.specs.Prelude.{◌≡◌, ◌≤◌, ◌<◌, ◌⊎◌, ℕ, List, [], false, IsTrue, IfOk};
 ghost use Rattle.std.specs.List.{Contains};
 ghost use Rattle.journal.specs.Cached.{AreAmong};
 ghost use Rattle.journal.specs.Layout.{targets};
@@ -44,14 +44,14 @@ impl Cache {
         }
     }
 
-    /// Keeps what sector `n` holds, if it is one that a transaction may write. Where there is no
-    /// memory for it, it is left out.
-    pub(crate) fn keep(&mut self, n: u32, content: &[u8; SECTOR])
+    /// Keeps what sector `n` holds, if it is one that a transaction may write: from the first one
+    /// on and below this end. Where there is no memory for it, it is left out.
+    pub(crate) fn keep(&mut self, n: u32, end: u32, content: &[u8; SECTOR])
         ensures { (entry : ℕ × List ℕ) → Contains self.new.sectors.entries entry
             → Contains self.old.sectors.entries entry
-            ⊎ ((FIRST_TARGET ≤ n) × (entry ≡ (n, content.now))) }
+            ⊎ ((FIRST_TARGET ≤ n) × (n < end) × (entry ≡ (n, content.now))) }
     {
-        if n >= FIRST_TARGET {
+        if n >= FIRST_TARGET && n < end {
             let _ = self.sectors.push(n, *content);
         }
     }

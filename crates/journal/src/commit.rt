@@ -1,15 +1,15 @@
 //! How a transaction goes through the commit record: it is recorded behind what the record names,
 //! and copied home only where a later one has no room there.
 
-ghost use Rattle.std.specs.Prelude.{OnOk, ◌≡◌, ◌≤◌, ◌<◌, ◌++◌, ◌+◌, [], length, vec_capacity};
+ghost use Rattle.std.specs.Prelude.{OnOk, ◌≡◌, ◌≤◌, ◌<◌, ◌++◌, ◌+◌, ◌*◌, [], length, vec_capacity};
 ghost use Rattle.disk.specs.Moments.{seen};
-ghost use Rattle.journal.specs.Layout.{targets, through};
+ghost use Rattle.journal.specs.Layout.{IsArea, area_end, targets, through};
 ghost use Rattle.journal.specs.Behind.{FitsGate, way_for};
-ghost use Rattle.journal.specs.Recorded.{FitsRecorded, IsStored};
+ghost use Rattle.journal.specs.Recorded.{FitsRecorded, HasRoom, IsStored};
 ghost use Rattle.journal.specs.Phase.{AddsAtMost, IsGated, FailsCounted};
 ghost use Rattle.journal.specs.Commit.{AddsEither, FitsPayload, IsRecorded, KeepsShown, IsCopiedHome, MakesWay, IsCommitted, KeepsRoom, rewritten};
 
-use crate::layout::{FIRST_TARGET, GATE, PAYLOAD_SECTORS};
+use crate::layout::{GATE, LogArea};
 use crate::recorded::Recorded;
 use crate::{gate, phase};
 use disk::{Device, DiskFault, Update};
@@ -18,33 +18,38 @@ use disk::{Device, DiskFault, Update};
 /// they are recorded too is left to the caller.
 pub(crate) fn commit<D: Device>(
     device: &mut D,
+    area: LogArea,
     recorded: &mut Recorded,
     to: &[u32],
     updates: &[Update],
 ) -> Result<(), DiskFault>
-    requires taken { FitsPayload (D.size device.old) to.now updates.now }
-    requires fits { FitsRecorded (D.size device.old) recorded.old }
-    requires large { FIRST_TARGET ≤ D.size device.old }
+    requires area { IsArea area }
+    requires taken { FitsPayload area to.now updates.now }
+    requires fits { FitsRecorded area recorded.old }
+    requires large { area_end area ≤ D.size device.old }
     // On a device that keeps its word
-    ensures moments { D.keeps_word → IsStored recorded.old (D.history device.old)
-        → AddsEither (D.size device.old) updates.now
-        (through recorded.old.targets.items (seen (D.history device.old).now))
+    ensures moments { D.keeps_word → IsStored area recorded.old (D.history device.old)
+        → AddsEither area updates.now
+        (through area recorded.old.targets.items (seen (D.history device.old).now))
         (D.history device.old) (D.history device.new) }
-    ensures brief { D.keeps_word → AddsAtMost 198 (D.history device.old) (D.history device.new) }
-    ensures ok { D.keeps_word → IsStored recorded.old (D.history device.old)
-        → OnOk result (IsCommitted (D.size device.old) updates.now
+    ensures brief { D.keeps_word → AddsAtMost (2 * (area.sectors + 3))
+        (D.history device.old) (D.history device.new) }
+    ensures ok { D.keeps_word → IsStored area recorded.old (D.history device.old)
+        → OnOk result (IsCommitted area updates.now
         recorded.old.targets.items recorded.new.targets.items recorded.new.updates.items
         (D.history device.old) (D.history device.new)) }
     // On any device
     ensures shown { OnOk result
-        ((recorded.new.targets.items ≡ way_for recorded.old.targets.items to.now ++ to.now)
-        × (targets recorded.new.updates.items ≡ way_for recorded.old.targets.items to.now)) }
-    ensures kept { FitsGate (D.size device.old) recorded.new.targets.items }
+        ((recorded.new.targets.items
+        ≡ way_for area recorded.old.targets.items to.now ++ to.now)
+        × (targets recorded.new.updates.items
+        ≡ way_for area recorded.old.targets.items to.now)) }
+    ensures kept { HasRoom area recorded.new }
     ensures size { D.size device.new ≡ D.size device.old }
     ensures failures { FailsCounted (D.failed device.old) (D.failed device.new) result }
 {
-    make_way(device, recorded, to)?;
-    write_commit_record(device, &mut recorded.targets, to, updates)?;
+    make_way(device, area, recorded, to)?;
+    write_commit_record(device, area, &mut recorded.targets, to, updates)?;
     Ok(())
 }
 
@@ -52,54 +57,63 @@ pub(crate) fn commit<D: Device>(
 /// the record.
 pub(crate) fn make_way<D: Device>(
     device: &mut D,
+    area: LogArea,
     recorded: &mut Recorded,
     to: &[u32],
 ) -> Result<(), DiskFault>
-    requires few { length to.now ≤ PAYLOAD_SECTORS }
-    requires fits { FitsRecorded (D.size device.old) recorded.old }
-    requires large { FIRST_TARGET ≤ D.size device.old }
+    requires area { IsArea area }
+    requires few { length to.now ≤ area.sectors }
+    requires fits { FitsRecorded area recorded.old }
+    requires large { area_end area ≤ D.size device.old }
     // On a device that keeps its word
-    ensures moments { D.keeps_word → IsStored recorded.old (D.history device.old)
-        → KeepsShown (D.size device.old) recorded.old.targets.items
+    ensures moments { D.keeps_word → IsStored area recorded.old (D.history device.old)
+        → KeepsShown area recorded.old.targets.items
         (D.history device.old) (D.history device.new) }
-    ensures brief { D.keeps_word → AddsAtMost 99 (D.history device.old) (D.history device.new) }
-    ensures ok { D.keeps_word → IsStored recorded.old (D.history device.old)
-        → OnOk result (MakesWay (D.size device.old) to.now
+    ensures brief { D.keeps_word → AddsAtMost (area.sectors + 3)
+        (D.history device.old) (D.history device.new) }
+    ensures ok { D.keeps_word → IsStored area recorded.old (D.history device.old)
+        → OnOk result (MakesWay area to.now
         recorded.old.targets.items recorded.new.targets.items
         (D.history device.old) (D.history device.new)) }
-    ensures stored { D.keeps_word → IsStored recorded.old (D.history device.old)
-        → OnOk result (IsStored recorded.new (D.history device.new)) }
+    ensures stored { D.keeps_word → IsStored area recorded.old (D.history device.old)
+        → OnOk result (IsStored area recorded.new (D.history device.new)) }
     // On any device
     ensures shown { OnOk result
-        ((recorded.new.targets.items ≡ way_for recorded.old.targets.items to.now)
+        ((recorded.new.targets.items ≡ way_for area recorded.old.targets.items to.now)
         × (targets recorded.new.updates.items ≡ recorded.new.targets.items)) }
-    ensures kept { FitsGate (D.size device.old) recorded.new.targets.items }
+    ensures kept { HasRoom area recorded.new }
     ensures size { D.size device.new ≡ D.size device.old }
     ensures failures { FailsCounted (D.failed device.old) (D.failed device.new) result }
 {
-    if gate::goes_behind(&recorded.targets, to) {
+    if gate::goes_behind(&recorded.targets, area, to) {
         return Ok(());
     }
-    close(device, recorded)?;
+    close(device, area, recorded)?;
     Ok(())
 }
 
 /// Copies home what the commit record names, and clears it. Nothing is read.
-pub(crate) fn close<D: Device>(device: &mut D, recorded: &mut Recorded) -> Result<(), DiskFault>
-    requires fits { FitsRecorded (D.size device.old) recorded.old }
-    requires large { FIRST_TARGET ≤ D.size device.old }
+pub(crate) fn close<D: Device>(
+    device: &mut D,
+    area: LogArea,
+    recorded: &mut Recorded,
+) -> Result<(), DiskFault>
+    requires area { IsArea area }
+    requires fits { FitsRecorded area recorded.old }
+    requires large { area_end area ≤ D.size device.old }
     // On a device that keeps its word
-    ensures moments { D.keeps_word → IsStored recorded.old (D.history device.old)
-        → KeepsShown (D.size device.old) recorded.old.targets.items
+    ensures moments { D.keeps_word → IsStored area recorded.old (D.history device.old)
+        → KeepsShown area recorded.old.targets.items
         (D.history device.old) (D.history device.new) }
-    ensures brief { D.keeps_word → AddsAtMost 99 (D.history device.old) (D.history device.new) }
-    ensures ok { D.keeps_word → IsStored recorded.old (D.history device.old)
-        → OnOk result (IsCopiedHome (D.size device.old) recorded.old.targets.items
+    ensures brief { D.keeps_word → AddsAtMost (area.sectors + 3)
+        (D.history device.old) (D.history device.new) }
+    ensures ok { D.keeps_word → IsStored area recorded.old (D.history device.old)
+        → OnOk result (IsCopiedHome area recorded.old.targets.items
         (D.history device.old) (D.history device.new)) }
     // On any device
     ensures shown { OnOk result
         ((recorded.new.targets.items ≡ []) × (recorded.new.updates.items ≡ [])) }
-    ensures kept { FitsGate (D.size device.old) recorded.new.targets.items }
+    ensures kept { HasRoom area recorded.new }
     ensures size { D.size device.new ≡ D.size device.old }
     ensures failures { FailsCounted (D.failed device.old) (D.failed device.new) result }
 {
@@ -110,12 +124,17 @@ pub(crate) fn close<D: Device>(device: &mut D, recorded: &mut Recorded) -> Resul
 }
 
 /// Writes the commit record again, for the targets that it names.
-pub(crate) fn rewrite<D: Device>(device: &mut D, named: &[u32]) -> Result<(), DiskFault>
-    requires fits { FitsGate (D.size device.old) named.now }
-    requires large { FIRST_TARGET ≤ D.size device.old }
+pub(crate) fn rewrite<D: Device>(
+    device: &mut D,
+    area: LogArea,
+    named: &[u32],
+) -> Result<(), DiskFault>
+    requires area { IsArea area }
+    requires fits { FitsGate area named.now }
+    requires large { area_end area ≤ D.size device.old }
     // On a device that keeps its word
     ensures moments { D.keeps_word → IsGated named.now (D.history device.old)
-        → KeepsShown (D.size device.old) named.now (D.history device.old) (D.history device.new) }
+        → KeepsShown area named.now (D.history device.old) (D.history device.new) }
     ensures brief { D.keeps_word → AddsAtMost 2 (D.history device.old) (D.history device.new) }
     ensures ok { D.keeps_word → OnOk result
         (D.history device.new ≡ rewritten named.now (D.history device.old)) }
@@ -130,31 +149,33 @@ pub(crate) fn rewrite<D: Device>(device: &mut D, named: &[u32]) -> Result<(), Di
 /// Writes the payload behind what the commit record names, and then names its targets there too.
 pub(crate) fn write_commit_record<D: Device>(
     device: &mut D,
+    area: LogArea,
     shown: &mut Vec<u32>,
     to: &[u32],
     updates: &[Update],
 ) -> Result<(), DiskFault>
-    requires taken { FitsPayload (D.size device.old) to.now updates.now }
-    requires fits { FitsGate (D.size device.old) (shown.old.items ++ to.now) }
-    requires room { PAYLOAD_SECTORS ≤ vec_capacity shown.old }
-    requires large { FIRST_TARGET ≤ D.size device.old }
+    requires taken { FitsPayload area to.now updates.now }
+    requires fits { FitsGate area (shown.old.items ++ to.now) }
+    requires area { IsArea area }
+    requires room { area.sectors ≤ vec_capacity shown.old }
+    requires large { area_end area ≤ D.size device.old }
     // On a device that keeps its word
     ensures moments { D.keeps_word → IsGated shown.old.items (D.history device.old)
-        → AddsEither (D.size device.old) updates.now
-        (through shown.old.items (seen (D.history device.old).now))
+        → AddsEither area updates.now
+        (through area shown.old.items (seen (D.history device.old).now))
         (D.history device.old) (D.history device.new) }
     ensures brief { D.keeps_word → AddsAtMost (length updates.now + 3)
         (D.history device.old) (D.history device.new) }
     ensures ok { D.keeps_word → IsGated shown.old.items (D.history device.old)
-        → OnOk result (IsRecorded (D.size device.old) updates.now shown.old.items shown.new.items
+        → OnOk result (IsRecorded area updates.now shown.old.items shown.new.items
         (D.history device.old) (D.history device.new)) }
     // On any device
     ensures shown { OnOk result (shown.new.items ≡ shown.old.items ++ to.now) }
-    ensures kept { KeepsRoom (D.size device.old) shown.old shown.new }
+    ensures kept { KeepsRoom area shown.old shown.new }
     ensures size { D.size device.new ≡ D.size device.old }
     ensures failures { FailsCounted (D.failed device.old) (D.failed device.new) result }
 {
-    phase::write_payload(device, shown.len(), updates)?;
+    phase::write_payload(device, area, shown.len(), updates)?;
     gate::name_all(shown, to);
     phase::write_sector(device, GATE, &gate::encode(shown))?;
     Ok(())

@@ -1,12 +1,12 @@
 //! The gate, the sector of the commit record: zeros where it is cleared, and else 1, the number of
 //! targets, and the targets.
 
-ghost use Rattle.std.specs.Prelude.{◌≡◌, ◌≤◌, ◌<◌, ◌+◌, ◌*◌, ◌↔◌, ◌⊎◌, ℕ, List, [], ◌++◌, length, drop, false, IsTrue, vec_capacity};
+ghost use Rattle.std.specs.Prelude.{◌≡◌, ◌≤◌, ◌<◌, ◌+◌, ◌*◌, ◌^◌, ◌↔◌, ◌⊎◌, ℕ, List, [], ◌++◌, length, drop, false, IsTrue, vec_capacity};
 ghost use Rattle.byteorder.specs.Endian.{big_number};
-ghost use Rattle.journal.specs.Layout.{AreTargets, NamesTargets, gate, home, words, gate_words, words_in};
-ghost use Rattle.journal.specs.Behind.{goes_behind};
+ghost use Rattle.journal.specs.Layout.{AreNamed, IsArea, NamesTargets, gate, home, words, gate_words, words_in};
+ghost use Rattle.journal.specs.Behind.{goes_behind, meets};
 
-use crate::layout::{FIRST_TARGET, PAYLOAD, PAYLOAD_SECTORS};
+use crate::layout::{FIRST_TARGET, LogArea, MAX_TARGETS};
 use byteorder::{BigEndian, ByteOrder};
 use disk::SECTOR;
 
@@ -15,7 +15,7 @@ const OPEN: u32 = 1;
 
 /// The commit record for these targets; for none it is cleared.
 pub(crate) fn encode(targets: &[u32]) -> [u8; SECTOR]
-    requires { length targets.now ≤ PAYLOAD_SECTORS }
+    requires { length targets.now ≤ MAX_TARGETS }
     ensures { result ≡ gate targets.now }
 {
     let mut sector = closed();
@@ -35,7 +35,7 @@ pub(crate) fn closed() -> [u8; SECTOR]
 
 /// Writes the words of a commit record that is set to the front of a sector.
 fn write_words(targets: &[u32], sector: &mut [u8])
-    requires few { length targets.now ≤ PAYLOAD_SECTORS }
+    requires few { length targets.now ≤ MAX_TARGETS }
     requires long { length sector.old ≡ SECTOR }
     ensures { sector.new ≡ words (gate_words targets.now)
         ++ drop (4 * length (gate_words targets.now)) sector.old }
@@ -46,30 +46,32 @@ fn write_words(targets: &[u32], sector: &mut [u8])
 }
 
 /// Whether a sector is a commit record, set or cleared: then `named` holds what it names.
-pub(crate) fn decode(sector: &[u8; SECTOR], sectors: u32, named: &mut Vec<u32>) -> bool
-    requires { PAYLOAD_SECTORS ≤ vec_capacity named.old }
-    ensures found { IsTrue result → NamesTargets sectors sector.now named.new.items }
-    ensures missing { result ≡ false → (to : List ℕ) → ¬ NamesTargets sectors sector.now to }
+pub(crate) fn decode(sector: &[u8; SECTOR], area: LogArea, named: &mut Vec<u32>) -> bool
+    requires area { IsArea area }
+    requires room { area.sectors ≤ vec_capacity named.old }
+    ensures found { IsTrue result → NamesTargets area sector.now named.new.items }
+    ensures missing { result ≡ false → (to : List ℕ) → ¬ NamesTargets area sector.now to }
     ensures capacity { vec_capacity named.new ≡ vec_capacity named.old }
 {
-    if !read_words(sector, named) {
+    if !read_words(sector, area.sectors as usize, named) {
         return false;
     }
-    are_targets(named, sectors) && encode(named).as_slice() == sector.as_slice()
+    are_targets(named, area) && encode(named).as_slice() == sector.as_slice()
 }
 
-/// Reads a commit record's words; false where they tell of more targets than there can be.
-fn read_words(sector: &[u8], named: &mut Vec<u32>) -> bool
-    requires room { PAYLOAD_SECTORS ≤ vec_capacity named.old }
+/// Reads a commit record's words; false where they tell of more targets than so many.
+fn read_words(sector: &[u8], most: usize, named: &mut Vec<u32>) -> bool
+    requires few { most ≤ MAX_TARGETS }
+    requires room { most ≤ vec_capacity named.old }
     requires long { length sector.now ≡ SECTOR }
-    ensures many { result ≡ false → PAYLOAD_SECTORS < big_number 4 (drop 4 sector.now) }
+    ensures many { result ≡ false → most < big_number 4 (drop 4 sector.now) }
     ensures named { IsTrue result
-        → (length named.new.items ≤ PAYLOAD_SECTORS) × (named.new.items ≡ words_in sector.now) }
+        → (length named.new.items ≤ most) × (named.new.items ≡ words_in sector.now) }
     ensures capacity { vec_capacity named.new ≡ vec_capacity named.old }
 {
     named.clear();
     let count = BigEndian::read_u32(&sector[4..]) as usize;
-    if count > PAYLOAD_SECTORS {
+    if count > most {
         return false;
     }
     for i in 0..count {
@@ -78,13 +80,16 @@ fn read_words(sector: &[u8], named: &mut Vec<u32>) -> bool
     true
 }
 
-/// Whether a transaction may write these sectors: all from the first one on, on the device, and
-/// different.
-pub(crate) fn are_targets(to: &[u32], sectors: u32) -> bool
-    ensures { IsTrue result ↔ AreTargets sectors to.now }
+/// Whether a commit record may name these sectors: all from the first one on, below the end, and
+/// different where each is named once.
+pub(crate) fn are_targets(to: &[u32], area: LogArea) -> bool
+    ensures { IsTrue result ↔ AreNamed area to.now }
 {
     for (i, target) in to.iter().enumerate() {
-        if *target < FIRST_TARGET || *target >= sectors || to[..i].contains(target) {
+        if *target < FIRST_TARGET || *target >= area.end {
+            return false;
+        }
+        if area.once && to[..i].contains(target) {
             return false;
         }
     }
@@ -92,32 +97,44 @@ pub(crate) fn are_targets(to: &[u32], sectors: u32) -> bool
 }
 
 /// Where sector `n` stands, read through a commit record that names these targets.
-pub(crate) fn place_of(named: &[u32], n: u32) -> u32
-    requires { length named.now ≤ PAYLOAD_SECTORS }
-    ensures place { result ≡ home named.now 2 n }
-    ensures within { (result < FIRST_TARGET) ⊎ (result ≡ n) }
+pub(crate) fn place_of(named: &[u32], area: LogArea, n: u32) -> u32
+    requires few { length named.now ≤ area.sectors }
+    requires area { IsArea area }
+    ensures place { result ≡ home named.now area.first n }
+    ensures within { (result < area.first + area.sectors) ⊎ (result ≡ n) }
 {
+    let mut place = n;
     for (i, target) in named.iter().enumerate() {
         if *target == n {
-            return PAYLOAD + i as u32;
+            place = area.first + i as u32;
         }
     }
-    n
+    place
 }
 
-/// Whether more targets go behind those that a commit record names: all others than these, and few
-/// enough beside them.
-pub(crate) fn goes_behind(named: &[u32], to: &[u32]) -> bool
-    requires named { length named.now ≤ PAYLOAD_SECTORS }
-    requires few { length to.now ≤ PAYLOAD_SECTORS }
-    ensures { result ≡ goes_behind named.now to.now }
+/// Whether more targets go behind those that a commit record names: few enough beside them, and all
+/// others than these where each is named once.
+pub(crate) fn goes_behind(named: &[u32], area: LogArea, to: &[u32]) -> bool
+    requires named { length named.now ≤ MAX_TARGETS }
+    requires few { length to.now ≤ MAX_TARGETS }
+    ensures { result ≡ goes_behind area named.now to.now }
+{
+    if area.once && meets(named, to) {
+        return false;
+    }
+    named.len() + to.len() <= area.sectors as usize
+}
+
+/// Whether one of the targets is named.
+fn meets(named: &[u32], to: &[u32]) -> bool
+    ensures { result ≡ meets named.now to.now }
 {
     for target in to {
         if named.contains(target) {
-            return false;
+            return true;
         }
     }
-    named.len() + to.len() <= PAYLOAD_SECTORS
+    false
 }
 
 /// Puts targets after those that are named.

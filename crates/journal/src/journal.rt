@@ -2,20 +2,20 @@
 
 ghost use Rattle.std.specs.Prelude.{◌≡◌, ◌≤◌, ◌<◌, ◌⊎◌, ◌+◌, ◌↔◌, [], length, false, vec_capacity, OnOk, IfOk, IfErr, IsErrOf};
 ghost use Rattle.disk.specs.Moments.{applied, seen, moment};
-ghost use Rattle.journal.specs.declared.layout.TheConstants.{MIN_SECTORS, PAYLOAD_SECTORS};
-ghost use Rattle.journal.specs.Behind.{FitsGate};
+ghost use Rattle.journal.specs.declared.layout.TheConstants.{MIN_SECTORS};
+ghost use Rattle.journal.specs.Recorded.{HasRoom};
 ghost use Rattle.journal.specs.Calls.{AddsFirst, GoesThrough, GoesThroughFirst, HasApplied, HasCheckpointed, HasFlushed, HasWritten, IsPart, IsSafe, list_with};
 ghost use Rattle.journal.specs.Format.{AddsFormats, IsFormatted};
 ghost use Rattle.journal.specs.Cached.{AreCopies};
 ghost use Rattle.journal.specs.Commit.{rewritten};
-ghost use Rattle.journal.specs.Layout.{AreTargets, copies, gate, max_updates, targets, through};
+ghost use Rattle.journal.specs.Layout.{AreTargets, IsArea, area_end, copies, gate, in_front, max_updates, targets, through};
 ghost use Rattle.journal.specs.Log.{AnswersByDevice, MakesAtMost, Moved, contents};
 ghost use Rattle.journal.specs.MountAnswers.{JournalComesBack, HasRecovered, IsNewJournal, IsRecoveryRefused};
 ghost use Rattle.journal.specs.Phase.{FailsCounted};
 ghost use Rattle.journal.specs.Transactions.{FitTogether, gathered, sectors_of};
 
 use crate::cache::Cache;
-use crate::layout::{self, MAX_UPDATES, MIN_SECTORS, PAYLOAD_SECTORS, SUPERBLOCK};
+use crate::layout::{self, LogArea, MAX_UPDATES, SUPERBLOCK};
 use crate::recorded::Recorded;
 use crate::{JournalFault, Unmounted, View, commit, list, phase, recover};
 use disk::{Device, DiskFault, SECTOR, Update};
@@ -32,6 +32,7 @@ pub const CACHED_SECTORS: usize = 64;
 #[derive(Drop)]
 pub struct Journal<D: Device> {
     device: D,
+    area: LogArea,
     pending: Vec<Update>,
     pending_sectors: Vec<u32>,
     /// What the commit record names.
@@ -39,21 +40,24 @@ pub struct Journal<D: Device> {
     /// What was read last.
     cache: Cache,
     is_down: bool,
-    ghost large: { MIN_SECTORS ≤ D.size device },
-    ghost few: { length pending.items ≤ PAYLOAD_SECTORS },
-    ghost room: { PAYLOAD_SECTORS ≤ vec_capacity pending },
-    ghost sectors_room: { PAYLOAD_SECTORS ≤ vec_capacity pending_sectors },
+    ghost is_area: { IsArea area },
+    ghost large: { area_end area ≤ D.size device },
+    ghost few: { length pending.items ≤ area.sectors },
+    ghost room: { area.sectors ≤ vec_capacity pending },
+    ghost sectors_room: { area.sectors ≤ vec_capacity pending_sectors },
     ghost sectors_are: { pending_sectors.items ≡ targets pending.items },
-    ghost fit: { AreTargets (D.size device) (targets pending.items) },
-    ghost shown_fits: { FitsGate (D.size device) recorded.targets.items },
+    ghost fit: { AreTargets area.end (targets pending.items) },
+    ghost shown_has: { HasRoom area recorded },
     ghost named: { is_down ≡ false → targets recorded.updates.items ≡ recorded.targets.items },
     ghost rests: { D.keeps_word → is_down ≡ false → length (D.history device).now.unsynced ≡ 0 },
     ghost gate_is: { D.keeps_word → is_down ≡ false → seen (D.history device).now 1
         ≡ gate recorded.targets.items },
     ghost payload: { D.keeps_word → is_down ≡ false
-        → copies (seen (D.history device).now) 2 recorded.targets.items ≡ recorded.updates.items },
-    ghost cached: { D.keeps_word → is_down ≡ false → AreCopies (D.size device)
-        (applied pending.items (through recorded.targets.items (seen (D.history device).now)))
+        → copies (seen (D.history device).now) area.first recorded.targets.items
+        ≡ recorded.updates.items },
+    ghost cached: { D.keeps_word → is_down ≡ false → AreCopies area.end
+        (applied pending.items
+        (through area recorded.targets.items (seen (D.history device).now)))
         cache.sectors.entries },
 }
 
@@ -66,19 +70,21 @@ struct Room {
     cache: Cache,
 }
 
-/// Memory for a journal that keeps so many sectors.
-fn room_for(alloc: Global, cached: NonZeroUsize) -> Result<Room, AllocError>
+/// Memory for a journal with this log that keeps so many sectors.
+fn room_for(alloc: Global, area: LogArea, cached: NonZeroUsize) -> Result<Room, AllocError>
     ensures none { IfOk result
         (λ room. (room.pending.items ≡ []) × (room.pending_sectors.items ≡ [])
         × (room.recorded.targets.items ≡ []) × (room.recorded.updates.items ≡ [])
         × (room.cache.sectors.entries ≡ [])) }
-    ensures room { IfOk result (λ room. (PAYLOAD_SECTORS ≤ vec_capacity room.pending)
-        × (PAYLOAD_SECTORS ≤ vec_capacity room.pending_sectors)) }
+    ensures room { IfOk result (λ room. (area.sectors ≤ vec_capacity room.pending)
+        × (area.sectors ≤ vec_capacity room.pending_sectors)
+        × (area.sectors ≤ vec_capacity room.recorded.targets)
+        × (area.sectors ≤ vec_capacity room.recorded.updates)) }
 {
     Ok(Room {
-        pending: Vec::with_capacity(alloc, PAYLOAD_SECTORS)?,
-        pending_sectors: Vec::with_capacity(alloc, PAYLOAD_SECTORS)?,
-        recorded: Recorded::new(alloc)?,
+        pending: Vec::with_capacity(alloc, area.sectors as usize)?,
+        pending_sectors: Vec::with_capacity(alloc, area.sectors as usize)?,
+        recorded: Recorded::new(alloc, area.sectors as usize)?,
         cache: Cache::new(alloc, cached)?,
     })
 }
@@ -89,8 +95,8 @@ impl<D: Device> Journal<D> {
     ghost use Rattle.journal.specs.Viewed.{HasNoForm, HasViewed, IsUnread};
     ghost use Rattle.journal.specs.Views.{view_of, view_failures, name_of};
 
-    /// Formats a device: zeros, with this sector 0 and these updates. Until sector 0 is written,
-    /// last of all, a crash leaves what was there before or a sector 0 of zeros.
+    /// Formats a device for a log in front: zeros, with this sector 0 and these updates. Until
+    /// sector 0 is written, last of all, a crash leaves what was there before or a sector 0 of zeros.
     ///
     /// # Errors
     ///
@@ -102,10 +108,39 @@ impl<D: Device> Journal<D> {
     ) -> Result<(), JournalFault>
         requires large { MIN_SECTORS ≤ D.size device.old }
         requires fit { AreTargets (D.size device.old) (targets updates.now) }
-        ensures moments { D.keeps_word → AddsFormats (D.size device.old) sector0.now updates.now
+        ensures moments { D.keeps_word → AddsFormats (in_front (D.size device.old)) sector0.now
+            updates.now (D.history device.old) (D.history device.new) }
+        ensures ok { D.keeps_word → OnOk result (IsFormatted (in_front (D.size device.old))
+            sector0.now updates.now (D.history device.new)) }
+        ensures cost { D.keeps_word → OnOk result (moment (D.history device.new)
+            ≡ moment (D.history device.old) + (D.size device.old + 4)) }
+        ensures size { D.size device.new ≡ D.size device.old }
+        // Refused
+        ensures failures { FailsCounted (D.failed device.old) (D.failed device.new) result }
+        ensures refuses { IfErr result (λ fault. fault ≡ JournalFault.Fault) }
+    {
+        let area = LogArea::in_front(device.sectors());
+        Journal::format_in(device, area, sector0, updates)
+    }
+
+    /// The same, for a log in this place.
+    ///
+    /// # Errors
+    ///
+    /// [`JournalFault::Fault`] where the device failed.
+    pub fn format_in(
+        device: &mut D,
+        area: LogArea,
+        sector0: &[u8; SECTOR],
+        updates: &[Update],
+    ) -> Result<(), JournalFault>
+        requires area { IsArea area }
+        requires large { area_end area ≤ D.size device.old }
+        requires fit { AreTargets area.end (targets updates.now) }
+        ensures moments { D.keeps_word → AddsFormats area sector0.now updates.now
             (D.history device.old) (D.history device.new) }
         ensures ok { D.keeps_word → OnOk result
-            (IsFormatted (D.size device.old) sector0.now updates.now (D.history device.new)) }
+            (IsFormatted area sector0.now updates.now (D.history device.new)) }
         ensures cost { D.keeps_word → OnOk result (moment (D.history device.new)
             ≡ moment (D.history device.old) + (D.size device.old + 4)) }
         ensures size { D.size device.new ≡ D.size device.old }
@@ -119,24 +154,25 @@ impl<D: Device> Journal<D> {
         Ok(())
     }
 
-    /// Mounts the journal of a device: what a commit record that stands names is copied home first.
-    /// It keeps the 64 sectors in memory that were read last.
+    /// Mounts the journal of a device whose log is in front: what a commit record that stands names
+    /// is copied home first. It keeps the 64 sectors in memory that were read last.
     ///
     /// # Errors
     ///
-    /// As [`Journal::mount_cached`].
+    /// As [`Journal::mount_in`].
     pub fn mount(alloc: Global, device: D) -> Result<Journal<D>, Unmounted<D>>
         requires { MIN_SECTORS ≤ D.size device }
         ensures new { IfOk result (λ journal.
-            IsNewJournal (D.size device) (D.failed device) (log_of journal)
-            (journal_failures journal)) }
+            IsNewJournal (in_front (D.size device)) (D.size device) (D.failed device)
+            (log_of journal) (journal_failures journal)) }
         ensures mounted { D.keeps_word → IfOk result (λ journal.
-            HasRecovered (D.size device) (D.history device) (log_of journal)) }
+            HasRecovered (in_front (D.size device)) (D.history device) (log_of journal)) }
         ensures closed { IfOk result (λ journal. recorded_sectors journal ≡ []) }
         // Refused
         ensures back { IfErr result (JournalComesBack D.size D.failed device) }
-        ensures refused { D.keeps_word → IfErr result (λ refused. IsRecoveryRefused (D.size device)
-            (D.history device) (D.history refused.device) refused.fault) }
+        ensures refused { D.keeps_word → IfErr result (λ refused.
+            IsRecoveryRefused (in_front (D.size device)) (D.history device)
+            (D.history refused.device) refused.fault) }
     {
         let cached = NonZeroUsize::new(CACHED_SECTORS).unwrap_or(NonZeroUsize::MIN);
         Journal::mount_cached(alloc, device, cached)
@@ -146,9 +182,7 @@ impl<D: Device> Journal<D> {
     ///
     /// # Errors
     ///
-    /// The device comes back with the reason: `Damaged` where the commit record is malformed, and
-    /// then nothing was written; `Fault` where the device failed; `Memory`, and then it was not
-    /// touched.
+    /// As [`Journal::mount_in`].
     pub fn mount_cached(
         alloc: Global,
         device: D,
@@ -156,18 +190,49 @@ impl<D: Device> Journal<D> {
     ) -> Result<Journal<D>, Unmounted<D>>
         requires { MIN_SECTORS ≤ D.size device }
         ensures new { IfOk result (λ journal.
-            IsNewJournal (D.size device) (D.failed device) (log_of journal)
-            (journal_failures journal)) }
+            IsNewJournal (in_front (D.size device)) (D.size device) (D.failed device)
+            (log_of journal) (journal_failures journal)) }
         ensures mounted { D.keeps_word → IfOk result (λ journal.
-            HasRecovered (D.size device) (D.history device) (log_of journal)) }
+            HasRecovered (in_front (D.size device)) (D.history device) (log_of journal)) }
         ensures closed { IfOk result (λ journal. recorded_sectors journal ≡ []) }
         // Refused
         ensures back { IfErr result (JournalComesBack D.size D.failed device) }
-        ensures refused { D.keeps_word → IfErr result (λ refused. IsRecoveryRefused (D.size device)
+        ensures refused { D.keeps_word → IfErr result (λ refused.
+            IsRecoveryRefused (in_front (D.size device)) (D.history device)
+            (D.history refused.device) refused.fault) }
+    {
+        let area = LogArea::in_front(device.sectors());
+        Journal::mount_in(alloc, device, area, cached)
+    }
+
+    /// The same of a journal whose log is in this place.
+    ///
+    /// # Errors
+    ///
+    /// The device comes back with the reason: `Damaged` where the commit record is malformed, and
+    /// then nothing was written; `Fault` where the device failed; `Memory`, and then it was not
+    /// touched.
+    pub fn mount_in(
+        alloc: Global,
+        device: D,
+        area: LogArea,
+        cached: NonZeroUsize,
+    ) -> Result<Journal<D>, Unmounted<D>>
+        requires area { IsArea area }
+        requires large { area_end area ≤ D.size device }
+        ensures new { IfOk result (λ journal.
+            IsNewJournal area (D.size device) (D.failed device) (log_of journal)
+            (journal_failures journal)) }
+        ensures mounted { D.keeps_word → IfOk result (λ journal.
+            HasRecovered area (D.history device) (log_of journal)) }
+        ensures closed { IfOk result (λ journal. recorded_sectors journal ≡ []) }
+        // Refused
+        ensures back { IfErr result (JournalComesBack D.size D.failed device) }
+        ensures refused { D.keeps_word → IfErr result (λ refused. IsRecoveryRefused area
             (D.history device) (D.history refused.device) refused.fault) }
     {
         let mut device = device;
-        let mut room = match room_for(alloc, cached) {
+        let mut room = match room_for(alloc, area, cached) {
             Ok(room) => room,
             Err(_) => {
                 return Err(Unmounted {
@@ -176,9 +241,10 @@ impl<D: Device> Journal<D> {
                 });
             }
         };
-        match recover::recover(&mut device, &mut room.recorded) {
+        match recover::recover(&mut device, area, &mut room.recorded) {
             Ok(()) => Ok(Journal {
                 device,
+                area,
                 pending: room.pending,
                 pending_sectors: room.pending_sectors,
                 recorded: room.recorded,
@@ -198,10 +264,10 @@ impl<D: Device> Journal<D> {
     /// `Fault` where the device failed, and `Memory`.
     pub fn view(alloc: Global, device: &mut D) -> Result<View<'_, D>, Unmounted<&mut D>>
         requires { MIN_SECTORS ≤ D.size device.old }
-        ensures new { IfOk result (λ view. IsNewJournal (D.size device.old) (D.failed device.old)
-            (view_of view) (view_failures view)) }
+        ensures new { IfOk result (λ view. IsNewJournal (in_front (D.size device.old))
+            (D.size device.old) (D.failed device.old) (view_of view) (view_failures view)) }
         ensures viewed { D.keeps_word → IfOk result (λ view.
-            HasViewed (D.size device.old) (D.history device.old) (view_of view)) }
+            HasViewed (in_front (D.size device.old)) (D.history device.old) (view_of view)) }
         // Nothing is written, on any device
         ensures untouched { IfOk result (λ view. (view_of view).history ≡ D.history device.old) }
         ensures same_device { IfOk result (λ view. name_of view ≡ device.entry.ghost_name) }
@@ -212,9 +278,41 @@ impl<D: Device> Journal<D> {
             refused.device.ghost_name ≡ device.entry.ghost_name) }
         ensures damaged { D.keeps_word → IfErr result (λ refused.
             refused.fault ≡ JournalFault.Damaged
-            → HasNoForm (D.size device.old) (D.history device.old)) }
+            → HasNoForm (in_front (D.size device.old)) (D.history device.old)) }
     {
-        let mut named = match Vec::with_capacity(alloc, PAYLOAD_SECTORS) {
+        let area = LogArea::in_front(device.sectors());
+        Journal::view_in(alloc, device, area)
+    }
+
+    /// The same of a journal whose log is in this place.
+    ///
+    /// # Errors
+    ///
+    /// As [`Journal::view`].
+    pub fn view_in(
+        alloc: Global,
+        device: &mut D,
+        area: LogArea,
+    ) -> Result<View<'_, D>, Unmounted<&mut D>>
+        requires area { IsArea area }
+        requires large { area_end area ≤ D.size device.old }
+        ensures new { IfOk result (λ view. IsNewJournal area (D.size device.old)
+            (D.failed device.old) (view_of view) (view_failures view)) }
+        ensures viewed { D.keeps_word → IfOk result (λ view.
+            HasViewed area (D.history device.old) (view_of view)) }
+        // Nothing is written, on any device
+        ensures untouched { IfOk result (λ view. (view_of view).history ≡ D.history device.old) }
+        ensures same_device { IfOk result (λ view. name_of view ≡ device.entry.ghost_name) }
+        // Refused
+        ensures back { IfErr result (λ refused. IsUnread D.size D.failed D.history
+            device.old refused.device.now refused.fault) }
+        ensures same_back { IfErr result (λ refused.
+            refused.device.ghost_name ≡ device.entry.ghost_name) }
+        ensures damaged { D.keeps_word → IfErr result (λ refused.
+            refused.fault ≡ JournalFault.Damaged
+            → HasNoForm area (D.history device.old)) }
+    {
+        let mut named = match Vec::with_capacity(alloc, area.sectors as usize) {
             Ok(named) => named,
             Err(_) => {
                 return Err(Unmounted {
@@ -223,10 +321,10 @@ impl<D: Device> Journal<D> {
                 });
             }
         };
-        if let Err(fault) = recover::read_gate(device, &mut named) {
+        if let Err(fault) = recover::read_gate(device, area, &mut named) {
             return Err(Unmounted { device, fault });
         }
-        Ok(View::new(device, &named))
+        Ok(View::new(device, area, &named))
     }
 
     /// The device, as it is now. What was applied and not flushed is lost.
@@ -255,8 +353,8 @@ impl<D: Device> Journal<D> {
     }
 
     /// Puts into `content` the newest content of sector `n`, whether it went into the base yet or
-    /// not. After `Fault` it may hold anything. What is read of the journal's own sectors, 1 to 97,
-    /// says nothing.
+    /// not. After `Fault` it may hold anything. What is read of the journal's own sectors, 1 to
+    /// 97 and those of its log, says nothing.
     ///
     /// # Errors
     ///
@@ -293,7 +391,7 @@ impl<D: Device> Journal<D> {
             self.is_down = true;
             return Err(JournalFault::Fault);
         }
-        self.cache.keep(n, content);
+        self.cache.keep(n, self.area.end, content);
         Ok(())
     }
 
@@ -310,6 +408,7 @@ impl<D: Device> Journal<D> {
             (HasWritten D.keeps_word content.now (log_of self.old) (log_of self.new)) }
         ensures list { (log_of self.new).list ≡ (log_of self.old).list }
         ensures shown { recorded_sectors self.new ≡ recorded_sectors self.old }
+        ensures area { (log_of self.new).area ≡ (log_of self.old).area }
         ensures size { (log_of self.new).size ≡ (log_of self.old).size }
         // Refused
         ensures answers { AnswersByDevice (log_of self.old) (log_of self.new)
@@ -337,7 +436,8 @@ impl<D: Device> Journal<D> {
     /// [`JournalFault::Fault`] where the device failed, and [`JournalFault::Down`] from then on.
     pub fn checkpoint(&mut self) -> Result<(), JournalFault>
         ensures safe { IsSafe D.keeps_word (log_of self.old) (log_of self.new) }
-        ensures brief { D.keeps_word → MakesAtMost 99 (log_of self.old) (log_of self.new) }
+        ensures brief { D.keeps_word → MakesAtMost ((log_of self.old).area.sectors + 3)
+            (log_of self.old) (log_of self.new) }
         ensures list { (log_of self.new).list ≡ (log_of self.old).list }
         ensures ok { OnOk result (HasCheckpointed D.keeps_word (recorded_sectors self.old)
             (log_of self.old) (log_of self.new)) }
@@ -356,7 +456,7 @@ impl<D: Device> Journal<D> {
             return Ok(());
         }
         self.is_down = true;
-        if commit::close(&mut self.device, &mut self.recorded).is_err() {
+        if commit::close(&mut self.device, self.area, &mut self.recorded).is_err() {
             return Err(JournalFault::Fault);
         }
         self.is_down = false;
@@ -386,7 +486,7 @@ impl<D: Device> Journal<D> {
             return Err(JournalFault::Down);
         }
         self.is_down = true;
-        if commit::rewrite(&mut self.device, &self.recorded.targets).is_err() {
+        if commit::rewrite(&mut self.device, self.area, &self.recorded.targets).is_err() {
             return Err(JournalFault::Fault);
         }
         self.is_down = false;
@@ -412,6 +512,7 @@ impl<D: Device> Journal<D> {
         self.is_down = true;
         if commit::commit(
             &mut self.device,
+            self.area,
             &mut self.recorded,
             &self.pending_sectors,
             &self.pending,
@@ -431,27 +532,30 @@ impl<D: Device> Journal<D> {
         // A transaction that may be taken
         requires up { (log_of self.old).is_down ≡ false }
         requires short { length updates.now ≤ MAX_UPDATES }
-        requires fit { AreTargets (log_of self.old).size (targets updates.now) }
+        requires fit { AreTargets (log_of self.old).area.end (targets updates.now) }
         // In any case
         ensures part { IsPart D.keeps_word (log_of self.old) (log_of self.new)
             (journal_failures self.old) (journal_failures self.new) result }
         // It is flushed where there is no room, and only there
-        ensures kept { FitTogether (list_with (log_of self.old) updates.now)
+        ensures kept { FitTogether (log_of self.old).area (list_with (log_of self.old) updates.now)
             → (log_of self.new ≡ log_of self.old)
             × (self.new.pending.items ≡ self.old.pending.items)
             × (recorded_sectors self.new ≡ recorded_sectors self.old) }
-        ensures flushed { OnOk result ((¬ FitTogether (list_with (log_of self.old) updates.now))
+        ensures flushed { OnOk result ((¬ FitTogether (log_of self.old).area
+            (list_with (log_of self.old) updates.now))
             → HasFlushed D.keeps_word (log_of self.old) (log_of self.new)) }
-        ensures gate { OnOk result ((¬ FitTogether (list_with (log_of self.old) updates.now))
+        ensures gate { OnOk result ((¬ FitTogether (log_of self.old).area
+            (list_with (log_of self.old) updates.now))
             → GoesThrough D.keeps_word (recorded_sectors self.old) (recorded_sectors self.new)
             (log_of self.old) (log_of self.new)) }
-        ensures emptied { OnOk result ((¬ FitTogether (list_with (log_of self.old) updates.now))
+        ensures emptied { OnOk result ((¬ FitTogether (log_of self.old).area
+            (list_with (log_of self.old) updates.now))
             → self.new.pending.items ≡ []) }
         ensures room { OnOk result
             (length (gathered self.new.pending_sectors.items (targets updates.now))
-            ≤ PAYLOAD_SECTORS) }
+            ≤ (log_of self.old).area.sectors) }
     {
-        if list::fits(&self.pending_sectors, updates) {
+        if list::fits(&self.pending_sectors, updates, self.area.sectors as usize) {
             return Ok(());
         }
         self.flush_pending()?;
@@ -459,16 +563,18 @@ impl<D: Device> Journal<D> {
     }
 
     /// Puts a transaction behind the pending ones: all of its updates, or after a crash none. Where
-    /// it and they have more than 96 different sectors, they are flushed first. Takes no memory.
+    /// it and they have more different sectors than the log, they are flushed first. Takes no
+    /// memory.
     ///
     /// # Errors
     ///
     /// [`JournalFault::TooMany`] above 48 updates: nothing changed.
     /// [`JournalFault::Fault`] where the device failed, and [`JournalFault::Down`] from then on.
     pub fn apply(&mut self, updates: Vec<Update>) -> Result<(), JournalFault>
-        requires { AreTargets (log_of self.old).size (targets updates.items) }
+        requires { AreTargets (log_of self.old).area.end (targets updates.items) }
         ensures safe { IsSafe D.keeps_word (log_of self.old) (log_of self.new) }
-        ensures bounded { length (sectors_of (log_of self.new).list) ≤ PAYLOAD_SECTORS }
+        ensures bounded { length (sectors_of (log_of self.new).list)
+            ≤ (log_of self.new).area.sectors }
         ensures ok { OnOk result
             (HasApplied D.keeps_word updates.items (log_of self.old) (log_of self.new)) }
         ensures gate { OnOk result (GoesThroughFirst D.keeps_word updates.items

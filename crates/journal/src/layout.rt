@@ -2,6 +2,7 @@
 
 ghost use Rattle.std.specs.Prelude.{◌≡◌};
 ghost use Rattle.disk.specs.Calls.{zero_sector};
+ghost use Rattle.journal.specs.Layout.{in_front};
 
 use disk::SECTOR;
 
@@ -14,17 +15,42 @@ pub(crate) const SUPERBLOCK: u32 = 0;
 /// The gate: the sector of the commit record.
 pub(crate) const GATE: u32 = 1;
 
-/// The first sector of the payload.
-pub(crate) const PAYLOAD: u32 = 2;
-
-/// The number of sectors of the payload, and so the most targets of a commit record.
-pub const PAYLOAD_SECTORS: usize = 96;
+/// The most targets of a commit record: what one sector has room for.
+pub const MAX_TARGETS: usize = 1022;
 
 /// The first sector that a transaction may write.
 pub const FIRST_TARGET: u32 = 98;
 
 /// The most sectors of one transaction.
 pub const MAX_UPDATES: usize = 48;
+
+/// Where the log is, and what transactions may write.
+#[derive(Clone, Copy)]
+pub struct LogArea {
+    /// The first sector of the payload.
+    pub first: u32,
+    /// The number of sectors of the payload, and so the most targets of a commit record.
+    pub sectors: u32,
+    /// The end of the sectors that transactions may write, which begin at [`FIRST_TARGET`].
+    pub end: u32,
+    /// Whether a commit record names each target once. Where it may name one again, the later
+    /// content counts.
+    pub once: bool,
+}
+
+impl LogArea {
+    /// The log in front of what transactions write, on a device of so many sectors.
+    pub fn in_front(sectors: u32) -> LogArea
+        ensures { result ≡ in_front sectors }
+    {
+        LogArea {
+            first: 2,
+            sectors: 96,
+            end: sectors,
+            once: true,
+        }
+    }
+}
 
 /// A sector of zeros.
 #[tactic(auto, unfolding(disk::specs::Calls::zero_sector))]

@@ -6,7 +6,7 @@ ghost use Rattle.disk.specs.Moments.{Image, applied, put as with};
 ghost use Rattle.journal.specs.Layout.{targets};
 ghost use Rattle.journal.specs.Transactions.{gathered, has, IsLastPlace};
 
-use crate::layout::{MAX_UPDATES, PAYLOAD_SECTORS};
+use crate::layout::{MAX_TARGETS, MAX_UPDATES};
 use disk::{SECTOR, Update};
 
 /// The newest content that the updates give sector `n`, or else what was found before.
@@ -41,13 +41,14 @@ pub(crate) fn find(pending_sectors: &[u32], n: u32) -> Option<usize>
     None
 }
 
-/// Whether the pending sectors and those of the updates are few enough for one payload.
-pub(crate) fn fits(pending_sectors: &[u32], updates: &[Update]) -> bool
-    requires few { length pending_sectors.now ≤ PAYLOAD_SECTORS }
+/// Whether the pending sectors and those of the updates are few enough for a payload of so many
+/// sectors.
+pub(crate) fn fits(pending_sectors: &[u32], updates: &[Update], sectors: usize) -> bool
+    requires few { length pending_sectors.now ≤ MAX_TARGETS }
     requires short { length updates.now ≤ MAX_UPDATES }
     requires apart { AllPairs (λ a b. a ≢ b) (targets updates.now) }
     ensures { IsTrue result
-        ↔ (length (gathered pending_sectors.now (targets updates.now)) ≤ PAYLOAD_SECTORS) }
+        ↔ (length (gathered pending_sectors.now (targets updates.now)) ≤ sectors) }
 {
     let mut fresh = 0;
     for update in updates {
@@ -55,17 +56,17 @@ pub(crate) fn fits(pending_sectors: &[u32], updates: &[Update]) -> bool
             fresh += 1;
         }
     }
-    pending_sectors.len() + fresh <= PAYLOAD_SECTORS
+    pending_sectors.len() + fresh <= sectors
 }
 
 /// Puts an update in the place of the one of its sector, or else after the others.
 pub(crate) fn put(pending: &mut Vec<Update>, pending_sectors: &mut Vec<u32>, update: &Update)
     // There is room for it
     requires sectors_are { pending_sectors.old.items ≡ targets pending.old.items }
-    requires few { length (gathered pending_sectors.old.items (update.now.target ∷ []))
-        ≤ PAYLOAD_SECTORS }
-    requires room { PAYLOAD_SECTORS ≤ vec_capacity pending.old }
-    requires sectors_room { PAYLOAD_SECTORS ≤ vec_capacity pending_sectors.old }
+    requires room { length (gathered pending_sectors.old.items (update.now.target ∷ []))
+        ≤ vec_capacity pending.old }
+    requires sectors_room { length (gathered pending_sectors.old.items (update.now.target ∷ []))
+        ≤ vec_capacity pending_sectors.old }
     // What the list has then
     ensures applied { (image : Image) (n : ℕ) → applied pending.new.items image n
         ≡ with (applied pending.old.items image) update.now n }
@@ -96,10 +97,10 @@ pub(crate) fn merge_into(
 )
     // There is room for it
     requires sectors_are { pending_sectors.old.items ≡ targets pending.old.items }
-    requires few { length (gathered pending_sectors.old.items (targets updates.now))
-        ≤ PAYLOAD_SECTORS }
-    requires room { PAYLOAD_SECTORS ≤ vec_capacity pending.old }
-    requires sectors_room { PAYLOAD_SECTORS ≤ vec_capacity pending_sectors.old }
+    requires room { length (gathered pending_sectors.old.items (targets updates.now))
+        ≤ vec_capacity pending.old }
+    requires sectors_room { length (gathered pending_sectors.old.items (targets updates.now))
+        ≤ vec_capacity pending_sectors.old }
     // What the list has then
     ensures applied { (image : Image) (n : ℕ) → applied pending.new.items image n
         ≡ applied updates.now (applied pending.old.items image) n }

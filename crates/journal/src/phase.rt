@@ -1,35 +1,37 @@
 //! The phases of a flush. Each writes its sectors one after the other, and then syncs.
 
-ghost use Rattle.std.specs.Prelude.{OnOk, ◌≡◌, ◌≤◌, ◌<◌, ◌+◌, [], ◌∷◌, length};
+ghost use Rattle.std.specs.Prelude.{All, OnOk, ◌≡◌, ◌≤◌, ◌<◌, ◌+◌, [], ◌∷◌, length};
 ghost use Rattle.disk.specs.Moments.{wrote, synced};
-ghost use Rattle.journal.specs.Layout.{AreTargets, placed, targets};
+ghost use Rattle.journal.specs.Layout.{IsArea, placed, targets};
 ghost use Rattle.journal.specs.Format.{fresh};
 ghost use Rattle.journal.specs.Phase.{AddsAtMost, AddsUpdates, IsFixedAs, FailsCounted};
 
-use crate::layout::{self, FIRST_TARGET, MIN_SECTORS, PAYLOAD, PAYLOAD_SECTORS};
+use crate::layout::{self, LogArea};
 use crate::list;
 use disk::{Device, DiskFault, SECTOR, Update};
 
 /// Writes the updates' contents to the payload, one after the other, behind so many sectors of it.
 pub(crate) fn write_payload<D: Device>(
     device: &mut D,
+    area: LogArea,
     behind: usize,
     updates: &[Update],
 ) -> Result<(), DiskFault>
-    requires few { behind + length updates.now ≤ PAYLOAD_SECTORS }
-    requires large { FIRST_TARGET ≤ D.size device.old }
+    requires area { IsArea area }
+    requires few { behind + length updates.now ≤ area.sectors }
+    requires large { area.first + area.sectors ≤ D.size device.old }
     // On a device that keeps its word
-    ensures moments { D.keeps_word → AddsUpdates (placed (2 + behind) updates.now)
+    ensures moments { D.keeps_word → AddsUpdates (placed (area.first + behind) updates.now)
         (D.history device.old) (D.history device.new) }
     ensures brief { D.keeps_word → AddsAtMost (length updates.now + 1)
         (D.history device.old) (D.history device.new) }
-    ensures ok { D.keeps_word → OnOk result (IsFixedAs (placed (2 + behind) updates.now)
+    ensures ok { D.keeps_word → OnOk result (IsFixedAs (placed (area.first + behind) updates.now)
         (D.history device.old) (D.history device.new)) }
     // On any device
     ensures size { D.size device.new ≡ D.size device.old }
     ensures failures { FailsCounted (D.failed device.old) (D.failed device.new) result }
 {
-    let first = PAYLOAD + behind as u32;
+    let first = area.first + behind as u32;
     for (i, update) in updates.iter().enumerate() {
         device.write(first + i as u32, &update.content)?;
     }
@@ -39,7 +41,7 @@ pub(crate) fn write_payload<D: Device>(
 
 /// Writes the updates to their sectors.
 pub(crate) fn write_homes<D: Device>(device: &mut D, updates: &[Update]) -> Result<(), DiskFault>
-    requires { AreTargets (D.size device.old) (targets updates.now) }
+    requires { All (λ t. t < D.size device.old) (targets updates.now) }
     // On a device that keeps its word
     ensures moments { D.keeps_word → AddsUpdates updates.now
         (D.history device.old) (D.history device.new) }
@@ -84,7 +86,7 @@ pub(crate) fn write_sector<D: Device>(
 
 /// Writes every sector but sector 0: what the updates say, and zeros elsewhere.
 pub(crate) fn write_fresh<D: Device>(device: &mut D, updates: &[Update]) -> Result<(), DiskFault>
-    requires { MIN_SECTORS ≤ D.size device.old }
+    requires { 2 ≤ D.size device.old }
     ensures moments { D.keeps_word
         → AddsUpdates (fresh (D.size device.old) updates.now)
         (D.history device.old) (D.history device.new) }

@@ -1,12 +1,10 @@
 //! What the commit record names, kept in memory, so that copying it home reads nothing.
 
-ghost use Rattle.std.specs.Prelude.{◌≡◌, ◌≤◌, ◌+◌, ◌++◌, [], false, length, vec_capacity, IfOk, IsTrue};
+ghost use Rattle.std.specs.Prelude.{◌≡◌, ◌≤◌, ◌+◌, ◌++◌, ℕ, [], false, length, vec_capacity, IfOk, IsTrue};
 ghost use Rattle.disk.specs.Moments.{Image, applied};
-ghost use Rattle.journal.specs.declared.layout.TheConstants.{PAYLOAD_SECTORS};
 ghost use Rattle.journal.specs.Layout.{targets};
 ghost use Rattle.journal.specs.Transactions.{has};
 
-use crate::layout::PAYLOAD_SECTORS;
 use crate::list;
 use disk::{SECTOR, Update};
 use std::alloc::{AllocError, Global};
@@ -19,25 +17,27 @@ pub(crate) struct Recorded {
     pub(crate) targets: Vec<u32>,
     /// The same sectors, each with its content.
     pub(crate) updates: Vec<Update>,
-    ghost room: { PAYLOAD_SECTORS ≤ vec_capacity targets },
-    ghost updates_room: { PAYLOAD_SECTORS ≤ vec_capacity updates },
 }
 
 impl Recorded {
-    /// Memory for all that a commit record can name.
-    pub(crate) fn new(alloc: Global) -> Result<Recorded, AllocError>
-        ensures { IfOk result
+    /// Memory for all that a commit record can name, if it is so many sectors.
+    pub(crate) fn new(alloc: Global, sectors: usize) -> Result<Recorded, AllocError>
+        ensures room { IfOk result (λ recorded. (sectors ≤ vec_capacity recorded.targets)
+            × (sectors ≤ vec_capacity recorded.updates)) }
+        ensures none { IfOk result
             (λ recorded. (recorded.targets.items ≡ []) × (recorded.updates.items ≡ [])) }
     {
         Ok(Recorded {
-            targets: Vec::with_capacity(alloc, PAYLOAD_SECTORS)?,
-            updates: Vec::with_capacity(alloc, PAYLOAD_SECTORS)?,
+            targets: Vec::with_capacity(alloc, sectors)?,
+            updates: Vec::with_capacity(alloc, sectors)?,
         })
     }
 
     /// Nothing is shown any more.
     pub(crate) fn clear(&mut self)
-        ensures { (self.new.targets.items ≡ []) × (self.new.updates.items ≡ []) }
+        ensures none { (self.new.targets.items ≡ []) × (self.new.updates.items ≡ []) }
+        ensures capacity { (vec_capacity self.new.targets ≡ vec_capacity self.old.targets)
+            × (vec_capacity self.new.updates ≡ vec_capacity self.old.updates) }
     {
         self.targets.clear();
         self.updates.clear();
@@ -63,12 +63,14 @@ impl Recorded {
     /// Takes over the updates of the targets named last. Where there are no others, no sector is
     /// copied.
     pub(crate) fn take_over(&mut self, updates: &mut Vec<Update>)
-        requires few { length self.old.updates.items + length updates.old.items ≤ PAYLOAD_SECTORS }
-        requires room { PAYLOAD_SECTORS ≤ vec_capacity updates.old }
+        requires { length self.old.updates.items + length updates.old.items
+            ≤ vec_capacity self.old.updates }
         ensures items { self.new.updates.items ≡ self.old.updates.items ++ updates.old.items }
         ensures targets { self.new.targets ≡ self.old.targets }
         ensures emptied { updates.new.items ≡ [] }
-        ensures capacity { PAYLOAD_SECTORS ≤ vec_capacity updates.new }
+        ensures capacity { (sectors : ℕ) → sectors ≤ vec_capacity self.old.updates
+            → sectors ≤ vec_capacity updates.old
+            → (sectors ≤ vec_capacity self.new.updates) × (sectors ≤ vec_capacity updates.new) }
     {
         if self.updates.is_empty() {
             mem::swap(&mut self.updates, updates);

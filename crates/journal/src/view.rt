@@ -1,9 +1,9 @@
 //! A volume that is read as a mount would find it. Nothing is written.
 
 ghost use Rattle.std.specs.Prelude.{◌≡◌, ◌≤◌, ◌<◌, ◌⊎◌, take, length};
-ghost use Rattle.journal.specs.declared.layout.TheConstants.{MIN_SECTORS, PAYLOAD_SECTORS};
+ghost use Rattle.journal.specs.Layout.{IsArea, area_end};
 
-use crate::layout::{MIN_SECTORS, PAYLOAD_SECTORS};
+use crate::layout::{LogArea, MAX_TARGETS};
 use crate::{JournalFault, gate};
 use disk::{Device, SECTOR};
 
@@ -14,20 +14,22 @@ use disk::{Device, SECTOR};
 #[derive(Drop)]
 pub struct View<'a, D: Device> {
     device: &'a mut D,
-    targets: [u32; PAYLOAD_SECTORS],
+    area: LogArea,
+    targets: [u32; MAX_TARGETS],
     /// How many of these the commit record names.
     count: usize,
     is_down: bool,
-    ghost large: { MIN_SECTORS ≤ D.size device.now },
-    ghost few: { count ≤ PAYLOAD_SECTORS },
+    ghost is_area: { IsArea area },
+    ghost large: { area_end area ≤ D.size device.now },
+    ghost few: { count ≤ area.sectors },
 }
 
 /// The targets of a commit record, and zeros after them.
-fn padded(targets: &[u32]) -> [u32; PAYLOAD_SECTORS]
-    requires { length targets.now ≤ PAYLOAD_SECTORS }
+fn padded(targets: &[u32]) -> [u32; MAX_TARGETS]
+    requires { length targets.now ≤ MAX_TARGETS }
     ensures { take (length targets.now) result ≡ targets.now }
 {
-    let mut named = [0; PAYLOAD_SECTORS];
+    let mut named = [0; MAX_TARGETS];
     named[..targets.len()].copy_from_slice(targets);
     named
 }
@@ -40,16 +42,18 @@ impl<'a, D: Device> View<'a, D> {
     ghost use Rattle.journal.specs.Views.{view_of, view_failures, name_of};
 
     /// A view of a device through a commit record of these targets.
-    pub(crate) fn new(device: &'a mut D, targets: &[u32]) -> View<'a, D>
-        requires large { MIN_SECTORS ≤ D.size device.old }
-        requires few { length targets.now ≤ PAYLOAD_SECTORS }
+    pub(crate) fn new(device: &'a mut D, area: LogArea, targets: &[u32]) -> View<'a, D>
+        requires area { IsArea area }
+        requires large { area_end area ≤ D.size device.old }
+        requires few { length targets.now ≤ area.sectors }
         ensures view { view_of result
-            ≡ viewed targets.now (D.size device.old) (D.history device.old) }
+            ≡ viewed area targets.now (D.size device.old) (D.history device.old) }
         ensures failures { view_failures result ≡ D.failed device.old }
         ensures same_reference { name_of result ≡ device.entry.ghost_name }
     {
         View {
             device,
+            area,
             targets: padded(targets),
             count: targets.len(),
             is_down: false,
@@ -78,7 +82,7 @@ impl<'a, D: Device> View<'a, D> {
         if self.is_down {
             return Err(JournalFault::Down);
         }
-        let place = gate::place_of(&self.targets[..self.count], n);
+        let place = gate::place_of(&self.targets[..self.count], self.area, n);
         if self.device.read(place, content).is_err() {
             self.is_down = true;
             return Err(JournalFault::Fault);

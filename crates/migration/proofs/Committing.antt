@@ -3,12 +3,23 @@ use Rattle.std.proofs.Common.{◌≡◌, ◌≤◌, ◌<◌, ℕ, zero, suc, Lis
 use Rattle.disk.specs.declared.update.Update.{Update}
 use Rattle.disk.specs.Moments.{Image, AddsOnly, applied}
 use Rattle.disk.proofs.MomentLemmas.{AddsOnly-same, AddsOnly-weaken, AddsOnly-join}
+use Rattle.journal.specs.declared.layout.LogArea.{LogArea}
 use Rattle.journal.specs.Calls.{IsSafe, HasApplied, list_with}
 use Rattle.journal.specs.Log.{Log, StandsForFront, applied_all}
 use Rattle.journal.specs.Settled.{AreSame, Settles}
 use Rattle.journal.proofs.Fronts.{settles_same, applied_keeps, applied_all-push}
 use Rattle.journal.proofs.Joins.{front_moved}
 use Rattle.migration.specs.Commits.{Commits, HasCommitted}
+use Rattle.migration.specs.Migrations.{StaysInPlace}
+
+-- The log stays in its place
+
+pub stays_then : {old mid new : Log} → StaysInPlace old mid → StaysInPlace mid new → StaysInPlace old new
+stays_then first then = record { area = then.area ∙ first.area; size = then.size ∙ first.size }
+
+-- and its transactions still end where the device does
+pub whole_stays : (old new : Log) → StaysInPlace old new → old.area.end ≡ old.size → new.area.end ≡ new.size
+whole_stays old new place whole = ap (λ (area : LogArea). area.end) place.area ∙ whole ∙ sym place.size
 
 -- One transaction
 
@@ -19,12 +30,12 @@ no_front (us ∷ list) c base none = absurd (cc)
 
 pub first_commits : (keeps_word : Type 0) (list : List (List Update)) (old mid : Log) → old.list ≡ [] → IsSafe keeps_word old mid → Commits keeps_word list old mid
 first_commits keeps_word list old mid none safe = record {
-  size = safe.size;
-  moments = λ word. AddsOnly-weaken (StandsForFront old.size old.base old.list) (StandsForFront old.size old.base list) old.history mid.history
+  place = record { area = safe.area; size = safe.size };
+  moments = λ word. AddsOnly-weaken (StandsForFront old.area old.base old.list) (StandsForFront old.area old.base list) old.history mid.history
       (λ image front. record {
         count = 0;
         within = omega arith;
-        settles = subst (Settles old.size image) (no_front old.list front.count old.base none) front.settles;
+        settles = subst (Settles old.area image) (no_front old.list front.count old.base none) front.settles;
       })
       (safe.moments word);
 }
@@ -32,38 +43,38 @@ first_commits keeps_word list old mid none safe = record {
 pub both_commit : (keeps_word : Type 0) (us : List Update) (old mid new : Log) → old.list ≡ [] → IsSafe keeps_word old mid → HasApplied keeps_word us old mid
     → IsSafe keeps_word mid new → Commits keeps_word (us ∷ []) old new
 both_commit keeps_word us old mid new none safe has flushed = record {
-  size = flushed.size ∙ safe.size;
-  moments = λ word. AddsOnly-join (StandsForFront old.size old.base (us ∷ [])) old.history mid.history new.history
+  place = record { area = flushed.area ∙ safe.area; size = flushed.size ∙ safe.size };
+  moments = λ word. AddsOnly-join (StandsForFront old.area old.base (us ∷ [])) old.history mid.history new.history
       ((first_commits keeps_word (us ∷ []) old mid none safe).moments word)
-      (AddsOnly-weaken (StandsForFront mid.size mid.base mid.list) (StandsForFront old.size old.base (us ∷ [])) mid.history new.history
+      (AddsOnly-weaken (StandsForFront mid.area mid.base mid.list) (StandsForFront old.area old.base (us ∷ [])) mid.history new.history
       (λ image front.
       let before = front_moved (list_with old us) old mid (has.moved word) front.count front.within in
-      subst (λ (list : List (List Update)). StandsForFront old.size old.base list image) (ap (λ (l : List (List Update)). l ++ us ∷ []) none)
+      subst (λ (list : List (List Update)). StandsForFront old.area old.base list image) (ap (λ (l : List (List Update)). l ++ us ∷ []) none)
       (record {
         count = before.0;
         within = before.1;
-        settles = settles_same old.size image (applied_all (take front.count mid.list) mid.base) (applied_all (take before.0 (list_with old us)) old.base)
-            (λ n k. sym (before.2 n k)) (subst (λ (size : ℕ). Settles size image (applied_all (take front.count mid.list) mid.base)) safe.size front.settles);
+        settles = settles_same old.area image (applied_all (take front.count mid.list) mid.base) (applied_all (take before.0 (list_with old us)) old.base)
+            (λ n k. sym (before.2 n k)) (subst (λ (area : LogArea). Settles area image (applied_all (take front.count mid.list) mid.base)) safe.area front.settles);
       }))
       (flushed.moments word));
 }
 
 -- The commit record is written again before them
 
-module _ (keeps_word : Type 0) (list : List (List Update)) (old mid new : Log) (base : keeps_word → mid.base ≡ old.base) (size : mid.size ≡ old.size) where
+module _ (keeps_word : Type 0) (list : List (List Update)) (old mid new : Log) (base : keeps_word → mid.base ≡ old.base) (place : StaysInPlace old mid) where
   pub then_commits : Commits keeps_word list old mid → Commits keeps_word list mid new → Commits keeps_word list old new
   then_commits first commits = record {
-    size = commits.size ∙ size;
-    moments = λ word. AddsOnly-join (StandsForFront old.size old.base list) old.history mid.history new.history (first.moments word)
-        (subst (λ (image : Image). AddsOnly (StandsForFront old.size image list) mid.history new.history) (base word)
-        (subst (λ (n : ℕ). AddsOnly (StandsForFront n mid.base list) mid.history new.history) size (commits.moments word)));
+    place = stays_then place commits.place;
+    moments = λ word. AddsOnly-join (StandsForFront old.area old.base list) old.history mid.history new.history (first.moments word)
+        (subst (λ (image : Image). AddsOnly (StandsForFront old.area image list) mid.history new.history) (base word)
+        (subst (λ (area : LogArea). AddsOnly (StandsForFront area mid.base list) mid.history new.history) place.area (commits.moments word)));
   }
 
   pub then_committed : HasCommitted keeps_word list mid new → HasCommitted keeps_word list old new
   then_committed has = record {
     rests = has.rests;
-    base = λ word. subst (λ (image : Image). AreSame old.size (applied_all list image) new.base) (base word)
-        (subst (λ (n : ℕ). AreSame n (applied_all list mid.base) new.base) size (has.base word));
+    base = λ word. subst (λ (image : Image). AreSame old.area.end (applied_all list image) new.base) (base word)
+        (subst (λ (area : LogArea). AreSame area.end (applied_all list mid.base) new.base) place.area (has.base word));
   }
 
 -- Several
@@ -73,18 +84,18 @@ pub record Going (keeps_word : Type 0) (list rest : List (List Update)) (old now
   pub count : ℕ
   pub within : count ≤ length list
   pub rest_is : drop count list ≡ rest
-  pub size : now.size ≡ old.size
-  pub base : keeps_word → AreSame old.size (applied_all (take count list) old.base) now.base
-  pub moments : keeps_word → AddsOnly (StandsForFront old.size old.base list) old.history now.history
+  pub place : StaysInPlace old now
+  pub base : keeps_word → AreSame old.area.end (applied_all (take count list) old.base) now.base
+  pub moments : keeps_word → AddsOnly (StandsForFront old.area old.base list) old.history now.history
 
 pub going_starts : (keeps_word : Type 0) (list : List (List Update)) (old : Log) → Going keeps_word list list old old
 going_starts keeps_word list old = record {
   count = 0;
   within = omega arith;
   rest_is = refl;
-  size = refl;
+  place = record { area = refl; size = refl };
   base = λ word n k. refl;
-  moments = λ word. AddsOnly-same (StandsForFront old.size old.base list) old.history;
+  moments = λ word. AddsOnly-same (StandsForFront old.area old.base list) old.history;
 }
 
 record IsNext (list : List (List Update)) (count : ℕ) (us : List Update) (rest : List (List Update)) : Type 0 where
@@ -106,31 +117,31 @@ module _ (keeps_word : Type 0) (list rest : List (List Update)) (us : List Updat
   there = next list going.count us rest going.rest_is
 
   -- with this one
-  with_one : keeps_word → AreSame old.size (applied_all (take (suc going.count) list) old.base) (applied us now.base)
+  with_one : keeps_word → AreSame old.area.end (applied_all (take (suc going.count) list) old.base) (applied us now.base)
   with_one word n k =
       ap (λ (l : List (List Update)). applied_all l old.base n) there.front
       ∙ ap (λ (f : Image). f n) (applied_all-push (take going.count list) us old.base)
-      ∙ applied_keeps old.size us (applied_all (take going.count list) old.base) now.base (going.base word) n k
+      ∙ applied_keeps old.area.end us (applied_all (take going.count list) old.base) now.base (going.base word) n k
 
-  front_here : keeps_word → (image : Image) (c : ℕ) → c ≤ 1 → Settles old.size image (applied_all (take c (us ∷ [])) now.base) → StandsForFront old.size old.base list image
+  front_here : keeps_word → (image : Image) (c : ℕ) → c ≤ 1 → Settles old.area image (applied_all (take c (us ∷ [])) now.base) → StandsForFront old.area old.base list image
   front_here word image zero few settles = record {
     count = going.count;
     within = going.within;
-    settles = settles_same old.size image now.base (applied_all (take going.count list) old.base) (λ n k. sym (going.base word n k)) settles;
+    settles = settles_same old.area image now.base (applied_all (take going.count list) old.base) (λ n k. sym (going.base word n k)) settles;
   }
   front_here word image (suc zero) few settles = record {
     count = suc going.count;
     within = there.within;
-    settles = settles_same old.size image (applied us now.base) (applied_all (take (suc going.count) list) old.base) (λ n k. sym (with_one word n k)) settles;
+    settles = settles_same old.area image (applied us now.base) (applied_all (take (suc going.count) list) old.base) (λ n k. sym (with_one word n k)) settles;
   }
   front_here word image (suc (suc c)) few settles = absurd (omega arith)
 
   pub going_stops : Commits keeps_word list old new
   going_stops = record {
-    size = commits.size ∙ going.size;
-    moments = λ word. AddsOnly-join (StandsForFront old.size old.base list) old.history now.history new.history (going.moments word)
-        (AddsOnly-weaken (StandsForFront now.size now.base (us ∷ [])) (StandsForFront old.size old.base list) now.history new.history
-        (λ image front. front_here word image front.count front.within (subst (λ (size : ℕ). Settles size image (applied_all (take front.count (us ∷ [])) now.base)) going.size front.settles))
+    place = stays_then going.place commits.place;
+    moments = λ word. AddsOnly-join (StandsForFront old.area old.base list) old.history now.history new.history (going.moments word)
+        (AddsOnly-weaken (StandsForFront now.area now.base (us ∷ [])) (StandsForFront old.area old.base list) now.history new.history
+        (λ image front. front_here word image front.count front.within (subst (λ (area : LogArea). Settles area image (applied_all (take front.count (us ∷ [])) now.base)) going.place.area front.settles))
         (commits.moments word));
   }
 
@@ -139,7 +150,7 @@ module _ (keeps_word : Type 0) (list rest : List (List Update)) (us : List Updat
     count = suc going.count;
     within = there.within;
     rest_is = there.behind;
-    size = going_stops.size;
-    base = λ word n k. with_one word n k ∙ subst (λ (size : ℕ). AreSame size (applied us now.base) new.base) going.size (has.base word) n k;
+    place = going_stops.place;
+    base = λ word n k. with_one word n k ∙ subst (λ (area : LogArea). AreSame area.end (applied us now.base) new.base) going.place.area (has.base word) n k;
     moments = going_stops.moments;
   }

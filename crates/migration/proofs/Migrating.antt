@@ -1,5 +1,5 @@
 -- A migration and the end of it, by the transactions that the journal takes.
-use Rattle.std.proofs.Common.{◌≡◌, ◌≤◌, ◌<◌, ◌+◌, ℕ, zero, suc, List, [], ◌∷◌, Option, None, Some, length, take, inl, inr, refl, sym, ap, ◌∙◌, arith, ⊎_elim}
+use Rattle.std.proofs.Common.{◌≡◌, ◌≤◌, ◌<◌, ◌+◌, ℕ, zero, suc, List, [], ◌∷◌, Option, None, Some, length, take, inl, inr, refl, sym, ap, ◌∙◌, subst, arith, ⊎_elim}
 use Rattle.std.proofs.lemmas.Bool.{cases_eq}
 use Rattle.disk.specs.declared.update.Update.{Update}
 use Rattle.disk.specs.Calls.{zero_sector}
@@ -26,6 +26,10 @@ use Rattle.migration.proofs.Reaching.{Reached, in_all, begins_reached, plan_fron
 
 -- Where the kept sectors are the same
 
+-- up to the device's end
+same_whole : (end size : ℕ) (a b : Image) → end ≡ size → AreSame end a b → AreSame size a b
+same_whole end size a b whole same = subst (λ (n : ℕ). AreSame n a b) whole same
+
 module _ (version : Version) (size nodes run : ℕ) (a b : Image) (tree : Tree) (same : AreSame size a b) (stands : TreeStands version size nodes a run tree) where
   behind : (n : ℕ) → 98 ≤ n → n < size → b n ≡ a n
   behind n above below = sym (same n (inr above, below))
@@ -50,14 +54,14 @@ reached_same size run tree cards moved a b same reached = record {
 
 -- The nodes
 
-pub plan_takes : (size : ℕ) (cards : List (Option CachedNode)) (moved : ℕ) → 148 + length cards ≤ size → moved ≤ length cards → AreTransactions size (plan cards moved)
-plan_takes size cards moved below within = steps_take size cards moved (in_all (length cards) moved) 0 below (omega arith)
+pub plan_takes : (end : ℕ) (cards : List (Option CachedNode)) (moved : ℕ) → 148 + length cards ≤ end → moved ≤ length cards → AreTransactions end (plan cards moved)
+plan_takes end cards moved below within = steps_take end cards moved (in_all (length cards) moved) 0 below (omega arith)
 
 module _ (keeps_word : Type 0) (moved : ℕ) (cards : List (Option CachedNode)) (old new : Log) (within : moved ≤ length cards) where
   pub moves_safely : Commits keeps_word (plan cards moved) old new → keeps_word → MovesSafely moved cards old new
   moves_safely commits word mark run tree begins =
       let first = begins_reached mark moved run old.size tree cards old.base begins.marked begins.told begins.stands begins.read within in
-      AddsOnly-weaken (StandsForFront old.size old.base (plan cards moved)) (StandsStill 1 old.size (length cards) run tree) old.history new.history
+      AddsOnly-weaken (StandsForFront old.area old.base (plan cards moved)) (StandsStill 1 old.area old.size (length cards) run tree) old.history new.history
       (λ image front. let there = plan_front old.size run tree cards moved old.base within first front.count front.within in ∣ record {
         base = applied_all (take front.count (plan cards moved)) old.base;
         settles = front.settles;
@@ -66,10 +70,11 @@ module _ (keeps_word : Type 0) (moved : ℕ) (cards : List (Option CachedNode)) 
       } ∣₁)
       (commits.moments word)
 
-  pub has_moved_all : HasCommitted keeps_word (plan cards moved) old new → keeps_word → HasMovedAll moved cards old new
-  has_moved_all has word mark run tree begins =
+  pub has_moved_all : old.area.end ≡ old.size → HasCommitted keeps_word (plan cards moved) old new → keeps_word → HasMovedAll moved cards old new
+  has_moved_all whole has word mark run tree begins =
       let first = begins_reached mark moved run old.size tree cards old.base begins.marked begins.told begins.stands begins.read within in
-      let last = reached_same old.size run tree cards (length cards) (applied_all (plan cards moved) old.base) new.base (has.base word)
+      let last = reached_same old.size run tree cards (length cards) (applied_all (plan cards moved) old.base) new.base
+      (same_whole old.area.end old.size (applied_all (plan cards moved) old.base) new.base whole (has.base word))
       (plan_reaches old.size run tree cards moved old.base within first) in
       record {
         stands = reached_all old.size run tree cards new.base last;
@@ -140,7 +145,7 @@ module _ (mark : Option ℕ) (size nodes run : ℕ) (image : Image) (tree : Tree
 module _ (keeps_word : Type 0) (old new : Log) where
   pub clears_safely : Commits keeps_word (clearing_updates ∷ []) old new → keeps_word → ClearsSafely old new
   clears_safely commits word mark nodes run tree marked stands =
-      AddsOnly-weaken (StandsForFront old.size old.base (clearing_updates ∷ [])) (StandsStill 2 old.size nodes run tree) old.history new.history
+      AddsOnly-weaken (StandsForFront old.area old.base (clearing_updates ∷ [])) (StandsStill 2 old.area old.size nodes run tree) old.history new.history
       (λ image front. let there = either_stands mark old.size nodes run old.base tree stands marked front.count front.within in ∣ record {
         base = applied_all (take front.count (clearing_updates ∷ [])) old.base;
         settles = front.settles;
@@ -149,12 +154,13 @@ module _ (keeps_word : Type 0) (old new : Log) where
       } ∣₁)
       (commits.moments word)
 
-  pub has_cleared : HasCommitted keeps_word (clearing_updates ∷ []) old new → keeps_word → HasCleared old new
-  has_cleared has word mark nodes run tree marked stands =
+  pub has_cleared : old.area.end ≡ old.size → HasCommitted keeps_word (clearing_updates ∷ []) old new → keeps_word → HasCleared old new
+  has_cleared whole has word mark nodes run tree marked stands =
       let there = cleared_stands mark old.size nodes run old.base tree stands in
       let without = applied clearing_updates old.base in
+      let same = same_whole old.area.end old.size without new.base whole (has.base word) in
       record {
-        stands = stands_same (current_version no_seats) old.size nodes run without new.base tree (has.base word) there;
-        cards = ap all_second (cards_same (current_version no_seats) old.size nodes run without new.base tree (has.base word) there)
+        stands = stands_same (current_version no_seats) old.size nodes run without new.base tree same there;
+        cards = ap all_second (cards_same (current_version no_seats) old.size nodes run without new.base tree same there)
             ∙ cleared_cards mark old.size nodes run old.base tree stands;
       }

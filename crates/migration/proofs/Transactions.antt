@@ -72,24 +72,24 @@ Fit-push size [] x low high fit out = (low, high, tt, tt)
 Fit-push size (t ∷ ts) x low high fit out =
     (fit.0, fit.1, Out-join ts (x ∷ []) t fit.2 ((λ same. out.0 (sym same)), tt), Fit-push size ts x low high fit.3 out.1)
 
-pub step_takes : (size : ℕ) (cards : List (Option CachedNode)) (from count : ℕ) → count ≤ 47 → 148 ≤ size → node_sector (from + count) ≤ size
-    → FitsJournal size (step cards from count)
-step_takes size cards from count few large below =
+pub step_takes : (end : ℕ) (cards : List (Option CachedNode)) (from count : ℕ) → count ≤ 47 → 148 ≤ end → node_sector (from + count) ≤ end
+    → FitsJournal end (step cards from count)
+step_takes end cards from count few large below =
     let nodes = nodes_of cards from count in
     record {
       few = omega (arith, few, length-append nodes (mark_update (from + count) ∷ []), nodes_short cards from count);
-      fit = targets_of-Fit size (targets (step cards from count))
-          (subst (Fit size) (sym (targets-push nodes (mark_update (from + count))))
-          (Fit-push size (targets nodes) 147 (omega arith) (omega arith) (nodes_fit size cards from count below) (nodes_out cards from count 147 (inl (omega arith)))));
+      fit = targets_of-Fit end (targets (step cards from count))
+          (subst (Fit end) (sym (targets-push nodes (mark_update (from + count))))
+          (Fit-push end (targets nodes) 147 (omega arith) (omega arith) (nodes_fit end cards from count below) (nodes_out cards from count 147 (inl (omega arith)))));
     }
 
 -- all transactions from one on
-pub steps_take : (size : ℕ) (cards : List (Option CachedNode)) (moved k i : ℕ) → node_sector (length cards) ≤ size → moved + 47 * (i + k) < length cards + 47
-    → AreTransactions size (map (step_at cards moved) (range_with_len i k))
-steps_take size cards moved zero i below within = tt
-steps_take size cards moved (suc k) i below within = (
-  step_takes size cards (moved + 47 * i) (min 47 (length cards - (moved + 47 * i))) (omega arith) (omega arith) (omega arith),
-  steps_take size cards moved k (i + 1) below (omega arith),
+pub steps_take : (end : ℕ) (cards : List (Option CachedNode)) (moved k i : ℕ) → node_sector (length cards) ≤ end → moved + 47 * (i + k) < length cards + 47
+    → AreTransactions end (map (step_at cards moved) (range_with_len i k))
+steps_take end cards moved zero i below within = tt
+steps_take end cards moved (suc k) i below within = (
+  step_takes end cards (moved + 47 * i) (min 47 (length cards - (moved + 47 * i))) (omega arith) (omega arith) (omega arith),
+  steps_take end cards moved k (i + 1) below (omega arith),
 )
 
 -- What they hold then

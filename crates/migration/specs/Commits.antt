@@ -1,31 +1,31 @@
 -- What transactions do that are flushed one after the other.
-use Rattle.std.specs.Prelude.{◌≡◌, ◌≤◌, ℕ, List, length}
+use Rattle.std.specs.Prelude.{◌≤◌, ℕ, List, length}
 use Rattle.std.specs.List.{AllByRecursion}
 use Rattle.disk.specs.declared.update.Update.{Update}
 use Rattle.disk.specs.Moments.{AddsOnly}
 use Rattle.journal.specs.Layout.{AreTargets, max_updates, targets}
 use Rattle.journal.specs.Log.{Log, StandsForFront, applied_all}
 use Rattle.journal.specs.Settled.{AreSame}
-use Rattle.migration.specs.Migrations.{Rests}
+use Rattle.migration.specs.Migrations.{Rests, StaysInPlace}
 
--- a transaction that the journal takes, and a list of them
-pub record FitsJournal (size : ℕ) (updates : List Update) : Type 0 where
+-- a transaction that a journal takes, all of it below this end, and a list of them
+pub record FitsJournal (end : ℕ) (updates : List Update) : Type 0 where
   pub few : length updates ≤ max_updates
-  pub fit : AreTargets size (targets updates)
+  pub fit : AreTargets end (targets updates)
 
-abbrev pub AreTransactions : (size : ℕ) → List (List Update) → Type 0
-AreTransactions size list = AllByRecursion (FitsJournal size) list
+abbrev pub AreTransactions : (end : ℕ) → List (List Update) → Type 0
+AreTransactions end list = AllByRecursion (FitsJournal end) list
 
 -- However it ends: at every moment since, a map left is one left before, or settles to the base
 -- with a front of these transactions.
 pub record Commits (keeps_word : Type 0) (list : List (List Update)) (old new : Log) : Type
     0 where
-  pub size : new.size ≡ old.size
+  pub place : StaysInPlace old new
   pub moments : keeps_word
-      → AddsOnly (StandsForFront old.size old.base list) old.history new.history
+      → AddsOnly (StandsForFront old.area old.base list) old.history new.history
 
 -- All of them went into the base, and nothing waits.
 pub record HasCommitted (keeps_word : Type 0) (list : List (List Update)) (old new : Log) : Type
     0 where
   pub rests : Rests new
-  pub base : keeps_word → AreSame old.size (applied_all list old.base) new.base
+  pub base : keeps_word → AreSame old.area.end (applied_all list old.base) new.base

@@ -1,6 +1,7 @@
 -- What a migration does to a volume.
 use Rattle.std.specs.Prelude.{◌≡◌, ℕ, false, List, [], Option, Some, length}
 use Rattle.disk.specs.Moments.{Image, AddsOnly}
+use Rattle.journal.specs.declared.layout.LogArea.{LogArea}
 use Rattle.journal.specs.Log.{Log}
 use Rattle.journal.specs.Settled.{Settles}
 use Rattle.layout.specs.CachedNodes.{CachedNode, cards_in}
@@ -12,19 +13,21 @@ use Rattle.model_tree.specs.Trees.Tree.{Tree}
 
 -- a map that a crash leaves stands for the tree, under this restart count, in the version of this
 -- number
-pub record IsStill (number size nodes run : ℕ) (tree : Tree) (image : Image) : Type 0 where
+pub record IsStill (number : ℕ) (area : LogArea) (size nodes run : ℕ) (tree : Tree)
+    (image : Image) : Type 0 where
   pub base : Image
-  pub settles : Settles size image base
+  pub settles : Settles area image base
   pub stands : StandsAs size nodes base run (bare tree)
   pub number_is : stands.version.number ≡ number
 
-abbrev pub StandsStill : (number size nodes run : ℕ) → Tree → Image → Type 0
-StandsStill number size nodes run tree image = ∥ IsStill number size nodes run tree image ∥₁
+abbrev pub StandsStill : (number : ℕ) → LogArea → (size nodes run : ℕ) → Tree → Image → Type 0
+StandsStill number area size nodes run tree image =
+    ∥ IsStill number area size nodes run tree image ∥₁
 
 -- at every moment since, a map left is one left before, or stands for the tree
 abbrev pub AddsStill : (number nodes run : ℕ) → Tree → (old new : Log) → Type 0
 AddsStill number nodes run tree old new =
-    AddsOnly (StandsStill number old.size nodes run tree) old.history new.history
+    AddsOnly (StandsStill number old.area old.size nodes run tree) old.history new.history
 
 -- What stood in one version stands in the other: the same tree, with the same cached nodes but for
 -- their forms
@@ -32,10 +35,16 @@ pub record IsMoved (is : Version) (nodes run : ℕ) (tree : Tree) (old new : Log
   pub stands : TreeStands is old.size nodes new.base run tree
   pub cards : all_second (cards_in nodes new.base) ≡ all_second (cards_in nodes old.base)
 
--- a journal in which nothing waits
+-- a journal in which nothing waits, whose transactions may write up to the device's end
 pub record Rests (log : Log) : Type 0 where
   pub up : log.is_down ≡ false
   pub listed : log.list ≡ []
+  pub whole : log.area.end ≡ log.size
+
+-- the log is where it was, on a device of as many sectors
+pub record StaysInPlace (old new : Log) : Type 0 where
+  pub area : new.area ≡ old.area
+  pub size : new.size ≡ old.size
 
 -- What a migration begins with: the tree stands in version 1, whose mark tells so many places, and
 -- the nodes are those of its sectors

@@ -17,7 +17,7 @@ pub(crate) fn commit<D: Device>(
     updates: Vec<Update>,
 ) -> Result<(), JournalFault>
     requires rests { Rests (log_of journal.old) }
-    requires takes { FitsJournal (log_of journal.old).size updates.items }
+    requires takes { FitsJournal (log_of journal.old).area.end updates.items }
     ensures commits { Commits D.keeps_word (updates.items ∷ [])
         (log_of journal.old) (log_of journal.new) }
     ensures ok { OnOk result (HasCommitted D.keeps_word (updates.items ∷ [])
@@ -39,7 +39,7 @@ pub(crate) fn commit_all<D: Device>(
     transactions: Vec<Vec<Update>>,
 ) -> Result<(), JournalFault>
     requires rests { Rests (log_of journal.old) }
-    requires takes { AreTransactions (log_of journal.old).size
+    requires takes { AreTransactions (log_of journal.old).area.end
         (map (λ updates. updates.items) transactions.items) }
     ensures commits { Commits D.keeps_word (map (λ updates. updates.items) transactions.items)
         (log_of journal.old) (log_of journal.new) }

@@ -4,7 +4,7 @@ ghost use Rattle.std.specs.Prelude.{◌≡◌, ◌≤◌, ◌<◌, IfOk, IfErr, 
 ghost use Rattle.disk.specs.Cause.{IsCounted};
 ghost use Rattle.journal.specs.Journal.{log_of, journal_failures};
 ghost use Rattle.journal.specs.Log.{IsSettled};
-ghost use Rattle.migration.specs.Migrations.{ClearsSafely, HasCleared, Rests};
+ghost use Rattle.migration.specs.Migrations.{ClearsSafely, HasCleared, Rests, StaysInPlace};
 ghost use Rattle.migration.specs.Plans.{clearing_updates};
 
 use crate::commit::commit;
@@ -41,7 +41,7 @@ pub fn clear<D: Device>(journal: &mut Journal<D>, updates: Vec<Update>) -> Resul
     ensures ok { D.keeps_word → OnOk result
         (HasCleared (log_of journal.old) (log_of journal.new)) }
     ensures settled { D.keeps_word → OnOk result (IsSettled (log_of journal.new)) }
-    ensures size { (log_of journal.new).size ≡ (log_of journal.old).size }
+    ensures place { StaysInPlace (log_of journal.old) (log_of journal.new) }
     // Refused
     ensures later { journal_failures journal.old ≤ journal_failures journal.new }
     ensures cause { OnErr result

@@ -4,7 +4,7 @@ ghost use Rattle.std.specs.Prelude.{◌≡◌, ◌≤◌, ◌+◌, length, OnOk,
 ghost use Rattle.disk.specs.Cause.{IsCounted};
 ghost use Rattle.disk.specs.Moments.{moment};
 ghost use Rattle.journal.specs.Journal.{log_of, journal_failures};
-ghost use Rattle.migration.specs.Migrations.{HasMovedAll, MovesSafely, Rests};
+ghost use Rattle.migration.specs.Migrations.{HasMovedAll, MovesSafely, Rests, StaysInPlace};
 ghost use Rattle.migration.specs.Plans.{FitSecond};
 
 use crate::commit::commit_all;
@@ -42,7 +42,7 @@ pub fn migrate<D: Device>(
         (HasMovedAll moved table.now (log_of journal.old) (log_of journal.new)) }
     ensures steps { D.keeps_word → OnOk result (moment (log_of journal.old).history + 2
         ≤ moment (log_of journal.new).history) }
-    ensures size { (log_of journal.new).size ≡ (log_of journal.old).size }
+    ensures place { StaysInPlace (log_of journal.old) (log_of journal.new) }
     // Refused
     ensures memory { IsErrOf result MigrationFault.Memory
         → log_of journal.new ≡ log_of journal.old }

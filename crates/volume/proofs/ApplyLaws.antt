@@ -8,6 +8,7 @@ use Rattle.disk.specs.declared.update.Update.{Update}
 use Rattle.disk.specs.Moments.{Image, applied, moment}
 use Rattle.tree_edits.proofs.BlankLaws.{each_outline}
 use Rattle.journal.specs.Calls.{IsSafe, HasApplied, list_with}
+use Rattle.journal.specs.Layout.{in_front}
 use Rattle.journal.specs.Log.{Log, IsSettled, Moved, contents, applied_all, AnswersByDevice}
 use Rattle.journal.specs.Settled.{AreSame}
 use Rattle.journal.specs.declared.fault.JournalFault.{JournalFault}
@@ -27,9 +28,9 @@ use Rattle.volume.specs.Refusals.{fault_of}
 use Rattle.volume.specs.Stands.{VolumeStands}
 use Rattle.volume.specs.Views.{volume_state_by}
 use Rattle.volume.proofs.FrontLaws.{among_more, applied_recent, front_among}
-use Rattle.volume.proofs.ServeLaws.{few_for_call, flush_adds, seats_stay, still_serving, tree_stays}
+use Rattle.volume.proofs.ServeLaws.{few_for_call, few_in_front, flush_adds, seats_stay, still_serving, tree_stays}
 use Rattle.volume.proofs.OneTree.{Seats-set, Tree-set}
-use Rattle.volume.proofs.StandLaws.{stands_same}
+use Rattle.volume.proofs.StandLaws.{placed_on, same_placed, settles_placed, stands_same}
 
 -- each of the fronts is one of the list's
 front_is : (base : Image) (list : List (List Update)) (front : Image) → IsAmong (fronts_from base list) front
@@ -45,10 +46,10 @@ front_is base (updates ∷ list) front among = ⊎_elim
     (among_more base (fronts_from (applied updates base) list) front among)
 
 -- a call moved the list's first transactions into the base: each front is one from before
-module _ (limits : Limits) (run : ℕ) (cards : List (Option CachedNode)) (old new : Log) (size : new.size ≡ old.size) (moved : Moved old.list old new)
+module _ (limits : Limits) (run : ℕ) (cards : List (Option CachedNode)) (old new : Log) (placed : old.area ≡ in_front old.size) (area : new.area ≡ old.area) (size : new.size ≡ old.size) (moved : Moved old.list old new)
     (settled : IsSettled new) (serving : ∥ IsServing old limits.nodes run cards ∥₁) where
   same : AreSame old.size (contents old) (contents new)
-  same = moved_contents old.list old new moved
+  same = same_placed old.area old.size (contents old) (contents new) placed (moved_contents old.list old new moved)
 
   pub moved_serves : ∥ IsServing new limits.nodes run cards ∥₁
   moved_serves = ∥∥₁_elim serving ∥∥₁_prop (still_serving limits.nodes run cards old new same size settled)
@@ -74,7 +75,7 @@ module _ (limits : Limits) (run : ℕ) (cards : List (Option CachedNode)) (old n
         one.0,
         one.1,
         ∥∥₁_map one.2 (λ stands. subst (λ (s : ℕ). VolumeStands s limits.nodes (applied_all (take count new.list) new.base) run (beside one.0)) (sym size)
-            (stands_same old.size limits.nodes (applied_all (take before.0 old.list) old.base) (applied_all (take count new.list) new.base) run (beside one.0) before.2
+            (stands_same old.size limits.nodes (applied_all (take before.0 old.list) old.base) (applied_all (take count new.list) new.base) run (beside one.0) (same_placed old.area old.size _ _ placed before.2)
             (subst (VolumeStands old.size limits.nodes (applied_all (take before.0 old.list) old.base) run) (was_beside one.0) stands))),
       )
 
@@ -84,7 +85,7 @@ module _ (limits : Limits) (run : ℕ) (cards : List (Option CachedNode)) (old n
         let one = covered recent is 0 (omega arith) in (
           beside one.0,
           (one.1, refl),
-          ∥∥₁_map one.2 (λ stands. record { base = new.base; settles = settled image left; stands = stands }),
+          ∥∥₁_map one.2 (λ stands. record { base = new.base; settles = settles_placed new.area new.size image new.base (placed_on new.area old.area new.size old.size area size placed) (settled image left); stands = stands }),
         );
     covers = λ front among.
         let there = front_is new.base new.list front among in
@@ -164,7 +165,7 @@ module _ (limits : Limits) (run : ℕ) (cards is : List (Option CachedNode)) (ol
 
 -- The journal takes a transaction
 module _ (keeps_word : Type 0) (limits : Limits) (run : ℕ) (cards is : List (Option CachedNode)) (old new : Log) (updates : List Update) (after : Tree) (failed_before failed_after : ℕ)
-    (safe : IsSafe keeps_word old new) (later : failed_before ≤ failed_after) where
+    (safe : IsSafe keeps_word old new) (placed : old.area ≡ in_front old.size) (later : failed_before ≤ failed_after) where
   abbrev was : VolumeState
   was = volume_state_by limits run cards old
 
@@ -176,10 +177,10 @@ module _ (keeps_word : Type 0) (limits : Limits) (run : ℕ) (cards is : List (O
   given kept lasts = (kept ≡ seated old after) × (lasts ≡ false)
 
   moments : keeps_word → (kept : Kept) (lasts : Bool) → given kept lasts → AddsTrees was kept new.history
-  moments k kept lasts is_given = flush_adds limits run cards old new kept (safe.moments k)
+  moments k kept lasts is_given = flush_adds limits run cards old new kept placed (safe.moments k)
 
   brief : keeps_word → MakesAtMost 396 was now
-  brief k = few_for_call (moment old.history) (moment new.history) (safe.brief k)
+  brief k = few_for_call (moment old.history) (moment new.history) (few_in_front old.area old.size (moment old.history) (moment new.history) placed (safe.brief k))
 
   module _ (up : new.is_down ≡ false) (has : HasApplied keeps_word updates old new) (serves : keeps_word → ∥ IsServing old limits.nodes run cards ∥₁)
       (behind : keeps_word → StandsWith limits.nodes run old updates is (seated old after)) where
@@ -194,14 +195,14 @@ module _ (keeps_word : Type 0) (limits : Limits) (run : ℕ) (cards is : List (O
     middle k = pushed_serves limits run cards is old updates after (behind k) (serves k)
 
     pub applied_serves : keeps_word → ∥ IsServing new limits.nodes run is ∥₁
-    applied_serves k = moved_serves limits run is between new safe.size (goes k) (safe.settled k up) (middle k)
+    applied_serves k = moved_serves limits run is between new placed safe.area safe.size (goes k) (safe.settled k up) (middle k)
 
     pub applied_tree : keeps_word → now.tree ≡ after
-    applied_tree k = moved_tree limits run is between new safe.size (goes k) (safe.settled k up) (middle k)
+    applied_tree k = moved_tree limits run is between new placed safe.area safe.size (goes k) (safe.settled k up) (middle k)
         ∙ pushed_tree limits run cards is old updates after (behind k) (serves k)
 
     applied_seats : keeps_word → now.seats ≡ was.seats
-    applied_seats k = moved_seats limits run is between new safe.size (goes k) (safe.settled k up) (middle k)
+    applied_seats k = moved_seats limits run is between new placed safe.area safe.size (goes k) (safe.settled k up) (middle k)
         ∙ pushed_seats limits run cards is old updates after (behind k) (serves k)
 
     pub apply_done : failed_after ≡ failed_before → VolumeChanges keeps_word given was now failed_before failed_after Done
@@ -218,7 +219,7 @@ module _ (keeps_word : Type 0) (limits : Limits) (run : ℕ) (cards is : List (O
           after ∷ recent,
           record {
             seats = applied_seats k ∙ sym (ap (λ (of : Kept). of.seats) is_given.0);
-            ready = moved_recent limits run is between new safe.size (goes k) (safe.settled k up) (middle k) (after ∷ recent)
+            ready = moved_recent limits run is between new placed safe.area safe.size (goes k) (safe.settled k up) (middle k) (after ∷ recent)
                 (pushed_recent limits run cards is old updates after (behind k) (serves k) recent ready);
             no_others = λ one among. ⊎_elim
                 (λ (first : one ≡ after). inr (first ∙ sym (ap (λ (of : Kept). of.tree) is_given.0)))
@@ -246,18 +247,18 @@ module _ (keeps_word : Type 0) (limits : Limits) (run : ℕ) (cards is : List (O
 
 -- The journal refuses it
 pub apply_refused : (keeps_word : Type 0) (limits : Limits) (run : ℕ) (cards : List (Option CachedNode)) (old new : Log) (after : Tree) (failed_before failed_after : ℕ) (fault : JournalFault)
-    → IsSafe keeps_word old new → old.is_down ≡ false → (fault ≡ faults.TooMany → ⊥) → AnswersByDevice {T = Unit {0}} old new failed_before failed_after (Err fault)
+    → IsSafe keeps_word old new → old.area ≡ in_front old.size → old.is_down ≡ false → (fault ≡ faults.TooMany → ⊥) → AnswersByDevice {T = Unit {0}} old new failed_before failed_after (Err fault)
     → (fault ≡ faults.TooMany) ⊎ ((fault ≡ faults.Fault) ⊎ (fault ≡ faults.Down))
     → VolumeChanges keeps_word (λ kept lasts. (kept ≡ seated old after) × (lasts ≡ false)) (volume_state_by limits run cards old) (volume_state_by limits run cards new) failed_before failed_after
     (ending_of {T = Unit {0}} (Err (fault_of fault)))
-apply_refused keeps_word limits run cards old new after failed_before failed_after faults.Fault safe up few answers refuses =
-    apply_broken keeps_word limits run cards cards old new [] after failed_before failed_after safe answers.later (answers.goes_down refl) (answers.counted refl)
-apply_refused keeps_word limits run cards old new after failed_before failed_after faults.Down safe up few answers refuses =
+apply_refused keeps_word limits run cards old new after failed_before failed_after faults.Fault safe placed up few answers refuses =
+    apply_broken keeps_word limits run cards cards old new [] after failed_before failed_after safe placed answers.later (answers.goes_down refl) (answers.counted refl)
+apply_refused keeps_word limits run cards old new after failed_before failed_after faults.Down safe placed up few answers refuses =
     absurd (true≢false (sym (answers.down.0 refl) ∙ up))
-apply_refused keeps_word limits run cards old new after failed_before failed_after faults.TooMany safe up few answers refuses = absurd (few refl)
-apply_refused keeps_word limits run cards old new after failed_before failed_after faults.Memory safe up few answers refuses = absurd (⊎_elim
+apply_refused keeps_word limits run cards old new after failed_before failed_after faults.TooMany safe placed up few answers refuses = absurd (few refl)
+apply_refused keeps_word limits run cards old new after failed_before failed_after faults.Memory safe placed up few answers refuses = absurd (⊎_elim
     (λ (is : faults.Memory ≡ faults.TooMany). cc)
     (λ (rest : (faults.Memory ≡ faults.Fault) ⊎ (faults.Memory ≡ faults.Down)). ⊎_elim (λ (is : faults.Memory ≡ faults.Fault). cc) (λ (is : faults.Memory ≡ faults.Down). cc) rest) refuses)
-apply_refused keeps_word limits run cards old new after failed_before failed_after faults.Damaged safe up few answers refuses = absurd (⊎_elim
+apply_refused keeps_word limits run cards old new after failed_before failed_after faults.Damaged safe placed up few answers refuses = absurd (⊎_elim
     (λ (is : faults.Damaged ≡ faults.TooMany). cc)
     (λ (rest : (faults.Damaged ≡ faults.Fault) ⊎ (faults.Damaged ≡ faults.Down)). ⊎_elim (λ (is : faults.Damaged ≡ faults.Fault). cc) (λ (is : faults.Damaged ≡ faults.Down). cc) rest) refuses)

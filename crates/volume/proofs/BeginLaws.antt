@@ -25,7 +25,7 @@ use Rattle.volume.specs.declared.fault.MountFault.TheVariants as mounts
 use Rattle.volume.specs.declared.mount.Superblock.{Superblock}
 use Rattle.volume.proofs.OneTree.{Seats-set, Tree-set}
 use Rattle.volume.proofs.ServeLaws.{holds_base}
-use Rattle.volume.proofs.StandLaws.{sized}
+use Rattle.volume.proofs.StandLaws.{settles_placed, sized}
 
 module _ (keeps_word : Type 0) (found : Superblock) (old mid new : Log) (mark : Option ℕ) (cards : List (Option CachedNode)) (seats : Seats) (places : List Bool)
     (loaded : IsLoaded keeps_word found old mark cards seats places) (started : HasStarted keeps_word found cards seats mid new)
@@ -77,13 +77,13 @@ module _ (keeps_word : Type 0) (found : Superblock) (old mid new : Log) (mark : 
     begun_holds k = holds_base limits (found.run + 1) cards new started.rests.listed
         (subst (λ (n : ℕ). ∥ StandsAs new.size n (contents new) (found.run + 1) (kept_in_image (contents new) cards) ∥₁) (sym nodes)
         (∥∥₁_map (stands_there k) (stands_now new.size found.nodes (contents new) (found.run + 1) (kept_in_image (contents new) cards))))
-        (started.settled k)
+        started.rests.placed (started.settled k)
 
     pub begun_current : keeps_word
         → LeavesCurrent (volume_state_by limits (found.run + 1) cards new)
     begun_current k image left = ∥∥₁_map (stands_base k) (λ stands. (
       new.base,
-      started.settled k image left,
+      settles_placed new.area new.size image new.base started.rests.placed (started.settled k image left),
       subst (λ (n : ℕ). StandsNow new.size n new.base (found.run + 1) (kept_in_image (contents new) cards)) (sym nodes) stands,
     ))
 

@@ -3,6 +3,7 @@ use Rattle.std.proofs.Common.{◌≡◌, ◌≢◌, ◌<◌, ◌≤◌, ◌⊎�
 use Rattle.std.proofs.Math.Logic.{∥∥₁_map}
 use Rattle.disk.specs.Cause.{IsCounted}
 use Rattle.disk.specs.Moments.{Image, History, seen}
+use Rattle.journal.specs.Layout.{in_front}
 use Rattle.journal.specs.Log.{Log}
 use Rattle.journal.specs.Settled.{Settles}
 use Rattle.journal.specs.Viewed.{HasNoForm, HasViewed}
@@ -61,7 +62,7 @@ look_fails sectors old mounts.Device is = tt
 
 -- refused at the commit record
 pub gate_fails : (sectors : ℕ) (old : History) (fault : JournalFault) → first_verdict sectors old ≢ verdicts.NotVolume
-    → (fault ≡ journals.Damaged → HasNoForm sectors old) → FailsCheck sectors old (gate_fault fault)
+    → (fault ≡ journals.Damaged → HasNoForm (in_front sectors) old) → FailsCheck sectors old (gate_fault fault)
 gate_fails sectors old journals.Memory volume damaged = tt
 gate_fails sectors old journals.Damaged volume damaged = (volume, λ nodes run kept base. damaged refl base.base base.settles)
 gate_fails sectors old journals.Fault volume damaged = tt
@@ -69,16 +70,16 @@ gate_fails sectors old journals.TooMany volume damaged = tt
 gate_fails sectors old journals.Down volume damaged = tt
 
 -- what is viewed of a volume
-pub view_holds : (sectors : ℕ) (old : History) (log : Log) (found : Superblock) → 0 < sectors → HasViewed sectors old log → log.size ≡ sectors
+pub view_holds : (sectors : ℕ) (old : History) (log : Log) (found : Superblock) → 0 < sectors → HasViewed (in_front sectors) old log → log.size ≡ sectors
     → seen old.now 0 ≡ superblock found.version found.sectors found.nodes found.run → HoldsVolume found log.size log.base
 view_holds sectors old log found some viewed size first = record {
-  first = first_kept sectors (seen old.now) log.base some viewed.base ∙ first;
-  sectors = λ n within. viewed.sectors n (subst (λ (s : ℕ). n < s) size within);
+  first = first_kept (in_front sectors) (seen old.now) log.base some viewed.base ∙ first;
+  sectors = λ n within. viewed.sectors n within;
 }
 
 module _ (sectors : ℕ) (old : History) (found : Superblock) (base : Image) (sectors_is : found.sectors ≡ sectors) (few : found.nodes < 2 ^ 32) (counted : found.run < 2 ^ 32)
     (volume : first_verdict sectors old ≢ verdicts.NotVolume) (first : seen old.now 0 ≡ superblock found.version found.sectors found.nodes found.run)
-    (settles : Settles sectors (seen old.now) base) where
+    (settles : Settles (in_front sectors) (seen old.now) base) where
   -- refused by its nodes
   pub nodes_fail : (fault : MountFault) → (fault ≡ mounts.Damaged → (kept : Kept) → StandsOn found base kept → ⊥)
       → (fault ≡ mounts.Device) ⊎ ((fault ≡ mounts.Damaged) ⊎ (fault ≡ mounts.Memory)) → FailsCheck sectors old fault

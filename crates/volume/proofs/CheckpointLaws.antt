@@ -5,6 +5,7 @@ use Rattle.std.specs.List.{IsAmong}
 use Rattle.disk.specs.declared.update.Update.{Update}
 use Rattle.disk.specs.Moments.{Image, applied, moment}
 use Rattle.journal.specs.Calls.{IsSafe, HasCheckpointed}
+use Rattle.journal.specs.Layout.{in_front}
 use Rattle.journal.specs.Log.{Log}
 use Rattle.journal.specs.Settled.{AreSame}
 use Rattle.journal.proofs.Fronts.{applied_keeps}
@@ -20,8 +21,8 @@ use Rattle.volume.specs.Stands.{VolumeStands}
 use Rattle.volume.specs.Views.{volume_state_by}
 use Rattle.volume.proofs.FrontLaws.{among_more, among_rest, front_among}
 use Rattle.volume.proofs.OneTree.{Seats-set, Tree-set}
-use Rattle.volume.proofs.ServeLaws.{among_one, few_for_call, flush_adds, seats_stay, tree_stays}
-use Rattle.volume.proofs.StandLaws.{stands_same}
+use Rattle.volume.proofs.ServeLaws.{among_one, few_for_call, few_in_front, flush_adds, seats_stay, tree_stays}
+use Rattle.volume.proofs.StandLaws.{placed_on, same_placed, settles_placed, stands_same}
 
 -- each front of the one has the sectors of a front of the other
 front_same : (size : ℕ) (base moved : Image) (list : List (List Update)) (front : Image) → AreSame size base moved → IsAmong (fronts_from moved list) front
@@ -36,7 +37,7 @@ front_same size base moved (updates ∷ list) front same among = ⊎_elim
     (among_more moved (fronts_from (applied updates moved) list) front among)
 
 module _ (keeps_word : Type 0) (limits : Limits) (run : ℕ) (cards : List (Option CachedNode)) (shown : List ℕ) (old new : Log)
-    (safe : IsSafe keeps_word old new) (listed : new.list ≡ old.list) (up : new.is_down ≡ false) (done : HasCheckpointed keeps_word shown old new)
+    (safe : IsSafe keeps_word old new) (placed : old.area ≡ in_front old.size) (listed : new.list ≡ old.list) (up : new.is_down ≡ false) (done : HasCheckpointed keeps_word shown old new)
     (serves : keeps_word → ∥ IsServing old limits.nodes run cards ∥₁) where
   abbrev was : VolumeState
   was = volume_state_by limits run cards old
@@ -45,10 +46,10 @@ module _ (keeps_word : Type 0) (limits : Limits) (run : ℕ) (cards : List (Opti
   is = volume_state_by limits run cards new
 
   pub checkpoint_keeps : keeps_word → is.tree ≡ was.tree
-  checkpoint_keeps k = ∥∥₁_elim (serves k) (Tree-set is.tree was.tree) (tree_stays limits.nodes run cards old new (done.contents k))
+  checkpoint_keeps k = ∥∥₁_elim (serves k) (Tree-set is.tree was.tree) (tree_stays limits.nodes run cards old new (same_placed old.area old.size _ _ placed (done.contents k)))
 
   pub checkpoint_seats : keeps_word → is.seats ≡ was.seats
-  checkpoint_seats k = ∥∥₁_elim (serves k) (Seats-set is.seats was.seats) (seats_stay limits.nodes run cards old new (done.contents k))
+  checkpoint_seats k = ∥∥₁_elim (serves k) (Seats-set is.seats was.seats) (seats_stay limits.nodes run cards old new (same_placed old.area old.size _ _ placed (done.contents k)))
 
   -- where the old base stands for a tree, so does the new one
   stands_on : (a b : Image) (kept : Kept) → AreSame old.size a b → VolumeStands old.size limits.nodes a run kept → VolumeStands new.size limits.nodes b run kept
@@ -67,12 +68,12 @@ module _ (keeps_word : Type 0) (limits : Limits) (run : ℕ) (cards : List (Opti
           (first.1, sym (checkpoint_seats k)),
           ∥∥₁_map first.2 (λ stands. record {
             base = new.base;
-            settles = safe.settled k up image left;
-            stands = stands_on old.base new.base (with_tree was first.0) (done.base k) stands;
+            settles = settles_placed new.area new.size image new.base (placed_on new.area old.area new.size old.size safe.area safe.size placed) (safe.settled k up image left);
+            stands = stands_on old.base new.base (with_tree was first.0) (same_placed old.area old.size _ _ placed (done.base k)) stands;
           }),
         );
         covers = λ front among.
-            let there = front_same old.size old.base new.base old.list front (done.base k)
+            let there = front_same old.size old.base new.base old.list front (same_placed old.area old.size _ _ placed (done.base k))
             (subst (λ (list : List (List Update)). IsAmong (fronts_from new.base list) front) listed among) in
             let covered = ready.covers there.0 there.1 in (
               covered.0,
@@ -88,8 +89,8 @@ module _ (keeps_word : Type 0) (limits : Limits) (run : ℕ) (cards : List (Opti
     same = record { sectors = safe.size; limits = refl; run = refl };
     later = later;
     none = λ other. told;
-    moments = λ k kept lasts given. flush_adds limits run cards old new kept (safe.moments k);
-    brief = λ k. few_for_call (moment old.history) (moment new.history) (safe.brief k);
+    moments = λ k kept lasts given. flush_adds limits run cards old new kept placed (safe.moments k);
+    brief = λ k. few_for_call (moment old.history) (moment new.history) (few_in_front old.area old.size (moment old.history) (moment new.history) placed (safe.brief k));
     ends = record {
       still_up = up;
       seats = λ k kept lasts given. checkpoint_seats k ∙ sym (ap (λ (of : Kept). of.seats) given.0);

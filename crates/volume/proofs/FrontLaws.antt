@@ -9,6 +9,7 @@ use Rattle.std.specs.Prelude.{get_or}
 use Rattle.disk.specs.declared.update.Update.{Update}
 use Rattle.disk.specs.Moments.{Image, History, AddsOnly, applied}
 use Rattle.disk.proofs.MomentLemmas.{AddsOnly-weaken}
+use Rattle.journal.specs.Layout.{in_front}
 use Rattle.journal.specs.Log.{Log, StandsForFront, applied_all}
 use Rattle.journal.specs.Settled.{Settles}
 use Rattle.journal.proofs.Fronts.{applied_all-push}
@@ -16,6 +17,7 @@ use Rattle.layout.specs.Stands.{Kept}
 use Rattle.model_tree.specs.Trees.Tree.{Tree}
 use Rattle.volume.specs.VolumeState.{VolumeState, StandsForOne, IsRecent, MayAdd, AddsTrees, fronts_from, with_tree}
 use Rattle.volume.specs.Stands.{VolumeStands}
+use Rattle.volume.proofs.StandLaws.{settles_placed}
 
 pub among_rest : {A : Type 0} (first : A) (rest : List A) (one : A) → IsAmong rest one → IsAmong (first ∷ rest) one
 among_rest first rest one among = (suc among.0, (omega (arith, among.1.0), among.1.1))
@@ -55,8 +57,11 @@ front_more base (first ∷ list) updates front among = ⊎_elim
 
 module _ (held : VolumeState) (log : Log) (size : held.sectors ≡ log.size) (history : held.history ≡ log.history) (fronts : held.fronts ≡ fronts_from log.base log.list)
     (updates : List Update) where
-  module _ (after : Kept) (behind : ∥ VolumeStands held.sectors held.limits.nodes (applied updates (applied_all log.list log.base)) held.run after ∥₁) where
-    one_front : (recent : List Tree) → IsRecent held recent → (image : Image) → StandsForFront log.size log.base (log.list ++ updates ∷ []) image → StandsForOne held (MayAdd held recent after) image
+  module _ (after : Kept) (behind : ∥ VolumeStands held.sectors held.limits.nodes (applied updates (applied_all log.list log.base)) held.run after ∥₁) (placed : log.area ≡ in_front log.size) where
+    here : (image base : Image) → Settles log.area image base → Settles (in_front held.sectors) image base
+    here image base settles = settles_placed log.area held.sectors image base (placed ∙ ap in_front (sym size)) settles
+
+    one_front : (recent : List Tree) → IsRecent held recent → (image : Image) → StandsForFront log.area log.base (log.list ++ updates ∷ []) image → StandsForOne held (MayAdd held recent after) image
     one_front recent is image front = elim (cases_lt (length log.list) front.count) [
       | inl last ↦
           let many : length (log.list ++ updates ∷ []) ≡ length log.list + 1 = length-append log.list (updates ∷ []) in
@@ -68,7 +73,7 @@ module _ (held : VolumeState) (log : Log) (size : held.sectors ≡ log.size) (hi
             inr refl,
             ∥∥₁_map behind (λ stands. record {
               base = applied updates (applied_all log.list log.base);
-              settles = subst (λ (i : Image). Settles held.sectors image i) base (subst (λ (s : ℕ). Settles s image (applied_all (take front.count (log.list ++ updates ∷ [])) log.base)) (sym size) front.settles);
+              settles = subst (λ (i : Image). Settles (in_front held.sectors) image i) base (here image (applied_all (take front.count (log.list ++ updates ∷ [])) log.base) front.settles);
               stands = stands;
             }),
           )
@@ -80,18 +85,18 @@ module _ (held : VolumeState) (log : Log) (size : held.sectors ≡ log.size) (hi
             inl (covered.1, refl),
             ∥∥₁_map covered.2 (λ stands. record {
               base = applied_all (take front.count log.list) log.base;
-              settles = subst (λ (i : Image). Settles held.sectors image i) (ap (λ (l : List (List Update)). applied_all l log.base) same)
-                  (subst (λ (s : ℕ). Settles s image (applied_all (take front.count (log.list ++ updates ∷ [])) log.base)) (sym size) front.settles);
+              settles = subst (λ (i : Image). Settles (in_front held.sectors) image i) (ap (λ (l : List (List Update)). applied_all l log.base) same)
+                  (here image (applied_all (take front.count (log.list ++ updates ∷ [])) log.base) front.settles);
               stands = stands;
             }),
           )
     ]
 
     -- a flush of the whole list and one more: what `durable::keep` adds is what the file system says
-    pub keeps_fronts : (new : History) → AddsOnly (StandsForFront log.size log.base (log.list ++ updates ∷ [])) log.history new → AddsTrees held after new
+    pub keeps_fronts : (new : History) → AddsOnly (StandsForFront log.area log.base (log.list ++ updates ∷ [])) log.history new → AddsTrees held after new
     keeps_fronts new adds recent is =
         subst (λ (h : History). AddsOnly (StandsForOne held (MayAdd held recent after)) h new) (sym history)
-        (AddsOnly-weaken (StandsForFront log.size log.base (log.list ++ updates ∷ [])) (StandsForOne held (MayAdd held recent after)) log.history new (one_front recent is) adds)
+        (AddsOnly-weaken (StandsForFront log.area log.base (log.list ++ updates ∷ [])) (StandsForOne held (MayAdd held recent after)) log.history new (one_front recent is) adds)
 
   -- a change that is not flushed: the trees that a crash may leave from now on, and the device is as it was
   pub applied_recent : (after : Tree) → ∥ VolumeStands held.sectors held.limits.nodes (applied updates (applied_all log.list log.base)) held.run (with_tree held after) ∥₁

@@ -6,6 +6,7 @@ use Rattle.disk.specs.Moments.{Image, History, AddsOnly, put, applied}
 use Rattle.disk.proofs.MomentLemmas.{AddsOnly-weaken}
 use Rattle.inode.specs.declared.node.Form.{Form}
 use Rattle.inode.specs.declared.node.Form.TheVariants as forms
+use Rattle.journal.specs.Layout.{in_front}
 use Rattle.journal.specs.Commit.{AddsEither}
 use Rattle.journal.specs.Settled.{Settles, AreSame}
 use Rattle.journal.proofs.Images.{put_same, put_other}
@@ -108,10 +109,10 @@ module _ (found : Superblock) (base : Image) (counted : found.run + 1 < 2 ^ 32) 
       cards = ap all_second (cards_same is found.sectors found.nodes raised after (found.run + 1) tree same raised_to.stands) ∙ raised_to.cards;
     }
 
-    pub raise_moments : (old new : History) → AddsEither found.sectors (first_update found.sectors found.nodes (found.run + 1) ∷ []) base old new
+    pub raise_moments : (old new : History) → AddsEither (in_front found.sectors) (first_update found.sectors found.nodes (found.run + 1) ∷ []) base old new
         → AddsOnly (StandsForEither found kept) old new
     raise_moments old new moments = AddsOnly-weaken
-        (λ image. Settles found.sectors image base ⊎ Settles found.sectors image (applied (first_update found.sectors found.nodes (found.run + 1) ∷ []) base))
+        (λ image. Settles (in_front found.sectors) image base ⊎ Settles (in_front found.sectors) image (applied (first_update found.sectors found.nodes (found.run + 1) ∷ []) base))
         (StandsForEither found kept) old new
         (λ image either. elim either [
           | inl settles ↦ inl ∣ (

@@ -11,6 +11,7 @@ use Rattle.disk.specs.declared.update.Update.{Update}
 use Rattle.disk.proofs.MomentLemmas.{AddsOnly-join, AddsOnly-weaken}
 use Rattle.tree_edits.proofs.BlankLaws.{each_outline}
 use Rattle.journal.specs.Calls.{IsSafe, HasApplied, HasFlushed, list_with}
+use Rattle.journal.specs.Layout.{in_front}
 use Rattle.journal.specs.Log.{Log, AnswersByDevice, Moved, StandsForFront, contents, applied_all}
 use Rattle.journal.specs.Settled.{AreSame, Settles}
 use Rattle.journal.specs.declared.fault.JournalFault.{JournalFault}
@@ -39,8 +40,8 @@ use Rattle.volume.proofs.ApplyLaws.{StandsWith, listed_with, moved_seats, moved_
 use Rattle.volume.proofs.ChangeLaws.{StandsWith-prop}
 use Rattle.volume.proofs.FrontLaws.{front_among}
 use Rattle.volume.proofs.KeepLaws.{counted_later, few_with_flush}
-use Rattle.volume.proofs.ServeLaws.{among_one, flush_adds, flush_keeps, flush_seats, holds_base, served_stands, still_serving}
-use Rattle.volume.proofs.StandLaws.{stands_same}
+use Rattle.volume.proofs.ServeLaws.{among_one, few_in_front, flush_adds, flush_keeps, flush_seats, holds_base, served_stands, still_serving}
+use Rattle.volume.proofs.StandLaws.{placed_on, same_placed, settles_placed, stands_same}
 
 -- What stands after the transaction: the same cached nodes and tree, with the edited seats
 
@@ -138,7 +139,7 @@ seats_behind nodes run log cards edits updates are can serving =
 -- The transaction goes into the journal, and a flush takes it into the base
 
 module _ (keeps_word : Type 0) (limits : Limits) (run : ℕ) (cards : List (Option CachedNode)) (old mid new : Log) (updates : List Update) (seats : Seats) (first middle last : ℕ)
-    (safe : IsSafe keeps_word old mid) (later : first ≤ middle) (up : mid.is_down ≡ false) (told : middle ≡ first) (has : HasApplied keeps_word updates old mid)
+    (safe : IsSafe keeps_word old mid) (placed : old.area ≡ in_front old.size) (later : first ≤ middle) (up : mid.is_down ≡ false) (told : middle ≡ first) (has : HasApplied keeps_word updates old mid)
     (serves : keeps_word → ∥ IsServing old limits.nodes run cards ∥₁)
     (behind : keeps_word → StandsWith limits.nodes run old updates cards (record { tree = tree_of (contents old) cards; seats = seats })) where
   abbrev before : VolumeState
@@ -163,14 +164,14 @@ module _ (keeps_word : Type 0) (limits : Limits) (run : ℕ) (cards : List (Opti
   listed k = then_serves limits.nodes run cards cards old updates after (behind k) (serves k)
 
   mid_serves : keeps_word → ∥ IsServing mid limits.nodes run cards ∥₁
-  mid_serves k = moved_serves limits run cards between mid safe.size (goes k) (safe.settled k up) (listed k)
+  mid_serves k = moved_serves limits run cards between mid placed safe.area safe.size (goes k) (safe.settled k up) (listed k)
 
   mid_tree : keeps_word → tree_of (contents mid) cards ≡ before.tree
-  mid_tree k = moved_tree limits run cards between mid safe.size (goes k) (safe.settled k up) (listed k)
+  mid_tree k = moved_tree limits run cards between mid placed safe.area safe.size (goes k) (safe.settled k up) (listed k)
       ∙ then_tree limits.nodes run cards cards old updates after (behind k) (serves k)
 
   mid_seats : keeps_word → seats_at (contents mid) ≡ seats
-  mid_seats k = moved_seats limits run cards between mid safe.size (goes k) (safe.settled k up) (listed k)
+  mid_seats k = moved_seats limits run cards between mid placed safe.area safe.size (goes k) (safe.settled k up) (listed k)
       ∙ then_seats limits.nodes run cards cards old updates after (behind k) (serves k)
 
   -- each front of the list with the transaction stands for what a crash may leave, and all of it for the edited seats
@@ -194,7 +195,7 @@ module _ (keeps_word : Type 0) (limits : Limits) (run : ℕ) (cards : List (Opti
       ))
       (cases_lt (length old.list) count)
 
-  mid_front : keeps_word → (recent : List Tree) → IsRecent before recent → (image : Image) → StandsForFront mid.size mid.base mid.list image → StandsForOne before (MayAdd before recent after) image
+  mid_front : keeps_word → (recent : List Tree) → IsRecent before recent → (image : Image) → StandsForFront mid.area mid.base mid.list image → StandsForOne before (MayAdd before recent after) image
   mid_front k recent ready image front =
       let at = applied_all (take front.count mid.list) mid.base in
       let there = front_moved all old mid (has.moved k) front.count front.within in
@@ -203,24 +204,31 @@ module _ (keeps_word : Type 0) (limits : Limits) (run : ℕ) (cards : List (Opti
         one.1,
         ∥∥₁_map one.2 (λ stands. record {
           base = at;
-          settles = subst (λ (s : ℕ). Settles s image at) safe.size front.settles;
-          stands = stands_same old.size limits.nodes (applied_all (take there.0 all) old.base) at run one.0 there.2 stands;
+          settles = settles_placed mid.area old.size image at (safe.area ∙ placed) front.settles;
+          stands = stands_same old.size limits.nodes (applied_all (take there.0 all) old.base) at run one.0 (same_placed old.area old.size _ _ placed there.2) stands;
         }),
       )
 
+  mid_placed : mid.area ≡ in_front mid.size
+  mid_placed = placed_on mid.area old.area mid.size old.size safe.area safe.size placed
+
   module _ (flushes : IsSafe keeps_word mid new) (rises : middle ≤ last) where
+    new_placed : new.area ≡ in_front new.size
+    new_placed = placed_on new.area mid.area new.size mid.size flushes.area flushes.size mid_placed
+
     same_volume : IsSameVolume before now_held
     same_volume = record { sectors = flushes.size ∙ safe.size; limits = refl; run = refl }
 
     moments : keeps_word → (kept : Kept) → kept ≡ after → AddsTrees before kept new.history
     moments k kept is = subst (λ (of : Kept). AddsTrees before of new.history) (sym is) (λ recent ready.
         AddsOnly-join (StandsForOne before (MayAdd before recent after)) old.history mid.history new.history
-        (flush_adds limits run cards old mid after (safe.moments k) recent ready)
-        (AddsOnly-weaken (StandsForFront mid.size mid.base mid.list) (StandsForOne before (MayAdd before recent after)) mid.history new.history
+        (flush_adds limits run cards old mid after placed (safe.moments k) recent ready)
+        (AddsOnly-weaken (StandsForFront mid.area mid.base mid.list) (StandsForOne before (MayAdd before recent after)) mid.history new.history
         (mid_front k recent ready) (flushes.moments k)))
 
     brief : keeps_word → MakesAtMost 396 before now_held
-    brief k = few_with_flush (moment old.history) (moment mid.history) (moment new.history) (safe.brief k) (flushes.brief k)
+    brief k = few_with_flush (moment old.history) (moment mid.history) (moment new.history) (few_in_front old.area old.size (moment old.history) (moment mid.history) placed (safe.brief k))
+        (few_in_front mid.area mid.size (moment mid.history) (moment new.history) mid_placed (flushes.brief k))
 
     pub seated_done : last ≡ middle → new.is_down ≡ false → HasFlushed keeps_word mid new → VolumeChanges keeps_word (IsSeats before seats) before now_held first last Done
     seated_done none is_up flushed = record {
@@ -245,22 +253,22 @@ module _ (keeps_word : Type 0) (limits : Limits) (run : ℕ) (cards : List (Opti
     }
       where
         new_tree : keeps_word → now_held.tree ≡ before.tree
-        new_tree k = flush_keeps keeps_word limits.nodes run cards mid new flushed mid_serves k ∙ mid_tree k
+        new_tree k = flush_keeps keeps_word limits.nodes run cards mid new mid_placed flushed mid_serves k ∙ mid_tree k
 
         new_seats : keeps_word → now_held.seats ≡ seats
-        new_seats k = flush_seats keeps_word limits.nodes run cards mid new flushed mid_serves k ∙ mid_seats k
+        new_seats k = flush_seats keeps_word limits.nodes run cards mid new mid_placed flushed mid_serves k ∙ mid_seats k
 
         holds : keeps_word → Holds now_held
         holds k = holds_base limits run cards new flushed.emptied
             (∥∥₁_elim (mid_serves k) ∥∥₁_prop (λ serving.
-            ∥∥₁_elim (still_serving limits.nodes run cards mid new (flushed.contents k) flushes.size (flushes.settled k is_up) serving) ∥∥₁_prop (served_stands limits.nodes run cards new)))
-            (flushes.settled k is_up)
+            ∥∥₁_elim (still_serving limits.nodes run cards mid new (same_placed mid.area mid.size _ _ mid_placed (flushed.contents k)) flushes.size (flushes.settled k is_up) serving) ∥∥₁_prop (served_stands limits.nodes run cards new)))
+            new_placed (flushes.settled k is_up)
 
-    pub seated_serves : keeps_word → new.is_down ≡ false → AreSame mid.size (contents mid) (contents new) → ∥ IsServing new limits.nodes run cards ∥₁
-    seated_serves k is_up same = ∥∥₁_elim (mid_serves k) ∥∥₁_prop (still_serving limits.nodes run cards mid new same flushes.size (flushes.settled k is_up))
+    pub seated_serves : keeps_word → new.is_down ≡ false → AreSame mid.area.end (contents mid) (contents new) → ∥ IsServing new limits.nodes run cards ∥₁
+    seated_serves k is_up same = ∥∥₁_elim (mid_serves k) ∥∥₁_prop (still_serving limits.nodes run cards mid new (same_placed mid.area mid.size _ _ mid_placed same) flushes.size (flushes.settled k is_up))
 
     pub seated_tree : keeps_word → HasFlushed keeps_word mid new → now_held.tree ≡ before.tree
-    seated_tree k flushed = flush_keeps keeps_word limits.nodes run cards mid new flushed mid_serves k ∙ mid_tree k
+    seated_tree k flushed = flush_keeps keeps_word limits.nodes run cards mid new mid_placed flushed mid_serves k ∙ mid_tree k
 
     seated_broken : new.is_down ≡ true → IsCounted middle last → VolumeChanges keeps_word (IsSeats before seats) before now_held first last Broken
     seated_broken down counted = record {

@@ -1,5 +1,5 @@
 -- A volume that serves, over a flush of its journal.
-use Rattle.std.proofs.Common.{◌≡◌, ◌≤◌, ◌<◌, ◌⊎◌, ◌+◌, ℕ, Bool, true, false, List, [], ◌∷◌, Option, Some, None, zero, suc, take, length, inl, inr, ⊎_elim, refl, sym, ap, ◌∙◌, subst, arith}
+use Rattle.std.proofs.Common.{◌≡◌, ◌≤◌, ◌<◌, ◌⊎◌, ◌+◌, ◌*◌, ℕ, Bool, true, false, List, [], ◌∷◌, Option, Some, None, zero, suc, take, length, inl, inr, ⊎_elim, refl, sym, ap, ◌∙◌, subst, arith}
 use Rattle.std.proofs.Math.Logic.{∥∥₁_map, ∥∥₁_elim, ∥∥₁_prop}
 use Rattle.std.specs.List.{IsAmong}
 use Rattle.std.specs.Result.{IsErrAnd}
@@ -10,6 +10,8 @@ use Rattle.disk.specs.Moments.{Image, moment}
 use Rattle.disk.proofs.MomentLemmas.{AddsOnly-weaken}
 use Rattle.tree_edits.proofs.BlankLaws.{each_outline}
 use Rattle.journal.specs.Calls.{IsSafe, HasFlushed}
+use Rattle.journal.specs.Layout.{in_front}
+use Rattle.journal.specs.declared.layout.LogArea.{LogArea}
 use Rattle.journal.specs.Log.{Log, IsSettled, StandsForFront, contents, applied_all, AddsFronts, AnswersByDevice}
 use Rattle.journal.specs.Settled.{AreSame}
 use Rattle.layout.specs.CachedNodes.{CachedNode, tree_of, cards_in}
@@ -28,7 +30,7 @@ use Rattle.volume.specs.Stands.{VolumeStands}
 use Rattle.volume.specs.Views.{volume_state_by}
 use Rattle.volume.proofs.FrontLaws.{front_among}
 use Rattle.volume.proofs.OneTree.{Seats-set, Tree-set}
-use Rattle.volume.proofs.StandLaws.{now_same, seats_same, sized}
+use Rattle.volume.proofs.StandLaws.{now_same, placed_on, same_placed, seats_same, settles_placed, sized}
 
 -- what serves stands with its seats
 pub served_stands : (nodes run : ℕ) (cards : List (Option CachedNode)) (log : Log) → IsServing log nodes run cards
@@ -69,26 +71,26 @@ module _ (nodes run : ℕ) (cards : List (Option CachedNode)) (old new : Log) (s
   })
 
 -- a flush keeps the tree
-pub flush_keeps : (keeps_word : Type 0) (nodes run : ℕ) (cards : List (Option CachedNode)) (old new : Log) → HasFlushed keeps_word old new → (keeps_word → ∥ IsServing old nodes run cards ∥₁)
+pub flush_keeps : (keeps_word : Type 0) (nodes run : ℕ) (cards : List (Option CachedNode)) (old new : Log) → old.area ≡ in_front old.size → HasFlushed keeps_word old new → (keeps_word → ∥ IsServing old nodes run cards ∥₁)
     → keeps_word → tree_of (contents new) cards ≡ tree_of (contents old) cards
-flush_keeps keeps_word nodes run cards old new flushed serves k =
-    ∥∥₁_elim (serves k) (Tree-set (tree_of (contents new) cards) (tree_of (contents old) cards)) (tree_stays nodes run cards old new (flushed.contents k))
+flush_keeps keeps_word nodes run cards old new placed flushed serves k =
+    ∥∥₁_elim (serves k) (Tree-set (tree_of (contents new) cards) (tree_of (contents old) cards)) (tree_stays nodes run cards old new (same_placed old.area old.size _ _ placed (flushed.contents k)))
 
-pub flush_seats : (keeps_word : Type 0) (nodes run : ℕ) (cards : List (Option CachedNode)) (old new : Log) → HasFlushed keeps_word old new → (keeps_word → ∥ IsServing old nodes run cards ∥₁)
+pub flush_seats : (keeps_word : Type 0) (nodes run : ℕ) (cards : List (Option CachedNode)) (old new : Log) → old.area ≡ in_front old.size → HasFlushed keeps_word old new → (keeps_word → ∥ IsServing old nodes run cards ∥₁)
     → keeps_word → seats_at (contents new) ≡ seats_at (contents old)
-flush_seats keeps_word nodes run cards old new flushed serves k =
-    ∥∥₁_elim (serves k) (Seats-set (seats_at (contents new)) (seats_at (contents old))) (seats_stay nodes run cards old new (flushed.contents k))
+flush_seats keeps_word nodes run cards old new placed flushed serves k =
+    ∥∥₁_elim (serves k) (Seats-set (seats_at (contents new)) (seats_at (contents old))) (seats_stay nodes run cards old new (same_placed old.area old.size _ _ placed (flushed.contents k)))
 
 -- what a flush adds to what a crash may leave are trees that it may leave already
-pub flush_adds : (limits : Limits) (run : ℕ) (cards : List (Option CachedNode)) (old new : Log) (after : Kept) → AddsFronts old new
+pub flush_adds : (limits : Limits) (run : ℕ) (cards : List (Option CachedNode)) (old new : Log) (after : Kept) → old.area ≡ in_front old.size → AddsFronts old new
     → AddsTrees (volume_state_by limits run cards old) after new.history
-flush_adds limits run cards old new after adds recent is = AddsOnly-weaken
-    (StandsForFront old.size old.base old.list) (StandsForOne (volume_state_by limits run cards old) (MayAdd (volume_state_by limits run cards old) recent after)) old.history new.history
+flush_adds limits run cards old new after placed adds recent is = AddsOnly-weaken
+    (StandsForFront old.area old.base old.list) (StandsForOne (volume_state_by limits run cards old) (MayAdd (volume_state_by limits run cards old) recent after)) old.history new.history
     (λ image front.
     let covered = is.covers (applied_all (take front.count old.list) old.base) (front_among old.base old.list front.count front.within) in (
       with_tree (volume_state_by limits run cards old) covered.0,
       inl (covered.1, refl),
-      ∥∥₁_map covered.2 (λ stands. record { base = applied_all (take front.count old.list) old.base; settles = front.settles; stands = stands }),
+      ∥∥₁_map covered.2 (λ stands. record { base = applied_all (take front.count old.list) old.base; settles = settles_placed old.area old.size image (applied_all (take front.count old.list) old.base) placed front.settles; stands = stands }),
     ))
     adds
 
@@ -101,8 +103,8 @@ among_one only other among = by_place among.0 among.1.0 among.1.1
 
 -- where nothing is left to flush, each map left stands for what the base does, and so does its only front
 pub holds_base : (limits : Limits) (run : ℕ) (cards : List (Option CachedNode)) (log : Log) → log.list ≡ []
-    → ∥ VolumeStands log.size limits.nodes (contents log) run (kept_in_image (contents log) cards) ∥₁ → IsSettled log → Holds (volume_state_by limits run cards log)
-holds_base limits run cards log listed stands settled =
+    → ∥ VolumeStands log.size limits.nodes (contents log) run (kept_in_image (contents log) cards) ∥₁ → log.area ≡ in_front log.size → IsSettled log → Holds (volume_state_by limits run cards log)
+holds_base limits run cards log listed stands placed settled =
     let base : contents log ≡ log.base = ap (λ l. applied_all l log.base) listed in
     let kept = kept_in_image (contents log) cards in
     let here : ∥ VolumeStands log.size limits.nodes log.base run kept ∥₁ = subst (λ (image : Image). ∥ VolumeStands log.size limits.nodes image run kept ∥₁) base stands in
@@ -111,7 +113,7 @@ holds_base limits run cards log listed stands settled =
       leaves = λ image left. (
         kept,
         ((0, (omega arith, refl)), refl),
-        ∥∥₁_map here (λ is. record { base = log.base; settles = settled image left; stands = is }),
+        ∥∥₁_map here (λ is. record { base = log.base; settles = settles_placed log.area log.size image log.base placed (settled image left); stands = is }),
       );
       covers = λ front among. (
         kept.tree,
@@ -124,6 +126,10 @@ holds_base limits run cards log listed stands settled =
 pub if_some_so : {T : Type 0} (o : Option T) (P Q : T → Type 0) → ((x : T) → P x → Q x) → IfSome o P → IfSome o Q
 if_some_so (Some x) P Q so is = so x is
 if_some_so None P Q so is = tt
+
+-- the way, and the flush behind it, of a log of 96 sectors
+pub few_in_front : (area : LogArea) (size before after : ℕ) → area ≡ in_front size → after ≤ before + 2 * (area.sectors + 3) → after ≤ before + 198
+few_in_front area size before after placed few = subst (λ (l : LogArea). after ≤ before + 2 * (l.sectors + 3)) placed few
 
 -- what takes 198 writes and syncs at most takes no more than a call may
 pub few_for_call : (before after : ℕ) → after ≤ before + 198 → after ≤ before + 396
@@ -143,22 +149,25 @@ module _ (keeps_word : Type 0) (limits : Limits) (run : ℕ) (cards : List (Opti
   abbrev IsUp : Type 0
   IsUp = keeps_word → ∥ IsServing old limits.nodes run cards ∥₁
 
-  module _ (safe : IsSafe keeps_word old new) (later : before ≤ after) where
+  module _ (safe : IsSafe keeps_word old new) (placed : old.area ≡ in_front old.size) (later : before ≤ after) where
+    still_placed : new.area ≡ in_front new.size
+    still_placed = placed_on new.area old.area new.size old.size safe.area safe.size placed
+
     pub flush_done : after ≡ before → new.is_down ≡ false → HasFlushed keeps_word old new → IsUp → VolumeChanges keeps_word (IsTree was was.tree) was is before after Done
     flush_done told false_from_ne_true flushed serves = record {
       same = same_volume safe.size;
       later = later;
       none = λ other. told;
-      moments = λ k kept lasts given. flush_adds limits run cards old new kept (safe.moments k);
-      brief = λ k. few_for_call (moment old.history) (moment new.history) (safe.brief k);
+      moments = λ k kept lasts given. flush_adds limits run cards old new kept placed (safe.moments k);
+      brief = λ k. few_for_call (moment old.history) (moment new.history) (few_in_front old.area old.size (moment old.history) (moment new.history) placed (safe.brief k));
       ends = record {
         still_up = false_from_ne_true;
-        seats = λ k after lasts given. flush_seats keeps_word limits.nodes run cards old new flushed serves k ∙ sym (ap (λ (kept : Kept). kept.seats) given);
+        seats = λ k after lasts given. flush_seats keeps_word limits.nodes run cards old new placed flushed serves k ∙ sym (ap (λ (kept : Kept). kept.seats) given);
         leaves = λ k after lasts given recent ready. (
           is.tree ∷ [],
           record {
             ready = holds k;
-            seats = flush_seats keeps_word limits.nodes run cards old new flushed serves k ∙ sym (ap (λ (kept : Kept). kept.seats) given);
+            seats = flush_seats keeps_word limits.nodes run cards old new placed flushed serves k ∙ sym (ap (λ (kept : Kept). kept.seats) given);
             no_others = λ one among. inr (among_one is.tree one among ∙ kept k ∙ sym (ap (λ (kept : Kept). kept.tree) given));
             durable = λ durable one among. among_one is.tree one among ∙ kept k ∙ sym (ap (λ (kept : Kept). kept.tree) given);
           },
@@ -167,20 +176,20 @@ module _ (keeps_word : Type 0) (limits : Limits) (run : ℕ) (cards : List (Opti
     }
       where
         kept : keeps_word → is.tree ≡ was.tree
-        kept = flush_keeps keeps_word limits.nodes run cards old new flushed serves
+        kept = flush_keeps keeps_word limits.nodes run cards old new placed flushed serves
 
         holds : keeps_word → Holds is
         holds k = holds_base limits run cards new flushed.emptied
-            (∥∥₁_elim (serves k) ∥∥₁_prop (λ serving. ∥∥₁_elim (still_serving limits.nodes run cards old new (flushed.contents k) safe.size (safe.settled k false_from_ne_true) serving) ∥∥₁_prop (served_stands limits.nodes run cards new)))
-            (safe.settled k false_from_ne_true)
+            (∥∥₁_elim (serves k) ∥∥₁_prop (λ serving. ∥∥₁_elim (still_serving limits.nodes run cards old new (same_placed old.area old.size _ _ placed (flushed.contents k)) safe.size (safe.settled k false_from_ne_true) serving) ∥∥₁_prop (served_stands limits.nodes run cards new)))
+            still_placed (safe.settled k false_from_ne_true)
 
     pub flush_broken : (given : Given) → new.is_down ≡ true → IsCounted before after → VolumeChanges keeps_word given was is before after Broken
     flush_broken given down counted = record {
       same = same_volume safe.size;
       later = later;
       none = λ other. absurd (other refl);
-      moments = λ k kept lasts of. flush_adds limits run cards old new kept (safe.moments k);
-      brief = λ k. few_for_call (moment old.history) (moment new.history) (safe.brief k);
+      moments = λ k kept lasts of. flush_adds limits run cards old new kept placed (safe.moments k);
+      brief = λ k. few_for_call (moment old.history) (moment new.history) (few_in_front old.area old.size (moment old.history) (moment new.history) placed (safe.brief k));
       ends = record {
         down = down;
         cause = counted;
@@ -193,14 +202,14 @@ module _ (keeps_word : Type 0) (limits : Limits) (run : ℕ) (cards : List (Opti
       same = same_volume safe.size;
       later = later;
       none = λ other. told;
-      moments = λ k kept lasts of. flush_adds limits run cards old new kept (safe.moments k);
-      brief = λ k. few_for_call (moment old.history) (moment new.history) (safe.brief k);
+      moments = λ k kept lasts of. flush_adds limits run cards old new kept placed (safe.moments k);
+      brief = λ k. few_for_call (moment old.history) (moment new.history) (few_in_front old.area old.size (moment old.history) (moment new.history) placed (safe.brief k));
       ends = ap (volume_state_by limits run cards) same;
     }
 
     -- and it serves on
-    pub flush_serves : keeps_word → new.is_down ≡ false → AreSame old.size (contents old) (contents new) → IsUp → ∥ IsServing new limits.nodes run cards ∥₁
-    flush_serves k false_from_ne_true same serves = ∥∥₁_elim (serves k) ∥∥₁_prop (still_serving limits.nodes run cards old new same safe.size (safe.settled k false_from_ne_true))
+    pub flush_serves : keeps_word → new.is_down ≡ false → AreSame old.area.end (contents old) (contents new) → IsUp → ∥ IsServing new limits.nodes run cards ∥₁
+    flush_serves k false_from_ne_true same serves = ∥∥₁_elim (serves k) ∥∥₁_prop (still_serving limits.nodes run cards old new (same_placed old.area old.size _ _ placed same) safe.size (safe.settled k false_from_ne_true))
 
 down_up : (b : Bool) → b ≡ true → b ≡ false → ⊥
 down_up b down is_up = cc
@@ -222,15 +231,15 @@ up_answered keeps_word old new before after P (Err fault) answered answers refus
     refuses
 
 pub flush_refused : (keeps_word : Type 0) (given : Given) (limits : Limits) (run : ℕ) (cards : List (Option CachedNode)) (old new : Log) (before after : ℕ) (fault : JournalFault)
-    → IsSafe keeps_word old new → AnswersByDevice {T = Unit {0}} old new before after (Err fault) → (fault ≡ faults.Fault) ⊎ (fault ≡ faults.Down)
+    → IsSafe keeps_word old new → old.area ≡ in_front old.size → AnswersByDevice {T = Unit {0}} old new before after (Err fault) → (fault ≡ faults.Fault) ⊎ (fault ≡ faults.Down)
     → VolumeChanges keeps_word given (volume_state_by limits run cards old) (volume_state_by limits run cards new) before after (ending_of {T = Unit {0}} (Err (fault_of fault)))
-flush_refused keeps_word given limits run cards old new before after faults.Fault safe answers refuses =
-    flush_broken keeps_word limits run cards old new before after safe answers.later given (answers.goes_down refl) (answers.counted refl)
-flush_refused keeps_word given limits run cards old new before after faults.Down safe answers refuses =
-    flush_nothing keeps_word limits run cards old new before after safe answers.later given (answers.untouched refl).1 (answers.untouched refl).0
-flush_refused keeps_word given limits run cards old new before after faults.Memory safe answers refuses = absurd (⊎_elim (λ (is : faults.Memory ≡ faults.Fault). cc) (λ (is : faults.Memory ≡ faults.Down). cc) refuses)
-flush_refused keeps_word given limits run cards old new before after faults.Damaged safe answers refuses = absurd (⊎_elim (λ (is : faults.Damaged ≡ faults.Fault). cc) (λ (is : faults.Damaged ≡ faults.Down). cc) refuses)
-flush_refused keeps_word given limits run cards old new before after faults.TooMany safe answers refuses = absurd (⊎_elim (λ (is : faults.TooMany ≡ faults.Fault). cc) (λ (is : faults.TooMany ≡ faults.Down). cc) refuses)
+flush_refused keeps_word given limits run cards old new before after faults.Fault safe placed answers refuses =
+    flush_broken keeps_word limits run cards old new before after safe placed answers.later given (answers.goes_down refl) (answers.counted refl)
+flush_refused keeps_word given limits run cards old new before after faults.Down safe placed answers refuses =
+    flush_nothing keeps_word limits run cards old new before after safe placed answers.later given (answers.untouched refl).1 (answers.untouched refl).0
+flush_refused keeps_word given limits run cards old new before after faults.Memory safe placed answers refuses = absurd (⊎_elim (λ (is : faults.Memory ≡ faults.Fault). cc) (λ (is : faults.Memory ≡ faults.Down). cc) refuses)
+flush_refused keeps_word given limits run cards old new before after faults.Damaged safe placed answers refuses = absurd (⊎_elim (λ (is : faults.Damaged ≡ faults.Fault). cc) (λ (is : faults.Damaged ≡ faults.Down). cc) refuses)
+flush_refused keeps_word given limits run cards old new before after faults.TooMany safe placed answers refuses = absurd (⊎_elim (λ (is : faults.TooMany ≡ faults.Fault). cc) (λ (is : faults.TooMany ≡ faults.Down). cc) refuses)
 
 -- what a `?` hands on
 pub told_err : {T E : Type 0} (result : Result T E) (reason : E) → IsErrAnd result (λ told. told ≡ reason) → result ≡ Err reason

@@ -1,8 +1,10 @@
 -- What a crash leaves of a volume, by its base alone: no sector of the journal's own is looked at.
-use Rattle.std.proofs.Common.{ℕ, ◌≡◌, ◌≤◌, inl, inr, refl, rules, arith, sym, ◌∙◌}
+use Rattle.std.proofs.Common.{ℕ, ◌≡◌, ◌≤◌, inl, inr, refl, rules, arith, ap, subst, sym, ◌∙◌}
 use Rattle.std.specs.Prelude.{IsTrue}
 use Rattle.disk.specs.Moments.{Image}
-use Rattle.journal.specs.Settled.{AreSame}
+use Rattle.journal.specs.Layout.{IsArea, in_front}
+use Rattle.journal.specs.Settled.{AreSame, Settles}
+use Rattle.journal.specs.declared.layout.LogArea.{LogArea}
 use Rattle.layout.specs.CachedNodes.{cards_in}
 use Rattle.layout.specs.Stands as layout
 use Rattle.layout.specs.Stands.{Kept, StandsNow, current_version, seats_at}
@@ -18,6 +20,21 @@ sized = sized_parts
 
 pub large : (sectors nodes : ℕ) → IsTrue (is_size sectors nodes) → 256 ≤ sectors
 large sectors nodes size = search rules
+
+-- the log is in front of what transactions write
+
+pub placed_on : (area was : LogArea) (size old : ℕ) → area ≡ was → size ≡ old → was ≡ in_front old → area ≡ in_front size
+placed_on area was size old same sizes placed = same ∙ (placed ∙ ap in_front (sym sizes))
+
+-- such a log is one
+pub is_front : (size : ℕ) → IsArea (in_front size)
+is_front size = record { behind = omega arith; beside = λ in_front_of. omega arith; numbers = omega arith; few = omega arith; room = omega arith }
+
+pub same_placed : (area : LogArea) (size : ℕ) (a b : Image) → area ≡ in_front size → AreSame area.end a b → AreSame size a b
+same_placed area size a b placed same = subst (λ (l : LogArea). AreSame l.end a b) placed same
+
+pub settles_placed : (area : LogArea) (size : ℕ) (image base : Image) → area ≡ in_front size → Settles area image base → Settles (in_front size) image base
+settles_placed area size image base placed settles = subst (λ (l : LogArea). Settles l image base) placed settles
 
 -- the volume is the same where the kept sectors are
 pub stands_same : (sectors nodes : ℕ) (a b : Image) (run : ℕ) (kept : Kept) → AreSame sectors a b

@@ -5,6 +5,8 @@ use Rattle.std.specs.Prelude.{IsTrue, OnOk, Result, Ok, Err}
 use Rattle.std.specs.Option.{unwrap_or}
 use Rattle.disk.specs.Moments.{Image, History, AddsOnly, moment}
 use Rattle.disk.proofs.MomentLemmas.{AddsOnly-weaken, AddsOnly-join}
+use Rattle.journal.specs.Layout.{in_front}
+use Rattle.journal.specs.declared.layout.LogArea.{LogArea}
 use Rattle.journal.specs.Calls.{IsSafe}
 use Rattle.journal.specs.Log.{Log, StandsForFront}
 use Rattle.journal.specs.Settled.{Settles}
@@ -19,7 +21,7 @@ use Rattle.layout.proofs.KeptLaws.{same_kept}
 use Rattle.layout.proofs.MarkOnce.{stands_told, version_number}
 use Rattle.layout.proofs.Rewriting.{current_second}
 use Rattle.migration.proofs.Committing.{no_front}
-use Rattle.migration.specs.Migrations.{BeginsMoving, StandsStill, AddsStill, HasMovedAll, Rests}
+use Rattle.migration.specs.Migrations.{BeginsMoving, StandsStill, AddsStill, HasMovedAll, Rests, StaysInPlace}
 use Rattle.model_tree.specs.Seats.Seats.{Seats, no_seats}
 use Rattle.model_tree.specs.Trees.Tree.{Tree}
 use Rattle.volume.specs.Loads.{AreLoaded, HoldsVolume, read_as}
@@ -27,16 +29,17 @@ use Rattle.volume.specs.Mounts.{AddsRaised, IsAtRest, AllHaveMoved, IsRaisedTo, 
 use Rattle.volume.specs.Stands.{StandsForIn}
 use Rattle.volume.specs.Starts.{HasMovedTo, IsCleared, ServesFrom, StandsInSecond, is_marked, moved_mark}
 use Rattle.volume.specs.declared.mount.Superblock.{Superblock}
-use Rattle.volume.proofs.StandLaws.{sized}
+use Rattle.volume.proofs.StandLaws.{placed_on, settles_placed, sized}
 
 -- what stands still stands for the tree
-still_is : (number size nodes run : ℕ) (tree : Tree) (image : Image) → StandsStill number size nodes run tree image → StandsForIn number size nodes run (bare tree) image
-still_is number size nodes run tree image still = ∥∥₁_map still (λ is. (record { base = is.base; settles = is.settles; stands = is.stands }, is.number_is))
+still_is : (number : ℕ) (area : LogArea) (size nodes run : ℕ) (tree : Tree) (image : Image) → area ≡ in_front size → StandsStill number area size nodes run tree image → StandsForIn number size nodes run (bare tree) image
+still_is number area size nodes run tree image placed still =
+    ∥∥₁_map still (λ is. (record { base = is.base; settles = settles_placed area size image is.base placed is.settles; stands = is.stands }, is.number_is))
 
-pub still_for : (number size nodes run : ℕ) (tree : Tree) (old new : Log) → size ≡ old.size → AddsStill number nodes run tree old new
+pub still_for : (number size nodes run : ℕ) (tree : Tree) (old new : Log) → size ≡ old.size → old.area ≡ in_front old.size → AddsStill number nodes run tree old new
     → AddsOnly (StandsForIn number size nodes run (bare tree)) old.history new.history
-still_for number size nodes run tree old new same adds = AddsOnly-weaken (StandsStill number old.size nodes run tree) (StandsForIn number size nodes run (bare tree)) old.history new.history
-    (λ image still. subst (λ (s : ℕ). StandsForIn number s nodes run (bare tree) image) (sym same) (still_is number old.size nodes run tree image still)) adds
+still_for number size nodes run tree old new same placed adds = AddsOnly-weaken (StandsStill number old.area old.size nodes run tree) (StandsForIn number size nodes run (bare tree)) old.history new.history
+    (λ image still. subst (λ (s : ℕ). StandsForIn number s nodes run (bare tree) image) (sym same) (still_is number old.area old.size nodes run tree image placed still)) adds
 
 pub or_else_zero : (mark : Option ℕ) → unwrap_or mark 0 ≡ moved_by mark
 or_else_zero None = refl
@@ -46,15 +49,20 @@ pub so_moves : {T E : Type 0} (result : Result T E) (P Q : Type 0) → (P → Q)
 so_moves (Ok done) P Q so is = so is
 so_moves (Err fault) P Q so is = tt
 
-pub ends_at_rest : {T E : Type 0} (log : Log) (result : Result T E) → OnOk result (Rests log) → OnOk result (IsAtRest log)
-ends_at_rest log result is = so_moves result (Rests log) (IsAtRest log) (λ rests. record { up = rests.up; listed = rests.listed }) is
+pub ends_at_rest : {T E : Type 0} (old log : Log) (result : Result T E) → old.area ≡ in_front old.size → StaysInPlace old log → OnOk result (Rests log) → OnOk result (IsAtRest log)
+ends_at_rest old log result placed stays is = so_moves result (Rests log) (IsAtRest log)
+    (λ rests. record { up = rests.up; listed = rests.listed; placed = placed_on log.area old.area log.size old.size stays.area stays.size placed }) is
+
+-- so a migration may begin
+pub may_migrate : (log : Log) → IsAtRest log → Rests log
+may_migrate log rests = record { up = rests.up; listed = rests.listed; whole = ap (λ (area : LogArea). area.end) rests.placed }
 
 pub one_not_two : One ≡ Two → ⊥
 one_not_two same = cc
 
 -- Nodes of version 1 move
 module _ (keeps_word : Type 0) (found : Superblock) (mark : Option ℕ) (cards : List (Option CachedNode)) (seats : Seats) (places : List Bool) (old new : Log)
-    (size : found.sectors ≡ old.size) (one : found.version ≡ One) (loaded : AreLoaded keeps_word found old.base mark cards seats places) where
+    (size : found.sectors ≡ old.size) (placed : old.area ≡ in_front old.size) (one : found.version ≡ One) (loaded : AreLoaded keeps_word found old.base mark cards seats places) where
   count : length cards ≡ found.nodes
   count = loaded.known.are_cards.count
 
@@ -84,7 +92,7 @@ module _ (keeps_word : Type 0) (found : Superblock) (mark : Option ℕ) (cards :
   moves_safely kept stands adds = subst (λ (v : VersionNumber). AddsOnly (StandsForIn (number_of_version v) found.sectors found.nodes found.run kept) old.history new.history) (sym one)
       (subst (λ (n : ℕ). AddsOnly (StandsForIn 1 found.sectors n found.run kept) old.history new.history) count
       (subst (λ (of : Kept). AddsOnly (StandsForIn 1 found.sectors (length cards) found.run of) old.history new.history) (as_bare kept stands)
-      (still_for 1 found.sectors (length cards) found.run kept.tree old new size adds)))
+      (still_for 1 found.sectors (length cards) found.run kept.tree old new size placed adds)))
 
   pub moved_to : HasMovedAll (moved_by mark) cards old new → keeps_word → (kept : Kept) → StandsIn found mark old.base kept → HasMovedTo found mark kept old.base new.base
   moved_to has k kept stands =
@@ -116,16 +124,16 @@ stay_moved found mark kept base two stands = record {
 
 -- The commit record was written again, and what stands does so still
 module _ (keeps_word : Type 0) (found : Superblock) (mark : Option ℕ) (old new : Log) (size : found.sectors ≡ old.size) (marked : IsMark found.version found.nodes mark)
-    (listed : old.list ≡ []) (safe : IsSafe keeps_word old new) where
+    (listed : old.list ≡ []) (placed : old.area ≡ in_front old.size) (safe : IsSafe keeps_word old new) where
   pub rewritten_moments : keeps_word → (kept : Kept) → StandsIn found mark old.base kept
       → AddsOnly (StandsForIn (number_of_version found.version) found.sectors found.nodes found.run kept) old.history new.history
-  rewritten_moments k kept stands = AddsOnly-weaken (StandsForFront old.size old.base old.list)
+  rewritten_moments k kept stands = AddsOnly-weaken (StandsForFront old.area old.base old.list)
       (StandsForIn (number_of_version found.version) found.sectors found.nodes found.run kept) old.history new.history
       (λ image front. ∣ (
         record {
           base = old.base;
-          settles = subst (λ (s : ℕ). Settles s image old.base) (sym size)
-              (subst (Settles old.size image) (no_front old.list front.count old.base listed) front.settles);
+          settles = settles_placed old.area found.sectors image old.base (placed ∙ ap in_front (sym size))
+              (subst (Settles old.area image) (no_front old.list front.count old.base listed) front.settles);
           stands = record {
             version = version_by found.version mark kept.seats;
             is_version = By found.version mark kept.seats marked stands.may;

@@ -7,6 +7,7 @@ use Rattle.inode.specs.declared.node.Form.TheVariants.{Two}
 use Rattle.inode.specs.Spelling.{inode_sector}
 use Rattle.layout.specs.FreshLaws.{root_fields}
 use Rattle.layout.specs.CachedNodes.{node_sector}
+use Rattle.journal.specs.Layout.{in_front}
 use Rattle.journal.specs.Settled.{Settles}
 use Rattle.layout.specs.Stands.{TreeStands, current_version}
 use Rattle.model_tree.specs.Seats.Seats.{no_seats}
@@ -18,7 +19,7 @@ root_update = record { target = node_sector 0; content = inode_sector Two root_f
 
 -- the new volume, of the current version: an empty root, which was never mounted
 abbrev pub IsFresh : (sectors nodes : ℕ) → Image → Type 0
-IsFresh sectors nodes image = ∥ ((base : Image) × Settles sectors image base
+IsFresh sectors nodes image = ∥ ((base : Image) × Settles (in_front sectors) image base
     × TreeStands (current_version no_seats) sectors nodes base 0 fresh_tree) ∥₁
 
 -- what a format adds to what a crash may leave: no volume, or the new one

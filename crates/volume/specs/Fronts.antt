@@ -1,6 +1,7 @@
 use Rattle.std.specs.Prelude.{List, [], ◌∷◌, ◌++◌, ◌≡◌}
 use Rattle.disk.specs.declared.update.Update.{Update}
 use Rattle.disk.specs.Moments.{History, AddsOnly, applied}
+use Rattle.journal.specs.Layout.{in_front}
 use Rattle.journal.specs.Log.{Log, StandsForFront, applied_all}
 use Rattle.layout.specs.Stands.{Kept}
 use Rattle.model_tree.specs.Trees.Tree.{Tree}
@@ -9,6 +10,7 @@ use Rattle.volume.specs.Stands.{VolumeStands}
 
 pub record IsOver (held : VolumeState) (log : Log) : Type 0 where
   pub size : held.sectors ≡ log.size
+  pub area : log.area ≡ in_front log.size
   pub history : held.history ≡ log.history
   pub fronts : held.fronts ≡ fronts_from log.base log.list
 
@@ -22,7 +24,7 @@ KeepsFronts =
     (held : VolumeState) (log : Log) (updates : List Update) (after : Kept) (new : History)
     → IsOver held log
     → StandsUpdated held log updates after
-    → AddsOnly (StandsForFront log.size log.base (log.list ++ updates ∷ [])) log.history new
+    → AddsOnly (StandsForFront log.area log.base (log.list ++ updates ∷ [])) log.history new
     → AddsTrees held after new
 
 abbrev pub AppliedRecent : Type 0

@@ -3,6 +3,7 @@ use Rattle.std.specs.Prelude.{ℕ, ⊤, ◌≡◌, ◌≤◌, ◌+◌, ◌^◌, 
 use Rattle.disk.specs.Calls.{zero_sector}
 use Rattle.disk.specs.Cause.{IsCounted}
 use Rattle.disk.specs.Moments.{Image, History, AddsOnly, moment, seen, synced}
+use Rattle.journal.specs.Layout.{in_front}
 use Rattle.journal.specs.Settled.{Settles, SettlesAs}
 use Rattle.layout.specs.Stands.{Kept}
 use Rattle.layout.specs.declared.versions.VersionNumber.TheVariants as numbers
@@ -29,7 +30,8 @@ NoTree sectors old =
 -- of it moves no node
 pub record NeedsNoMigration (sectors : ℕ) (old : History) : Type 0 where
   pub version : version_in (seen old.now 0) ≡ numbers.Two
-  pub unmarked : (base : Image) → Settles sectors (seen old.now) base → base 147 ≡ zero_sector
+  pub unmarked : (base : Image) → Settles (in_front sectors) (seen old.now) base
+      → base 147 ≡ zero_sector
 
 -- A mount of such a volume makes at most 106 writes and syncs: the journal copies home what its
 -- commit record names, up to 96 sectors, by at most 102, and the commit record and sector 0 are
@@ -62,8 +64,8 @@ pub record FindsSeats (keeps_word : Type 0) (held : VolumeState) (seats : Seats)
 -- Nothing but what a commit record that is set asks for: what it names is copied home, so that each
 -- map left settles as the device did. Where the record has no form nothing is written.
 pub record OnlyReplays (sectors : ℕ) (old new : History) : Type 0 where
-  pub moments : AddsOnly (SettlesAs sectors (seen old.now)) old new
-  pub formless : ((settled : Image) → Settles sectors (seen old.now) settled → ⊥)
+  pub moments : AddsOnly (SettlesAs (in_front sectors) (seen old.now)) old new
+  pub formless : ((settled : Image) → Settles (in_front sectors) (seen old.now) settled → ⊥)
       → (new ≡ old) ⊎ (new ≡ synced old)
 
 -- NotVolume and Worn come by the first sector alone, before Damaged; and where a tree stands, Worn

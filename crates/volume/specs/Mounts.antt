@@ -2,6 +2,7 @@
 use Rattle.std.specs.Prelude.{ℕ, ⊤, false, [], Option, Some, Result, Ok, Err, ◌≡◌, ◌≤◌, ◌<◌, ◌+◌, ◌^◌, ◌⊎◌, List, IsTrue}
 use Rattle.disk.specs.Calls.{zero_sector}
 use Rattle.disk.specs.Moments.{Image, History, AddsOnly, moment}
+use Rattle.journal.specs.Layout.{in_front}
 use Rattle.journal.specs.Log.{Log, Costs, IsSettled}
 use Rattle.layout.specs.CachedNodes.{cards_in}
 use Rattle.layout.specs.Rewriting.{all_second}
@@ -30,10 +31,11 @@ pub record IsVolumeOf (sectors : ℕ) (found : Superblock) : Type 0 where
   pub sized : IsTrue (is_size found.sectors found.nodes)
   pub counted : found.run + 1 < 2 ^ 32
 
--- a journal in which nothing waits
+-- a journal in which nothing waits, whose log is in front of what transactions write
 pub record IsAtRest (log : Log) : Type 0 where
   pub up : log.is_down ≡ false
   pub listed : log.list ≡ []
+  pub placed : log.area ≡ in_front log.size
 
 -- what the first sector says, by what a look at it answers
 abbrev pub IsTold : (sectors : ℕ) → (sector : List ℕ) → Result Superblock MountFault → Type 0

@@ -1,6 +1,7 @@
 -- For what a map stands that a crash leaves: what the journal makes of it is the volume.
 use Rattle.std.specs.Prelude.{ℕ, ◌≡◌}
 use Rattle.disk.specs.Moments.{Image}
+use Rattle.journal.specs.Layout.{in_front}
 use Rattle.journal.specs.Settled.{Settles}
 use Rattle.layout.specs.Stands.{Kept, StandsAs}
 
@@ -11,7 +12,7 @@ VolumeStands sectors nodes image run kept = StandsAs sectors nodes image run kep
 -- what a map settles to, and for what that stands
 pub record IsBase (sectors nodes run : ℕ) (kept : Kept) (image : Image) : Type 0 where
   pub base : Image
-  pub settles : Settles sectors image base
+  pub settles : Settles (in_front sectors) image base
   pub stands : VolumeStands sectors nodes base run kept
 
 -- A map that a crash left stands for this tree and these seats.

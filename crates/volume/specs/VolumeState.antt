@@ -3,6 +3,7 @@ use Rattle.std.specs.Prelude.{ℕ, Bool, false, List, [], ◌∷◌, ◌≡◌, 
 use Rattle.std.specs.List.{IsAmong}
 use Rattle.disk.specs.declared.update.Update.{Update}
 use Rattle.disk.specs.Moments.{History, Image, Left, AddsOnly, applied, moment}
+use Rattle.journal.specs.Layout.{in_front}
 use Rattle.journal.specs.Settled.{Settles}
 use Rattle.layout.specs.Stands.{Kept, StandsNow}
 use Rattle.model_tree.specs.declared.limits.Limits.{Limits}
@@ -84,7 +85,7 @@ MakesAtMost count old new = moment new.history ≤ moment old.history + count
 -- each map that a crash leaves is a volume of the current version, with what is kept
 abbrev pub LeavesCurrent : VolumeState → Type 0
 LeavesCurrent held = (image : Image) → Left held.history.now image
-    → ∥ ((base : Image) × Settles held.sectors image base
+    → ∥ ((base : Image) × Settles (in_front held.sectors) image base
     × StandsNow held.sectors held.limits.nodes base held.run (kept_of held)) ∥₁
 
 -- a crash leaves the tree in memory

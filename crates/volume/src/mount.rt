@@ -5,6 +5,7 @@ ghost use Rattle.disk.specs.Cause.{IsCounted};
 ghost use Rattle.disk.specs.Moments.{seen};
 ghost use Rattle.journal.specs.Journal.{log_of, journal_failures};
 ghost use Rattle.volume.specs.Checks.{IsSeen};
+ghost use Rattle.migration.specs.Migrations.{StaysInPlace};
 ghost use Rattle.volume.specs.Mounts.{RaisesSafely, HasSize, IsVolumeOf, IsAtRest, IsTold, IsRaised};
 ghost use Rattle.volume.specs.Superblock.{superblock};
 
@@ -143,7 +144,7 @@ pub(crate) fn raise<D: Device>(
     ensures none { OnOk result (journal_failures journal.new ≡ journal_failures journal.old) }
     // In any case
     ensures list { (log_of journal.new).list ≡ (log_of journal.old).list }
-    ensures size { (log_of journal.new).size ≡ (log_of journal.old).size }
+    ensures place { StaysInPlace (log_of journal.old) (log_of journal.new) }
     ensures later { journal_failures journal.old ≤ journal_failures journal.new }
 {
     let sector = superblock_of(

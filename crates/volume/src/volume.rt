@@ -2,6 +2,7 @@
 
 ghost use Rattle.std.specs.Prelude.{◌≡◌, ◌<◌, ◌+◌, ◌^◌, false, IsTrue};
 ghost use Rattle.journal.specs.Journal.{log_of};
+ghost use Rattle.journal.specs.Layout.{in_front};
 ghost use Rattle.layout.specs.Superblock.{is_size};
 ghost use Rattle.model_tree.specs.Trees.Limits.{limits_of};
 ghost use Rattle.model_tree.specs.Trees.Stamp.{stamp};
@@ -43,6 +44,7 @@ pub struct Volume<D: Device> {
     pub(crate) parents: Parents,
     ghost bounded: { run < 2 ^ 32 },
     ghost sized: { IsTrue (is_size (log_of store.journal).size limits.nodes) },
+    ghost placed: { (log_of store.journal).area ≡ in_front (log_of store.journal).size },
     ghost limited: { limits ≡ limits_of (log_of store.journal).size limits.nodes },
     ghost formed: { IsFormed limits (stamp (run + 1) 0) (tree_without_data table) } by { IsFormed-prop limits (stamp (run + 1) 0) (tree_without_data table) },
     ghost known: { AreKnownNodes (log_of store.journal).size limits.nodes table places } by { AreKnownNodes-prop (log_of store.journal).size limits.nodes table places },

@@ -1,6 +1,6 @@
 use Rattle.std.proofs.Common.{◌≡◌, ◌∙◌, ◌+◌, ◌≤◌, ◌++◌, ap, ℕ, List, length, arith, refl, subst}
 use Rattle.std.proofs.lemmas.List.{length-append}
-use Rattle.journal.specs.Layout.{AreTargets, gate, targets, placed}
+use Rattle.journal.specs.Layout.{AreNamed, gate, targets, placed}
 use Rattle.journal.specs.Phase.{AddsUpdates, IsFixedAs}
 use Rattle.journal.proofs.Behinds.{front_fits}
 use Rattle.journal.proofs.Images.{length-targets}
@@ -14,7 +14,7 @@ use Rattle.journal.proofs.commit.write_commit_record.Goals.{After-encode}
 counted : (g : Over) (c : After-len g) → c.len.result ≡ length c.args.shown.now.items
 counted g c = c.len.ensures ∙ c.args.shown.now.ok.0
 
-few : (g : Over) (c : After-len g) → length c.args.shown.now.items + length c.args.updates.now ≤ 96
+few : (g : Over) (c : After-len g) → length c.args.shown.now.items + length c.args.updates.now ≤ c.args.area.sectors
 few g c = omega (
   arith,
   c.requires.fits.few,
@@ -23,18 +23,18 @@ few g c = omega (
   length-targets c.args.updates.now,
 )
 
-fit : (g : Over) (c : After-len g) → AreTargets (g.D.Device.size c.args.device.now) (c.args.shown.now.items ++ targets c.args.updates.now)
+fit : (g : Over) (c : After-len g) → AreNamed c.args.area (c.args.shown.now.items ++ targets c.args.updates.now)
 fit g c =
-    let P : List ℕ → Type 0 = λ ts. AreTargets (g.D.Device.size c.args.device.now) (c.args.shown.now.items ++ ts) in
+    let P : List ℕ → Type 0 = λ ts. AreNamed c.args.area (c.args.shown.now.items ++ ts) in
     subst P c.requires.taken.named c.requires.fits.fit
 
 paid : (g : Over) (c : In_ok-write_payload g) → c.len.result ≡ length c.args.shown.now.items → g.D.Device.keeps_word
-    → AddsUpdates (placed (2 + length c.args.shown.now.items) c.args.updates.now) (g.D.Device.history c.args.device.now) (g.D.Device.history c.write_payload.new.device)
-paid g c count k = payload_moments_at c.len.result _ c.args.updates.now _ _ count (c.in_ok-write_payload.ensures.moments k)
+    → AddsUpdates (placed (c.args.area.first + length c.args.shown.now.items) c.args.updates.now) (g.D.Device.history c.args.device.now) (g.D.Device.history c.write_payload.new.device)
+paid g c count k = payload_moments_at c.args.area c.len.result _ c.args.updates.now _ _ count (c.in_ok-write_payload.ensures.moments k)
 
 fixed : (g : Over) (c : In_ok-write_payload g) → c.len.result ≡ length c.args.shown.now.items → g.D.Device.keeps_word
-    → IsFixedAs (placed (2 + length c.args.shown.now.items) c.args.updates.now) (g.D.Device.history c.args.device.now) (g.D.Device.history c.write_payload.new.device)
-fixed g c count k = payload_fixed_at c.len.result _ c.args.updates.now _ _ count (c.in_ok-write_payload.ensures.ok k)
+    → IsFixedAs (placed (c.args.area.first + length c.args.shown.now.items) c.args.updates.now) (g.D.Device.history c.args.device.now) (g.D.Device.history c.write_payload.new.device)
+fixed g c count k = payload_fixed_at c.args.area c.len.result _ c.args.updates.now _ _ count (c.in_ok-write_payload.ensures.ok k)
 
 -- the gate that is written
 encoded : (g : Over) (c : After-encode g) → c.encode.result ≡ gate (c.args.shown.now.items ++ targets c.args.updates.now)
@@ -47,13 +47,13 @@ write_payload-requires-clause-few g c = omega (arith, counted g c, few g c)
 pub returns-in_err-write_payload-clause-moments : goal.returns-in_err-write_payload-clause-moments
 returns-in_err-write_payload-clause-moments g c = λ k gated.
     let at = (goal.at.returns-in_err-write_payload-clause-moments g c).After-len in
-    payload_moments (g.D.Device.size c.args.device.now) c.args.shown.now.items c.args.updates.now (g.D.Device.history c.args.device.now) (few g at) (fit g at) gated
+    payload_moments c.args.area c.requires.area c.args.shown.now.items c.args.updates.now (g.D.Device.history c.args.device.now) (few g at) (fit g at) gated
     (g.D.Device.history c.write_payload.new.device)
-    (payload_moments_at c.len.result _ c.args.updates.now _ _ (counted g at) (c.in_err-write_payload.ensures.moments k))
+    (payload_moments_at c.args.area c.len.result _ c.args.updates.now _ _ (counted g at) (c.in_err-write_payload.ensures.moments k))
 
 pub returns-in_err-write_payload-clause-kept : goal.returns-in_err-write_payload-clause-kept
 returns-in_err-write_payload-clause-kept g c = record {
-  fits = front_fits (g.D.Device.size c.args.device.now) c.args.shown.now.items c.args.to.now c.requires.fits;
+  fits = front_fits c.args.area c.args.shown.now.items c.args.to.now c.requires.fits;
   capacity = refl;
 }
 
@@ -61,7 +61,7 @@ pub returns-in_err-write_sector-clause-moments : goal.returns-in_err-write_secto
 returns-in_err-write_sector-clause-moments g c = λ k gated.
     let at = (goal.at.returns-in_err-write_sector-clause-moments g c).After-len in
     let here = (goal.at.returns-in_err-write_sector-clause-moments g c).In_ok-write_payload in
-    gate_moments (g.D.Device.size c.args.device.now) c.args.shown.now.items c.args.updates.now (g.D.Device.history c.args.device.now) (few g at) (fit g at) gated
+    gate_moments c.args.area c.requires.area c.args.shown.now.items c.args.updates.now (g.D.Device.history c.args.device.now) (few g at) (fit g at) gated
     (g.D.Device.history c.write_payload.new.device) (g.D.Device.history c.write_sector.new.device) (paid g here (counted g at) k) (fixed g here (counted g at) k)
     (AddsUpdates-gate c.encode.result _ _ _ (encoded g (goal.at.returns-in_err-write_sector-clause-moments g c).After-encode) (c.in_err-write_sector.ensures.moments k))
 
@@ -69,7 +69,7 @@ pub returns-clause-moments : goal.returns-clause-moments
 returns-clause-moments g c = λ k gated.
     let at = (goal.at.returns-clause-moments g c).After-len in
     let here = (goal.at.returns-clause-moments g c).In_ok-write_payload in
-    gate_moments (g.D.Device.size c.args.device.now) c.args.shown.now.items c.args.updates.now (g.D.Device.history c.args.device.now) (few g at) (fit g at) gated
+    gate_moments c.args.area c.requires.area c.args.shown.now.items c.args.updates.now (g.D.Device.history c.args.device.now) (few g at) (fit g at) gated
     (g.D.Device.history c.write_payload.new.device) (g.D.Device.history c.write_sector.new.device) (paid g here (counted g at) k) (fixed g here (counted g at) k)
     (AddsUpdates-gate c.encode.result _ _ _ (encoded g (goal.at.returns-clause-moments g c).After-encode) (c.in_ok-write_sector.ensures.moments k))
 
@@ -77,8 +77,8 @@ pub returns-clause-ok : goal.returns-clause-ok
 returns-clause-ok g c = λ k gated.
     let at = (goal.at.returns-clause-ok g c).After-len in
     let here = (goal.at.returns-clause-ok g c).In_ok-write_payload in
-    IsRecorded-at (g.D.Device.size c.args.device.now) c.args.updates.now c.args.shown.now.items _ c.name_all.new.named.items _ _
+    IsRecorded-at c.args.area c.args.updates.now c.args.shown.now.items _ c.name_all.new.named.items _ _
     (c.name_all.ensures.items ∙ ap (λ (ts : List ℕ). c.args.shown.now.items ++ ts) c.requires.taken.named)
-    (recorded (g.D.Device.size c.args.device.now) c.args.shown.now.items c.args.updates.now (g.D.Device.history c.args.device.now) (few g at) (fit g at) gated
+    (recorded c.args.area c.requires.area c.args.shown.now.items c.args.updates.now (g.D.Device.history c.args.device.now) (few g at) (fit g at) gated
     (g.D.Device.history c.write_payload.new.device) (g.D.Device.history c.write_sector.new.device) (fixed g here (counted g at) k)
     (IsFixedAs-gate c.encode.result _ _ _ (encoded g (goal.at.returns-clause-ok g c).After-encode) (c.in_ok-write_sector.ensures.ok k)))

@@ -7,8 +7,8 @@ use Rattle.journal.specs.Transactions.{gathered}
 use Rattle.journal.proofs.Lists.{applied_at, gathered_grows, no_update}
 use Rattle.journal.proofs.list.merge_into.Goals as goal
 
-pub put-requires-clause-few : goal.put-requires-clause-few
-put-requires-clause-few c =
+pub put-requires-clause-room : goal.put-requires-clause-room
+put-requires-clause-room c =
     let pending = c.loop-update.pending.items in
     let us = c.args.updates.now in
     let i = c.loop-update.update-index in
@@ -16,7 +16,26 @@ put-requires-clause-few c =
     let rest : List Update = drop (i + 1) us in
     omega (
       arith,
-      c.requires.few,
+      c.requires.room,
+      c.loop-update.invariant.capacity,
+      ap (λ (xs : List ℕ). length (gathered xs (targets us))) c.requires.sectors_are,
+      ap (λ (xs : List ℕ). length xs) c.loop-update.invariant.sectors,
+      ap (λ (vs : List Update). length (gathered (targets pending) (targets vs))) (drop_more us i no_update (omega arith)),
+      gathered_grows (gathered (targets pending) (t ∷ [])) (targets rest),
+      ap (λ (xs : List ℕ). length (gathered xs (t ∷ []))) c.loop-update.invariant.sectors_are,
+    )
+
+pub put-requires-clause-sectors_room : goal.put-requires-clause-sectors_room
+put-requires-clause-sectors_room c =
+    let pending = c.loop-update.pending.items in
+    let us = c.args.updates.now in
+    let i = c.loop-update.update-index in
+    let t = (get_or us i no_update).target in
+    let rest : List Update = drop (i + 1) us in
+    omega (
+      arith,
+      c.requires.sectors_room,
+      c.loop-update.invariant.named_capacity,
       ap (λ (xs : List ℕ). length (gathered xs (targets us))) c.requires.sectors_are,
       ap (λ (xs : List ℕ). length xs) c.loop-update.invariant.sectors,
       ap (λ (vs : List Update). length (gathered (targets pending) (targets vs))) (drop_more us i no_update (omega arith)),

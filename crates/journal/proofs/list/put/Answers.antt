@@ -31,7 +31,6 @@ push_reserved-requires-in-None c =
     let t = c.args.update.now.target in
     omega (
       arith,
-      c.requires.few,
       ap (λ (xs : List ℕ). length xs) (gathered_new pending_sectors t (ap (λ (xs : List ℕ). has xs t) c.requires.sectors_are ∙ none)),
       length-append pending_sectors (t ∷ []),
       ap (λ (xs : List ℕ). length xs) c.requires.sectors_are,

@@ -48,7 +48,7 @@ returns-in_err-write-clause-failures g c =
     let all : List Update = c.args.updates.now in
     let i = c.loop-update.update-index in
     let failed : Result (Unit {0}) DiskFault = Err c.in_err-write.field-0.0 in
-    let near = c.requires.on_device i 0 (omega (arith, length-targets all)) in
+    let near = c.requires i 0 (omega (arith, length-targets all)) in
     told_counted (g.D.Device.failed c.args.device.now) (g.D.Device.failed c.loop-update.device) (g.D.Device.failed c.write.new.self)
     c.from_residual.result c.in_err-write.field-0.0 (is_told c.from_residual.result c.in_err-write.field-0.0 c.from_residual.ensures.1)
     c.loop-update.invariant.none c.in_err-write.ensures.cause.later

@@ -26,9 +26,9 @@ loop-i-preserved g c =
     let us = c.loop-i.updates.items in
     let u : Update = record { target = get_or c.args.to.now c.loop-i.i 0; content = c.read.new.content } in
     record {
-      read = λ k. copied_more (seen (g.D.Device.history c.args.device.now).now) c.args.to.now c.loop-i.i us c.push_reserved.new.self.items c.read.new.content
+      read = λ k. copied_more c.args.area.first (seen (g.D.Device.history c.args.device.now).now) c.args.to.now c.loop-i.i us c.push_reserved.new.self.items c.read.new.content
           (omega arith) (c.loop-i.invariant.read k)
-          (c.in_ok-read.ensures.ok k ∙ ap (λ (h : History). seen h.now (2 + c.loop-i.i)) c.loop-i.invariant.history)
+          (c.in_ok-read.ensures.ok k ∙ ap (λ (h : History). seen h.now (c.args.area.first + c.loop-i.i)) c.loop-i.invariant.history)
           c.push_reserved.ensures.items;
       named = named_more [] c.args.to.now (targets us) (targets c.push_reserved.new.self.items) c.loop-i.i (omega arith) c.loop-i.invariant.named
           (ap (λ (vs : List Update). targets vs) c.push_reserved.ensures.items ∙ targets-push us u);
@@ -40,7 +40,7 @@ loop-i-preserved g c =
 
 pub returns-clause-ok : goal.returns-clause-ok
 returns-clause-ok g c = λ k.
-    copied_whole (seen (g.D.Device.history c.args.device.now).now) c.args.to.now c.loop-i.i c.loop-i.updates.items (omega arith) (c.loop-i.invariant.read k)
+    copied_whole c.args.area.first (seen (g.D.Device.history c.args.device.now).now) c.args.to.now c.loop-i.i c.loop-i.updates.items (omega arith) (c.loop-i.invariant.read k)
 
 pub returns-clause-named : goal.returns-clause-named
 returns-clause-named g c = named_whole [] c.args.to.now (targets c.loop-i.updates.items) c.loop-i.i (omega arith) c.loop-i.invariant.named

@@ -3,12 +3,12 @@ use Rattle.std.proofs.lemmas.Bool.{eqb-true}
 use Rattle.disk.specs.Moments.{History, moment, seen, synced}
 use Rattle.journal.specs.Behind.{FitsGate}
 use Rattle.journal.specs.Commit.{KeepsShown, rewritten}
+use Rattle.journal.specs.declared.layout.LogArea.{LogArea}
 use Rattle.journal.specs.Layout.{NamesTargets, copies}
 use Rattle.journal.specs.Phase.{IsGated}
 use Rattle.journal.specs.Recover.{IsClosed}
 use Rattle.journal.proofs.Answerings.{is_fault, is_told}
-use Rattle.journal.proofs.Journals.{same_fit}
-use Rattle.journal.proofs.Recovers.{counted_after, synced_moments, recover_moments, keeps_shown_at, gated_after, closed_none, copied_home_at, fault_counted, no_elements, none_counted, not_empty, recovers_closed, recovers_copied}
+use Rattle.journal.proofs.Recovers.{counted_after, synced_moments, recover_moments, gated_after, closed_none, fault_counted, no_elements, none_counted, not_empty, recovers_closed, recovers_copied}
 use Rattle.journal.proofs.Rewrites.{gated_again, shown_again}
 use Rattle.journal.proofs.recover.replay.Goals as goal
 use Rattle.journal.proofs.recover.replay.Given.{Over}
@@ -36,6 +36,7 @@ returns-in_err-read_gate g c =
         };
       };
       none = tt;
+      room = tt;
       size = c.in_err-read_gate.ensures.reads.1;
       failures = counted_after _ _ _ _ refl c.in_err-read_gate.ensures.failures;
     })
@@ -46,7 +47,7 @@ resynced g c before e = c.in_ok-read_gate.ensures.reads.0 ∙ e
 
 -- the gate names what was read
 named_by : (g : Over) (c : In_ok-read_gate g) → g.D.Device.keeps_word
-    → NamesTargets (g.D.Device.size c.args.device.now) (seen (g.D.Device.history c.args.device.now).now 1) c.read_gate.new.named.items
+    → NamesTargets c.args.area (seen (g.D.Device.history c.args.device.now).now 1) c.read_gate.new.named.items
 named_by g c k = record {
   few = c.in_ok-read_gate.ensures.named.0;
   fit = c.in_ok-read_gate.ensures.named.1;
@@ -70,11 +71,16 @@ returns-then-is_empty g c =
       replays = λ k before e. record {
         brief = omega (arith, same_moment e, same_moment c.in_ok-read_gate.ensures.reads.0);
         moments = synced_moments _ _ _ _ c.in_ok-read_gate.ensures.reads.0 e;
-        ok = recovers_closed _ _ _ _ (resynced g read before e) no_items (gated g read k before e);
+        ok = recovers_closed c.args.area _ _ _ (resynced g read before e) no_items (gated g read k before e);
         closed = λ closed. record { ok = resynced g read before e; err = tt };
         damaged = λ is. absurd (cc);
       };
       none = (no_elements _ no_items, c.requires.empty);
+      room = record {
+        fits = record { few = c.in_ok-read_gate.ensures.named.0; fit = c.in_ok-read_gate.ensures.named.1 };
+        room = omega (arith, c.in_ok-read_gate.ensures.capacity, c.requires.room.0);
+        updates_room = c.requires.room.1;
+      };
       size = c.in_ok-read_gate.ensures.reads.1;
       failures = counted_after _ _ _ _ refl c.in_ok-read_gate.ensures.failures;
     }
@@ -84,7 +90,7 @@ none_named : (g : Over) (c : In_ok-read_gate g) → g.D.Device.keeps_word → (b
     → IsClosed before → vec_len c.read_gate.new.named ≡ 0
 none_named g c k before e closed =
     let read = ap (λ (h : History). seen h.now 1) e ∙ closed in
-    let none = closed_none _ _ _ c.in_ok-read_gate.ensures.small (named_by g c k) read in
+    let none = closed_none c.args.area c.requires.area _ _ c.in_ok-read_gate.ensures.small (named_by g c k) read in
     omega (arith, ap (λ (xs : List ℕ). length xs) none, c.read_gate.new.named.ok)
 
 -- the record was written again for what was read
@@ -93,13 +99,12 @@ again : (g : Over) (c : In_ok-rewrite g) → c.deref.result.now ≡ c.read_gate.
 again g c to k = c.in_ok-rewrite.ensures.ok k ∙ ap (λ (ts : List ℕ). rewritten ts (g.D.Device.history c.read_gate.new.device)) to
 
 -- and a crash within that leaves what it names
-kept_again : (old mid : ℕ) (shown to : List ℕ) (h h1 : History) → mid ≡ old → shown ≡ to → IsGated to h
-    → (IsGated shown h → KeepsShown mid shown h h1) → KeepsShown old to h h1
-kept_again old mid shown to h h1 size is gated keeps =
-    subst (λ (n : ℕ). KeepsShown n to h h1) size (subst (λ (ts : List ℕ). IsGated ts h → KeepsShown mid ts h h1) is keeps gated)
+kept_again : (area : LogArea) (shown to : List ℕ) (h h1 : History) → shown ≡ to → IsGated to h
+    → (IsGated shown h → KeepsShown area shown h h1) → KeepsShown area to h h1
+kept_again area shown to h h1 is gated keeps = subst (λ (ts : List ℕ). IsGated ts h → KeepsShown area ts h h1) is keeps gated
 
-read_past : (size : ℕ) (to : List ℕ) (h h1 h2 : History) → h2 ≡ h1 → KeepsShown size to h h1 → KeepsShown size to h h2
-read_past size to h h1 h2 same keeps = subst (λ (k : History). KeepsShown size to h k) (sym same) keeps
+read_past : (area : LogArea) (to : List ℕ) (h h1 h2 : History) → h2 ≡ h1 → KeepsShown area to h h1 → KeepsShown area to h h2
+read_past area to h h1 h2 same keeps = subst (λ (k : History). KeepsShown area to h k) (sym same) keeps
 
 -- it was written again, and the payload was read
 past : (g : Over) (c : In_ok-read_payload g) → c.deref.result.now ≡ c.read_gate.new.named.items → g.D.Device.keeps_word
@@ -114,18 +119,15 @@ size_past g c written read = c.in_ok-read_payload.ensures.reads.1 ∙ (written �
 
 -- what was read is what the device has
 payload_past : (g : Over) (c : In_ok-read_payload g) → c.deref-2.result.now ≡ c.read_gate.new.named.items → g.D.Device.keeps_word
-    → copies (seen (g.D.Device.history c.read_payload.new.device).now) 2 c.read_gate.new.named.items ≡ c.read_payload.new.updates.items
+    → copies (seen (g.D.Device.history c.read_payload.new.device).now) c.args.area.first c.read_gate.new.named.items ≡ c.read_payload.new.updates.items
 payload_past g c to k =
-    ap (λ (h : History). copies (seen h.now) 2 c.read_gate.new.named.items) c.in_ok-read_payload.ensures.reads.0
-    ∙ ap (λ (ts : List ℕ). copies (seen (g.D.Device.history c.rewrite.new.device).now) 2 ts) (sym to)
+    ap (λ (h : History). copies (seen h.now) c.args.area.first c.read_gate.new.named.items) c.in_ok-read_payload.ensures.reads.0
+    ∙ ap (λ (ts : List ℕ). copies (seen (g.D.Device.history c.rewrite.new.device).now) c.args.area.first ts) (sym to)
     ∙ c.in_ok-read_payload.ensures.ok k
 
 pub rewrite-requires-clause-fits : goal.rewrite-requires-clause-fits
-rewrite-requires-clause-fits g c = subst (FitsGate (g.D.Device.size c.read_gate.new.device)) (sym c.deref.ensures.value) (record {
-  few = c.in_ok-read_gate.ensures.named.0;
-  fit = same_fit (g.D.Device.size c.args.device.now) (g.D.Device.size c.read_gate.new.device) c.read_gate.new.named.items
-      c.in_ok-read_gate.ensures.reads.1 c.in_ok-read_gate.ensures.named.1;
-})
+rewrite-requires-clause-fits g c =
+    subst (FitsGate c.args.area) (sym c.deref.ensures.value) (record { few = c.in_ok-read_gate.ensures.named.0; fit = c.in_ok-read_gate.ensures.named.1 })
 
 pub returns-in_err-rewrite : goal.returns-in_err-rewrite
 returns-in_err-rewrite g c =
@@ -135,13 +137,14 @@ returns-in_err-rewrite g c =
           let set = gated g read k before e in
           record {
             brief = omega (arith, same_moment e, same_moment c.in_ok-read_gate.ensures.reads.0, c.in_err-rewrite.ensures.brief k);
-            moments = recover_moments _ _ _ _ _ (resynced g read before e) c.in_ok-read_gate.ensures.small (named_by g read k).few (named_by g read k).fit set
-                (kept_again _ _ _ _ _ _ c.in_ok-read_gate.ensures.reads.1 c.deref.ensures.value set (c.in_err-rewrite.ensures.moments k));
+            moments = recover_moments c.args.area c.requires.area _ _ _ _ (resynced g read before e) c.in_ok-read_gate.ensures.small (named_by g read k).few (named_by g read k).fit set
+                (kept_again c.args.area _ c.read_gate.new.named.items _ _ c.deref.ensures.value set (c.in_err-rewrite.ensures.moments k));
             ok = tt;
             closed = λ closed. absurd (not_empty _ _ c.is_empty.ensures c.if-is_empty.false (none_named g read k before e closed));
             damaged = λ is. absurd (cc);
           };
       none = tt;
+      room = tt;
       size = c.in_err-rewrite.ensures.size ∙ c.in_ok-read_gate.ensures.reads.1;
       failures = fault_counted _ _ _ (unfailed g read) c.in_err-rewrite.ensures.failures.counted;
     })
@@ -152,16 +155,17 @@ returns-in_err-read_payload g c =
     rw (is_fault _ c.from_residual-in_err-read_payload.ensures.1) (record {
       replays = λ k before e.
           let set = gated g read k before e in
-          let shown = kept_again _ _ _ _ _ _ c.in_ok-read_gate.ensures.reads.1 c.deref.ensures.value set (c.in_ok-rewrite.ensures.moments k) in
+          let shown = kept_again c.args.area _ c.read_gate.new.named.items _ _ c.deref.ensures.value set (c.in_ok-rewrite.ensures.moments k) in
           record {
             brief = omega (arith, same_moment e, same_moment c.in_ok-read_gate.ensures.reads.0, c.in_ok-rewrite.ensures.brief k, same_moment c.in_err-read_payload.ensures.reads.0);
-            moments = recover_moments _ _ _ _ _ (resynced g read before e) c.in_ok-read_gate.ensures.small (named_by g read k).few (named_by g read k).fit set
-                (read_past _ _ _ _ _ c.in_err-read_payload.ensures.reads.0 shown);
+            moments = recover_moments c.args.area c.requires.area _ _ _ _ (resynced g read before e) c.in_ok-read_gate.ensures.small (named_by g read k).few (named_by g read k).fit set
+                (read_past c.args.area c.read_gate.new.named.items _ _ _ c.in_err-read_payload.ensures.reads.0 shown);
             ok = tt;
             closed = λ closed. absurd (not_empty _ _ c.is_empty.ensures c.if-is_empty.false (none_named g read k before e closed));
             damaged = λ is. absurd (cc);
           };
       none = tt;
+      room = tt;
       size = c.in_err-read_payload.ensures.reads.1 ∙ (c.in_ok-rewrite.ensures.size ∙ c.in_ok-read_gate.ensures.reads.1);
       failures = fault_counted _ _ _ (c.in_ok-rewrite.ensures.failures.ok ∙ unfailed g read) c.in_err-read_payload.ensures.failures.counted;
     })
@@ -171,10 +175,10 @@ read_payload-requires-clause-few g c = omega (arith, ap (λ (ts : List ℕ). len
 
 pub close-requires-clause-fits : goal.close-requires-clause-fits
 close-requires-clause-fits g c = record {
-  fits = record {
-    few = c.in_ok-read_gate.ensures.named.0;
-    fit = same_fit (g.D.Device.size c.args.device.now) (g.D.Device.size c.read_payload.new.device) c.read_gate.new.named.items
-        (c.in_ok-read_payload.ensures.reads.1 ∙ (c.in_ok-rewrite.ensures.size ∙ c.in_ok-read_gate.ensures.reads.1)) c.in_ok-read_gate.ensures.named.1;
+  has = record {
+    fits = record { few = c.in_ok-read_gate.ensures.named.0; fit = c.in_ok-read_gate.ensures.named.1 };
+    room = omega (arith, c.in_ok-read_gate.ensures.capacity, c.requires.room.0);
+    updates_room = omega (arith, c.in_ok-read_payload.ensures.capacity, c.requires.room.1);
   };
   named = c.in_ok-read_payload.ensures.named ∙ c.deref-2.ensures.value;
 }
@@ -189,20 +193,20 @@ returns-in_err-close g c =
       replays = λ k before e.
           let set = gated g read k before e in
           let written = past g paid c.deref.ensures.value k (again g before_it c.deref.ensures.value k) in
-          let set_again = gated_again _ _ _ written set.gate_is in
-          let first = read_past _ _ _ _ _ c.in_ok-read_payload.ensures.reads.0
-          (kept_again _ _ _ _ _ _ c.in_ok-read_gate.ensures.reads.1 c.deref.ensures.value set (c.in_ok-rewrite.ensures.moments k)) in
-          let shown = shown_again _ _ _ written set.gate_is _ _ first
-          (keeps_shown_at _ _ _ _ _ size_is
-          (c.in_err-close.ensures.moments k (record { gated = set_again; payload = payload_past g paid c.deref-2.ensures.value k }))) in
+          let set_again = gated_again c.args.area _ _ _ written set.gate_is in
+          let first = read_past c.args.area c.read_gate.new.named.items _ _ _ c.in_ok-read_payload.ensures.reads.0
+          (kept_again c.args.area _ c.read_gate.new.named.items _ _ c.deref.ensures.value set (c.in_ok-rewrite.ensures.moments k)) in
+          let shown = shown_again c.args.area c.read_gate.new.named.items _ _ written set.gate_is _ first
+          (c.in_err-close.ensures.moments k (record { gated = set_again; payload = payload_past g paid c.deref-2.ensures.value k })) in
           record {
             brief = omega (arith, same_moment e, same_moment c.in_ok-read_gate.ensures.reads.0, c.in_ok-rewrite.ensures.brief k, same_moment c.in_ok-read_payload.ensures.reads.0, c.in_err-close.ensures.brief k);
-            moments = recover_moments _ _ _ _ _ (resynced g read before e) c.in_ok-read_gate.ensures.small (named_by g read k).few (named_by g read k).fit set shown;
+            moments = recover_moments c.args.area c.requires.area _ _ _ _ (resynced g read before e) c.in_ok-read_gate.ensures.small (named_by g read k).few (named_by g read k).fit set shown;
             ok = tt;
             closed = λ closed. absurd (not_empty _ _ c.is_empty.ensures c.if-is_empty.false (none_named g read k before e closed));
             damaged = λ is. absurd (cc);
           };
       none = tt;
+      room = tt;
       size = c.in_err-close.ensures.size ∙ size_is;
       failures = fault_counted _ _ _ (c.in_ok-read_payload.ensures.failures.ok ∙ (c.in_ok-rewrite.ensures.failures.ok ∙ unfailed g read)) c.in_err-close.ensures.failures.counted;
     })
@@ -217,23 +221,23 @@ returns g c =
       replays = λ k before e.
           let set = gated g read k before e in
           let written = past g paid c.deref.ensures.value k (again g before_it c.deref.ensures.value k) in
-          let set_again = gated_again _ _ _ written set.gate_is in
-          let first = read_past _ _ _ _ _ c.in_ok-read_payload.ensures.reads.0
-          (kept_again _ _ _ _ _ _ c.in_ok-read_gate.ensures.reads.1 c.deref.ensures.value set (c.in_ok-rewrite.ensures.moments k)) in
-          let shown = shown_again _ _ _ written set.gate_is _ _ first (keeps_shown_at _ _ _ _ _ size_is
-          (c.in_ok-close.ensures.moments k (record { gated = set_again; payload = payload_past g paid c.deref-2.ensures.value k }))) in
+          let set_again = gated_again c.args.area _ _ _ written set.gate_is in
+          let first = read_past c.args.area c.read_gate.new.named.items _ _ _ c.in_ok-read_payload.ensures.reads.0
+          (kept_again c.args.area _ c.read_gate.new.named.items _ _ c.deref.ensures.value set (c.in_ok-rewrite.ensures.moments k)) in
+          let shown = shown_again c.args.area c.read_gate.new.named.items _ _ written set.gate_is _ first
+          (c.in_ok-close.ensures.moments k (record { gated = set_again; payload = payload_past g paid c.deref-2.ensures.value k })) in
           record {
             brief = omega (arith, same_moment e, same_moment c.in_ok-read_gate.ensures.reads.0, c.in_ok-rewrite.ensures.brief k, same_moment c.in_ok-read_payload.ensures.reads.0, c.in_ok-close.ensures.brief k);
-            moments = recover_moments _ _ _ _ _ (resynced g read before e) c.in_ok-read_gate.ensures.small (named_by g read k).few (named_by g read k).fit set shown;
-            ok = recovers_copied _ _ _ _ _ _
+            moments = recover_moments c.args.area c.requires.area _ _ _ _ (resynced g read before e) c.in_ok-read_gate.ensures.small (named_by g read k).few (named_by g read k).fit set shown;
+            ok = recovers_copied c.args.area c.requires.area _ _ _ _ _
                 (λ none. not_empty _ _ c.is_empty.ensures c.if-is_empty.false (c.read_gate.new.named.ok.0 ∙ ap (λ (ts : List ℕ). length ts) none))
                 (resynced g read before e) c.in_ok-read_gate.ensures.small (named_by g read k).few (named_by g read k).fit set written shown
-                (copied_home_at _ _ _ _ _ size_is
-                (c.in_ok-close.ensures.ok k (record { gated = set_again; payload = payload_past g paid c.deref-2.ensures.value k })));
+                (c.in_ok-close.ensures.ok k (record { gated = set_again; payload = payload_past g paid c.deref-2.ensures.value k }));
             closed = λ closed. absurd (not_empty _ _ c.is_empty.ensures c.if-is_empty.false (none_named g read k before e closed));
             damaged = λ is. absurd (cc);
           };
       none = c.in_ok-close.ensures.shown;
+      room = c.in_ok-close.ensures.kept;
       size = c.in_ok-close.ensures.size ∙ size_is;
       failures = none_counted _ _ _ (c.in_ok-close.ensures.failures.ok ∙ (c.in_ok-read_payload.ensures.failures.ok ∙ (c.in_ok-rewrite.ensures.failures.ok ∙ unfailed g read)));
     }

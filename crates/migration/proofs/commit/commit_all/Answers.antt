@@ -1,5 +1,6 @@
 use Rattle.std.proofs.Common.{◌∙◌, List, Vec, Global, map, refl, sym, ap, subst}
 use Rattle.disk.specs.declared.update.Update.{Update}
+use Rattle.journal.specs.declared.layout.LogArea.{LogArea}
 use Rattle.journal.specs.Journal.{log_of}
 use Rattle.migration.specs.Commits.{AreTransactions}
 use Rattle.migration.proofs.Committing.{Going, going_starts, going_on, going_stops}
@@ -15,14 +16,14 @@ loop-updates-init g c =
     let all = map items c.args.transactions.items in
     record {
       rests = c.requires.rests;
-      takes = subst (AreTransactions log.size) same c.requires.takes;
+      takes = subst (AreTransactions log.area.end) same c.requires.takes;
       going = subst (λ (rest : List (List Update)). Going g.D.Device.keeps_word all rest log log) same (going_starts g.D.Device.keeps_word all log);
       failures = refl;
     }
 
 pub commit-requires-clause-takes : goal.commit-requires-clause-takes
 commit-requires-clause-takes g c =
-    (subst (AreTransactions (log_of c.loop-updates.journal).size) (ap (map items) c.in-Some.ensures.steps.0) c.loop-updates.invariant.takes).0
+    (subst (AreTransactions (log_of c.loop-updates.journal).area.end) (ap (map items) c.in-Some.ensures.steps.0) c.loop-updates.invariant.takes).0
 
 pub loop-updates-preserved : goal.loop-updates-preserved
 loop-updates-preserved g c =
@@ -32,10 +33,10 @@ loop-updates-preserved g c =
     let now = log_of c.loop-updates.journal in
     let new = log_of c.commit.new.journal in
     let going = subst (λ (rest : List (List Update)). Going g.D.Device.keeps_word all rest first now) same c.loop-updates.invariant.going in
-    let takes = subst (AreTransactions now.size) same c.loop-updates.invariant.takes in
+    let takes = subst (AreTransactions now.area.end) same c.loop-updates.invariant.takes in
     record {
       rests = c.in_ok-commit.ensures.ok.rests;
-      takes = subst (λ (size : _). AreTransactions size (map items c.next.new.self.rest.items)) (sym c.in_ok-commit.ensures.commits.size) takes.1;
+      takes = subst (λ (area : LogArea). AreTransactions area.end (map items c.next.new.self.rest.items)) (sym c.in_ok-commit.ensures.commits.place.area) takes.1;
       going = going_on g.D.Device.keeps_word all (map items c.next.new.self.rest.items) c.in-Some.updates.items first now new going
           c.in_ok-commit.ensures.commits c.in_ok-commit.ensures.ok;
       failures = c.in_ok-commit.ensures.failures.ok ∙ c.loop-updates.invariant.failures;

@@ -14,6 +14,6 @@ returns-clause-moments g c =
 pub returns-clause-ok : goal.returns-clause-ok
 returns-clause-ok g c = λ word. on_ok_weaker c.commit.result
     (λ (has : HasCommitted g.D.Device.keeps_word (c.args.updates.items ∷ []) (log_of c.args.journal.now) (log_of c.commit.new.journal)).
-    has_cleared g.D.Device.keeps_word (log_of c.args.journal.now) (log_of c.commit.new.journal)
+    has_cleared g.D.Device.keeps_word (log_of c.args.journal.now) (log_of c.commit.new.journal) c.requires.rests.whole
     (subst (λ (us : List Update). HasCommitted g.D.Device.keeps_word (us ∷ []) (log_of c.args.journal.now) (log_of c.commit.new.journal)) c.requires.clearing has) word)
     c.commit.ensures.ok

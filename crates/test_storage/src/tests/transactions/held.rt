@@ -2,7 +2,7 @@
 
 ghost use Rattle.std.specs.Prelude.{◌≡◌, IsTrue, IfOk};
 ghost use Rattle.journal.specs.Journal.{log_of};
-ghost use Rattle.journal.specs.Layout.{AreTargets, targets};
+ghost use Rattle.journal.specs.Layout.{AreTargets, in_front, targets};
 
 use super::super::drivers::{byte_in, filled};
 use super::SECTORS;
@@ -57,6 +57,7 @@ fn are_targets(to: &[u32]) -> bool
 pub(super) struct Held<D: Device> {
     journal: Journal<D>,
     ghost size_is: { (log_of journal).size ≡ 256 },
+    ghost area_is: { (log_of journal).area ≡ in_front 256 },
 }
 
 impl<D: Device> Held<D> {

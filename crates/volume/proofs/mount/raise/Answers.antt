@@ -1,6 +1,8 @@
-use Rattle.std.proofs.Common.{ℕ, List, [], ◌∷◌, ◌+◌, subst, sym}
+use Rattle.std.proofs.Common.{ℕ, List, [], ◌∷◌, ◌+◌, ◌∙◌, ap, subst, sym}
 use Rattle.disk.specs.declared.update.Update.{Update}
 use Rattle.disk.specs.Moments.{put}
+use Rattle.journal.specs.Layout.{in_front}
+use Rattle.journal.specs.declared.layout.LogArea.{LogArea}
 use Rattle.journal.specs.Commit.{AddsEither}
 use Rattle.journal.specs.Journal.{log_of}
 use Rattle.journal.specs.Log.{Log}
@@ -15,8 +17,8 @@ returns-in_err-superblock-clause-moments g c = λ k.
     let history = (log_of c.superblock.new.self).history in
     record {
       moments = λ mark kept moved stands. raise_moments found old.base c.requires.volume.counted mark kept moved stands old.history history
-          (subst (λ (n : ℕ). AddsEither n (first_update found.sectors found.nodes (found.run + 1) ∷ []) old.base old.history history) (sym c.requires.volume.size)
-          (subst (λ (content : List ℕ). AddsEither old.size ((let u : Update = record { target = 0; content = content } in u) ∷ []) old.base old.history history) c.superblock_of-sector.ensures
+          (subst (λ (a : LogArea). AddsEither a (first_update found.sectors found.nodes (found.run + 1) ∷ []) old.base old.history history) (c.requires.rests.placed ∙ ap in_front (sym c.requires.volume.size))
+          (subst (λ (content : List ℕ). AddsEither old.area ((let u : Update = record { target = 0; content = content } in u) ∷ []) old.base old.history history) c.superblock_of-sector.ensures
           (c.in_err-superblock.ensures.moments k)));
       brief = c.in_err-superblock.ensures.brief k;
     }
@@ -28,8 +30,8 @@ returns-clause-moments g c = λ k.
     let history = (log_of c.superblock.new.self).history in
     record {
       moments = λ mark kept moved stands. raise_moments found old.base c.requires.volume.counted mark kept moved stands old.history history
-          (subst (λ (n : ℕ). AddsEither n (first_update found.sectors found.nodes (found.run + 1) ∷ []) old.base old.history history) (sym c.requires.volume.size)
-          (subst (λ (content : List ℕ). AddsEither old.size ((let u : Update = record { target = 0; content = content } in u) ∷ []) old.base old.history history) c.superblock_of-sector.ensures
+          (subst (λ (a : LogArea). AddsEither a (first_update found.sectors found.nodes (found.run + 1) ∷ []) old.base old.history history) (c.requires.rests.placed ∙ ap in_front (sym c.requires.volume.size))
+          (subst (λ (content : List ℕ). AddsEither old.area ((let u : Update = record { target = 0; content = content } in u) ∷ []) old.base old.history history) c.superblock_of-sector.ensures
           (c.in_ok-superblock.ensures.moments k)));
       brief = c.in_ok-superblock.ensures.brief k;
     }
@@ -40,8 +42,8 @@ returns-clause-raised g c =
     let old : Log = log_of c.args.journal.now in
     let after = (log_of c.superblock.new.self).base in
     let same : g.D.Device.keeps_word → AreSame found.sectors (put old.base (first_update found.sectors found.nodes (found.run + 1))) after =
-    λ k. subst (λ (n : ℕ). AreSame n (put old.base (first_update found.sectors found.nodes (found.run + 1))) after) (sym c.requires.volume.size)
-    (subst (λ (content : List ℕ). AreSame old.size (put old.base (let u : Update = record { target = 0; content = content } in u)) after) c.superblock_of-sector.ensures
+    λ k. subst (λ (a : LogArea). AreSame a.end (put old.base (first_update found.sectors found.nodes (found.run + 1))) after) (c.requires.rests.placed ∙ ap in_front (sym c.requires.volume.size))
+    (subst (λ (content : List ℕ). AreSame old.area.end (put old.base (let u : Update = record { target = 0; content = content } in u)) after) c.superblock_of-sector.ensures
     (c.in_ok-superblock.ensures.ok.ok k)) in
     record {
       still_up = c.in_ok-superblock.ensures.answers.stays_up c.requires.rests.up (λ e. absurd (cc));

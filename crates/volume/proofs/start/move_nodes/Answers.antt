@@ -6,8 +6,11 @@ use Rattle.layout.specs.Stands.{moved_by}
 use Rattle.model_tree.specs.Seats.SeatViews.{seats_view}
 use Rattle.migration.specs.Migrations.{HasMovedAll, MovesSafely}
 use Rattle.volume.specs.Starts.{HasMovedTo}
-use Rattle.volume.proofs.StartLaws.{begins, ends_at_rest, moved_to, moves_safely, one_not_two, or_else_zero, rewritten_moments, so_moves, stay_moved}
+use Rattle.volume.proofs.StartLaws.{begins, ends_at_rest, may_migrate, moved_to, moves_safely, one_not_two, or_else_zero, rewritten_moments, so_moves, stay_moved}
 use Rattle.volume.proofs.start.move_nodes.Goals as goal
+
+pub migrate-requires-clause-rests : goal.migrate-requires-clause-rests
+migrate-requires-clause-rests g c = may_migrate (log_of c.args.journal.now) c.requires.rests
 
 pub returns-in-One-clause-moves : goal.returns-in-One-clause-moves
 returns-in-One-clause-moves g c =
@@ -18,16 +21,16 @@ returns-in-One-clause-moves g c =
     let new : Log = log_of c.migrate.new.journal in
     let told : c.unwrap_or.result ≡ moved_by loaded.mark = c.unwrap_or.ensures ∙ or_else_zero loaded.mark in
     record {
-      size = c.migrate.ensures.size;
-      rests = ends_at_rest new c.migrate.result c.migrate.ensures.rests;
+      size = c.migrate.ensures.place.size;
+      rests = ends_at_rest old new c.migrate.result c.requires.rests.placed c.migrate.ensures.place c.migrate.ensures.rests;
       steps = c.migrate.ensures.steps;
       brief = λ k two. absurd (one_not_two (sym c.in-One.is ∙ two));
       moments = λ k kept stands.
-          moves_safely word found loaded.mark loaded.table (seats_view loaded.seats) loaded.places old new c.requires.volume.size c.in-One.is c.requires.loaded kept stands
+          moves_safely word found loaded.mark loaded.table (seats_view loaded.seats) loaded.places old new c.requires.volume.size c.requires.rests.placed c.in-One.is c.requires.loaded kept stands
           (subst (λ (n : ℕ). MovesSafely n loaded.table old new) told (c.migrate.ensures.moments k) loaded.mark found.run kept.tree
-          (begins word found loaded.mark loaded.table (seats_view loaded.seats) loaded.places old new c.requires.volume.size c.in-One.is c.requires.loaded k kept stands));
+          (begins word found loaded.mark loaded.table (seats_view loaded.seats) loaded.places old new c.requires.volume.size c.requires.rests.placed c.in-One.is c.requires.loaded k kept stands));
       stands = λ k. so_moves c.migrate.result _ _
-          (λ moved. moved_to word found loaded.mark loaded.table (seats_view loaded.seats) loaded.places old new c.requires.volume.size c.in-One.is c.requires.loaded
+          (λ moved. moved_to word found loaded.mark loaded.table (seats_view loaded.seats) loaded.places old new c.requires.volume.size c.requires.rests.placed c.in-One.is c.requires.loaded
           (subst (λ (n : ℕ). HasMovedAll n loaded.table old new) told moved) k)
           (c.migrate.ensures.ok k);
     }
@@ -43,7 +46,7 @@ returns-in-Two-clause-moves g c =
       rests = so_moves c.rewrite.result _ _ (λ is. is.rests) c.rewrite.ensures.ok;
       steps = λ k. so_moves c.rewrite.result _ _ (λ is. omega (arith, is.cost k)) c.rewrite.ensures.ok;
       brief = λ k two. c.rewrite.ensures.brief k;
-      moments = λ k kept stands. rewritten_moments g.D.Device.keeps_word found mark old new c.requires.volume.size c.requires.loaded.marked c.requires.rests.listed
+      moments = λ k kept stands. rewritten_moments g.D.Device.keeps_word found mark old new c.requires.volume.size c.requires.loaded.marked c.requires.rests.listed c.requires.rests.placed
           c.rewrite.ensures.safe k kept stands;
       stands = λ k. so_moves c.rewrite.result _ _
           (λ is kept stands. subst (λ (image : Image). HasMovedTo found mark kept old.base image) (sym (ap (λ (log : Log). log.base) (is.only k)))

@@ -44,7 +44,7 @@ returns-then-is_err-2-clause-safe g c = λ k.
     let is : IsRaised g.D.Device.keeps_word found moved raised = on_ok c.raise.result _ (sym c.is_err.ensures.value ∙ c.if-is_err.false) c.raise.ensures.raised in
     record {
       moments = after_unmark found mark old loaded.marked (loaded.marks k) (c.requires.base k) moved (moves.moments k) (moves.stands k) raised (c.raise.ensures.moments k)
-          (c.requires.volume.size ∙ (sym moves.size ∙ sym c.raise.ensures.size))
+          (c.requires.volume.size ∙ (sym moves.size ∙ sym c.raise.ensures.place.size))
           (λ kept stands. is.stands k _ kept (has_moved found mark old loaded.marked (loaded.marks k) (c.requires.base k)) stands)
           (log_of c.unmark.new.journal).history
           (λ kept stands. c.unmark.ensures.clears.moments k _ found.nodes (found.run + 1) kept (then_marked found.version found.nodes mark c.is_marked.result c.is_marked.ensures) stands);
@@ -64,7 +64,7 @@ returns-clause-safe g c = λ k.
     let is : IsRaised g.D.Device.keeps_word found moved raised = on_ok c.raise.result _ (sym c.is_err.ensures.value ∙ c.if-is_err.false) c.raise.ensures.raised in
     record {
       moments = after_unmark found mark old loaded.marked (loaded.marks k) (c.requires.base k) moved (moves.moments k) (moves.stands k) raised (c.raise.ensures.moments k)
-          (c.requires.volume.size ∙ (sym moves.size ∙ sym c.raise.ensures.size))
+          (c.requires.volume.size ∙ (sym moves.size ∙ sym c.raise.ensures.place.size))
           (λ kept stands. is.stands k _ kept (has_moved found mark old loaded.marked (loaded.marks k) (c.requires.base k)) stands)
           (log_of c.unmark.new.journal).history
           (λ kept stands. c.unmark.ensures.clears.moments k _ found.nodes (found.run + 1) kept (then_marked found.version found.nodes mark c.is_marked.result c.is_marked.ensures) stands);
@@ -88,7 +88,7 @@ returns-clause-started g c =
       rests = on_ok c.unmark.result _ fine c.unmark.ensures.clears.rests;
       serves = λ k. ∥∥₁_map (loaded.stood k) (λ stood.
           serves_from found mark old loaded.marked (loaded.marks k) (c.requires.base k) moved (moves.moments k) (moves.stands k) raised (c.raise.ensures.moments k)
-          (c.requires.volume.size ∙ (sym moves.size ∙ sym c.raise.ensures.size))
+          (c.requires.volume.size ∙ (sym moves.size ∙ sym c.raise.ensures.place.size))
           (λ kept stands. is.stands k _ kept (has_moved found mark old loaded.marked (loaded.marks k) (c.requires.base k)) stands)
           c.args.loaded.now.table (seats_view c.args.loaded.now.seats) new (loaded.read k) stood
           (λ kept stands. on_ok c.unmark.result _ fine (c.unmark.ensures.clears.stands k) _ found.nodes (found.run + 1) kept
@@ -97,7 +97,7 @@ returns-clause-started g c =
       steps = λ k.
           let later : moment raised.history ≤ moment new.history = ∥∥₁_elim (loaded.stood k) (Prim.hlevel props) (λ stood.
           unmark_later found mark old loaded.marked (loaded.marks k) (c.requires.base k) moved (moves.moments k) (moves.stands k) raised (c.raise.ensures.moments k)
-          (c.requires.volume.size ∙ (sym moves.size ∙ sym c.raise.ensures.size))
+          (c.requires.volume.size ∙ (sym moves.size ∙ sym c.raise.ensures.place.size))
           (λ kept stands. is.stands k _ kept (has_moved found mark old loaded.marked (loaded.marks k) (c.requires.base k)) stands)
           new.history
           (λ kept stands. c.unmark.ensures.clears.moments k _ found.nodes (found.run + 1) kept (then_marked found.version found.nodes mark c.is_marked.result c.is_marked.ensures) stands)

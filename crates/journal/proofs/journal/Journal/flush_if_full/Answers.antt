@@ -15,9 +15,8 @@ same : (g : Over) (c : After-fits g) → length (gathered c.deref.result.now (ta
     ≡ length (gathered [] (sectors_of (listed c.args.self.now.pending.items ++ c.args.updates.now ∷ [])))
 same g c =
     let was = c.args.self.now in
-    let size = g.D.Device.size was.device in
     ap (λ (ts : List ℕ). length ts) (together was.pending.items c.args.updates.now c.deref.result.now (c.deref.ensures.value ∙ was.sectors_are)
-    (Apart-Fit size (targets was.pending.items) (Fit-of size (targets was.pending.items) was.fit)))
+    (Apart-Fit was.area.end (targets was.pending.items) (Fit-of was.area.end (targets was.pending.items) was.fit)))
 
 pub fits-requires-clause-few : goal.fits-requires-clause-few
 fits-requires-clause-few g c = omega (
@@ -61,6 +60,7 @@ returns-clause-kept g c = λ fit.
     absurd (let over : c.fits.result ≡ false = c.if-fits.false in cc)
 
 pub returns-clause-room : goal.returns-clause-room
+unfolding log_of
 returns-clause-room g c =
     let now = c.flush_pending.new.self in
     omega (
@@ -70,4 +70,5 @@ returns-clause-room g c =
       ap (λ us. length (targets us)) c.in_ok-flush_pending.ensures.emptied,
       length-targets c.args.updates.now,
       c.requires.short,
+      c.args.self.now.is_area.room,
     )

@@ -19,47 +19,47 @@ use Rattle.journal.proofs.journal.Journal.flush_pending.Goals as goal
 use Rattle.journal.proofs.journal.Journal.flush_pending.Given.{Over}
 use Rattle.journal.proofs.journal.Journal.flush_pending.Goals.{After-is_err, After-take_over}
 
-stored : (g : Over) (c : After-is_err g) → g.D.Device.keeps_word → IsStored c.args.self.now.recorded (g.D.Device.history c.args.self.now.device)
+stored : (g : Over) (c : After-is_err g) → g.D.Device.keeps_word → IsStored c.args.self.now.area c.args.self.now.recorded (g.D.Device.history c.args.self.now.device)
 unfolding log_of
-stored g c k = stored_of c.args.self.now.recorded (g.D.Device.history c.args.self.now.device) (c.args.self.now.rests k c.requires)
+stored g c k = stored_of c.args.self.now.area c.args.self.now.recorded (g.D.Device.history c.args.self.now.device) (c.args.self.now.rests k c.requires)
     (c.args.self.now.gate_is k c.requires) (c.args.self.now.payload k c.requires)
 
 done : (g : Over) (c : After-is_err g) → c.is_err.result ≡ false → g.D.Device.keeps_word
-    → IsCommitted (g.D.Device.size c.args.self.now.device) c.args.self.now.pending.items c.args.self.now.recorded.targets.items c.commit.new.recorded.targets.items c.commit.new.recorded.updates.items
+    → IsCommitted c.args.self.now.area c.args.self.now.pending.items c.args.self.now.recorded.targets.items c.commit.new.recorded.targets.items c.commit.new.recorded.updates.items
     (g.D.Device.history c.args.self.now.device) (g.D.Device.history c.commit.new.device)
-done g c e k = committed_at c.commit.result (g.D.Device.size c.args.self.now.device) c.deref-2.result.now c.args.self.now.pending.items
+done g c e k = committed_at c.commit.result c.args.self.now.area c.deref-2.result.now c.args.self.now.pending.items
     c.args.self.now.recorded.targets.items c.commit.new.recorded.targets.items c.commit.new.recorded.updates.items
     (g.D.Device.history c.args.self.now.device) (g.D.Device.history c.commit.new.device)
     (sym c.is_err.ensures.value ∙ e) c.deref-2.ensures.value (c.commit.ensures.ok k (stored g c k))
 
 -- which sectors are shown then, and of which of them the updates are kept
 shown : (g : Over) (c : After-is_err g) → c.is_err.result ≡ false
-    → (c.commit.new.recorded.targets.items ≡ way_for c.args.self.now.recorded.targets.items c.deref.result.now ++ c.deref.result.now)
-    × (targets c.commit.new.recorded.updates.items ≡ way_for c.args.self.now.recorded.targets.items c.deref.result.now)
+    → (c.commit.new.recorded.targets.items ≡ way_for c.args.self.now.area c.args.self.now.recorded.targets.items c.deref.result.now ++ c.deref.result.now)
+    × (targets c.commit.new.recorded.updates.items ≡ way_for c.args.self.now.area c.args.self.now.recorded.targets.items c.deref.result.now)
 shown g c e = on_ok c.commit.result (sym c.is_err.ensures.value ∙ e) c.commit.ensures.shown
 
 same : (g : Over) (c : After-take_over g)
-    → AreSame (g.D.Device.size c.args.self.now.device)
-    (applied c.args.self.now.pending.items (through c.args.self.now.recorded.targets.items (seen (g.D.Device.history c.args.self.now.device).now)))
-    (through c.commit.new.recorded.targets.items (seen (g.D.Device.history c.commit.new.device).now))
-    → AreSame (g.D.Device.size c.args.self.now.device)
-    (applied c.args.self.now.pending.items (through c.args.self.now.recorded.targets.items (seen (g.D.Device.history c.args.self.now.device).now)))
-    (through c.take_over.new.self.targets.items (seen (g.D.Device.history c.commit.new.device).now))
+    → AreSame c.args.self.now.area.end
+    (applied c.args.self.now.pending.items (through c.args.self.now.area c.args.self.now.recorded.targets.items (seen (g.D.Device.history c.args.self.now.device).now)))
+    (through c.args.self.now.area c.commit.new.recorded.targets.items (seen (g.D.Device.history c.commit.new.device).now))
+    → AreSame c.args.self.now.area.end
+    (applied c.args.self.now.pending.items (through c.args.self.now.area c.args.self.now.recorded.targets.items (seen (g.D.Device.history c.args.self.now.device).now)))
+    (through c.args.self.now.area c.take_over.new.self.targets.items (seen (g.D.Device.history c.commit.new.device).now))
 same g c before n kept =
     before n kept
-    ∙ ap (λ (to : Vec ℕ). through to.items (seen (g.D.Device.history c.commit.new.device).now) n) (sym c.take_over.ensures.targets)
+    ∙ ap (λ (to : Vec ℕ). through c.args.self.now.area to.items (seen (g.D.Device.history c.commit.new.device).now) n) (sym c.take_over.ensures.targets)
 
 moments : (g : Over) (c : After-is_err g) → g.D.Device.keeps_word
-    → AddsOnly (StandsForFront (g.D.Device.size c.args.self.now.device) (through c.args.self.now.recorded.targets.items (seen (g.D.Device.history c.args.self.now.device).now)) (listed c.args.self.now.pending.items))
+    → AddsOnly (StandsForFront c.args.self.now.area (through c.args.self.now.area c.args.self.now.recorded.targets.items (seen (g.D.Device.history c.args.self.now.device).now)) (listed c.args.self.now.pending.items))
     (g.D.Device.history c.args.self.now.device) (g.D.Device.history c.commit.new.device)
 unfolding log_of
 moments g c k =
-    let size = g.D.Device.size c.args.self.now.device in
+    let area = c.args.self.now.area in
     let h = g.D.Device.history c.args.self.now.device in
     let h1 = g.D.Device.history c.commit.new.device in
-    let base = through c.args.self.now.recorded.targets.items (seen h.now) in
-    fronts_either size c.args.self.now.pending.items base h h1
-    (either_at size c.deref-2.result.now c.args.self.now.pending.items base h h1 c.deref-2.ensures.value
+    let base = through c.args.self.now.area c.args.self.now.recorded.targets.items (seen h.now) in
+    fronts_either area c.args.self.now.pending.items base h h1
+    (either_at area c.deref-2.result.now c.args.self.now.pending.items base h h1 c.deref-2.ensures.value
     (c.commit.ensures.moments k (stored g c k)))
 
 pub returns-then-is_err-clause-part : goal.returns-then-is_err-clause-part
@@ -67,6 +67,7 @@ unfolding log_of journal_failures
 returns-then-is_err-clause-part g c = record {
   moments = λ k. moments g (goal.at.returns-then-is_err-clause-part g c).After-is_err k;
   brief = λ k. c.commit.ensures.brief k;
+  area = search rules;
   size = search rules;
   is_down = search rules;
   failures = search rules;
@@ -77,6 +78,7 @@ unfolding log_of journal_failures
 returns-clause-part g c = record {
   moments = λ k. moments g (goal.at.returns-clause-part g c).After-is_err k;
   brief = λ k. c.commit.ensures.brief k;
+  area = search rules;
   size = search rules;
   is_down = search rules;
   failures = search rules;
@@ -91,9 +93,9 @@ returns-clause-gate g c =
     c.deref.ensures.value ∙ was.sectors_are ∙ sym (listed_sectors_are was.pending.items) in
     record {
       shown = ap (λ (to : Vec ℕ). to.items) c.take_over.ensures.targets ∙ (shown g at c.if-is_err.false).0
-          ∙ ap (λ (ts : List ℕ). way_for was.recorded.targets.items ts ++ ts) named;
+          ∙ ap (λ (ts : List ℕ). way_for was.area was.recorded.targets.items ts ++ ts) named;
       cost = λ k. (done g at c.if-is_err.false k).cost
-          ∙ ap (λ (n : ℕ). moment (g.D.Device.history was.device) + n) (sym (listed_cost was.recorded.targets.items was.pending.items
+          ∙ ap (λ (n : ℕ). moment (g.D.Device.history was.device) + n) (sym (listed_cost was.area was.recorded.targets.items was.pending.items
           (λ none. not_empty _ _ c.is_empty.ensures c.if-is_empty.false
           (was.pending.ok.0 ∙ none))));
     }
@@ -103,18 +105,19 @@ unfolding log_of
 invariant_of-self-2-clause-cached g c = λ k up.
     let at = (goal.at.invariant_of-self-2-clause-cached g c).After-is_err in
     let was = c.args.self.now in
-    copies_flushed (g.D.Device.size was.device) (g.D.Device.size c.commit.new.device) was.pending.items c.take_over.new.updates.items
-    (through was.recorded.targets.items (seen (g.D.Device.history was.device).now)) (through c.take_over.new.self.targets.items (seen (g.D.Device.history c.commit.new.device).now))
-    was.cache.sectors.entries c.commit.ensures.size c.take_over.ensures.emptied (same g (goal.at.invariant_of-self-2-clause-cached g c).After-take_over (done g at c.if-is_err.false k).same) (was.cached k c.requires)
+    copies_flushed was.area.end was.pending.items c.take_over.new.updates.items
+    (through was.area was.recorded.targets.items (seen (g.D.Device.history was.device).now)) (through c.args.self.now.area c.take_over.new.self.targets.items (seen (g.D.Device.history c.commit.new.device).now))
+    was.cache.sectors.entries c.take_over.ensures.emptied (same g (goal.at.invariant_of-self-2-clause-cached g c).After-take_over (done g at c.if-is_err.false k).same) (was.cached k c.requires)
 
-pub take_over-requires-clause-few : goal.take_over-requires-clause-few
-take_over-requires-clause-few g c =
-    let kept = (shown g (goal.at.take_over-requires-clause-few g c).After-is_err c.if-is_err.false) in
+pub take_over-requires : goal.take_over-requires
+take_over-requires g c =
+    let kept = (shown g (goal.at.take_over-requires g c).After-is_err c.if-is_err.false) in
     omega (
       arith,
-      c.commit.ensures.kept.few,
+      c.commit.ensures.kept.fits.few,
+      c.commit.ensures.kept.updates_room,
       ap (λ (ts : List ℕ). length ts) kept.0,
-      length-append (way_for c.args.self.now.recorded.targets.items c.deref.result.now) c.deref.result.now,
+      length-append (way_for c.args.self.now.area c.args.self.now.recorded.targets.items c.deref.result.now) c.deref.result.now,
       ap (λ (ts : List ℕ). length ts) kept.1,
       length-targets c.commit.new.recorded.updates.items,
       ap (λ (ts : List ℕ). length ts) (c.deref.ensures.value ∙ c.args.self.now.sectors_are),
@@ -132,6 +135,6 @@ pub invariant_of-self-2-clause-payload : goal.invariant_of-self-2-clause-payload
 unfolding log_of
 invariant_of-self-2-clause-payload g c = λ k up.
     let at = (goal.at.invariant_of-self-2-clause-payload g c).After-is_err in
-    ap (λ (to : Vec ℕ). copies (seen (g.D.Device.history c.commit.new.device).now) 2 to.items) c.take_over.ensures.targets
+    ap (λ (to : Vec ℕ). copies (seen (g.D.Device.history c.commit.new.device).now) c.args.self.now.area.first to.items) c.take_over.ensures.targets
     ∙ (done g at c.if-is_err.false k).payload
     ∙ sym c.take_over.ensures.items

@@ -25,7 +25,7 @@ pub returns-in-Some-clause-ok : goal.returns-in-Some-clause-ok
 unfolding log_of
 returns-in-Some-clause-ok g c = λ k.
     let last = found g (goal.at.returns-in-Some-clause-ok g c).In-Some in
-    let base = through c.args.self.now.recorded.targets.items (seen (g.D.Device.history c.args.self.now.device).now) in
+    let base = through c.args.self.now.area c.args.self.now.recorded.targets.items (seen (g.D.Device.history c.args.self.now.device).now) in
     let items = c.args.self.now.pending.items in
     ap (λ (u : Update). u.content) (c.index.ensures ∙ get_or_default items c.in-Some.place c.index.result.now no_update last.there)
     ∙ sym (applied_last items c.in-Some.place c.args.n base last.there last.is last.last)
@@ -44,10 +44,10 @@ unfolding log_of
 returns-then-get-2-clause-ok g c = λ k.
     let was = c.args.self.now in
     let h = g.D.Device.history was.device in
-    let base = through was.recorded.targets.items (seen h.now) in
+    let base = through was.area was.recorded.targets.items (seen h.now) in
     c.get-2.ensures.found c.if-get-2.true (seen h.now)
-    ∙ recorded_at (g.D.Device.size was.device) was.recorded.targets.items was.recorded.updates.items h c.args.n
-    was.shown_fits.few was.shown_fits.fit (was.gate_is k c.if-self.false) (was.payload k c.if-self.false)
+    ∙ recorded_at was.area was.is_area was.recorded.targets.items was.recorded.updates.items h c.args.n
+    was.shown_has.fits.few was.shown_has.fits.fit (was.gate_is k c.if-self.false) (was.payload k c.if-self.false)
     ∙ sym (alone g (goal.at.returns-then-get-2-clause-ok g c).In_default base)
     ∙ ap (λ (f : Image). f c.args.n) (sym (listed_applied was.pending.items base))
 
@@ -57,22 +57,22 @@ invariant_of-self-then-get-2-clause-cached g c = λ k up. copies_among _ _ _ _ (
 
 pub invariant_of-self-2-clause-payload : goal.invariant_of-self-2-clause-payload
 invariant_of-self-2-clause-payload g c = λ k up.
-    ap (λ (h : History). copies (seen h.now) 2 c.args.self.now.recorded.targets.items) c.read.ensures.history
+    ap (λ (h : History). copies (seen h.now) c.args.self.now.area.first c.args.self.now.recorded.targets.items) c.read.ensures.history
     ∙ c.args.self.now.payload k c.if-self.false
 
 -- what was read is what the base has
 found_there : (g : Over) (c : After-is_err g) → c.is_err.result ≡ false → g.D.Device.keeps_word
-    → c.read.new.content ≡ through c.args.self.now.recorded.targets.items (seen (g.D.Device.history c.args.self.now.device).now) c.args.n
+    → c.read.new.content ≡ through c.args.self.now.area c.args.self.now.recorded.targets.items (seen (g.D.Device.history c.args.self.now.device).now) c.args.n
 found_there g c up k =
     let to = c.args.self.now.recorded.targets.items in
     let none = (c.get-2.ensures.missing c.if-get-2.false).0 in
     on_ok c.read.result (sym c.is_err.ensures.value ∙ up) (c.read.ensures.ok k)
-    ∙ ap (λ (place : ℕ). seen (g.D.Device.history c.args.self.now.device).now place) (sym (home_of_out to 2 c.args.n (not_has-out to c.args.n none)))
+    ∙ ap (λ (place : ℕ). seen (g.D.Device.history c.args.self.now.device).now place) (sym (home_of_out to c.args.self.now.area.first c.args.n (not_has-out to c.args.n none)))
 
 pub returns-clause-ok : goal.returns-clause-ok
 unfolding log_of
 returns-clause-ok g c = λ k.
-    let base = through c.args.self.now.recorded.targets.items (seen (g.D.Device.history c.args.self.now.device).now) in
+    let base = through c.args.self.now.area c.args.self.now.recorded.targets.items (seen (g.D.Device.history c.args.self.now.device).now) in
     let items = c.args.self.now.pending.items in
     found_there g (goal.at.returns-clause-ok g c).After-is_err c.if-is_err.false k
     ∙ sym (alone g (goal.at.returns-clause-ok g c).In_default base)
@@ -81,7 +81,7 @@ returns-clause-ok g c = λ k.
 pub returns-then-get-clause-ok : goal.returns-then-get-clause-ok
 unfolding log_of
 returns-then-get-clause-ok g c = λ k.
-    let base = through c.args.self.now.recorded.targets.items (seen (g.D.Device.history c.args.self.now.device).now) in
+    let base = through c.args.self.now.area c.args.self.now.recorded.targets.items (seen (g.D.Device.history c.args.self.now.device).now) in
     let items = c.args.self.now.pending.items in
     ((c.args.self.now.cached k c.if-self.false).each c.args.n c.get.new.content (c.get.ensures.found c.if-get.true)).2
     ∙ ap (λ (f : Image). f c.args.n) (sym (listed_applied items base))
@@ -94,10 +94,10 @@ pub invariant_of-self-2-clause-cached : goal.invariant_of-self-2-clause-cached
 unfolding log_of
 invariant_of-self-2-clause-cached g c = λ k up.
     let was = c.args.self.now in
-    let base = through was.recorded.targets.items (seen (g.D.Device.history was.device).now) in
-    copies_more (g.D.Device.size was.device) (g.D.Device.size c.read.new.self) c.args.n was.pending.items was.recorded.targets.items
+    let base = through was.area was.recorded.targets.items (seen (g.D.Device.history was.device).now) in
+    copies_more was.area c.args.n was.pending.items was.recorded.targets.items
     (g.D.Device.history was.device) (g.D.Device.history c.read.new.self) c.read.new.content c.get.new.self.sectors.entries c.keep.new.self.sectors.entries
-    c.read.ensures.size c.read.ensures.history
-    (copies_among _ _ _ _ (was.cached k c.if-self.false) c.get.ensures.among) c.keep.ensures c.requires
+    c.read.ensures.history
+    (copies_among _ _ _ _ (was.cached k c.if-self.false) c.get.ensures.among) c.keep.ensures
     (found_there g (goal.at.invariant_of-self-2-clause-cached g c).After-is_err c.if-is_err.false k
     ∙ sym (alone g (goal.at.invariant_of-self-2-clause-cached g c).In_default base))

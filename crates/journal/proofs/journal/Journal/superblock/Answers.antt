@@ -7,7 +7,7 @@ use Rattle.journal.specs.Phase.{IsGated, IsFixedAs}
 use Rattle.journal.specs.Journal.{log_of}
 use Rattle.journal.proofs.Cachings.{copies_beside}
 use Rattle.journal.proofs.Fronts.{listed_applied, settled_of}
-use Rattle.journal.proofs.Journals.{gated_of, on_ok, same_fit}
+use Rattle.journal.proofs.Journals.{gated_of, on_ok}
 use Rattle.journal.proofs.Stages.{Fit-of}
 use Rattle.journal.proofs.Superblocks.{superblock_moments, superblock_base, superblock_contents, superblock_gated, superblock_payload}
 use Rattle.journal.proofs.journal.Journal.superblock.Goals as goal
@@ -25,47 +25,45 @@ fixed g c e k = on_ok c.write_sector.result (sym c.is_err.ensures.value ∙ e) (
 pub returns-then-is_err-clause-moments : goal.returns-then-is_err-clause-moments
 unfolding log_of
 returns-then-is_err-clause-moments g c = λ k.
-    let size = g.D.Device.size c.args.self.now.device in
-    superblock_moments size c.args.self.now.recorded.targets.items c.args.content.now
-    (g.D.Device.history c.args.self.now.device) (g.D.Device.history c.write_sector.new.device) c.args.self.now.shown_fits.few c.args.self.now.shown_fits.fit
+    superblock_moments c.args.self.now.area c.args.self.now.is_area c.args.self.now.recorded.targets.items c.args.content.now
+    (g.D.Device.history c.args.self.now.device) (g.D.Device.history c.write_sector.new.device) c.args.self.now.shown_has.fits.few c.args.self.now.shown_has.fits.fit
     (gated g (goal.at.returns-then-is_err-clause-moments g c).After-is_err k) (c.write_sector.ensures.moments k)
 
 pub returns-clause-moments : goal.returns-clause-moments
 unfolding log_of
 returns-clause-moments g c = λ k.
-    let size = g.D.Device.size c.args.self.now.device in
-    superblock_moments size c.args.self.now.recorded.targets.items c.args.content.now
-    (g.D.Device.history c.args.self.now.device) (g.D.Device.history c.write_sector.new.device) c.args.self.now.shown_fits.few c.args.self.now.shown_fits.fit
+    superblock_moments c.args.self.now.area c.args.self.now.is_area c.args.self.now.recorded.targets.items c.args.content.now
+    (g.D.Device.history c.args.self.now.device) (g.D.Device.history c.write_sector.new.device) c.args.self.now.shown_has.fits.few c.args.self.now.shown_has.fits.fit
     (gated g (goal.at.returns-clause-moments g c).After-is_err k) (c.write_sector.ensures.moments k)
 
 base : (g : Over) (c : After-is_err g) → c.is_err.result ≡ false → g.D.Device.keeps_word
     → (let u : Update = record { target = 0; content = c.args.content.now } in
-    AreSame (g.D.Device.size c.args.self.now.device) (put (through c.args.self.now.recorded.targets.items (seen (g.D.Device.history c.args.self.now.device).now)) u)
-    (through c.args.self.now.recorded.targets.items (seen (g.D.Device.history c.write_sector.new.device).now)))
+    AreSame c.args.self.now.area.end (put (through c.args.self.now.area c.args.self.now.recorded.targets.items (seen (g.D.Device.history c.args.self.now.device).now)) u)
+    (through c.args.self.now.area c.args.self.now.recorded.targets.items (seen (g.D.Device.history c.write_sector.new.device).now)))
 base g c e k =
-    superblock_base (g.D.Device.size c.args.self.now.device) c.args.self.now.recorded.targets.items c.args.content.now
-    (g.D.Device.history c.args.self.now.device) (g.D.Device.history c.write_sector.new.device) c.args.self.now.shown_fits.few c.args.self.now.shown_fits.fit
+    superblock_base c.args.self.now.area c.args.self.now.is_area c.args.self.now.recorded.targets.items c.args.content.now
+    (g.D.Device.history c.args.self.now.device) (g.D.Device.history c.write_sector.new.device) c.args.self.now.shown_has.fits.few c.args.self.now.shown_has.fits.fit
     (gated g c k) (fixed g c e k)
 
 pub returns-clause-ok : goal.returns-clause-ok
 unfolding log_of
 returns-clause-ok g c =
     let at = (goal.at.returns-clause-ok g c).After-is_err in
-    let size = g.D.Device.size c.args.self.now.device in
+    let area = c.args.self.now.area in
     let list = c.args.self.now.pending.items in
-    let was = through c.args.self.now.recorded.targets.items (seen (g.D.Device.history c.args.self.now.device).now) in
-    let now = through c.args.self.now.recorded.targets.items (seen (g.D.Device.history c.write_sector.new.device).now) in
+    let was = through area c.args.self.now.recorded.targets.items (seen (g.D.Device.history c.args.self.now.device).now) in
+    let now = through area c.args.self.now.recorded.targets.items (seen (g.D.Device.history c.write_sector.new.device).now) in
     record {
       ok = λ k. base g at c.if-is_err.false k;
       contents = λ k n kept.
           let u : Update = record { target = 0; content = c.args.content.now } in
           ap (λ (f : Image). put f u n) (listed_applied list was)
-          ∙ superblock_contents size list was now c.args.content.now (Fit-of size (targets list) c.args.self.now.fit) (base g at c.if-is_err.false k) n kept
+          ∙ superblock_contents area.end list was now c.args.content.now (Fit-of area.end (targets list) c.args.self.now.fit) (base g at c.if-is_err.false k) n kept
           ∙ ap (λ (f : Image). f n) (sym (listed_applied list now));
-      settled = λ k. settled_of (g.D.Device.size c.write_sector.new.device) c.args.self.now.recorded.targets.items (g.D.Device.history c.write_sector.new.device)
-          c.args.self.now.shown_fits.few (same_fit size _ c.args.self.now.recorded.targets.items c.write_sector.ensures.size c.args.self.now.shown_fits.fit)
-          (superblock_gated size c.args.self.now.recorded.targets.items c.args.content.now (g.D.Device.history c.args.self.now.device) (g.D.Device.history c.write_sector.new.device)
-          c.args.self.now.shown_fits.few c.args.self.now.shown_fits.fit (gated g at k) (fixed g at c.if-is_err.false k));
+      settled = λ k. settled_of area c.args.self.now.is_area c.args.self.now.recorded.targets.items (g.D.Device.history c.write_sector.new.device)
+          c.args.self.now.shown_has.fits.few c.args.self.now.shown_has.fits.fit
+          (superblock_gated area c.args.self.now.is_area c.args.self.now.recorded.targets.items c.args.content.now (g.D.Device.history c.args.self.now.device) (g.D.Device.history c.write_sector.new.device)
+          c.args.self.now.shown_has.fits.few c.args.self.now.shown_has.fits.fit (gated g at k) (fixed g at c.if-is_err.false k));
       cost = λ k. (fixed g at c.if-is_err.false k).cost;
     }
 
@@ -73,16 +71,16 @@ pub invariant_of-self-2-clause-cached : goal.invariant_of-self-2-clause-cached
 unfolding log_of
 invariant_of-self-2-clause-cached g c = λ k up.
     let at = (goal.at.invariant_of-self-2-clause-cached g c).After-is_err in
-    copies_beside (g.D.Device.size c.args.self.now.device) (g.D.Device.size c.write_sector.new.device) c.args.self.now.pending.items
-    (through c.args.self.now.recorded.targets.items (seen (g.D.Device.history c.args.self.now.device).now))
-    (through c.args.self.now.recorded.targets.items (seen (g.D.Device.history c.write_sector.new.device).now))
-    c.args.content.now c.args.self.now.cache.sectors.entries c.write_sector.ensures.size (base g at c.if-is_err.false k) (c.args.self.now.cached k c.if-self.false)
+    copies_beside c.args.self.now.area.end c.args.self.now.pending.items
+    (through c.args.self.now.area c.args.self.now.recorded.targets.items (seen (g.D.Device.history c.args.self.now.device).now))
+    (through c.args.self.now.area c.args.self.now.recorded.targets.items (seen (g.D.Device.history c.write_sector.new.device).now))
+    c.args.content.now c.args.self.now.cache.sectors.entries (base g at c.if-is_err.false k) (c.args.self.now.cached k c.if-self.false)
 
 pub invariant_of-self-2-clause-payload : goal.invariant_of-self-2-clause-payload
 unfolding log_of
 invariant_of-self-2-clause-payload g c = λ k up.
     let at = (goal.at.invariant_of-self-2-clause-payload g c).After-is_err in
-    superblock_payload (g.D.Device.size c.args.self.now.device) c.args.self.now.recorded.targets.items c.args.content.now
+    superblock_payload c.args.self.now.area c.args.self.now.is_area c.args.self.now.recorded.targets.items c.args.content.now
     (g.D.Device.history c.args.self.now.device) (g.D.Device.history c.write_sector.new.device)
-    c.args.self.now.shown_fits.few c.args.self.now.shown_fits.fit (gated g at k) (fixed g at c.if-is_err.false k)
+    c.args.self.now.shown_has.fits.few c.args.self.now.shown_has.fits.fit (gated g at k) (fixed g at c.if-is_err.false k)
     ∙ c.args.self.now.payload k c.if-self.false

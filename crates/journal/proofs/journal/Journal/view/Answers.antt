@@ -1,15 +1,12 @@
-use Rattle.std.proofs.Common.{◌∙◌, arith, ℕ, List, ap}
-use Rattle.journal.specs.Viewed.{viewed}
-use Rattle.journal.proofs.Viewing.{through_gate}
+use Rattle.std.proofs.Common.{◌≡◌, ◌∙◌, IfErr, ap, subst}
+use Rattle.journal.specs.Layout.{in_front}
+use Rattle.journal.specs.Viewed.{HasNoForm}
+use Rattle.journal.specs.declared.fault.JournalFault.TheVariants as fault
+use Rattle.journal.specs.declared.layout.LogArea.{LogArea}
 use Rattle.journal.proofs.journal.Journal.view.Goals as goal
 
-pub returns-clause-viewed : goal.returns-clause-viewed
-returns-clause-viewed g c = λ k.
-    let D = g.D.Device in
-    let size = D.size c.args.device.now in
-    let h = D.history c.args.device.now in
-    let to = c.read_gate.new.named.items in
-    through_gate size h to (omega arith) c.in_default.ensures.named.0 c.in_default.ensures.named.1 (c.in_default.ensures.gate_is k)
-    (λ n within. g.met.D.Device.holds_sectors k c.args.device.now n within) _
-    (c.new.ensures.view ∙ (ap (λ (ts : List ℕ). viewed ts (D.size c.read_gate.new.device) (D.history c.read_gate.new.device)) c.deref.ensures.value
-    ∙ (ap (λ (n : ℕ). viewed to n (D.history c.read_gate.new.device)) c.read_gate.ensures.reads.1 ∙ ap (viewed to size) c.read_gate.ensures.reads.0)))
+pub returns-clause-damaged : goal.returns-clause-damaged
+returns-clause-damaged g c = subst
+    (λ (area : LogArea). g.D.Device.keeps_word
+    → IfErr c.view_in.result (λ refused. refused.fault ≡ fault.Damaged → HasNoForm area (g.D.Device.history c.args.device.now)))
+    (c.in_front-area.ensures ∙ ap in_front c.sectors.ensures) c.view_in.ensures.damaged

@@ -51,6 +51,7 @@ invariant_of-result g c =
       known = subst (λ (n : ℕ). AreKnownNodes n c.of_volume.result.nodes cards loaded.places) size
           (subst (λ (n : ℕ). AreKnownNodes found.sectors n cards loaded.places) (sym nodes) c.in-Ok.ensures.loaded.known);
       named = c.in-Ok.ensures.parents;
+      placed = c.in-Ok-start.ensures.started.rests.placed;
       serves = λ k up. subst (λ (n : ℕ). ∥ IsServing new n (found.run + 1) cards ∥₁) (sym nodes)
           (begun_serving word found old mid new loaded.mark cards (seats_view loaded.seats) loaded.places c.in-Ok.ensures.loaded c.in-Ok-start.ensures.started c.in-Ok.ensures.loads.only (sym c.requires.volume.size) c.start.ensures.size k);
     }

@@ -1,10 +1,12 @@
-use Rattle.std.proofs.Common.{◌≡◌, ◌≤◌, ◌+◌, ◌∙◌, ℕ, false, List, Option, length, refl, sym, ap, subst, arith}
+use Rattle.std.proofs.Common.{◌≡◌, ◌≤◌, ◌+◌, ◌*◌, ◌∙◌, ℕ, false, List, Option, length, refl, sym, ap, subst, arith}
 use Rattle.std.specs.Prelude.{IsTrue, Err}
 use Rattle.tree_edits.specs.Outcomes.{cards_after}
 use Rattle.tree_edits.proofs.BlankLaws.{each_outline}
+use Rattle.disk.specs.Moments.{moment}
 use Rattle.journal.specs.Calls.{IsSafe, HasApplied}
 use Rattle.journal.specs.Journal.{log_of, journal_failures}
 use Rattle.journal.specs.Layout.{AreTargets, targets}
+use Rattle.journal.specs.declared.layout.LogArea.{LogArea}
 use Rattle.journal.specs.Log.{Log, AnswersByDevice, MakesAtMost, contents}
 use Rattle.layout.specs.CachedNodes.{CachedNode}
 use Rattle.layout.specs.Health.{Health}
@@ -22,7 +24,8 @@ use Rattle.volume.specs.Views.{volume_state_by, volume_state, volume_failures}
 use Rattle.volume.proofs.ApplyLaws.{applied_serves, applied_tree, apply_done, apply_refused}
 use Rattle.volume.proofs.ChangeLaws.{behind_serving, formed_after, journal_targets, known_after, log_same, may_settle, outline_after, parents_behind}
 use Rattle.volume.proofs.EditLaws.{front_room, outline_doable, outline_few}
-use Rattle.volume.proofs.ServeLaws.{told_err}
+use Rattle.volume.proofs.ServeLaws.{few_in_front, told_err}
+use Rattle.volume.proofs.StandLaws.{placed_on}
 use Rattle.model_tree.specs.Trees.Stamp.{stamp}
 use Rattle.tree_edits.specs.Outlines.{tree_without_data}
 use Rattle.volume.proofs.KeepLaws.{left}
@@ -66,7 +69,7 @@ apply-requires g c =
     let old : Log = log_of c.args.self.now.store.journal in
     let mid : Log = log_of c.outcome_of.new.base.journal in
     subst (λ (n : ℕ). AreTargets n (targets c.in_ok-outcome.outcome.updates.items))
-    (ap (λ (log : Log). log.size) (sym c.in_ok-outcome.ensures.kept))
+    (ap (λ (area : LogArea). area.end) (sym c.args.self.now.placed) ∙ ap (λ (log : Log). log.area.end) (sym c.in_ok-outcome.ensures.kept))
     (journal_targets old.size c.in_ok-outcome.outcome.updates.items c.in_ok-outcome.ensures.done.targets)
 
 pub settle-requires : goal.settle-requires
@@ -92,8 +95,7 @@ returns-in_err-apply-clause-volume g c =
     let up : old.is_down ≡ false = sym c.is_down.ensures ∙ c.if-is_down.false in
     let short : length c.in_ok-outcome.outcome.updates.items ≤ 48 = omega (arith, c.requires.change.few, c.in_ok-outcome.ensures.done.count) in
     rw told (apply_refused word volume.limits volume.run volume.table old new (edited_by (volume_state_by volume.limits volume.run volume.table old) c.args.edits.now) _ _ fault
-    (subst (λ (log : Log). IsSafe word log new) same c.in_err-apply.ensures.safe)
-    up
+    (subst (λ (log : Log). IsSafe word log new) same c.in_err-apply.ensures.safe) volume.placed up
     (λ many. (let bound = (c.in_err-apply.ensures.too_many (ap (λ (log : Log). log.is_down) same ∙ up)).0 (ap (λ x. Err x) many) in omega (arith, bound, short)))
     (subst (λ (log : Log). AnswersByDevice {T = Unit {0}} log new (journal_failures volume.store.journal) (journal_failures c.apply.new.self) (Err fault)) same
     (subst (λ (n : ℕ). AnswersByDevice {T = Unit {0}} mid new n (journal_failures c.apply.new.self) (Err fault)) failed c.in_err-apply.ensures.answers))
@@ -107,7 +109,8 @@ returns-in_err-apply-clause-brief g c = λ k.
     let new : Log = log_of c.apply.new.self in
     let health = c.in_ok-outcome.ensures.health.stays (λ faulted. cc) in
     let same : mid ≡ old = log_same old mid c.in_ok-outcome.ensures.kept (ap (λ (h : Health). h.is_down) health) in
-    subst (λ (log : Log). MakesAtMost 198 log new) same (c.in_err-apply.ensures.safe.brief k)
+    few_in_front old.area old.size (moment old.history) (moment new.history) c.args.self.now.placed
+    (subst (λ (log : Log). MakesAtMost (2 * (log.area.sectors + 3)) log new) same (c.in_err-apply.ensures.safe.brief k))
 
 pub returns-clause-brief : goal.returns-clause-brief
 unfolding volume_state
@@ -117,7 +120,8 @@ returns-clause-brief g c = λ k.
     let new : Log = log_of c.apply.new.self in
     let health = c.in_ok-outcome.ensures.health.stays (λ faulted. cc) in
     let same : mid ≡ old = log_same old mid c.in_ok-outcome.ensures.kept (ap (λ (h : Health). h.is_down) health) in
-    subst (λ (log : Log). MakesAtMost 198 log new) same (c.in_ok-apply.ensures.safe.brief k)
+    few_in_front old.area old.size (moment old.history) (moment new.history) c.args.self.now.placed
+    (subst (λ (log : Log). MakesAtMost (2 * (log.area.sectors + 3)) log new) same (c.in_ok-apply.ensures.safe.brief k))
 
 pub returns-in_err-apply-clause-stays : goal.returns-in_err-apply-clause-stays
 unfolding volume_state
@@ -159,6 +163,7 @@ invariant_of-self-2 g c =
       known = subst (λ (cards : List (Option CachedNode)). AreKnownNodes new.size nodes cards outcome.places) settled
           (subst (λ (n : ℕ). AreKnownNodes n nodes (cards_after volume.table outcome) outcome.places) size
           (known_after word volume.limits volume.run old volume.table volume.places edits outcome c.requires.change volume.known comes));
+      placed = placed_on new.area old.area new.size old.size safe.area safe.size volume.placed;
       named = subst (λ (cards : List (Option CachedNode)). AreParents cards c.put_parent.new.parents) settled
           (parents_behind word volume.limits volume.run old volume.table volume.places edits outcome c.requires.change volume.known comes volume.limited fit volume.parents c.put_parent.new.parents volume.named
           (subst (λ (cards : List (Option CachedNode)). PutsParent cards volume.parents c.put_parent.new.parents (put_by edits)) (sym settled)
@@ -166,7 +171,7 @@ invariant_of-self-2 g c =
           c.put_by-put.ensures c.put_parent.ensures)));
       serves = λ k is_up. subst (λ (cards : List (Option CachedNode)). ∥ IsServing new nodes volume.run cards ∥₁) settled
           (applied_serves word volume.limits volume.run volume.table (cards_after volume.table outcome) old new outcome.updates.items (edited_by held edits) 0 0
-          safe (omega arith) is_up has (λ kept. volume.serves kept up)
+          safe volume.placed (omega arith) is_up has (λ kept. volume.serves kept up)
           (λ kept. behind_serving word kept nodes volume.run old volume.table volume.places edits outcome volume.known.are_cards.count comes
           (subst (λ l. IsFormed l (stamp (volume.run + 1) 0) (edited_by held edits)) volume.limited (c.requires.change.formed fit)) (volume.serves kept up)) k);
     }
@@ -194,7 +199,7 @@ returns-clause-volume g c =
     subst (λ (cards : List (Option CachedNode)). VolumeChanges word (IsEdited held edits) held (volume_state_by volume.limits volume.run cards new) (journal_failures volume.store.journal) (journal_failures c.apply.new.self) Done)
     (sym c.settle.ensures)
     (apply_done word volume.limits volume.run volume.table (cards_after volume.table outcome) old new outcome.updates.items (edited_by held edits)
-    (journal_failures volume.store.journal) (journal_failures c.apply.new.self) safe (let later = c.in_ok-apply.ensures.answers.later in omega (arith, later, failed))
+    (journal_failures volume.store.journal) (journal_failures c.apply.new.self) safe volume.placed (let later = c.in_ok-apply.ensures.answers.later in omega (arith, later, failed))
     (c.in_ok-apply.ensures.answers.stays_up (ap (λ (log : Log). log.is_down) same ∙ up) (λ fault. cc)) has (λ kept. volume.serves kept up)
     (λ kept. behind_serving word kept nodes volume.run old volume.table volume.places edits outcome volume.known.are_cards.count c.in_ok-outcome.ensures.done
     (subst (λ l. IsFormed l (stamp (volume.run + 1) 0) (edited_by held edits)) volume.limited (c.requires.change.formed fit)) (volume.serves kept up))
@@ -224,7 +229,7 @@ returns-clause-shows g c =
     (record {
       outline = outline_after word volume.limits volume.run old volume.table volume.places edits outcome c.requires.change volume.known c.in_ok-outcome.ensures.done (contents new);
       tree_is = λ k. applied_tree word volume.limits volume.run volume.table (cards_after volume.table outcome) old new outcome.updates.items (edited_by held edits) 0 0
-          safe (omega arith) (c.in_ok-apply.ensures.answers.stays_up (ap (λ (log : Log). log.is_down) same ∙ up) (λ fault. cc)) has (λ kept. volume.serves kept up)
+          safe volume.placed (omega arith) (c.in_ok-apply.ensures.answers.stays_up (ap (λ (log : Log). log.is_down) same ∙ up) (λ fault. cc)) has (λ kept. volume.serves kept up)
           (λ kept. behind_serving word kept nodes volume.run old volume.table volume.places edits outcome volume.known.are_cards.count c.in_ok-outcome.ensures.done
           (subst (λ l. IsFormed l (stamp (volume.run + 1) 0) (edited_by held edits)) volume.limited (c.requires.change.formed fit)) (volume.serves kept up)) k;
     })

@@ -9,6 +9,7 @@ use Rattle.volume.specs.Known.{AreKnownNodes}
 use Rattle.volume.specs.Refusals.{fault_of}
 use Rattle.volume.specs.Views.{volume_state_by, volume_state, volume_failures}
 use Rattle.volume.proofs.FormedLaws.{shows_same}
+use Rattle.volume.proofs.StandLaws.{placed_on}
 use Rattle.volume.proofs.ServeLaws.{flush_serves, flush_refused, found_up, up_answered, told_err}
 use Rattle.volume.proofs.CheckpointLaws.{checkpoint_done, checkpoint_keeps, checkpoint_recent}
 use Rattle.volume.proofs.volume.Volume.checkpoint.Goals as goal
@@ -33,9 +34,10 @@ invariant_of-self g c =
       formed = volume.formed;
       known = subst (λ (n : ℕ). AreKnownNodes n nodes volume.table volume.places) size volume.known;
       named = c.args.self.now.named;
+      placed = placed_on new.area old.area new.size old.size c.checkpoint.ensures.safe.area c.checkpoint.ensures.safe.size volume.placed;
       serves = λ k up.
           let answered = up_answered g.D.Device.keeps_word old new _ _ _ c.checkpoint.result c.checkpoint.ensures.ok c.checkpoint.ensures.answers c.checkpoint.ensures.refuses up in
-          flush_serves g.D.Device.keeps_word volume.limits volume.run volume.table old new 0 0 c.checkpoint.ensures.safe (omega arith) k up (answered.0.contents k)
+          flush_serves g.D.Device.keeps_word volume.limits volume.run volume.table old new 0 0 c.checkpoint.ensures.safe volume.placed (omega arith) k up (answered.0.contents k)
           (λ word. volume.serves word answered.1);
     }
 
@@ -47,7 +49,7 @@ returns-in_err-checkpoint-clause-volume g c =
     let new : Log = log_of c.checkpoint.new.self in
     let fault = c.in_err-checkpoint.field-0.0 in
     let told = told_err c.from_residual.result (fault_of fault) c.from_residual.ensures.1 in
-    rw told (flush_refused g.D.Device.keeps_word (Stays (volume_state_by volume.limits volume.run volume.table old)) volume.limits volume.run volume.table old new _ _ fault c.in_err-checkpoint.ensures.safe
+    rw told (flush_refused g.D.Device.keeps_word (Stays (volume_state_by volume.limits volume.run volume.table old)) volume.limits volume.run volume.table old new _ _ fault c.in_err-checkpoint.ensures.safe volume.placed
     c.in_err-checkpoint.ensures.answers c.in_err-checkpoint.ensures.refuses)
 
 pub returns-clause-volume : goal.returns-clause-volume
@@ -58,7 +60,7 @@ returns-clause-volume g c =
     let new : Log = log_of c.checkpoint.new.self in
     let did = c.in_ok-checkpoint.ensures in
     let up = found_up old new _ _ c.in_ok-checkpoint.field-0 did.answers in
-    checkpoint_done g.D.Device.keeps_word volume.limits volume.run volume.table _ old new did.safe did.list up.1 did.ok (λ word. volume.serves word up.0)
+    checkpoint_done g.D.Device.keeps_word volume.limits volume.run volume.table _ old new did.safe volume.placed did.list up.1 did.ok (λ word. volume.serves word up.0)
     _ _ did.answers.later (did.answers.none (λ fault. cc))
 
 pub returns-clause-shows : goal.returns-clause-shows
@@ -70,7 +72,7 @@ returns-clause-shows g c =
     let did = c.in_ok-checkpoint.ensures in
     let up = found_up old new _ _ c.in_ok-checkpoint.field-0 did.answers in
     shows_same g.D.Device.keeps_word (contents old) (contents new) volume.table
-    (checkpoint_keeps g.D.Device.keeps_word volume.limits volume.run volume.table _ old new did.safe did.list up.1 did.ok (λ word. volume.serves word up.0))
+    (checkpoint_keeps g.D.Device.keeps_word volume.limits volume.run volume.table _ old new did.safe volume.placed did.list up.1 did.ok (λ word. volume.serves word up.0))
 
 pub returns-clause-recent : goal.returns-clause-recent
 unfolding volume_state
@@ -80,4 +82,4 @@ returns-clause-recent g c =
     let new : Log = log_of c.checkpoint.new.self in
     let did = c.in_ok-checkpoint.ensures in
     let up = found_up old new _ _ c.in_ok-checkpoint.field-0 did.answers in
-    checkpoint_recent g.D.Device.keeps_word volume.limits volume.run volume.table _ old new did.safe did.list up.1 did.ok (λ word. volume.serves word up.0)
+    checkpoint_recent g.D.Device.keeps_word volume.limits volume.run volume.table _ old new did.safe volume.placed did.list up.1 did.ok (λ word. volume.serves word up.0)

@@ -10,6 +10,7 @@ use Rattle.volume.specs.Known.{AreKnownNodes}
 use Rattle.volume.specs.Refusals.{fault_of}
 use Rattle.volume.specs.Views.{volume_state_by, volume_state, volume_failures}
 use Rattle.volume.proofs.FormedLaws.{shows_same}
+use Rattle.volume.proofs.StandLaws.{placed_on}
 use Rattle.volume.proofs.ServeLaws.{flush_done, flush_keeps, flush_serves, flush_refused, found_up, up_answered, told_err}
 use Rattle.volume.proofs.volume.Volume.flush.Goals as goal
 
@@ -30,9 +31,10 @@ invariant_of-self g c =
       formed = volume.formed;
       known = subst (λ (n : ℕ). AreKnownNodes n nodes volume.table volume.places) size volume.known;
       named = c.args.self.now.named;
+      placed = placed_on new.area old.area new.size old.size c.flush.ensures.safe.area c.flush.ensures.safe.size volume.placed;
       serves = λ k up.
           let flushed = up_answered g.D.Device.keeps_word old new _ _ _ c.flush.result c.flush.ensures.ok c.flush.ensures.answers c.flush.ensures.refuses up in
-          flush_serves g.D.Device.keeps_word volume.limits volume.run volume.table old new 0 0 c.flush.ensures.safe (omega arith) k up (flushed.0.contents k)
+          flush_serves g.D.Device.keeps_word volume.limits volume.run volume.table old new 0 0 c.flush.ensures.safe volume.placed (omega arith) k up (flushed.0.contents k)
           (λ word. volume.serves word flushed.1);
     }
 
@@ -44,7 +46,7 @@ returns-in_err-flush-clause-volume g c =
     let new : Log = log_of c.flush.new.self in
     let fault = c.in_err-flush.field-0.0 in
     let told = told_err c.from_residual.result (fault_of fault) c.from_residual.ensures.1 in
-    rw told (flush_refused g.D.Device.keeps_word (IsTree (volume_state_by volume.limits volume.run volume.table old) (tree_of (contents old) volume.table)) volume.limits volume.run volume.table old new _ _ fault c.in_err-flush.ensures.safe
+    rw told (flush_refused g.D.Device.keeps_word (IsTree (volume_state_by volume.limits volume.run volume.table old) (tree_of (contents old) volume.table)) volume.limits volume.run volume.table old new _ _ fault c.in_err-flush.ensures.safe volume.placed
     c.in_err-flush.ensures.answers c.in_err-flush.ensures.refuses)
 
 pub returns-clause-volume : goal.returns-clause-volume
@@ -55,7 +57,7 @@ returns-clause-volume g c =
     let new : Log = log_of c.flush.new.self in
     let answers = c.in_ok-flush.ensures.answers in
     let up = found_up old new _ _ c.in_ok-flush.field-0 answers in
-    flush_done g.D.Device.keeps_word volume.limits volume.run volume.table old new _ _ c.in_ok-flush.ensures.safe answers.later (answers.none (λ fault. cc)) up.1 c.in_ok-flush.ensures.ok
+    flush_done g.D.Device.keeps_word volume.limits volume.run volume.table old new _ _ c.in_ok-flush.ensures.safe volume.placed answers.later (answers.none (λ fault. cc)) up.1 c.in_ok-flush.ensures.ok
     (λ word. volume.serves word up.0)
 
 pub returns-clause-shows : goal.returns-clause-shows
@@ -66,4 +68,4 @@ returns-clause-shows g c =
     let new : Log = log_of c.flush.new.self in
     let up = found_up old new _ _ c.in_ok-flush.field-0 c.in_ok-flush.ensures.answers in
     shows_same g.D.Device.keeps_word (contents old) (contents new) volume.table
-    (flush_keeps g.D.Device.keeps_word volume.limits.nodes volume.run volume.table old new c.in_ok-flush.ensures.ok (λ word. volume.serves word up.0))
+    (flush_keeps g.D.Device.keeps_word volume.limits.nodes volume.run volume.table old new volume.placed c.in_ok-flush.ensures.ok (λ word. volume.serves word up.0))

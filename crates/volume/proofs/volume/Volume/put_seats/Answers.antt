@@ -1,6 +1,8 @@
 use Rattle.std.proofs.Common.{◌≡◌, ◌≤◌, ◌∙◌, ℕ, false, length, refl, sym, ap, subst, arith}
 use Rattle.std.specs.Prelude.{IsTrue, Err}
 use Rattle.journal.specs.Journal.{log_of, journal_failures}
+use Rattle.journal.specs.declared.layout.LogArea.{LogArea}
+use Rattle.journal.specs.Layout.{AreTargets, targets}
 use Rattle.journal.specs.Log.{Log, contents}
 use Rattle.layout.specs.Superblock.{is_size}
 use Rattle.layout.specs.Stands.{seats_at}
@@ -13,7 +15,7 @@ use Rattle.volume.specs.Views.{volume_state_by, volume_state, volume_failures}
 use Rattle.volume.proofs.FormedLaws.{shows_same}
 use Rattle.volume.proofs.SeatingLaws.{either_fault, seated_done, seated_refused, seated_serves, seated_tree, seats_behind}
 use Rattle.volume.proofs.ServeLaws.{flush_refused, found_up, told_err, up_answered}
-use Rattle.volume.proofs.StandLaws.{large}
+use Rattle.volume.proofs.StandLaws.{large, placed_on}
 use Rattle.volume.proofs.KeepLaws.{left}
 use Rattle.volume.specs.declared.fault.VolumeFault.TheVariants as fault
 use Rattle.volume.proofs.volume.Volume.put_seats.Goals as goal
@@ -38,7 +40,7 @@ apply-requires g c =
     let volume = c.args.self.now in
     let old : Log = log_of volume.store.journal in
     let enough = large old.size volume.limits.nodes volume.sized in
-    c.in_ok-updates.ensures.targets_are old.size (omega (arith, enough))
+    subst (λ (area : LogArea). AreTargets area.end (targets c.in_ok-updates.updates.items)) (sym volume.placed) (c.in_ok-updates.ensures.targets_are old.size (omega (arith, enough)))
 
 pub returns-in_err-apply-clause-volume : goal.returns-in_err-apply-clause-volume
 unfolding volume_state volume_failures
@@ -52,7 +54,7 @@ returns-in_err-apply-clause-volume g c =
     let up : old.is_down ≡ false = sym c.is_down.ensures ∙ c.if-is_down.false in
     let held = volume_state_by volume.limits volume.run volume.table old in
     let few : length c.in_ok-updates.updates.items ≤ 48 = (let most = c.in_ok-updates.ensures.few in omega (arith, most)) in
-    rw told (flush_refused word (IsSeats held (edited_all (edits_view c.args.edits.now) held.seats)) volume.limits volume.run volume.table old new _ _ fault c.in_err-apply.ensures.safe c.in_err-apply.ensures.answers
+    rw told (flush_refused word (IsSeats held (edited_all (edits_view c.args.edits.now) held.seats)) volume.limits volume.run volume.table old new _ _ fault c.in_err-apply.ensures.safe volume.placed c.in_err-apply.ensures.answers
     (either_fault fault (λ many. (let bound = (c.in_err-apply.ensures.too_many up).0 (ap (λ x. Err x) many) in omega (arith, bound, few))) c.in_err-apply.ensures.refuses))
 
 pub invariant_of-self-2 : goal.invariant_of-self-2
@@ -76,9 +78,11 @@ invariant_of-self-2 g c =
       formed = volume.formed;
       known = subst (λ (n : ℕ). AreKnownNodes n nodes volume.table volume.places) size volume.known;
       named = volume.named;
+      placed = placed_on new.area mid.area new.size mid.size c.flush.ensures.safe.area c.flush.ensures.safe.size
+          (placed_on mid.area old.area mid.size old.size c.in_ok-apply.ensures.safe.area c.in_ok-apply.ensures.safe.size volume.placed);
       serves = λ k is_up.
           let answered = up_answered word mid new _ _ _ c.flush.result c.flush.ensures.ok c.flush.ensures.answers c.flush.ensures.refuses is_up in
-          seated_serves word volume.limits volume.run volume.table old mid new updates seats 0 0 0 c.in_ok-apply.ensures.safe (omega arith) answered.1 refl c.in_ok-apply.ensures.ok
+          seated_serves word volume.limits volume.run volume.table old mid new updates seats 0 0 0 c.in_ok-apply.ensures.safe volume.placed (omega arith) answered.1 refl c.in_ok-apply.ensures.ok
           (λ kept. volume.serves kept up)
           (λ kept. seats_behind nodes volume.run old volume.table edits updates c.in_ok-updates.ensures (c.requires kept) (volume.serves kept up))
           c.flush.ensures.safe (omega arith) k is_up (answered.0.contents k);
@@ -100,7 +104,7 @@ returns-in_err-flush-clause-volume g c =
     let told = told_err c.from_residual-in_err-flush.result (fault_of fault) c.from_residual-in_err-flush.ensures.1 in
     let up : old.is_down ≡ false = sym c.is_down.ensures ∙ c.if-is_down.false in
     rw told (seated_refused word volume.limits volume.run volume.table old mid new updates seats (journal_failures volume.store.journal) (journal_failures c.apply.new.self) (journal_failures c.flush.new.self)
-    c.in_ok-apply.ensures.safe c.in_ok-apply.ensures.answers.later
+    c.in_ok-apply.ensures.safe volume.placed c.in_ok-apply.ensures.answers.later
     (c.in_ok-apply.ensures.answers.stays_up up (λ faulted. cc)) (c.in_ok-apply.ensures.answers.none (λ faulted. cc)) c.in_ok-apply.ensures.ok
     (λ kept. volume.serves kept up)
     (λ kept. seats_behind nodes volume.run old volume.table edits updates c.in_ok-updates.ensures (c.requires kept) (volume.serves kept up))
@@ -122,7 +126,7 @@ returns-clause-volume g c =
     let did = c.in_ok-flush.ensures in
     let found = found_up mid new _ _ c.in_ok-flush.field-0 did.answers in
     seated_done word volume.limits volume.run volume.table old mid new updates seats (journal_failures volume.store.journal) (journal_failures c.apply.new.self) (journal_failures c.flush.new.self)
-    c.in_ok-apply.ensures.safe c.in_ok-apply.ensures.answers.later found.0 (c.in_ok-apply.ensures.answers.none (λ faulted. cc)) c.in_ok-apply.ensures.ok
+    c.in_ok-apply.ensures.safe volume.placed c.in_ok-apply.ensures.answers.later found.0 (c.in_ok-apply.ensures.answers.none (λ faulted. cc)) c.in_ok-apply.ensures.ok
     (λ kept. volume.serves kept up)
     (λ kept. seats_behind nodes volume.run old volume.table edits updates c.in_ok-updates.ensures (c.requires kept) (volume.serves kept up))
     did.safe did.answers.later (did.answers.none (λ faulted. cc)) found.1 did.ok
@@ -144,7 +148,7 @@ returns-clause-shows g c =
     let found = found_up mid new _ _ c.in_ok-flush.field-0 did.answers in
     shows_same word (contents old) (contents new) volume.table
     (λ k. seated_tree word volume.limits volume.run volume.table old mid new updates seats 0 0 0
-    c.in_ok-apply.ensures.safe (omega arith) found.0 refl c.in_ok-apply.ensures.ok
+    c.in_ok-apply.ensures.safe volume.placed (omega arith) found.0 refl c.in_ok-apply.ensures.ok
     (λ kept. volume.serves kept up)
     (λ kept. seats_behind nodes volume.run old volume.table edits updates c.in_ok-updates.ensures (c.requires kept) (volume.serves kept up))
     did.safe (omega arith) k did.ok)

@@ -1,11 +1,12 @@
 use Rattle.std.proofs.Common.{◌∙◌, ◌∷◌, [], arith, refl}
 use Rattle.journal.specs.Format.{fresh}
 use Rattle.journal.specs.Phase.{AddsUpdates, IsFixedAs}
+use Rattle.journal.proofs.Areas.{end_within, large_for}
 use Rattle.journal.proofs.Answerings.{fails_after, is_fault, never_fails}
 use Rattle.journal.proofs.Formats.{zero_update, format_fresh, format_last, format_done, erased_at, erased_fixed, fresh_moments_at, fresh_fixed_at, length-fresh}
-use Rattle.journal.proofs.journal.Journal.format.Goals as goal
-use Rattle.journal.proofs.journal.Journal.format.Given.{Over}
-use Rattle.journal.proofs.journal.Journal.format.Goals.{In_ok-write_sector, In_ok-write_fresh}
+use Rattle.journal.proofs.journal.Journal.format_in.Goals as goal
+use Rattle.journal.proofs.journal.Journal.format_in.Given.{Over}
+use Rattle.journal.proofs.journal.Journal.format_in.Goals.{In_ok-write_sector, In_ok-write_fresh}
 
 erased : (g : Over) (c : In_ok-write_sector g) → g.D.Device.keeps_word → AddsUpdates (zero_update ∷ []) (g.D.Device.history c.args.device.now) (g.D.Device.history c.write_sector.new.device)
 erased g c k = erased_at c.zeros.result _ _ c.zeros.ensures (c.in_ok-write_sector.ensures.moments k)
@@ -25,7 +26,7 @@ pub returns-in_err-write_fresh : goal.returns-in_err-write_fresh
 returns-in_err-write_fresh g c =
     let first = (goal.at.returns-in_err-write_fresh g c).In_ok-write_sector in
     rw (is_fault _ c.from_residual-in_err-write_fresh.ensures.1) (record {
-      moments = λ k. format_fresh _ _ c.args.updates.now _ c.requires.large c.requires.fit _ _ (erased g first k) (fixed g first k)
+      moments = λ k. format_fresh c.args.area _ _ c.args.updates.now _ (omega (arith, large_for c.args.area (g.D.Device.size c.args.device.now) c.requires.area c.requires.large)) (end_within c.args.area (g.D.Device.size c.args.device.now) c.requires.large) c.requires.fit _ _ (erased g first k) (fixed g first k)
           (fresh_moments_at _ _ c.args.updates.now _ _ c.in_ok-write_sector.ensures.size (c.in_err-write_fresh.ensures.moments k));
       ok = λ k. tt;
       cost = λ k. tt;
@@ -39,7 +40,7 @@ returns-in_err-write_sector-2 g c =
     let first = (goal.at.returns-in_err-write_sector-2 g c).In_ok-write_sector in
     let second = (goal.at.returns-in_err-write_sector-2 g c).In_ok-write_fresh in
     rw (is_fault _ c.from_residual-in_err-write_sector-2.ensures.1) (record {
-      moments = λ k. format_last _ _ c.args.updates.now _ c.requires.large c.requires.fit _ _ _ (erased g first k) (fixed g first k)
+      moments = λ k. format_last c.args.area _ _ c.args.updates.now _ (omega (arith, large_for c.args.area (g.D.Device.size c.args.device.now) c.requires.area c.requires.large)) (end_within c.args.area (g.D.Device.size c.args.device.now) c.requires.large) c.requires.fit _ _ _ (erased g first k) (fixed g first k)
           (fresh_moments g second k) (fresh_fixed g second k) (c.in_err-write_sector-2.ensures.moments k);
       ok = λ k. tt;
       cost = λ k. tt;
@@ -53,9 +54,9 @@ returns g c =
     let first = (goal.at.returns g c).In_ok-write_sector in
     let second = (goal.at.returns g c).In_ok-write_fresh in
     record {
-      moments = λ k. format_last _ _ c.args.updates.now _ c.requires.large c.requires.fit _ _ _ (erased g first k) (fixed g first k)
+      moments = λ k. format_last c.args.area _ _ c.args.updates.now _ (omega (arith, large_for c.args.area (g.D.Device.size c.args.device.now) c.requires.area c.requires.large)) (end_within c.args.area (g.D.Device.size c.args.device.now) c.requires.large) c.requires.fit _ _ _ (erased g first k) (fixed g first k)
           (fresh_moments g second k) (fresh_fixed g second k) (c.in_ok-write_sector-2.ensures.moments k);
-      ok = λ k. format_done _ _ c.args.updates.now (g.D.Device.history c.args.device.now) c.requires.large c.requires.fit _ _ _ (fresh_fixed g second k) (c.in_ok-write_sector-2.ensures.ok k);
+      ok = λ k. format_done c.args.area _ _ c.args.updates.now (g.D.Device.history c.args.device.now) (omega (arith, large_for c.args.area (g.D.Device.size c.args.device.now) c.requires.area c.requires.large)) (end_within c.args.area (g.D.Device.size c.args.device.now) c.requires.large) c.requires.fit _ _ _ (fresh_fixed g second k) (c.in_ok-write_sector-2.ensures.ok k);
       cost = λ k. omega (
         arith,
         (c.in_ok-write_sector.ensures.ok k).cost,
@@ -63,7 +64,7 @@ returns g c =
         (c.in_ok-write_sector-2.ensures.ok k).cost,
         length-fresh (g.D.Device.size c.write_sector.new.device) c.args.updates.now,
         c.in_ok-write_sector.ensures.size,
-        c.requires.large,
+        large_for c.args.area (g.D.Device.size c.args.device.now) c.requires.area c.requires.large,
       );
       size = c.in_ok-write_sector-2.ensures.size ∙ c.in_ok-write_fresh.ensures.size ∙ c.in_ok-write_sector.ensures.size;
       failures = never_fails _ _ _ (c.in_ok-write_sector-2.ensures.failures.ok ∙ c.in_ok-write_fresh.ensures.failures.ok ∙ c.in_ok-write_sector.ensures.failures.ok);

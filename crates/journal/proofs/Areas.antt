@@ -1,0 +1,19 @@
+-- Where a log is on its device.
+use Rattle.std.proofs.Common.{◌≤◌, ◌<◌, ◌+◌, ℕ, List, All, arith}
+use Rattle.journal.specs.declared.layout.LogArea.{LogArea}
+use Rattle.journal.specs.Layout.{AreNamed, IsArea, area_end}
+
+-- a device that has room for it has both its parts
+pub log_within : (area : LogArea) (size : ℕ) → area_end area ≤ size → area.first + area.sectors ≤ size
+log_within area size l = omega (arith, l)
+
+pub end_within : (area : LogArea) (size : ℕ) → area_end area ≤ size → area.end ≤ size
+end_within area size l = omega (arith, l)
+
+-- what a gate may name is on the device
+pub below_device : (area : LogArea) (size : ℕ) (to : List ℕ) → area_end area ≤ size → AreNamed area to → All (λ t. t < size) to
+below_device area size to l named k d within = omega (arith, named.on_device k d within, end_within area size l)
+
+-- and more than the gate in front of it
+pub large_for : (area : LogArea) (size : ℕ) → IsArea area → area_end area ≤ size → 50 ≤ size
+large_for area size is l = omega (arith, log_within area size l, is.behind, is.room)
