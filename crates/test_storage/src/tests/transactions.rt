@@ -1,6 +1,7 @@
 //! The journal: that calls succeed, how many syncs they take, what is read once, and what a crash
-//! within a format leaves.
+//! within a format leaves. Of a log in front, and of one behind what transactions write.
 
+mod behind;
 mod caching;
 mod calls;
 mod formats;

@@ -5,8 +5,6 @@ use super::super::drivers::{content_of, filled, memory, put};
 use super::SECTORS;
 use super::held::{Held, Step};
 use disk::{Call, MemDevice, SECTOR};
-use journal::JournalFault;
-use std::alloc::Global;
 use std::test::Fail;
 
 const STEPS: [Step<'static>; 21] = [
@@ -48,7 +46,7 @@ const ROWS: [(usize, u64, &[u32]); 9] = [
 ];
 
 // a gate that names these, and zeros for none
-fn gate_of(targets: &[u32]) -> [u8; SECTOR] {
+pub(super) fn gate_of(targets: &[u32]) -> [u8; SECTOR] {
     let mut sector = filled(0);
     if targets.is_empty() {
         return sector;
@@ -65,16 +63,8 @@ fn gate_of(targets: &[u32]) -> [u8; SECTOR] {
     sector
 }
 
-fn play(alloc: Global, device: &mut MemDevice, steps: &[Step<'_>]) -> Result<(), JournalFault> {
-    let mut held = Held::mount(alloc, device)?;
-    for step in steps {
-        held.take(alloc, *step)?;
-    }
-    Ok(())
-}
-
 // the syncs after the mount's
-fn syncs(device: &MemDevice) -> u64 {
+pub(super) fn syncs(device: &MemDevice) -> u64 {
     let mut syncs = 0u64;
     for call in device.calls() {
         if matches!(call, Call::Sync) {
@@ -89,7 +79,7 @@ fn flushes_go_behind_one_gate(rt: HostRuntime) -> Result<(), Fail> {
     for (count, wanted, targets) in ROWS {
         let mut device = memory(rt.alloc(), SECTORS)?;
         let steps = STEPS.get(..count).unwrap_or(&STEPS);
-        play(rt.alloc(), &mut device, steps)?;
+        Held::mount(rt.alloc(), &mut device)?.take_all(rt.alloc(), steps)?;
         assert_eq!(rt; syncs(&device), wanted, "{count} steps");
         let gate = content_of(&mut device, 1)?;
         assert!(rt; gate == gate_of(targets), "{count} steps");

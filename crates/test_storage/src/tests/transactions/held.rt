@@ -2,17 +2,25 @@
 
 ghost use Rattle.std.specs.Prelude.{◌≡◌, IsTrue, IfOk};
 ghost use Rattle.journal.specs.Journal.{log_of};
-ghost use Rattle.journal.specs.Layout.{AreTargets, in_front, targets};
+ghost use Rattle.journal.specs.Layout.{AreTargets, targets};
 
 use super::super::drivers::{byte_in, filled};
 use super::SECTORS;
 use disk::{Device, Update};
-use journal::{Journal, JournalFault};
+use journal::{CACHED_SECTORS, Journal, JournalFault, LogArea};
 use std::alloc::{AllocError, Global};
 use std::num::NonZeroUsize;
 
 /// The first sector that a transaction may write.
 const FIRST_TARGET: u32 = 98;
+
+/// The smallest log, behind what transactions write. It may name a sector again.
+const BEHIND: LogArea = LogArea {
+    first: 208,
+    sectors: 48,
+    end: 208,
+    once: false,
+};
 
 /// What is asked of a journal.
 #[derive(Clone, Copy)]
@@ -41,12 +49,12 @@ fn updates(alloc: Global, to: &[u32], byte: u8) -> Result<Vec<Update>, AllocErro
     Ok(updates)
 }
 
-/// Whether a transaction may write these sectors of 256: all from 98 on, and different.
-fn are_targets(to: &[u32]) -> bool
-    ensures { IsTrue result → AreTargets 256 to.now }
+/// Whether a transaction may write these sectors: all from 98 on, below the end, and different.
+fn are_targets(to: &[u32], end: u32) -> bool
+    ensures { IsTrue result → AreTargets end to.now }
 {
     for (i, target) in to.iter().enumerate() {
-        if *target < FIRST_TARGET || *target >= SECTORS || to[..i].contains(target) {
+        if *target < FIRST_TARGET || *target >= end || to[..i].contains(target) {
             return false;
         }
     }
@@ -56,8 +64,10 @@ fn are_targets(to: &[u32]) -> bool
 #[derive(Drop)]
 pub(super) struct Held<D: Device> {
     journal: Journal<D>,
+    /// The end of what transactions may write.
+    end: u32,
     ghost size_is: { (log_of journal).size ≡ 256 },
-    ghost area_is: { (log_of journal).area ≡ in_front 256 },
+    ghost end_is: { (log_of journal).area.end ≡ end },
 }
 
 impl<D: Device> Held<D> {
@@ -67,7 +77,10 @@ impl<D: Device> Held<D> {
             return Err(JournalFault::Damaged);
         }
         match Journal::mount(alloc, device) {
-            Ok(journal) => Ok(Held { journal }),
+            Ok(journal) => Ok(Held {
+                journal,
+                end: SECTORS,
+            }),
             Err(refused) => Err(refused.fault),
         }
     }
@@ -82,9 +95,39 @@ impl<D: Device> Held<D> {
             return Err(JournalFault::Damaged);
         }
         match Journal::mount_cached(alloc, device, cached) {
-            Ok(journal) => Ok(Held { journal }),
+            Ok(journal) => Ok(Held {
+                journal,
+                end: SECTORS,
+            }),
             Err(refused) => Err(refused.fault),
         }
+    }
+
+    /// The same, with the log behind.
+    pub(super) fn mount_behind(alloc: Global, device: D) -> Result<Held<D>, JournalFault> {
+        if device.sectors() != SECTORS {
+            return Err(JournalFault::Damaged);
+        }
+        let cached = NonZeroUsize::new(CACHED_SECTORS).unwrap_or(NonZeroUsize::MIN);
+        match Journal::mount_in(alloc, device, BEHIND, cached) {
+            Ok(journal) => Ok(Held {
+                journal,
+                end: BEHIND.end,
+            }),
+            Err(refused) => Err(refused.fault),
+        }
+    }
+
+    /// Makes these calls, and drops what they answer.
+    pub(super) fn take_all(
+        &mut self,
+        alloc: Global,
+        steps: &[Step<'_>],
+    ) -> Result<(), JournalFault> {
+        for step in steps {
+            self.take(alloc, *step)?;
+        }
+        Ok(())
     }
 
     /// Makes a call, which answers 0 where no byte is asked.
@@ -110,7 +153,7 @@ impl<D: Device> Held<D> {
 
     /// What is no transaction is refused as too many.
     fn apply(&mut self, alloc: Global, to: &[u32], byte: u8) -> Result<u8, JournalFault> {
-        if !are_targets(to) {
+        if !are_targets(to, self.end) {
             return Err(JournalFault::TooMany);
         }
         self.journal.apply(updates(alloc, to, byte)?)?;
@@ -141,7 +184,7 @@ pub(super) fn format<D: Device>(
     others: (&[u32], u8),
 ) -> Result<(), JournalFault> {
     let (to, byte) = others;
-    if device.sectors() != SECTORS || !are_targets(to) {
+    if device.sectors() != SECTORS || !are_targets(to, SECTORS) {
         return Err(JournalFault::TooMany);
     }
     Journal::format(device, &filled(first), &updates(alloc, to, byte)?)
