@@ -7,7 +7,7 @@ use Rattle.fs.specs.FileSystem.{FileSystem}
 use Rattle.fs.specs.Reading.{reading_ending}
 use Rattle.fs.specs.Refusals.{volume_fault}
 use Rattle.fs.proofs.ChangeLaws.{volume_by}
-use Rattle.volume.specs.Changes.{Ending, Done, IsTree, VolumeChanges}
+use Rattle.volume.specs.Changes.{Ending, Done, Nothing, IsTree, VolumeChanges}
 use Rattle.volume.specs.Reading.{ending_of_reading}
 use Rattle.volume.specs.declared.fault.VolumeFault.{VolumeFault}
 use Rattle.volume.specs.declared.fault.VolumeFault.TheVariants as volumes
@@ -23,6 +23,9 @@ never_done volumes.NoSpace is = cc
 never_done volumes.Memory is = cc
 never_done volumes.Device is = cc
 never_done volumes.Down is = cc
+
+nothing_done : Nothing ≡ Done → ⊥
+nothing_done is = cc
 
 only_reads : (keeps_word : Type 0) (old new : FileSystem) (before after : ℕ) (tree : Tree) (ending : Ending) → (ending ≡ Done → ⊥) → new.changes ≡ old.changes
     → new.defers ≡ old.defers → new.waits ≡ old.waits → VolumeChanges keeps_word (IsTree old.volume tree) old.volume new.volume before after ending
@@ -46,3 +49,9 @@ pub reading_fails : (keeps_word : Type 0) (old new : FileSystem) (before after :
 reading_fails keeps_word old new before after tree fault counts mode same changes =
     subst (FsChanges keeps_word (IsTree old.volume tree) old new before after) (sym (same_reading fault))
     (only_reads keeps_word old new before after tree _ (never_done fault) counts mode same changes)
+
+pub reading_goes : (keeps_word : Type 0) (old new : FileSystem) (before after : ℕ) (tree : Tree) → new.changes ≡ old.changes
+    → new.defers ≡ old.defers → new.waits ≡ old.waits → VolumeChanges keeps_word (IsTree old.volume tree) old.volume new.volume before after Nothing
+    → FsChanges keeps_word (IsTree old.volume tree) old new before after Nothing
+reading_goes keeps_word old new before after tree counts mode same changes =
+    only_reads keeps_word old new before after tree Nothing nothing_done counts mode same changes

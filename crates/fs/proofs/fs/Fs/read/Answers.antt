@@ -7,7 +7,7 @@ use Rattle.fs.specs.declared.fault.FsFault.TheVariants as fault
 use Rattle.fs.proofs.ReadLaws.{read_early, read_goes, read_goes_on, read_fails}
 use Rattle.volume.proofs.ServeLaws.{told_err}
 use Rattle.fs.proofs.ChangeLaws.{left}
-use Rattle.fs.proofs.ReadsOnly.{reading_fails}
+use Rattle.fs.proofs.ReadsOnly.{reading_fails, reading_goes}
 use Rattle.fs.proofs.fs.Fs.read.Goals as goal
 
 pub returns-in_err-part-clause-volume : goal.returns-in_err-part-clause-volume
@@ -51,3 +51,9 @@ returns-in_err-bytes-clause-volume g c =
     let fault = c.in_err-bytes.field-0.0 in
     rw (told_err c.from_residual-in_err-bytes.result (volume_fault fault) c.from_residual-in_err-bytes.ensures.1)
     (reading_fails g.D.Device.keeps_word fs _ _ _ fs.volume.tree fault refl refl refl c.in_err-bytes.ensures.volume)
+
+pub returns-in_ok-bytes-clause-volume : goal.returns-in_ok-bytes-clause-volume
+unfolding fs_of fs_failures
+returns-in_ok-bytes-clause-volume g c =
+    let fs = fs_of c.args.self.now in
+    reading_goes g.D.Device.keeps_word fs _ _ _ fs.volume.tree refl refl refl c.in_ok-bytes.ensures.volume
