@@ -1,4 +1,4 @@
-use Rattle.std.proofs.Common.{◌≡◌, ℕ, true, false, Err, inl, inr, refl, sym, ap, ◌∙◌, subst, true≢false}
+use Rattle.std.proofs.Common.{◌≡◌, ℕ, true, false, Err, inl, inr, refl, sym, ap, ◌∙◌, subst, true≢false, arith}
 use Rattle.fs.specs.Views.{fs_of}
 use Rattle.fs.specs.declared.fault.FsFault.TheVariants as fault
 use Rattle.opens.specs.Views.{opens_of}
