@@ -1,5 +1,5 @@
 -- What a step of a peer carries, part by part.
-use Rattle.std.proofs.Common.{◌≡◌, ℕ, List, [], ◌∷◌, ◌++◌, take, drop, Option, Some, None, Result, Ok, Err, IfOk, IfErr, Bool, true, false, not, if◌then◌else◌, inl, inr, refl, ap, sym, subst, ◌∙◌, append-nil, length-append, arith}
+use Rattle.std.proofs.Common.{◌≡◌, ℕ, List, [], ◌∷◌, ◌++◌, take, drop, Option, Some, None, Result, Ok, Err, IfOk, IfErr, OnOk, Bool, true, false, not, if◌then◌else◌, inl, inr, refl, ap, sym, subst, ◌∙◌, append-nil, length-append, arith}
 use Rattle.std.proofs.lemmas.List.{take-append-drop}
 use Rattle.std.specs.Global.{Vec}
 use Rattle.std.specs.Io.KnownBytes.{Appends, Consumes, Keeps}
@@ -16,7 +16,7 @@ use Rattle.server.specs.declared.server.Server.{Server}
 use Rattle.system.specs.declared.refused.Refused.{Refused}
 use Rattle.peer.specs.Calls.{Goes, IsNone, IsOne, RefusesBytes, RefusesOutput}
 use Rattle.peer.specs.Partings.{parting_of}
-use Rattle.peer.specs.Steps.{AreAll, Tally, IsTallied, Carries, HasWorked, Turned, Asked, Wrote, Read_broken, Write_broken, Reason, Dismissed, Read_over, Write_over, Closes, Was_closed, Has_none, Parts, Advances, Runs, GivesNoTurn, Sends, EndsPeer, EndsAgain, IsEndBy, WaitsToWrite, IsStuck, To_write, unsent}
+use Rattle.peer.specs.Steps.{AreAll, Tally, IsTallied, Carries, HasWorked, Turned, Asked, Wrote, Read_broken, Write_broken, Reason, Dismissed, Read_over, Write_over, Closes, Was_closed, Has_none, Parts, HasBytes, Advances, Runs, GivesNoTurn, Sends, ServesOn, EndsPeer, EndsAgain, IsEndBy, WaitsToWrite, IsStuck, To_write, unsent}
 use Rattle.peer.specs.Streams.{IsOver}
 use Rattle.peer.specs.declared.pace.Pace.{Pace}
 use Rattle.peer.specs.declared.pace.Pace.TheVariants as paces
@@ -25,9 +25,38 @@ use Rattle.peer.specs.declared.peer.Parting.TheVariants as partings
 use Rattle.peer.specs.declared.peer.Peer.{Peer}
 use Rattle.peer.specs.declared.peer.Stage.TheVariants as stages
 use Rattle.peer.specs.declared.peer.Step.{Step}
+use Rattle.peer.specs.declared.peer.Step.TheVariants as steps
 use Rattle.peer.specs.declared.stream.Stream as stream
 use Rattle.peer.proofs.Made.{failed_call, not_called, untouched}
 use Rattle.peer.proofs.Tallies.{appends_kept, appends_none, appends_then, consumes_none, consumes_then, in_order, joined, nothing, tallies_any, tallies_then, tally_closes, tally_given, tally_none, tally_taken, tally_turn}
+
+-- Peers with bytes
+
+on_ok : {E : Type 0} (result : Result Pace E) (A B : Type 0) → (A → B) → OnOk result A → OnOk result B
+on_ok (Ok pace) A B map is = map is
+on_ok (Err parting) A B map is = tt
+
+on_any : {E : Type 0} (result : Result Pace E) (A : Type 0) → A → OnOk result A
+on_any (Ok pace) A is = is
+on_any (Err parting) A is = tt
+
+-- what was read since adds to them
+bytes_still : {S : Type 0} {h : stream.Ghosts S} (before mid : Peer S h) → before.inbox ≡ [] → mid.stage ≡ before.stage → HasBytes before → HasBytes mid
+bytes_still before mid empty stage (inl runs) = inl (stage ∙ runs)
+bytes_still before mid empty stage (inr gathers) = absurd (gathers.1 empty)
+
+-- none of one that gathers and has read nothing, and of one that gives its reply
+pub dry_has_none : {S : Type 0} {h : stream.Ghosts S} (peer : Peer S h) → peer.stage ≡ stages.Gathers → peer.inbox ≡ [] → HasBytes peer → ⊥
+dry_has_none peer gathers empty (inl runs) = let never : ⊥ = cc in never
+dry_has_none peer gathers empty (inr has) = has.1 empty
+
+pub made_has_none : {S : Type 0} {h : stream.Ghosts S} (peer : Peer S h) → peer.stage ≡ stages.Made → HasBytes peer → ⊥
+made_has_none peer made (inl runs) = let never : ⊥ = cc in never
+made_has_none peer made (inr has) = let gathers = has.0 in let never : ⊥ = cc in never
+
+pub replying_has_none : {S : Type 0} {h : stream.Ghosts S} (peer : Peer S h) (reply : List ℕ) → peer.stage ≡ stages.Replies reply → HasBytes peer → ⊥
+replying_has_none peer reply replies (inl runs) = let never : ⊥ = cc in never
+replying_has_none peer reply replies (inr has) = let gathers = has.0 in let never : ⊥ = cc in never
 
 -- Part after part
 
@@ -44,7 +73,7 @@ carries_then {h = h} {keeps = keeps} {moments = moments} {between = between} {ne
 }
 
 -- at moments of which all are of these
-carries_any : {D S : Type 0} {g : Ghosts D} {h : stream.Ghosts S} {keeps : Type 0} {old new : Server D g} (few many : ℕ → Type 0) (before after : Peer S h) (tally : Tally)
+pub carries_any : {D S : Type 0} {g : Ghosts D} {h : stream.Ghosts S} {keeps : Type 0} {old new : Server D g} (few many : ℕ → Type 0) (before after : Peer S h) (tally : Tally)
     → ((now : ℕ) → few now → many now) → Carries keeps few old new before after tally → Carries keeps many old new before after tally
 carries_any few many before after tally shows carries = record {
   calls = tallies_any few many before.conn tally shows carries.calls;
@@ -137,6 +166,7 @@ refused_bytes {h = h} peer faults.Closed refuses =
       };
       shown = (sym (append-nil peer.inbox), tt);
       few = omega arith;
+      turned = λ has. tt;
       works = λ is. let never : ⊥ = cc in absurd never;
       parts = Closes (omega arith);
     }
@@ -147,6 +177,7 @@ refused_bytes {new = new} peer faults.NoConnection refuses =
       carries = carries_same peer (untouched refuses.1);
       shown = tt;
       few = omega arith;
+      turned = λ has. tt;
       works = λ is. let never : ⊥ = cc in absurd never;
       parts = Has_none none;
     }
@@ -155,6 +186,7 @@ refused_bytes peer faults.Device refuses = record {
   carries = carries_same peer (failed_call refuses.0);
   shown = tt;
   few = omega arith;
+  turned = λ has. tt;
   works = λ is. let never : ⊥ = cc in absurd never;
   parts = refuses.0;
 }
@@ -187,20 +219,21 @@ carries_calls {h = h} before after shown taken turns takes calls fed same conn l
 pub bytes_then : {D S : Type 0} {g : Ghosts D} {h : stream.Ghosts S} {keeps : Type 0} {moments : ℕ → Type 0} {old between new : Server D g} (before mid after : Peer S h) (count : ℕ)
     (result : Result Pace Parting) → Goes keeps old between (IsOne (Did (Arrives before.conn before.inbox) (Took (Some count))))
     → mid.inbox ≡ drop count before.inbox → mid.stream ≡ before.stream → mid.conn ≡ before.conn
-    → unsent mid.stage ≡ unsent before.stage → (mid.stage ≡ stages.Ends → ⊥)
+    → unsent mid.stage ≡ unsent before.stage → mid.stage ≡ stages.Runs
     → Runs keeps moments between new mid after result → Advances keeps moments old new before after result
-bytes_then {keeps = keeps} {moments = moments} {old = old} {between = between} {new = new} before mid after count result one inbox same conn left stays runs =
+bytes_then {keeps = keeps} {moments = moments} {old = old} {between = between} {new = new} before mid after count result one inbox same conn left runs_now runs =
     let first : Tally = record nothing { shown = before.inbox ∷ []; taken = take count before.inbox } in
     let rest : Tally = runs.advances.tally in
     let took : Carries keeps moments old between before mid first =
     carries_calls before mid (before.inbox ∷ []) (take count before.inbox) 0 0 (tally_taken before.conn before.inbox count one)
-    (rw inbox (take-append-drop count before.inbox)) same conn left stays in
+    (rw inbox (take-append-drop count before.inbox)) same conn left (λ is. let never : ⊥ = cc in never) in
     let all : before.inbox ≡ before.inbox ++ rest.came = sym (append-nil before.inbox) ∙ ap (λ came. before.inbox ++ came) (sym runs.unread) in
     record {
       tally = joined first rest;
       carries = carries_then before mid after first rest took runs.advances.carries;
       shown = subst (λ (shown : List (List ℕ)). AreAll (before.inbox ++ rest.came) (before.inbox ∷ shown)) (sym runs.unshown) (all, tt);
       few = omega (arith, runs.advances.few);
+      turned = λ has. on_ok result (rest.turns ≡ 1) ((joined first rest).turns ≡ 1) (λ once. omega (arith, once)) (runs.advances.turned (inl runs_now));
       works = λ is. works_after first rest after (runs.advances.works is);
       parts = parted_after first rest new after result runs.advances.parts;
     }
@@ -227,6 +260,7 @@ reply_then {h = h} {keeps = keeps} {moments = moments} {old = old} {between = be
           (carries_any (λ (now : ℕ). ⊥) moments mid after rest (λ now never. absurd never) gives.carries);
       shown = subst (λ (shown : List (List ℕ)). AreAll (before.inbox ++ rest.came) shown) (sym gives.unshown) tt;
       few = omega (arith, gives.unturned);
+      turned = λ has. on_any result ((joined first rest).turns ≡ 1) (omega (arith, gives.unturned));
       works = λ is. Turned (omega arith);
       parts = parted_after first rest new after result gives.parts;
     } in
@@ -244,6 +278,7 @@ turn_alone {keeps = keeps} {moments = moments} {old = old} {new = new} before af
       carries = turn_carries before after now said shows one same inbox conn left stays;
       shown = tt;
       few = omega arith;
+      turned = λ has. refl;
       works = λ is. Turned (omega arith);
       parts = tt;
     } in
@@ -258,6 +293,7 @@ no_turn {keeps = keeps} {moments = moments} {old = old} {new = new} before parti
       carries = carries_same before none;
       shown = tt;
       few = omega arith;
+      turned = λ has. tt;
       works = λ is. let never : ⊥ = cc in absurd never;
       parts = parts;
     } in
@@ -293,8 +329,8 @@ sends_none {h = h} before after result kept left broken over same stays = record
 
 -- a reply of which the front goes out
 pub sends_on : {D S : Type 0} {g : Ghosts D} {h : stream.Ghosts S} {keeps : Type 0} {moments : ℕ → Type 0} (server : Server D g) (before after : Peer S h)
-    (result : Result Pace Parting) → Sends before after result → Advances keeps moments server server before after result
-sends_on {h = h} server before after result sends =
+    (result : Result Pace Parting) → (HasBytes before → ⊥) → Sends before after result → Advances keeps moments server server before after result
+sends_on {h = h} server before after result none sends =
     let tally : Tally = record nothing { written = sends.written } in
     record {
       tally = tally;
@@ -309,6 +345,7 @@ sends_on {h = h} server before after result sends =
       };
       shown = tt;
       few = omega arith;
+      turned = λ has. absurd (none has);
       works = λ is. elim (sends.works is) [ inl some ↦ Wrote some | inr broken ↦ Write_broken broken ];
       parts = over_parts tally server after result sends.over;
     }
@@ -391,12 +428,13 @@ gives_later server peer = record {
 
 -- a step that gives no turn
 pub gives_on : {D S : Type 0} {g : Ghosts D} {h : stream.Ghosts S} {keeps : Type 0} {moments : ℕ → Type 0} {old new : Server D g} (before after : Peer S h)
-    (result : Result Pace Parting) → GivesNoTurn keeps old new before after result → Advances keeps moments old new before after result
-gives_on {moments = moments} before after result gives = record {
+    (result : Result Pace Parting) → (HasBytes before → ⊥) → GivesNoTurn keeps old new before after result → Advances keeps moments old new before after result
+gives_on {moments = moments} before after result none gives = record {
   tally = gives.tally;
   carries = carries_any (λ (now : ℕ). ⊥) moments before after gives.tally (λ now never. absurd never) gives.carries;
   shown = subst (λ (shown : List (List ℕ)). AreAll (before.inbox ++ gives.tally.came) shown) (sym gives.unshown) tt;
   few = omega (arith, gives.unturned);
+  turned = λ has. absurd (none has);
   works = gives.works;
   parts = gives.parts;
 }
@@ -418,6 +456,7 @@ reads_then {keeps = keeps} {moments = moments} {old = old} {new = new} before mi
       carries = carries_then before mid after first rest read advances.carries;
       shown = rw empty advances.shown;
       few = omega (arith, advances.few);
+      turned = λ has. on_ok result (rest.turns ≡ 1) ((joined first rest).turns ≡ 1) (λ once. omega (arith, once)) (advances.turned (bytes_still before mid empty stage has));
       works = λ is. works_after first rest after (advances.works is);
       parts = parted_after first rest new after result advances.parts;
     }
@@ -426,18 +465,41 @@ reads_then {keeps = keeps} {moments = moments} {old = old} {new = new} before mi
 pub quiet : {D S : Type 0} {g : Ghosts D} {h : stream.Ghosts S} {keeps : Type 0} {moments : ℕ → Type 0} (server : Server D g) (before after : Peer S h) (came : List ℕ)
     (result : Result Pace Parting) → Consumes (h.coming before.stream) (h.coming after.stream) came → after.inbox ≡ before.inbox ++ came
     → h.gone after.stream ≡ h.gone before.stream → after.stage ≡ before.stage → after.conn ≡ before.conn
-    → (result ≡ Ok paces.Goes → HasWorked after (record nothing { came = came }))
+    → (HasBytes before → OnOk result ⊥) → (result ≡ Ok paces.Goes → HasWorked after (record nothing { came = came }))
     → IfErr result (Parts (record nothing { came = came }) server after) → Advances keeps moments server server before after result
-quiet server before after came result consumed waits gone stage conn works parts = record {
+quiet server before after came result consumed waits gone stage conn turned works parts = record {
   tally = record nothing { came = came };
   carries = carries_none before after came (not_called server) consumed waits gone (ap unsent stage) conn (λ is. sym stage ∙ is);
   shown = tt;
   few = omega arith;
+  turned = λ has. on_ok result ⊥ (nothing.turns ≡ 1) (λ never. absurd never) (turned has);
   works = works;
   parts = parts;
 }
 
 -- The whole step
+
+-- of a step that leaves the peer to be served on, by what it returns
+pub serves_as : {D S : Type 0} {g : Ghosts D} {h : stream.Ghosts S} {keeps : Type 0} {moments : ℕ → Type 0} {old new : Server D g} (before after : Peer S h) (result : Result Pace Parting) (answer : Result Step Refused)
+    → Advances keeps moments old new before after result → ((pace : Pace) → answer ≡ Ok (steps.Stays pace) → (pace ≡ paces.Pauses → ⊥) → result ≡ Ok pace)
+    → ServesOn keeps moments old new before after answer
+serves_as before after result answer advances told = record {
+  tally = advances.tally;
+  carries = advances.carries;
+  shown = advances.shown;
+  few = advances.few;
+  turned = λ has had. subst (λ (r : Result Pace Parting). OnOk r (advances.tally.turns ≡ 1)) (told had.0 had.1 had.2) (advances.turned has);
+  works = λ is. advances.works (told paces.Goes is (λ e. let never : ⊥ = cc in never));
+}
+
+pub ok_pace : (a b : Pace) → (let one : Result Step Refused = Ok (steps.Stays a) in one ≡ Ok (steps.Stays b)) → (let two : Result Pace Parting = Ok a in two ≡ Ok b)
+ok_pace a b is = cc
+
+pub err_pace : (refused : Refused) (pace : Pace) (A : Type 0) → (let one : Result Step Refused = Err refused in one ≡ Ok (steps.Stays pace)) → A
+err_pace refused pace A is = let never : ⊥ = cc in absurd never
+
+pub paused : (pace : Pace) (A : Type 0) → (let one : Result Step Refused = Ok (steps.Stays paces.Pauses) in one ≡ Ok (steps.Stays pace)) → (pace ≡ paces.Pauses → ⊥) → A
+paused pace A is awake = let same : pace ≡ paces.Pauses = cc in absurd (awake same)
 
 pub ends_peer : {D S : Type 0} {g : Ghosts D} {h : stream.Ghosts S} {keeps : Type 0} {moments : ℕ → Type 0} {old between new : Server D g} (before left after : Peer S h) (result : Result Step Refused)
     → Advances keeps moments old between before left (Err partings.Peer) → Goes keeps between new (IsEndBy moments result left.conn)

@@ -1,6 +1,7 @@
 pub mod Carried
 pub mod Made
 pub mod Places
+pub mod Rounds
 pub mod Served
 pub mod Serving
 pub mod Tallies

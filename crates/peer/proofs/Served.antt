@@ -13,7 +13,7 @@ use Rattle.server.specs.declared.server.Server.{Server}
 use Rattle.peer.specs.Calls.{AreTurns, IsTurn, IsEndAt, IsEnd}
 use Rattle.peer.specs.Peers.{PeerBegins}
 use Rattle.peer.specs.Served.{IsLeft, IsThere, WasServed, AreServed, since}
-use Rattle.peer.specs.Steps.{IsOn, AreOn, all_by, taken_by, given_by, unsent, Tally, IsTallied, Carries}
+use Rattle.peer.specs.Steps.{AnyMoment, IsOn, AreOn, all_by, taken_by, given_by, unsent, Tally, IsTallied, Carries}
 use Rattle.peer.specs.declared.peer.Peer.{Peer}
 use Rattle.peer.specs.declared.peer.Stage.{Stage}
 use Rattle.peer.specs.declared.peer.Stage.TheVariants as stages
@@ -52,9 +52,6 @@ since-other moments connection other (call ∷ more) calls on apart =
     another moments connection other call (more ++ calls) on.0 apart ∙ since-other moments connection other more calls on.1 apart
 
 -- turns are on their connection, and take and give nothing
-
-abbrev pub AnyMoment : ℕ → Type 0
-AnyMoment now = Unit {0}
 
 is_on : (connection now : ℕ) (call : ServerCall) → IsTurn connection now call → IsOn AnyMoment connection call
 is_on connection now (Did (Turns number moment) said) is = (is.0, tt)

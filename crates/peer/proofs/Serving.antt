@@ -21,7 +21,7 @@ use Rattle.peer.specs.Peers.{IsSame, PeerBegins}
 use Rattle.std.specs.Io.KnownBytes.{Appends, Consumes}
 use Rattle.model_tree.specs.Trees.Keyed.{at}
 use Rattle.peer.specs.Served.{AreServed, IsLeft, WasServed, Serves, ServesFurther, ServesNone, ServesOneMore, since}
-use Rattle.peer.specs.Steps.{all_by, given_by, taken_by, IsTallied, Tally, Carries, ServesOn, EndsPeer, EndsAgain, IsEndBy}
+use Rattle.peer.specs.Steps.{AnyMoment, all_by, given_by, taken_by, IsTallied, Tally, Carries, ServesOn, EndsPeer, EndsAgain, IsEndBy}
 use Rattle.peer.specs.declared.pace.Pace.{Pace}
 use Rattle.peer.specs.declared.peer.Peer.{Peer}
 use Rattle.peer.specs.declared.peer.Stage.{Stage}
@@ -30,7 +30,7 @@ use Rattle.peer.specs.declared.peer.Step.{Step}
 use Rattle.peer.specs.declared.peer.Step.TheVariants as steps
 use Rattle.peer.specs.declared.stream.Stream as stream
 use Rattle.peer.proofs.Made.{failed_call, follows, goes_as, goes_on, makes, one_call, still_up, untouched, untouched_by}
-use Rattle.peer.proofs.Served.{AnyMoment, IsChanged, are_on, end_served, end_since, end_there, more_served, step_served, stepped, turned_on}
+use Rattle.peer.proofs.Served.{IsChanged, are_on, end_served, end_since, end_there, more_served, step_served, stepped, turned_on}
 
 -- with another peer at one key
 abbrev pub with_peer : {S : Type 0} {h : stream.Ghosts S} → (ℕ → Option (Peer S h)) → (key : ℕ) → Peer S h → ℕ → Option (Peer S h)
@@ -154,15 +154,15 @@ module _ {D S : Type 0} {g : Ghosts D} {h : stream.Ghosts S} {keeps : Type 0} wh
       turned_off moments streams before after key peer left there is same ends goes so_far
 
   -- A step of the peer at a key, whatever it came to
-  module _ (moments : ℕ → Type 0) {old new : Server D g} (before after : ℕ → Option (Peer S h)) (key : ℕ) (peer left : Peer S h) (result : Result Step Refused) (goes : Type 0)
+  module _ (moments : ℕ → Type 0) {old new : Server D g} (before after : ℕ → Option (Peer S h)) (key : ℕ) (peer left : Peer S h) (result : Result Step Refused)
       (there : before key ≡ Some peer) (is : IsChanged before after key (slot_after result left))
-      (stays : (left.stage ≡ stages.Ends → ⊥) → ServesOn keeps moments old new peer left goes)
+      (stays : (left.stage ≡ stages.Ends → ⊥) → ServesOn keeps moments old new peer left result)
       (ends : left.stage ≡ stages.Ends → EndsPeer keeps moments old new peer left result)
       (over : peer.stage ≡ stages.Ends → EndsAgain keeps moments old new peer left result)
       (gone : result ≡ Ok steps.Ended → left.stage ≡ stages.Ends) where
     further_on : (peer.stage ≡ stages.Ends → ⊥) → (left.stage ≡ stages.Ends → ⊥) → ServesFurther keeps old new before after
     further_on on not_ended first streams so_far =
-        let step : ServesOn keeps moments old new peer left goes = stays not_ended in
+        let step : ServesOn keeps moments old new peer left result = stays not_ended in
         let same : IsChanged before after key (Some left) =
         record { here = is.here ∙ stays_by result left (λ e. not_ended (gone e)); others = is.others } in
         carried_on moments streams before after key peer left there same on step.tally step.carries so_far
@@ -298,33 +298,33 @@ slot_as old new key slot other same is = record { here = is.here ∙ same; other
 ends_by : (result : Result Step Refused) (A B : Type 0) → IfOk result (λ step. step ≡ steps.Ended → A × B) → result ≡ Ok steps.Ended → A
 ends_by result A B is told = (subst (λ (r : Result Step Refused). IfOk r (λ step. step ≡ steps.Ended → A × B)) told is refl).0
 
-module _ {D S : Type 0} {g : Ghosts D} {h : stream.Ghosts S} {keeps : Type 0} (moments : ℕ → Type 0) (old new : Server D g) (slab after : Slab (Peer S h)) (key : ℕ) (peer left : Peer S h) (result answer : Result Step Refused) (goes other : Type 0)
+module _ {D S : Type 0} {g : Ghosts D} {h : stream.Ghosts S} {keeps : Type 0} (moments : ℕ → Type 0) (old new : Server D g) (slab after : Slab (Peer S h)) (key : ℕ) (peer left : Peer S h) (result answer : Result Step Refused) (other : Type 0)
     (there : Some peer ≡ get slab key) (told : result ≡ answer) (is : IsChanged (get slab) (get after) key (slot_after answer left))
-    (stays : (left.stage ≡ stages.Ends → ⊥) → ServesOn keeps moments old new peer left goes)
+    (stays : (left.stage ≡ stages.Ends → ⊥) → ServesOn keeps moments old new peer left result)
     (ends : left.stage ≡ stages.Ends → EndsPeer keeps moments old new peer left result)
     (over : peer.stage ≡ stages.Ends → EndsAgain keeps moments old new peer left result)
     (ended : IfOk result (λ step. step ≡ steps.Ended → (left.stage ≡ stages.Ends) × other)) where
   -- a step of a peer of the slab
   pub slab_further : ServesFurther keeps old new (get slab) (get after)
   slab_further =
-      steps_further moments (get slab) (get after) key peer left result goes (sym there)
+      steps_further moments (get slab) (get after) key peer left result (sym there)
       (slot_as (get slab) (get after) key (slot_after answer left) (slot_after result left) (ap (λ (r : Result Step Refused). slot_after r left) (sym told)) is)
       stays ends over (ends_by result (left.stage ≡ stages.Ends) other ended)
 
 -- a peer that stays, and whose reply was looked at then
 pub stays_answered : {D S : Type 0} {g : Ghosts D} {h : stream.Ghosts S} {keeps : Type 0} (moments : ℕ → Type 0) (old new : Server D g) (slab : Slab (Peer S h)) (key : ℕ) (peer left last : Peer S h)
-    (result : Result Step Refused) (pace : Pace) (goes other : Type 0) → Some peer ≡ get slab key → result ≡ Ok (steps.Stays pace)
-    → ((left.stage ≡ stages.Ends → ⊥) → ServesOn keeps moments old new peer left goes)
+    (result : Result Step Refused) (pace : Pace) (other : Type 0) → Some peer ≡ get slab key → result ≡ Ok (steps.Stays pace)
+    → ((left.stage ≡ stages.Ends → ⊥) → ServesOn keeps moments old new peer left result)
     → (left.stage ≡ stages.Ends → EndsPeer keeps moments old new peer left result)
     → (peer.stage ≡ stages.Ends → EndsAgain keeps moments old new peer left result)
     → IfOk result (λ step. step ≡ steps.Ended → (left.stage ≡ stages.Ends) × other)
     → IsSame left last → last.stage ≡ left.stage → ServesFurther keeps old new (get slab) (get (with_value slab key last))
-stays_answered {keeps = keeps} moments old new slab key peer left last result pace goes other there told stays ends over ended same stage = λ first streams so_far.
+stays_answered {keeps = keeps} moments old new slab key peer left last result pace other there told stays ends over ended same stage = λ first streams so_far.
     let between = with_peer (get slab) key left in
     let lent : IsChanged (get slab) between key (Some left) = with_changed (get slab) key left in
     let slot : Some left ≡ slot_after result left = ap (λ (r : Result Step Refused). slot_after r left) (sym told) in
     let served : ServesFurther keeps old new (get slab) between =
-    steps_further moments (get slab) between key peer left result goes (sym there) (slot_as (get slab) between key (Some left) (slot_after result left) slot lent)
+    steps_further moments (get slab) between key peer left result (sym there) (slot_as (get slab) between key (Some left) (slot_after result left) slot lent)
     stays ends over (ends_by result (left.stage ≡ stages.Ends) other ended) in
     shown_further {first = first} {server = new} streams between (get (with_value slab key last)) key left last lent.here
     (changed_again (get slab) (get (with_value slab key last)) key left (Some last) (changed_at slab key peer last there))

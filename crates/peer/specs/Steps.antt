@@ -1,6 +1,6 @@
 -- What a step of a peer does: which bytes it takes from its stream and shows the server, which it
 -- writes, and why it sleeps or ends.
-use Rattle.std.specs.Prelude.{ℕ, ◌+◌, ◌<◌, ◌≤◌, List, [], ◌∷◌, ◌++◌, length, take, ◌≡◌, ◌⊎◌, Option, Some, None, Result, Ok, Err, IfErr, true, false}
+use Rattle.std.specs.Prelude.{ℕ, ◌+◌, ◌<◌, ◌≤◌, List, [], ◌∷◌, ◌++◌, length, take, ◌≡◌, ◌⊎◌, Option, Some, None, Result, Ok, Err, IfErr, OnOk, true, false}
 use Rattle.std.specs.Global.{Vec}
 use Rattle.std.specs.Io.KnownBytes.{Appends, Consumes}
 use Rattle.std.specs.declared.io.ErrorKind.{ErrorKind}
@@ -28,6 +28,9 @@ use Rattle.peer.specs.declared.peer.Step.TheVariants as steps
 use Rattle.peer.specs.declared.stream.Stream as stream
 
 -- The calls of a step
+
+abbrev pub AnyMoment : ℕ → Type 0
+AnyMoment moment = Unit {0}
 
 -- each is of this connection, a turn at one of these moments, and none is a hang-up
 abbrev pub IsOn : (moments : ℕ → Type 0) → (connection : ℕ) → ServerCall → Type 0
@@ -197,8 +200,14 @@ Parts tally server peer partings.Device = (volume_of server).is_down ≡ true
 Parts tally server peer partings.Memory = Unit {0}
 Parts tally server peer partings.Clock = Unit {0}
 
+-- Bytes that were read wait for the server, or it has some among which a turn may find a whole
+-- request. No reply waits or goes out.
+abbrev pub HasBytes : {S : Type 0} {h : stream.Ghosts S} → Peer S h → Type 0
+HasBytes peer =
+    (peer.stage ≡ stages.Runs) ⊎ ((peer.stage ≡ stages.Gathers) × (peer.inbox ≡ [] → ⊥))
+
 -- What a step does until it ends the peer: it shows the server each byte once, and gives at most
--- one turn, at one of these moments.
+-- one turn, at one of these moments, and exactly one if the peer has bytes and no error comes.
 pub record Advances {D S : Type 0} {g : Ghosts D} {h : stream.Ghosts S} (keeps : Type 0)
     (moments : ℕ → Type 0) (old new : Server D g) (before after : Peer S h)
     (result : Result Pace Parting) : Type 0 where
@@ -206,6 +215,7 @@ pub record Advances {D S : Type 0} {g : Ghosts D} {h : stream.Ghosts S} (keeps :
   pub carries : Carries keeps moments old new before after tally
   pub shown : AreAll (before.inbox ++ tally.came) tally.shown
   pub few : tally.turns ≤ 1
+  pub turned : HasBytes before → OnOk result (tally.turns ≡ 1)
   pub works : result ≡ Ok paces.Goes → HasWorked after tally
   pub parts : IfErr result (Parts tally new after)
 
@@ -277,15 +287,26 @@ pub record EndsAgain {D S : Type 0} {g : Ghosts D} {h : stream.Ghosts S} (keeps 
       × (after.conn ≡ before.conn)
   pub stage : after.stage ≡ stages.Ends
 
+-- no error came, and there was memory
+abbrev pub HadMemory : Result Step Refused → Type 0
+HadMemory result = (pace : Pace) × (result ≡ Ok (steps.Stays pace)) × (pace ≡ paces.Pauses → ⊥)
+
 -- a step that leaves a peer to be served on
 pub record ServesOn {D S : Type 0} {g : Ghosts D} {h : stream.Ghosts S} (keeps : Type 0)
-    (moments : ℕ → Type 0) (old new : Server D g) (before after : Peer S h) (goes : Type 0)
-    : Type 0 where
+    (moments : ℕ → Type 0) (old new : Server D g) (before after : Peer S h)
+    (result : Result Step Refused) : Type 0 where
   pub tally : Tally
   pub carries : Carries keeps moments old new before after tally
   pub shown : AreAll (before.inbox ++ tally.came) tally.shown
   pub few : tally.turns ≤ 1
-  pub works : goes → HasWorked after tally
+  pub turned : HasBytes before → HadMemory result → tally.turns ≡ 1
+  pub works : result ≡ Ok (steps.Stays paces.Goes) → HasWorked after tally
+
+-- a peer that stays does not end with its next step, unless there was no memory
+abbrev pub StaysServed : {S : Type 0} {h : stream.Ghosts S} → Peer S h → Step → Type 0
+StaysServed after step =
+    (pace : Pace) → step ≡ steps.Stays pace → (pace ≡ paces.Pauses → ⊥) → after.stage ≡ stages.Ends
+    → ⊥
 
 -- an error is the clock's, or the device's
 abbrev pub FailsBy : {D : Type 0} {g : Ghosts D} → Server D g → Refused → Type 0

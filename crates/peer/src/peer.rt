@@ -99,13 +99,13 @@ impl From<ServerFault> for Parting {
 }
 
 impl<S: Stream + Drop> Peer<S> {
-    ghost use Rattle.std.specs.Prelude.{◌≢◌, ◌≡◌, ◌||◌, ◌↔◌, [], Ok, None, IfOk, IfErr, IsErrOf, IsTrue, MatchOption};
+    ghost use Rattle.std.specs.Prelude.{◌≢◌, ◌≡◌, ◌||◌, ◌⊎◌, ◌↔◌, [], Ok, None, IfOk, IfErr, IsErrOf, IsTrue, MatchOption};
     ghost use Rattle.std.specs.Duration.{as_nanos};
     ghost use Rattle.server.specs.Refused.{connection_at, view};
     ghost use Rattle.system.specs.Moments.{IsMoment};
     ghost use Rattle.peer.specs.Calls.{Goes};
     ghost use Rattle.peer.specs.Peers.{PeerBegins, IsSame, IsSpare, WaitsFor, quiet_nanos};
-    ghost use Rattle.peer.specs.Steps.{Advances, Runs, GivesNoTurn, Sends, IsReplying, IsStuck, WaitsToWrite, ServesOn, EndsPeer, EndsAgain, IsEndBy, FailsBy};
+    ghost use Rattle.peer.specs.Steps.{Advances, Runs, GivesNoTurn, Sends, IsReplying, IsStuck, WaitsToWrite, ServesOn, StaysServed, EndsPeer, EndsAgain, IsEndBy, FailsBy};
 
     /// A peer over this connection of the server, of whose turns changes are kept then.
     pub fn new(conn: usize, stream: S, inbox: Inbox, keeping: Keeping, now: Instant) -> Peer<S>
@@ -239,17 +239,19 @@ impl<S: Stream + Drop> Peer<S> {
     where
         D: Device,
         C: WallClock,
-        ensures asleep { IfOk result (λ step. step ≡ Step.Stays Pace.Sleeps → IsStuck server.new self.new) }
+        ensures asleep { IfOk result (λ step. step ≡ Step.Stays Pace.Sleeps
+            → IsStuck server.new self.new) }
         // It stays, or ends
         ensures stays { (self.new.stage ≢ Stage.Ends)
             → ServesOn D.keeps_word (IsMoment (C.shows clock.now)) server.old server.new
-            self.old self.new (result ≡ Ok (Step.Stays Pace.Goes)) }
+            self.old self.new result }
         ensures ends { self.new.stage ≡ Stage.Ends
             → EndsPeer D.keeps_word (IsMoment (C.shows clock.now)) server.old server.new
             self.old self.new result }
         ensures over { self.old.stage ≡ Stage.Ends
             → EndsAgain D.keeps_word (IsMoment (C.shows clock.now)) server.old server.new
             self.old self.new result }
+        ensures on { IfOk result (StaysServed self.new) }
         ensures ended { IfOk result (λ step. step ≡ Step.Ended
             → (self.new.stage ≡ Stage.Ends)
             × (connection_at (view server.new) self.new.conn ≡ None)) }
@@ -456,7 +458,8 @@ impl<S: Stream + Drop> Peer<S> {
     where
         D: Device,
         C: WallClock,
-        ensures awake { IfOk result (λ step. step ≢ Step.Stays Pace.Sleeps) }
+        ensures awake { IfOk result (λ step.
+            (step ≡ Step.Ended) ⊎ (step ≡ Step.Stays Pace.Pauses)) }
         ensures stage { self.new.stage ≡ Stage.Ends }
         ensures same { (self.new.stream ≡ self.old.stream) × (self.new.inbox ≡ self.old.inbox)
             × (self.new.conn ≡ self.old.conn) }

@@ -42,6 +42,8 @@ impl<D: Device, S: Stream + Drop> Peers<D, S> {
     ghost use Rattle.std.specs.Prelude.{◌≡◌, [], ℕ, false, IfOk, IfErr, OnOk, OnErr, option_copied};
     ghost use Rattle.slab.specs.Slab.{get, slab_len};
     ghost use Rattle.server.specs.Views.{waits_of};
+    ghost use Rattle.std.specs.Option.{option_map};
+    ghost use Rattle.peer.specs.Rounds.{EveryRound, StepsKey};
     ghost use Rattle.peer.specs.Served.{EveryWire, ServesFurther, ServesNone, ServesOneMore};
 
     /// No peer yet.
@@ -109,8 +111,12 @@ impl<D: Device, S: Stream + Drop> Peers<D, S> {
         clock: &C,
         now: Instant,
     ) -> Result<Option<Stepped<S>>, Refused>
-        ensures { ServesFurther D.keeps_word self.old.server self.new.server
+        ensures serves { ServesFurther D.keeps_word self.old.server self.new.server
             (get self.old.peers) (get self.new.peers) }
+        // Each peer that has bytes is given a turn
+        ensures fair { IfOk result (λ done. StepsKey D.keeps_word key self.old.server
+            self.new.server (get self.old.peers) (get self.new.peers)
+            (option_map (λ stepped. stepped.step) done)) }
     {
         let Some(peer) = self.peers.get_mut(key) else {
             return Ok(None);
@@ -184,6 +190,12 @@ impl<D: Device, S: Stream + Drop> Peers<D, S> {
     /// `server::every_life` speak.
     pub fn every_wire(&self)
         ensures { EveryWire D.keeps_word self.now.server (get self.now.peers) }
+    {}
+
+    /// If each key has a step, one after the other, each peer that had bytes before is given a
+    /// turn or ends, unless there was no memory for it.
+    pub fn every_round(&self)
+        ensures { EveryRound D.keeps_word self.now.server (get self.now.peers) }
     {}
 
     /// How many peers there are.

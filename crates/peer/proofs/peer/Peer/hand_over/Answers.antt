@@ -12,4 +12,4 @@ returns-in_err-taken-clause-does g c =
 pub returns-clause-does : goal.returns-clause-does
 returns-clause-does g c =
     bytes_then c.args.self.now _ c.run.new.self c.in_ok-taken.taken c.run.result (rw c.bytes.ensures at c.in_ok-taken.ensures.ok)
-    c.consume.ensures refl refl (rw c.requires refl) (λ is. let never : ⊥ = cc in never) c.run.ensures.does
+    c.consume.ensures refl refl (rw c.requires refl) refl c.run.ensures.does

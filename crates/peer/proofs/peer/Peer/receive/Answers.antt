@@ -2,14 +2,14 @@ use Rattle.std.proofs.Common.{◌≡◌, [], Ok, Some, None, refl, sym, ◌∙�
 use Rattle.std.proofs.lemmas.Result.{err_from_is_err_and}
 use Rattle.std.specs.IoError.{error_kind}
 use Rattle.peer.specs.Steps.{Read_over, Read_broken}
-use Rattle.peer.proofs.Carried.{interrupted, quiet, reads_then}
+use Rattle.peer.proofs.Carried.{dry_has_none, interrupted, quiet, reads_then}
 use Rattle.peer.proofs.Tallies.{consumes_kept, consumes_none}
 use Rattle.peer.proofs.peer.Peer.receive.Goals as goal
 
 pub returns-then-not-self-clause-does : goal.returns-then-not-self-clause-does
 returns-then-not-self-clause-does g c =
     quiet c.args.server.now c.args.self.now c.args.self.now [] _ (consumes_none _) (rw c.requires.empty refl) refl refl refl
-    (λ is. let never : ⊥ = cc in absurd never) tt
+    (λ has. absurd (dry_has_none c.args.self.now c.requires.gathers c.requires.empty has)) (λ is. let never : ⊥ = cc in absurd never) tt
 
 pub returns-in_err-self-in-Err-clause-does : goal.returns-in_err-self-in-Err-clause-does
 returns-in_err-self-in-Err-clause-does g c =
@@ -17,14 +17,14 @@ returns-in_err-self-in-Err-clause-does g c =
     let over = c.in_err-self-in-Err.ensures.err in
     rw (told.1, told.2, over.0)
     (quiet c.args.server.now c.args.self.now _ [] _ (consumes_kept _ _ c.in-Err.ensures.err.1) (c.in-Err.ensures.err.0 ∙ sym (rw c.requires.empty refl))
-    c.fill.ensures.kept.0 refl refl (λ is. let never : ⊥ = cc in absurd never)
+    c.fill.ensures.kept.0 refl refl (λ has. tt) (λ is. let never : ⊥ = cc in absurd never)
     (Read_over (Some (error_kind c.in-Err.error)) over.1 c.in-Err.ensures.told))
 
 pub returns-in-Ok-eq0-clause-does : goal.returns-in-Ok-eq0-clause-does
 returns-in-Ok-eq0-clause-does g c =
     let none : c.in-Ok-eq0.field-0 ≡ 0 = first_of (omega arith, search rules) in
     quiet c.args.server.now c.args.self.now _ c.fill.new.self _ c.in-Ok-eq0.ensures.ok.1 (rw c.requires.empty refl)
-    c.fill.ensures.kept.0 refl refl (λ is. let never : ⊥ = cc in absurd never)
+    c.fill.ensures.kept.0 refl refl (λ has. tt) (λ is. let never : ⊥ = cc in absurd never)
     (Read_over None (λ is. let never : ⊥ = cc in never, λ is. let never : ⊥ = cc in never) (c.in-Ok-eq0.ensures.told none))
 
 pub returns-in-Ok-clause-does : goal.returns-in-Ok-clause-does
@@ -35,6 +35,6 @@ returns-in-Ok-clause-does g c =
 pub returns-in_ok-self-in-Err-clause-does : goal.returns-in_ok-self-in-Err-clause-does
 returns-in_ok-self-in-Err-clause-does g c =
     quiet c.args.server.now c.args.self.now _ [] _ (consumes_kept _ _ c.in-Err.ensures.err.1) (c.in-Err.ensures.err.0 ∙ sym (rw c.requires.empty refl))
-    c.fill.ensures.kept.0 refl refl (λ is. Read_broken
+    c.fill.ensures.kept.0 refl refl (λ has. absurd (dry_has_none c.args.self.now c.requires.gathers c.requires.empty has)) (λ is. Read_broken
     (interrupted (g.S.Stream.read_told c.fill.new.stream) (error_kind c.in-Err.error) c.in_ok-self-in-Err.field-0 c.pace_of.result (Ok c.pace_of.result) refl
     c.in_ok-self-in-Err.ensures.ok c.pace_of.ensures c.in-Err.ensures.told is)) tt

@@ -1,4 +1,5 @@
-use Rattle.peer.proofs.Carried.{ends_again, ends_peer}
+use Rattle.std.proofs.Common.{Ok}
+use Rattle.peer.proofs.Carried.{ends_again, ends_peer, err_pace, ok_pace, paused, serves_as}
 use Rattle.peer.proofs.peer.Peer.step.Goals as goal
 
 pub returns-in-Err-Peer-clause-ends : goal.returns-in-Err-Peer-clause-ends
@@ -9,3 +10,19 @@ pub returns-in-Err-Peer-clause-over : goal.returns-in-Err-Peer-clause-over
 returns-in-Err-Peer-clause-over g c = λ is.
     let over = c.advance.ensures.over is in
     ends_again c.args.self.now c.advance.new.self c.end.new.self c.end.result over.1 over.2 c.end.ensures.hung c.end.ensures.same c.end.ensures.stage
+
+pub returns-in-Ok-clause-stays : goal.returns-in-Ok-clause-stays
+returns-in-Ok-clause-stays g c = λ on.
+    serves_as c.args.self.now c.advance.new.self (Ok c.in-Ok.pace) _ c.in-Ok.ensures.does (λ pace is awake. ok_pace c.in-Ok.pace pace is)
+
+pub returns-in-Err-Memory-clause-stays : goal.returns-in-Err-Memory-clause-stays
+returns-in-Err-Memory-clause-stays g c = λ on.
+    serves_as c.args.self.now c.advance.new.self _ _ c.in-Err-Memory.ensures.does (λ pace is awake. paused pace _ is awake)
+
+pub returns-in-Err-Device-clause-stays : goal.returns-in-Err-Device-clause-stays
+returns-in-Err-Device-clause-stays g c = λ on.
+    serves_as c.args.self.now c.advance.new.self _ _ c.in-Err-Device.ensures.does (λ pace is awake. err_pace _ pace _ is)
+
+pub returns-in-Err-Clock-clause-stays : goal.returns-in-Err-Clock-clause-stays
+returns-in-Err-Clock-clause-stays g c = λ on.
+    serves_as c.args.self.now c.advance.new.self _ _ c.in-Err-Clock.ensures.does (λ pace is awake. err_pace _ pace _ is)

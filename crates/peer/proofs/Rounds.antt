@@ -1,0 +1,261 @@
+-- What a round gives each peer.
+use Rattle.std.proofs.Common.{◌≡◌, ◌≢◌, ◌<◌, ◌≤◌, ◌==◌, ℕ, if◌then◌else◌, List, [], ◌∷◌, ◌++◌, Option, Some, None, Result, Ok, IfOk, inl, inr, refl, sym, subst, ◌∙◌, eq-eqb, ne_eqb, arith}
+use Rattle.std.proofs.lemmas.Bool.{cases_order}
+use Rattle.std.proofs.lemmas.Option.{same_Some}
+use Rattle.disk.specs.declared.device.Device.{Ghosts}
+use Rattle.model.specs.Server.Runs.{Arrives, Turns, HangsUp, Connects, Takes}
+use Rattle.server.specs.Refused.{connection_at, view}
+use Rattle.server.specs.Seen.{ServerCall, Did, Failed}
+use Rattle.server.specs.declared.server.Server.{Server}
+use Rattle.system.specs.declared.refused.Refused.{Refused}
+use Rattle.peer.specs.Calls.{Goes, IsEnd}
+use Rattle.peer.specs.Rounds.{AnyCalls, HaveOneTurn, HaveTurn, StaysOn, HasEnded, Leaves, StepsKey, IsRound, step_of, HadTurn, EveryRound}
+use Rattle.peer.specs.Rounds as rounds
+use Rattle.peer.specs.Steps.{AnyMoment, AreOn, EndsPeer, HasBytes, IsEndBy, IsTallied, ServesOn, StaysServed, Tally, count_by, turns_by}
+use Rattle.peer.specs.declared.pace.Pace.{Pace}
+use Rattle.peer.specs.declared.pace.Pace.TheVariants as paces
+use Rattle.peer.specs.declared.peer.Peer.{Peer}
+use Rattle.peer.specs.declared.peer.Stage.{Stage}
+use Rattle.peer.specs.declared.peer.Stage.TheVariants as stages
+use Rattle.peer.specs.declared.peer.Step.{Step}
+use Rattle.peer.specs.declared.peer.Step.TheVariants as steps
+use Rattle.peer.specs.declared.stream.Stream as stream
+use Rattle.peer.proofs.Carried.{carries_any}
+use Rattle.peer.proofs.Made.{goes_as, goes_on, not_called}
+use Rattle.peer.proofs.Served.{IsChanged}
+use Rattle.peer.proofs.Tallies.{tallies_any}
+
+-- Calls among which is a turn
+
+turn_among : (connection : ℕ) (calls : List ServerCall) → AreOn AnyMoment connection calls → 0 < count_by turns_by calls → HaveTurn connection calls
+turn_among connection [] on some = absurd (omega (arith, some))
+turn_among connection (Did (Turns number now) said ∷ calls) on some = inl on.0.0
+turn_among connection (Did (Arrives number piece) said ∷ calls) on some = inr (turn_among connection calls on.1 (omega (arith, some)))
+turn_among connection (Did (Takes number) said ∷ calls) on some = inr (turn_among connection calls on.1 (omega (arith, some)))
+turn_among connection (Did (HangsUp number) said ∷ calls) on some = absurd on.0
+turn_among connection (Did (Connects number) said ∷ calls) on some = absurd on.0
+turn_among connection (Failed event ∷ calls) on some = absurd on.0
+
+turn_before : (connection : ℕ) (calls more : List ServerCall) → HaveTurn connection calls → HaveTurn connection (more ++ calls)
+turn_before connection calls [] has = has
+turn_before connection calls (call ∷ more) has = inr (turn_before connection calls more has)
+
+turn_since : (connection : ℕ) (calls more : List ServerCall) → HaveTurn connection more → HaveTurn connection (more ++ calls)
+turn_since connection calls [] has = absurd has
+turn_since connection calls (call ∷ more) (inl is) = inl is
+turn_since connection calls (call ∷ more) (inr has) = inr (turn_since connection calls more has)
+
+module _ {D : Type 0} {g : Ghosts D} {keeps : Type 0} where
+  any_calls : {old new : Server D g} (kind : List ServerCall → Type 0) → Goes keeps old new kind → Goes keeps old new AnyCalls
+  any_calls kind goes = goes_as {first = kind} {kind = AnyCalls} (λ (calls : List ServerCall) (are : kind calls). tt) goes
+
+  any_then : {old between new : Server D g} → Goes keeps old between AnyCalls → Goes keeps between new AnyCalls → Goes keeps old new AnyCalls
+  any_then before after =
+      goes_on {first = AnyCalls} {then = AnyCalls} {kind = AnyCalls} (λ (calls more : List ServerCall) (one : AnyCalls calls) (two : AnyCalls more). tt) before after
+
+  turn_then : {old between new : Server D g} (connection : ℕ) → Goes keeps old between (HaveTurn connection) → Goes keeps between new AnyCalls
+      → Goes keeps old new (HaveTurn connection)
+  turn_then connection before after =
+      goes_on {first = HaveTurn connection} {then = AnyCalls} {kind = HaveTurn connection}
+      (λ (calls more : List ServerCall) (has : HaveTurn connection calls) (any : AnyCalls more). turn_before connection calls more has) before after
+
+  then_turn : {old between new : Server D g} (connection : ℕ) → Goes keeps old between AnyCalls → Goes keeps between new (HaveOneTurn connection)
+      → Goes keeps old new (HaveTurn connection)
+  then_turn connection before after =
+      goes_on {first = AnyCalls} {then = HaveOneTurn connection} {kind = HaveTurn connection}
+      (λ (calls more : List ServerCall) (any : AnyCalls calls) (has : HaveOneTurn connection more).
+      turn_since connection calls more (turn_among connection more has.0 (omega (arith, has.1)))) before after
+
+-- Steps
+
+-- one that leaves the peer to be served on
+turns_once : {D S : Type 0} {g : Ghosts D} {h : stream.Ghosts S} {keeps : Type 0} (moments : ℕ → Type 0) {old new : Server D g} (peer left : Peer S h) (result : Result Step Refused) (pace : Pace)
+    → ServesOn keeps moments old new peer left result → HasBytes peer → result ≡ Ok (steps.Stays pace) → (pace ≡ paces.Pauses → ⊥) → Goes keeps old new (HaveOneTurn peer.conn)
+turns_once moments peer left result pace serves has is awake =
+    let tally : Tally = serves.tally in
+    let once : tally.turns ≡ 1 = serves.turned has (pace, is, awake) in
+    goes_as {first = IsTallied AnyMoment peer.conn tally} {kind = HaveOneTurn peer.conn}
+    (λ (calls : List ServerCall) (tallied : IsTallied AnyMoment peer.conn tally calls). (tallied.on, tallied.turns ∙ once))
+    (tallies_any moments AnyMoment peer.conn tally (λ now shows. tt) serves.carries.calls)
+
+-- whatever it came to
+record GoesOn {D S : Type 0} {g : Ghosts D} {h : stream.Ghosts S} (keeps : Type 0) (old new : Server D g) (peer left : Peer S h) : Type 0 where
+  goes : Goes keeps old new AnyCalls
+  conn : left.conn ≡ peer.conn
+
+module _ {D S : Type 0} {g : Ghosts D} {h : stream.Ghosts S} {keeps : Type 0} (moments : ℕ → Type 0) {old new : Server D g} (peer left : Peer S h) (result : Result Step Refused)
+    (stays : (left.stage ≡ stages.Ends → ⊥) → ServesOn keeps moments old new peer left result)
+    (ends : left.stage ≡ stages.Ends → EndsPeer keeps moments old new peer left result) where
+  goes_served : (left.stage ≡ stages.Ends → ⊥) → GoesOn keeps old new peer left
+  goes_served on =
+      let serves : ServesOn keeps moments old new peer left result = stays on in
+      record { goes = any_calls (IsTallied moments peer.conn serves.tally) serves.carries.calls; conn = serves.carries.conn }
+
+  goes_ended : left.stage ≡ stages.Ends → GoesOn keeps old new peer left
+  goes_ended now =
+      let end : EndsPeer keeps moments old new peer left result = ends now in
+      record {
+        goes = any_then (any_calls (IsTallied moments peer.conn end.tally) end.carries.calls) (any_calls (IsEndBy moments result end.left.conn) end.hung);
+        conn = end.same.2 ∙ end.carries.conn;
+      }
+
+  goes_by : (stage : Stage) → left.stage ≡ stage → GoesOn keeps old new peer left
+  goes_by stages.Ends now = goes_ended now
+  goes_by stages.Gathers now = goes_served (λ e. let never : ⊥ = cc in never)
+  goes_by stages.Runs now = goes_served (λ e. let never : ⊥ = cc in never)
+  goes_by stages.Made now = goes_served (λ e. let never : ⊥ = cc in never)
+  goes_by (stages.Replies reply) now = goes_served (λ e. let never : ⊥ = cc in never)
+
+  step_goes : GoesOn keeps old new peer left
+  step_goes = goes_by left.stage refl
+
+-- at moments that need not be told
+end_any : (moments : ℕ → Type 0) (connection : ℕ) (calls : List ServerCall) → IsEnd moments connection calls → IsEnd AnyMoment connection calls
+end_any moments connection calls (inl none) = inl none
+end_any moments connection calls (inr (now, shows, ends)) = inr (now, tt, ends)
+
+ends_any : {D S : Type 0} {g : Ghosts D} {h : stream.Ghosts S} {keeps : Type 0} (moments : ℕ → Type 0) {old new : Server D g} (peer left : Peer S h)
+    → EndsPeer keeps moments old new peer left (Ok steps.Ended) → EndsPeer keeps AnyMoment old new peer left (Ok steps.Ended)
+ends_any moments peer left end = record {
+  between = end.between;
+  left = end.left;
+  tally = end.tally;
+  carries = carries_any moments AnyMoment peer end.left end.tally (λ now shows. tt) end.carries;
+  shown = end.shown;
+  few = end.few;
+  reason = end.reason;
+  hung = goes_as {first = IsEnd moments end.left.conn} {kind = IsEnd AnyMoment end.left.conn}
+      (λ (calls : List ServerCall) (is : IsEnd moments end.left.conn calls). end_any moments end.left.conn calls is) end.hung;
+  same = end.same;
+}
+
+-- What the calls of a slab are as a step of a key
+
+pub no_peer : {D S : Type 0} {g : Ghosts D} {h : stream.Ghosts S} {keeps : Type 0} (server : Server D g) (peers : ℕ → Option (Peer S h)) (key : ℕ) → peers key ≡ None
+    → StepsKey keeps key server server peers peers None
+no_peer server peers key none = record { goes = any_calls (λ calls. calls ≡ []) (not_called server); here = (none, none); others = λ other apart. refl }
+
+module _ {D S : Type 0} {g : Ghosts D} {h : stream.Ghosts S} {keeps : Type 0} (moments : ℕ → Type 0) {old new : Server D g} (before after : ℕ → Option (Peer S h)) (key : ℕ)
+    (peer left : Peer S h) (result : Result Step Refused) (there : before key ≡ Some peer)
+    (stays : (left.stage ≡ stages.Ends → ⊥) → ServesOn keeps moments old new peer left result)
+    (ends : left.stage ≡ stages.Ends → EndsPeer keeps moments old new peer left result) where
+  -- a peer that stays, as the next step finds it
+  pub peer_stays : (last : Peer S h) (pace : Pace) → IsChanged before after key (Some last) → last.conn ≡ left.conn → result ≡ Ok (steps.Stays pace)
+      → IfOk result (StaysServed left) → StepsKey keeps key old new before after (Some (steps.Stays pace))
+  peer_stays last pace is conn told on =
+      let step : GoesOn keeps old new peer left = step_goes moments peer left result stays ends in
+      let served : StaysServed left (steps.Stays pace) = subst (λ (r : Result Step Refused). IfOk r (StaysServed left)) told on in
+      record {
+        goes = step.goes;
+        here = (
+          peer,
+          last,
+          there,
+          is.here,
+          record {
+            conn = conn ∙ step.conn;
+            turned = λ has awake. turns_once moments peer left result pace (stays (served pace refl awake)) has told awake;
+          },
+        );
+        others = is.others;
+      }
+
+  pub peer_ended : IsChanged before after key None → result ≡ Ok steps.Ended
+      → IfOk result (λ step. step ≡ steps.Ended → (left.stage ≡ stages.Ends) × (connection_at (view new) left.conn ≡ None))
+      → StepsKey keeps key old new before after (Some steps.Ended)
+  peer_ended is told ended =
+      let step : GoesOn keeps old new peer left = step_goes moments peer left result stays ends in
+      let gone : (left.stage ≡ stages.Ends) × (connection_at (view new) left.conn ≡ None) =
+      subst (λ (r : Result Step Refused). IfOk r (λ step. step ≡ steps.Ended → (left.stage ≡ stages.Ends) × (connection_at (view new) left.conn ≡ None))) told ended refl in
+      let end : EndsPeer keeps moments old new peer left (Ok steps.Ended) = subst (λ (r : Result Step Refused). EndsPeer keeps moments old new peer left r) told (ends gone.0) in
+      record {
+        goes = step.goes;
+        here = (
+          peer,
+          there,
+          is.here,
+          record {
+            left = left;
+            ends = ends_any moments peer left end;
+            gone = subst (λ (connection : ℕ). connection_at (view new) connection ≡ None) step.conn gone.1;
+          },
+        );
+        others = is.others;
+      }
+
+-- Rounds
+
+step_here : (step other : Option Step) (key done : ℕ) → key ≡ done → (if key == done then step else other) ≡ step
+step_here step other key done same = rw (eq-eqb key done same) refl
+
+step_before : (step other : Option Step) (key done : ℕ) → key ≢ done → (if key == done then step else other) ≡ other
+step_before step other key done apart = rw (ne_eqb key done apart) refl
+
+module _ {D S : Type 0} {g : Ghosts D} {h : stream.Ghosts S} (keeps : Type 0) (first : Server D g) (peers : ℕ → Option (Peer S h)) where
+  round_goes : (count : ℕ) (last : Server D g) (after : ℕ → Option (Peer S h)) → IsRound keeps first peers count last after → Goes keeps first last AnyCalls
+  round_goes count last after rounds.IsRound.Begins = any_calls (λ calls. calls ≡ []) (not_called first)
+  round_goes count last after (rounds.IsRound.Steps_on {count = done} {old = old} {before = before} step round steps_key) =
+      any_then (round_goes done old before round) steps_key.goes
+
+  -- a key whose turn has not come is as it was
+  untouched_yet : (count : ℕ) (last : Server D g) (after : ℕ → Option (Peer S h)) → IsRound keeps first peers count last after → (key : ℕ) → count ≤ key → after key ≡ peers key
+  untouched_yet count last after rounds.IsRound.Begins key late = refl
+  untouched_yet count last after (rounds.IsRound.Steps_on {count = done} {old = old} {before = before} step round steps_key) key late =
+      steps_key.others key (λ same. omega (arith, late, same)) ∙ untouched_yet done old before round key (omega (arith, late))
+
+  -- the step of its key
+  had_now : (old new : Server D g) (here left : Option (Peer S h)) (peer : Peer S h) (step : Option Step) → here ≡ Some peer → HasBytes peer
+      → Goes keeps first old AnyCalls → Leaves keeps old new here left step → HadTurn keeps first new peer left step
+  had_now old new here left peer None there has so_far leaves = let none = leaves.0 in let never : ⊥ = cc in absurd never
+  had_now old new here left peer (Some steps.Ended) there has so_far leaves =
+      let same : leaves.0 ≡ peer = same_Some leaves.0 peer (sym leaves.1 ∙ there) in
+      inr (inl (
+        leaves.2,
+        record {
+          old = old;
+          new = new;
+          until = so_far;
+          ended = subst (λ (p : Peer S h). HasEnded keeps old new p) same leaves.3;
+          since = any_calls (λ calls. calls ≡ []) (not_called new);
+        },
+      ))
+  had_now old new here left peer (Some (steps.Stays paces.Pauses)) there has so_far leaves = inr (inr refl)
+  had_now old new here left peer (Some (steps.Stays paces.Goes)) there has so_far leaves =
+      let same : leaves.0 ≡ peer = same_Some leaves.0 peer (sym leaves.2 ∙ there) in
+      let stays : StaysOn keeps old new peer leaves.1 paces.Goes = subst (λ (p : Peer S h). StaysOn keeps old new p leaves.1 paces.Goes) same leaves.4 in
+      inl (then_turn peer.conn so_far (stays.turned has (λ pauses. let never : ⊥ = cc in never)))
+  had_now old new here left peer (Some (steps.Stays paces.Sleeps)) there has so_far leaves =
+      let same : leaves.0 ≡ peer = same_Some leaves.0 peer (sym leaves.2 ∙ there) in
+      let stays : StaysOn keeps old new peer leaves.1 paces.Sleeps = subst (λ (p : Peer S h). StaysOn keeps old new p leaves.1 paces.Sleeps) same leaves.4 in
+      inl (then_turn peer.conn so_far (stays.turned has (λ pauses. let never : ⊥ = cc in never)))
+
+  -- and those of later keys
+  had_before : (old new : Server D g) (peer : Peer S h) (left : Option (Peer S h)) (step : Option Step) → Goes keeps old new AnyCalls
+      → HadTurn keeps first old peer left step → HadTurn keeps first new peer left step
+  had_before old new peer left step more (inl turn) = inl (turn_then peer.conn turn more)
+  had_before old new peer left step more (inr (inl (none, ended))) =
+      inr (inl (none, record { old = ended.old; new = ended.new; until = ended.until; ended = ended.ended; since = any_then ended.since more }))
+  had_before old new peer left step more (inr (inr paused)) = inr (inr paused)
+
+  every_turn : (count : ℕ) (last : Server D g) (after : ℕ → Option (Peer S h)) (round : IsRound keeps first peers count last after)
+      → (key : ℕ) (peer : Peer S h) → key < count → peers key ≡ Some peer → HasBytes peer → HadTurn keeps first last peer (after key) (step_of round key)
+  every_turn count last after rounds.IsRound.Begins key peer few there has = absurd (omega (arith, few))
+  every_turn count last after (rounds.IsRound.Steps_on {count = done} {old = old} {before = before} step round steps_key) key peer few there has = elim (cases_order key done) [
+    | inl now ↦
+        let here : before key ≡ Some peer = untouched_yet done old before round key (omega (arith, now)) ∙ there in
+        let at_key : StepsKey keeps key old last before after step = subst (λ (n : ℕ). StepsKey keeps n old last before after step) (sym now) steps_key in
+        subst (λ (s : Option Step). HadTurn keeps first last peer (after key) s) (sym (step_here step (step_of round key) key done now))
+        (had_now old last (before key) (after key) peer step here has (round_goes done old before round) at_key.here)
+    | inr apart ↦ elim apart [
+      | inl low ↦
+          let off : key ≢ done = λ same. omega (arith, low, same) in
+          let had : HadTurn keeps first old peer (before key) (step_of round key) = every_turn done old before round key peer low there has in
+          subst (λ (s : Option Step). HadTurn keeps first last peer (after key) s) (sym (step_before step (step_of round key) key done off))
+          (subst (λ (slot : Option (Peer S h)). HadTurn keeps first last peer slot (step_of round key)) (sym (steps_key.others key off))
+          (had_before old last peer (before key) (step_of round key) steps_key.goes had))
+      | inr high ↦ absurd (omega (arith, high, few))
+    ]
+  ]
+
+pub every_round : {D S : Type 0} {g : Ghosts D} {h : stream.Ghosts S} (keeps : Type 0) (first : Server D g) (peers : ℕ → Option (Peer S h)) → EveryRound keeps first peers
+every_round keeps first peers count last after round key peer few there has = every_turn keeps first peers count last after round key peer few there has
