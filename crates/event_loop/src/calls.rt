@@ -1,6 +1,10 @@
 //! The calls of the server that the loop itself makes, each once, so that what is above need not
 //! see all that they promise.
 
+ghost use Rattle.std.specs.Prelude.{IfOk};
+ghost use Rattle.session.specs.Views.{settings_of};
+ghost use Rattle.event_loop.specs.Runs.{GoesAny, HasBegun};
+
 use disk::Device;
 use server::{Server, Turn};
 use std::alloc::Global;
@@ -16,7 +20,9 @@ pub fn mounted<D: Device>(
     alloc: Global,
     device: D,
     settings: server::Settings,
-) -> Result<Server<D>, Refused> {
+) -> Result<Server<D>, Refused>
+    ensures { D.keeps_word → IfOk result (HasBegun D.keeps_word (settings_of settings) device) }
+{
     let cached = NonZeroUsize::new(CACHED_SECTORS).unwrap_or(NonZeroUsize::MIN);
     match Server::mount_cached(alloc, device, cached, settings) {
         Ok(server) => Ok(server),
@@ -30,21 +36,23 @@ pub fn restart_count<D: Device>(server: &Server<D>) -> u32 {
 }
 
 /// The number of a new connection.
-pub fn connect<D: Device>(server: &mut Server<D>) -> Result<usize, Refused> {
+pub fn connect<D: Device>(server: &mut Server<D>) -> Result<usize, Refused>
+    ensures { GoesAny D.keeps_word server.old server.new }
+{
     Ok(server.connect()?)
 }
 
 /// How many of the bytes the server took.
-pub fn feed<D: Device>(
-    server: &mut Server<D>,
-    conn: usize,
-    bytes: &[u8],
-) -> Result<usize, Refused> {
+pub fn feed<D: Device>(server: &mut Server<D>, conn: usize, bytes: &[u8]) -> Result<usize, Refused>
+    ensures { GoesAny D.keeps_word server.old server.new }
+{
     Ok(server.feed(conn, bytes)?)
 }
 
 /// What the connection's turn at this moment did, in nanoseconds since 1970.
-pub fn turn<D: Device>(server: &mut Server<D>, conn: usize, now: u64) -> Result<Turn, Refused> {
+pub fn turn<D: Device>(server: &mut Server<D>, conn: usize, now: u64) -> Result<Turn, Refused>
+    ensures { GoesAny D.keeps_word server.old server.new }
+{
     Ok(server.turn(conn, now)?)
 }
 
@@ -52,11 +60,15 @@ pub fn turn<D: Device>(server: &mut Server<D>, conn: usize, now: u64) -> Result<
 pub fn take_output<D: Device>(
     server: &mut Server<D>,
     conn: usize,
-) -> Result<Option<Vec<u8>>, Refused> {
+) -> Result<Option<Vec<u8>>, Refused>
+    ensures { GoesAny D.keeps_word server.old server.new }
+{
     Ok(server.take_output(conn)?)
 }
 
 /// Ends the connection at this moment, in nanoseconds since 1970.
-pub fn hangup<D: Device>(server: &mut Server<D>, conn: usize, now: u64) -> Result<(), Refused> {
+pub fn hangup<D: Device>(server: &mut Server<D>, conn: usize, now: u64) -> Result<(), Refused>
+    ensures { GoesAny D.keeps_word server.old server.new }
+{
     Ok(server.hangup(conn, now)?)
 }

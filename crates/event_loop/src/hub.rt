@@ -1,20 +1,23 @@
 //! A mounted volume, its peers, and the loop over them.
 
+ghost use Rattle.std.specs.Prelude.{◌≡◌, ◌≢◌, true, IfOk, None, Ok};
+ghost use Rattle.slab.specs.Slab.{get};
+ghost use Rattle.peer.specs.declared.pace.Pace.TheVariants.{Pauses};
+ghost use Rattle.event_loop.specs.Runs.{EveryLoop, GoesAny, HadTurns, HasBegun, HasNoPeer, LoopBegins, LoopBeginsAnew, RunsOn, StepsOne};
+ghost use Rattle.event_loop.specs.Settled.{settings_served};
+
 use crate::counted::Counted;
 use crate::counts::Counts;
+use crate::desk::Desk;
 use crate::glance::{has_replayed, syncs_of};
-use crate::line::{Line, Session, Start};
+use crate::line::{Line, Start};
 use crate::lines::Lines;
-use crate::page::{State, page_of};
-use crate::reminders::Reminders;
 use crate::settings::Settings;
-use crate::sockets::Sockets;
 use crate::watched::Watched;
 use crate::{calls, seating};
 use daemon::{Arrival, Door, report_ready};
-use model_tree::status::Status;
-use peer::{Answered, NotAdmitted, Pace, Peers, SessionNews, Step, Stepped};
-use server::{MAX_CONNECTIONS, Server, ServerFault};
+use peer::{Keeping, Pace, Peers};
+use server::{MAX_CONNECTIONS, Server};
 use std::alloc::Global;
 use std::env::Env;
 use std::io::Write;
@@ -32,9 +35,6 @@ const QUIET_MILLIS: u64 = 1;
 /// How often it is looked at whether a peer has been quiet for so long that another one may have
 /// its place.
 const GLANCE_SECONDS: u64 = 1;
-
-/// How many connections are accepted before the peers have a step.
-const MAX_ARRIVALS: u32 = 16;
 
 /// How many steps each peer has before a flush, and so how many operations it may run.
 const MAX_STEPS: u32 = 16;
@@ -63,7 +63,10 @@ where
 {
     let mut lines = Lines::to(rt, err, settings.quiet);
     let hub = Hub::begin(rt, device, door, settings, title, &mut lines)?;
-    hub.print_address(out)?;
+    if let Err(refused) = hub.print_address(out) {
+        drop(hub);
+        return Err(refused);
+    }
     report_ready(rt);
     let outcome = serve_runs(rt, hub, &mut lines);
     if let Err(refused) = outcome {
@@ -92,16 +95,21 @@ where
 {
     let mut hub = hub;
     for _ in 0..u64::MAX {
-        match hub.run(rt, lines)? {
-            End::Alone => hub = hub.begin_anew(rt, lines)?,
-            End::Served => break,
+        match hub.run(rt, lines) {
+            Ok(End::Alone) => hub = hub.begin_anew(rt, lines)?,
+            Ok(End::Served) => break,
+            Err(refused) => {
+                drop(hub);
+                return Err(refused);
+            }
         }
     }
+    drop(hub);
     Ok(())
 }
 
 /// Why a run of the loop ends.
-#[derive(Clone, Copy, PartialEq, Eq)]
+#[derive(Clone, Copy)]
 pub enum End {
     /// No peer has been there for as long as the settings say.
     Alone,
@@ -113,18 +121,32 @@ pub enum End {
 #[derive(Drop)]
 pub struct Hub<D: Watched> {
     peers: Peers<D, Counted>,
-    sockets: Sockets,
-    reminders: Reminders,
-    counts: Counts,
+    desk: Desk,
     /// How soon to go on.
     pace: Pace,
     /// Whether nothing has changed since the last checkpoint.
     is_rested: bool,
-    /// Whether a client could have a persistent session, as far as the operator knows.
-    has_seat: bool,
-    /// Since when no peer has been there, where there was one in this run.
-    alone_since: Option<Instant>,
-    settings: Settings,
+}
+
+/// What a step of each peer came to.
+#[derive(Clone, Copy)]
+struct Sweep {
+    /// How soon to go on.
+    pace: Pace,
+    /// Whether there was memory for each.
+    had_memory: bool,
+}
+
+impl Sweep {
+    /// And a step that came to this.
+    fn and(self, pace: Pace) -> Sweep
+        ensures { result.had_memory ≡ true → (self.had_memory ≡ true) × (pace ≢ Pauses) }
+    {
+        Sweep {
+            pace: self.pace.or(pace),
+            had_memory: self.had_memory && pace != Pace::Pauses,
+        }
+    }
 }
 
 impl<D: Watched> Hub<D> {
@@ -135,10 +157,12 @@ impl<D: Watched> Hub<D> {
     pub fn new<R>(rt: &R, device: D, door: Door, settings: Settings) -> Result<Hub<D>, Refused>
     where
         R: Net + AllocGlobal,
+        ensures { D.keeps_word → IfOk result
+            (λ hub. LoopBegins D.keeps_word (settings_served settings) device hub.peers) }
     {
-        let sockets = Sockets::new(rt, door, &settings)?;
-        let server = mounted(rt.alloc(), device, &settings)?;
-        Hub::with(rt.alloc(), server, sockets, settings)
+        let desk = Desk::new(rt, door, settings)?;
+        let server = mounted(rt.alloc(), device, &desk.settings);
+        Hub::with(rt.alloc(), server, desk)
     }
 
     /// A loop over a server that is [mounted](calls::mounted) already.
@@ -153,28 +177,37 @@ impl<D: Watched> Hub<D> {
     ) -> Result<Hub<D>, Refused>
     where
         R: Net + AllocGlobal,
+        ensures { IfOk result (λ hub. HasNoPeer D.keeps_word (Ok server) hub.peers) }
     {
-        let sockets = Sockets::new(rt, door, &settings)?;
-        Hub::with(rt.alloc(), server, sockets, settings)
+        match Desk::new(rt, door, settings) {
+            Ok(desk) => Hub::with(rt.alloc(), Ok(server), desk),
+            Err(refused) => {
+                drop(server);
+                Err(refused)
+            }
+        }
     }
 
+    /// A loop over this server, if it was mounted.
     fn with(
         alloc: Global,
-        server: Server<D>,
-        sockets: Sockets,
-        settings: Settings,
-    ) -> Result<Hub<D>, Refused> {
-        Ok(Hub {
-            peers: Peers::new(alloc, server, settings.keeping)?,
-            sockets,
-            reminders: Reminders::new(),
-            counts: Counts::new(),
-            pace: Pace::Goes,
-            is_rested: true,
-            has_seat: true,
-            alone_since: None,
-            settings,
-        })
+        server: Result<Server<D>, Refused>,
+        desk: Desk,
+    ) -> Result<Hub<D>, Refused>
+        ensures { IfOk result (λ hub. HasNoPeer D.keeps_word server hub.peers) }
+    {
+        match peers_of(alloc, server, desk.settings.keeping) {
+            Ok(peers) => Ok(Hub {
+                peers,
+                desk,
+                pace: Pace::Goes,
+                is_rested: true,
+            }),
+            Err(refused) => {
+                drop(desk);
+                Err(refused)
+            }
+        }
     }
 
     /// How often the volume was mounted.
@@ -184,7 +217,7 @@ impl<D: Watched> Hub<D> {
 
     /// Where the door listens.
     pub fn address(&self) -> Result<SocketAddr, Refused> {
-        Ok(self.sockets.address()?)
+        Ok(self.desk.sockets.address()?)
     }
 
     fn print_address<O: Write>(&self, out: &mut O) -> Result<(), Refused> {
@@ -194,30 +227,13 @@ impl<D: Watched> Hub<D> {
 
     /// What was counted since the start.
     pub fn counts(&self) -> Counts {
-        let mut counts = self.counts;
-        counts.bytes = self.sockets.bytes(&self.peers);
-        counts.change(self.peers.server().change_count());
-        counts
-    }
-
-    /// What there is, now.
-    fn state(&self) -> State {
-        let server = self.peers.server();
-        State {
-            run: self.restart_count(),
-            connections: server.connection_count(),
-            clients: server.client_count(),
-            sessions: server.session_count(),
-            opens: server.open_count(),
-            seats: seating::count(server),
-            room: server.room(),
-            calls: server.device().calls(),
-        }
+        self.desk.counts(&self.peers)
     }
 
     /// The device, as it is now: peers are gone, and what was not kept is lost.
     pub fn into_device(self) -> D {
-        let Hub { peers, .. } = self;
+        let Hub { peers, desk, .. } = self;
+        drop(desk);
         peers.into_server().into_device()
     }
 
@@ -237,11 +253,12 @@ impl<D: Watched> Hub<D> {
     where
         R: Net + Clock + AllocGlobal,
         E: Write + Drop,
+        ensures { D.keeps_word → IfOk result
+            (λ hub. LoopBegins D.keeps_word (settings_served settings) device hub.peers) }
     {
-        let sockets = Sockets::new(rt, door, &settings)?;
-        let mut server = mounted(rt.alloc(), device, &settings)?;
-        begin_first_run(rt, &mut server, &sockets, &settings, title, lines)?;
-        Hub::with(rt.alloc(), server, sockets, settings)
+        let desk = Desk::new(rt, door, settings)?;
+        let server = first_server(rt, device, &desk, title, lines);
+        Hub::with(rt.alloc(), server, desk)
     }
 
     /// The same without a client, a session, a seat or an open: a new run on the same device.
@@ -252,25 +269,22 @@ impl<D: Watched> Hub<D> {
     where
         R: Clock + AllocGlobal,
         E: Write + Drop,
+        ensures { D.keeps_word → IfOk result (λ hub. LoopBeginsAnew D.keeps_word
+            (settings_served self.desk.settings) self.peers hub.peers) }
     {
-        let Hub {
-            peers,
-            sockets,
-            reminders,
-            counts,
-            settings,
-            ..
-        } = self;
+        let Hub { peers, desk, .. } = self;
+        let mut desk = desk;
         let server = peers.into_server();
-        let mut counts = counts;
-        counts.change(server.change_count());
-        let mut server = mounted(rt.alloc(), server.into_device(), &settings)?;
-        begin_next_run(rt, &mut server, lines)?;
-        let mut hub = Hub::with(rt.alloc(), server, sockets, settings)?;
-        hub.reminders = reminders;
-        hub.counts = counts;
-        Ok(hub)
+        desk.end_run(&server);
+        let server = next_server(rt, server.into_device(), &desk, lines);
+        Hub::with(rt.alloc(), server, desk)
     }
+
+    /// What the peers were served since the loop began is of a run of the server, of which
+    /// `server::every_run` and `server::every_life` speak.
+    pub fn every_wire(&self)
+        ensures { EveryLoop D.keeps_word self.now.peers }
+    {}
 
     /// Serves until no peer has been there for as long as was given, or all have been served.
     ///
@@ -280,14 +294,15 @@ impl<D: Watched> Hub<D> {
     where
         R: Clock + AllocGlobal,
         E: Write + Drop,
+        ensures { RunsOn D.keeps_word self.old.peers self.new.peers }
     {
         for _ in 0..u64::MAX {
-            if self.sockets.are_done() {
+            if self.desk.sockets.are_done() {
                 return Ok(End::Served);
             }
             let timeout = self.timeout(Instant::now(rt)?);
-            if timeout == Some(Duration::ZERO) && self.pace != Pace::Goes {
-                break;
+            if self.is_forgotten(timeout) {
+                return Ok(End::Alone);
             }
             self.go_on(rt, timeout, lines)?;
         }
@@ -299,8 +314,8 @@ impl<D: Watched> Hub<D> {
     /// how soon to go on.
     ///
     /// # Errors
-    /// Device if the device fails; Io if the clock or epoll does; Io and Memory if the listening
-    /// socket does and connections are served in turn.
+    /// What ends the program: Device if the device fails; Io if the clock or epoll does; Io and
+    /// Memory if the listening socket does and connections are served in turn.
     pub fn go_on<R, E>(
         &mut self,
         rt: &R,
@@ -310,12 +325,11 @@ impl<D: Watched> Hub<D> {
     where
         R: Clock + AllocGlobal,
         E: Write + Drop,
+        ensures { RunsOn D.keeps_word self.old.peers self.new.peers }
     {
-        let has_heard = self.sockets.hear(&mut self.peers, timeout)?;
-        if self.pace == Pace::Sleeps && !has_heard {
-            self.rest()?;
-        }
-        self.pace = self.round(rt, Instant::now(rt)?, lines)?;
+        let has_heard = self.desk.sockets.hear(&mut self.peers, timeout)?;
+        self.rest(has_heard)?;
+        self.pace = self.round(rt, rt.alloc(), Instant::now(rt)?, lines)?;
         Ok(self.pace)
     }
 
@@ -326,42 +340,72 @@ impl<D: Watched> Hub<D> {
             Pace::Goes => Some(Duration::ZERO),
             Pace::Pauses => Some(Duration::from_millis(PAUSE_MILLIS)),
             Pace::Sleeps if !self.is_rested => Some(Duration::from_millis(QUIET_MILLIS)),
-            Pace::Sleeps if self.sockets.has_waiting() => Some(Duration::from_secs(GLANCE_SECONDS)),
-            Pace::Sleeps => self.until_forgetting(now),
+            Pace::Sleeps if self.desk.sockets.has_waiting() => {
+                Some(Duration::from_secs(GLANCE_SECONDS))
+            }
+            Pace::Sleeps => self.desk.until_forgetting(now),
         }
     }
 
-    fn until_forgetting(&self, now: Instant) -> Option<Duration> {
-        let alone_for = now.duration_since(self.alone_since?);
-        Some(self.settings.forget_after?.saturating_sub(alone_for))
+    /// Whether a run ends where it may wait for so long: no peer was there for as long as was given.
+    fn is_forgotten(&self, timeout: Option<Duration>) -> bool {
+        self.pace != Pace::Goes && timeout == Some(Duration::ZERO)
     }
 
-    /// Makes a checkpoint, if something has changed since the last one.
-    fn rest(&mut self) -> Result<(), Refused> {
-        if !self.is_rested {
-            let syncs = syncs_of(self.peers.server());
-            self.peers.checkpoint()?;
-            self.counts.sync(syncs, syncs_of(self.peers.server()));
-            self.is_rested = true;
+    /// Makes a checkpoint where nothing came while it slept, if something has changed since the
+    /// last one.
+    fn rest(&mut self, has_heard: bool) -> Result<(), Refused>
+        ensures { RunsOn D.keeps_word self.old.peers self.new.peers }
+    {
+        if self.is_rested || has_heard || self.pace != Pace::Sleeps {
+            return Ok(());
         }
+        let syncs = syncs_of(self.peers.server());
+        self.peers.checkpoint()?;
+        self.desk.counts.sync(syncs, syncs_of(self.peers.server()));
+        self.is_rested = true;
         Ok(())
     }
 
     /// Connections that wait are given places; each peer has steps until none goes on; then what
     /// waits is flushed, and the replies go out.
-    fn round<R, E>(&mut self, rt: &R, now: Instant, lines: &mut Lines<E>) -> Result<Pace, Refused>
+    fn round<C, E>(
+        &mut self,
+        clock: &C,
+        alloc: Global,
+        now: Instant,
+        lines: &mut Lines<E>,
+    ) -> Result<Pace, Refused>
     where
-        R: Clock + AllocGlobal,
+        C: Clock,
         E: Write + Drop,
+        ensures { RunsOn D.keeps_word self.old.peers self.new.peers }
     {
-        let mut pace = self.show_counts(rt.alloc(), now);
-        pace = pace.or(self.receive(now, lines)?);
-        pace = pace.or(self.welcome(rt, now, lines)?);
-        pace = pace.or(self.step_on(rt, now, lines)?);
-        if self.flush()? {
-            pace = pace.or(self.step_all(rt, now, lines)?);
+        let met = self.meet(alloc, now, lines)?;
+        let stepped = self.step_on(clock, now, lines)?;
+        let pace = met.or(stepped.pace);
+        if !self.flush()? {
+            return Ok(pace);
         }
-        Ok(pace)
+        let sent = self.step_all(clock, now, lines)?;
+        Ok(pace.or(sent.pace))
+    }
+
+    /// Whoever reads the counts is served, and who comes; a connection that waits is given a place.
+    fn meet<E>(
+        &mut self,
+        alloc: Global,
+        now: Instant,
+        lines: &mut Lines<E>,
+    ) -> Result<Pace, Refused>
+    where
+        E: Write + Drop,
+        ensures { RunsOn D.keeps_word self.old.peers self.new.peers }
+    {
+        let shown = self.desk.show_counts(&self.peers, alloc, now);
+        let received = self.desk.receive(now, lines)?;
+        let welcomed = self.welcome(alloc, now, lines)?;
+        Ok(shown.or(received).or(welcomed))
     }
 
     /// Each peer has a step, and the same again as long as one goes on, up to `MAX_STEPS` times.
@@ -370,18 +414,22 @@ impl<D: Watched> Hub<D> {
         clock: &C,
         now: Instant,
         lines: &mut Lines<E>,
-    ) -> Result<Pace, Refused>
+    ) -> Result<Sweep, Refused>
     where
         C: Clock,
         E: Write + Drop,
+        ensures calls { RunsOn D.keeps_word self.old.peers self.new.peers }
+        ensures fair { IfOk result (λ sweep. sweep.had_memory ≡ true
+            → HadTurns D.keeps_word self.old.peers self.new.peers) }
     {
+        let mut sweep = self.step_all(clock, now, lines)?;
         for _ in 1..MAX_STEPS {
-            let pace = self.step_all(clock, now, lines)?;
-            if pace != Pace::Goes {
-                return Ok(pace);
+            if sweep.pace != Pace::Goes {
+                return Ok(sweep);
             }
+            sweep.pace = self.step_all(clock, now, lines)?.pace;
         }
-        self.step_all(clock, now, lines)
+        Ok(sweep)
     }
 
     /// Each peer has a step.
@@ -390,99 +438,53 @@ impl<D: Watched> Hub<D> {
         clock: &C,
         now: Instant,
         lines: &mut Lines<E>,
-    ) -> Result<Pace, Refused>
+    ) -> Result<Sweep, Refused>
     where
         C: Clock,
         E: Write + Drop,
+        ensures calls { RunsOn D.keeps_word self.old.peers self.new.peers }
+        ensures fair { IfOk result (λ sweep. sweep.had_memory ≡ true
+            → HadTurns D.keeps_word self.old.peers self.new.peers) }
     {
-        let mut pace = Pace::Sleeps;
+        let mut sweep = Sweep {
+            pace: Pace::Sleeps,
+            had_memory: true,
+        };
         for key in 0..MAX_CONNECTIONS {
-            pace = pace.or(self.step(key, clock, now, lines)?);
+            sweep = sweep.and(self.step(key, clock, now, lines)?);
         }
-        if pace == Pace::Goes {
-            self.is_rested = false;
-        }
-        Ok(pace)
+        self.is_rested = self.is_rested && sweep.pace != Pace::Goes;
+        Ok(sweep)
     }
 
     /// Keeps what waits, all of it with one flush. Whether something waited.
-    fn flush(&mut self) -> Result<bool, Refused> {
+    fn flush(&mut self) -> Result<bool, Refused>
+        ensures { RunsOn D.keeps_word self.old.peers self.new.peers }
+    {
         let syncs = syncs_of(self.peers.server());
         let waited = self.peers.flush()?;
-        self.counts.sync(syncs, syncs_of(self.peers.server()));
+        self.desk.counts.sync(syncs, syncs_of(self.peers.server()));
         Ok(waited)
     }
 
-    /// Serves whoever reads the counts: one read or one write. Without memory for the page the
-    /// visitor asks again.
-    fn show_counts(&mut self, alloc: Global, now: Instant) -> Pace {
-        match self.sockets.visit(now) {
-            metrics::Step::Waits => Pace::Sleeps,
-            metrics::Step::Goes | metrics::Step::Ended => Pace::Goes,
-            metrics::Step::Asks => self.give_counts(alloc, now),
-        }
-    }
-
-    fn give_counts(&mut self, alloc: Global, now: Instant) -> Pace {
-        match page_of(alloc, &self.state(), &self.counts(), now) {
-            Ok(page) => {
-                self.sockets.give(&page);
-                Pace::Goes
-            }
-            Err(_) => Pace::Pauses,
-        }
-    }
-
-    /// Accepts the connections that the system has. Those that are served wait for a place.
-    fn receive<E>(&mut self, now: Instant, lines: &mut Lines<E>) -> Result<Pace, Refused>
-    where
-        E: Write + Drop,
-    {
-        for _ in 0..MAX_ARRIVALS {
-            match self.sockets.accept() {
-                Ok(Some(arrival)) => self.meet(arrival, now, lines),
-                Ok(None) => return Ok(Pace::Sleeps),
-                Err(error) if self.sockets.end_by(&error) => return Err(error.into()),
-                Err(_) => return Ok(Pace::Pauses),
-            }
-        }
-        Ok(Pace::Goes)
-    }
-
-    /// Has a connection wait for a place, if it is served.
-    fn meet<E>(&mut self, arrival: Arrival, now: Instant, lines: &mut Lines<E>)
-    where
-        E: Write + Drop,
-    {
-        let from = arrival.from;
-        if !self.settings.guests.admit(from) {
-            self.counts.refuse();
-            if self.reminders.not_allowed.is_due(now) {
-                lines.print(&Line::NotAllowed(from), now);
-            }
-            return;
-        }
-        if let Some(other) = self.sockets.keep(arrival) {
-            self.counts.refuse();
-            if self.reminders.turned_away.is_due(now) {
-                lines.print(&Line::TurnedAway(other.from), now);
-            }
-        }
-    }
-
     /// Gives a connection that waits a place, if there is one, or makes room for it.
-    fn welcome<R, E>(&mut self, rt: &R, now: Instant, lines: &mut Lines<E>) -> Result<Pace, Refused>
+    fn welcome<E>(
+        &mut self,
+        alloc: Global,
+        now: Instant,
+        lines: &mut Lines<E>,
+    ) -> Result<Pace, Refused>
     where
-        R: Clock + AllocGlobal,
         E: Write + Drop,
+        ensures { RunsOn D.keeps_word self.old.peers self.new.peers }
     {
-        let Some(number) = self.sockets.next() else {
+        let Some(number) = self.desk.sockets.next() else {
             return Ok(Pace::Sleeps);
         };
-        if !self.sockets.are_full() {
-            return self.admit(rt, number, now, lines);
+        if !self.desk.sockets.are_full() {
+            return self.admit(alloc, number, now, lines);
         }
-        match self.sockets.make_way(&mut self.peers, number, now) {
+        match self.desk.sockets.make_way(&mut self.peers, number, now) {
             Some((from, to)) => {
                 lines.print(&Line::GivesWay { from, to }, now);
                 Ok(Pace::Goes)
@@ -493,55 +495,34 @@ impl<D: Watched> Hub<D> {
 
     /// Has the connection of this number that waits served. Where there is no memory for it, it
     /// waits on.
-    fn admit<R, E>(
+    fn admit<E>(
         &mut self,
-        rt: &R,
+        alloc: Global,
         number: usize,
         now: Instant,
         lines: &mut Lines<E>,
     ) -> Result<Pace, Refused>
     where
-        R: Clock + AllocGlobal,
         E: Write + Drop,
+        ensures { RunsOn D.keeps_word self.old.peers self.new.peers }
     {
-        let Ok(inbox) = self.peers.make_room(rt.alloc()) else {
+        let Ok(inbox) = self.peers.make_room(alloc) else {
             return Ok(Pace::Pauses);
         };
-        let Some(arrival) = self.sockets.take_waiting(number, self.peers.next_key()) else {
+        let key = self.peers.next_key();
+        let Some(Arrival { stream, from }) = self.desk.sockets.take_waiting(number, key) else {
             return Ok(Pace::Goes);
         };
-        let Arrival { stream, from } = arrival;
         match self.peers.admit(inbox, Counted::new(stream), now) {
             Ok(key) => {
-                self.sockets.settle(key, from);
-                self.note_peer(from, now, lines);
+                self.desk.settle(key, from, now, lines);
                 Ok(Pace::Goes)
             }
-            Err(
-                NotAdmitted {
-                    fault: ServerFault::Memory,
-                    stream,
-                },
-            ) => {
-                let stream = stream.into_socket();
-                self.sockets.give_back(number, Arrival { stream, from });
-                Ok(Pace::Pauses)
-            }
-            Err(refused) => Err(refused.fault.into()),
+            Err(refused) => self.desk.give_back(number, from, refused),
         }
     }
 
-    /// Counts a peer that came, and prints that.
-    fn note_peer<E>(&mut self, from: SocketAddr, now: Instant, lines: &mut Lines<E>)
-    where
-        E: Write + Drop,
-    {
-        self.alone_since = None;
-        self.counts.accept();
-        let taken = self.sockets.taken();
-        lines.print(&Line::Comes { from, taken }, now);
-    }
-
+    /// The peer of this key has a step, if there is one.
     fn step<C, E>(
         &mut self,
         key: usize,
@@ -552,6 +533,8 @@ impl<D: Watched> Hub<D> {
     where
         C: Clock,
         E: Write + Drop,
+        ensures calls { RunsOn D.keeps_word self.old.peers self.new.peers }
+        ensures fair { IfOk result (StepsOne D.keeps_word key self.old.peers self.new.peers) }
     {
         let Some(conn) = self.connection(key) else {
             return Ok(Pace::Sleeps);
@@ -560,154 +543,96 @@ impl<D: Watched> Hub<D> {
         let Some(stepped) = self.peers.step(key, clock, now)? else {
             return Ok(Pace::Sleeps);
         };
-        self.counts.sync(syncs, syncs_of(self.peers.server()));
-        let Stepped {
-            step,
-            answered,
-            closed,
-        } = stepped;
-        self.note_step(key, conn, answered, now, lines);
-        match step {
-            Step::Stays(pace) => Ok(pace),
-            Step::Ended => {
-                self.remove(key, closed, now, lines);
-                Ok(Pace::Goes)
-            }
-        }
+        self.desk.counts.sync(syncs, syncs_of(self.peers.server()));
+        Ok(
+            self.desk
+                .note_step(&self.peers, key, conn, stepped, now, lines),
+        )
     }
 
     /// The number of a peer's connection.
-    fn connection(&self, key: usize) -> Option<usize> {
+    fn connection(&self, key: usize) -> Option<usize>
+        ensures { result ≡ None → get self.now.peers.peers key ≡ None }
+    {
         Some(self.peers.get(key)?.connection())
     }
+}
 
-    /// Whether a peer's reply waits for a flush.
-    fn awaits_flush(&self, key: usize) -> bool {
-        match self.peers.get(key) {
-            Some(peer) => peer.awaits_flush(),
-            None => false,
-        }
-    }
-
-    /// Counts what a peer's step did, by its connection and its reply, and prints it.
-    fn note_step<E>(
-        &mut self,
-        key: usize,
-        conn: usize,
-        answered: Option<Answered>,
-        now: Instant,
-        lines: &mut Lines<E>,
-    )
-    where
-        E: Write + Drop,
-    {
-        let awaits_flush = self.awaits_flush(key);
-        let Some(place) = self.sockets.place(key) else {
-            return;
-        };
-        let from = place.from;
-        if !awaits_flush {
-            place
-                .glance
-                .count(self.peers.server(), conn, answered, &mut self.counts);
-        }
-        if let Some(answered) = answered {
-            self.note(answered, from, now, lines);
-            if let Some(news) = answered.news {
-                self.note_session(key, news, now, lines);
-            }
-        }
-    }
-
-    /// Counts a reply, and warns the operator of tables that are full.
-    fn note<E>(&mut self, answered: Answered, from: SocketAddr, now: Instant, lines: &mut Lines<E>)
-    where
-        E: Write + Drop,
-    {
-        self.counts.answer(answered, now);
-        if let Some(operation) = answered.delayed
-            && self.reminders.comes_again(operation).is_due(now)
-        {
-            lines.print(&Line::ComesAgain { operation, from }, now);
-        }
-        if answered.status == Some(Status::NoSpc.code()) && self.reminders.no_space.is_due(now) {
-            lines.print(&Line::NoSpace(self.peers.server().room()), now);
-        }
-        self.note_seats(now, lines);
-    }
-
-    /// Prints that a session began or ended, and remembers whose the connection is.
-    fn note_session<E>(&mut self, key: usize, news: SessionNews, now: Instant, lines: &mut Lines<E>)
-    where
-        E: Write + Drop,
-    {
-        let Some(place) = self.sockets.place(key) else {
-            return;
-        };
-        let from = place.from;
-        match news {
-            SessionNews::Used { client } => place.client = Some(client),
-            SessionNews::Created { client, persistent } => {
-                place.client = Some(client);
-                let owner = owner_of(self.peers.server(), Some(client));
-                let session = Session {
-                    owner,
-                    from,
-                    persistent,
-                };
-                lines.print(&Line::SessionBegins(session), now);
-            }
-            SessionNews::Ended => {
-                let owner = owner_of(self.peers.server(), place.client);
-                lines.print(&Line::SessionEnds { owner, from }, now);
-            }
-        }
-    }
-
-    /// Warns the operator once the last seat is taken.
-    fn note_seats<E>(&mut self, now: Instant, lines: &mut Lines<E>)
-    where
-        E: Write + Drop,
-    {
-        let had_seat = self.has_seat;
-        self.has_seat = !seating::are_in_use(self.peers.server());
-        let is_new = had_seat && !self.has_seat && self.settings.holding.may_persist();
-        if is_new && self.reminders.no_seat.is_due(now) {
-            lines.print(&Line::NoSeat, now);
-        }
-    }
-
-    /// Its stream is closed with it, and another connection may have its place.
-    fn remove<E>(&mut self, key: usize, closed: Option<Counted>, now: Instant, lines: &mut Lines<E>)
-    where
-        E: Write + Drop,
-    {
-        if let Some(from) = self.sockets.remove(key, closed) {
-            self.counts.close();
-            let taken = self.sockets.taken();
-            lines.print(&Line::Goes { from, taken }, now);
-            if taken == 0 {
-                self.alone_since = Some(now);
-            }
-        }
-    }
+/// A server and its peers, of which there are none yet.
+fn peers_of<D: Watched>(
+    alloc: Global,
+    server: Result<Server<D>, Refused>,
+    keeping: Keeping,
+) -> Result<Peers<D, Counted>, Refused>
+    ensures { IfOk result (HasNoPeer D.keeps_word server) }
+{
+    let server = server?;
+    Ok(Peers::new(alloc, server, keeping)?)
 }
 
 /// Mounts the device's volume as the settings say.
-fn mounted<D: Watched>(
-    alloc: Global,
-    device: D,
-    settings: &Settings,
-) -> Result<Server<D>, Refused> {
+fn mounted<D: Watched>(alloc: Global, device: D, settings: &Settings) -> Result<Server<D>, Refused>
+    ensures { D.keeps_word
+        → IfOk result (HasBegun D.keeps_word (settings_served settings.now) device) }
+{
     calls::mounted(alloc, device, settings.of_server(alloc)?)
 }
 
-/// Prints what is served, whose seats are taken, and where the door is.
+/// Mounts the device's volume, and begins the first run of a loop.
+fn first_server<R, D, E>(
+    rt: &R,
+    device: D,
+    desk: &Desk,
+    title: &str,
+    lines: &mut Lines<E>,
+) -> Result<Server<D>, Refused>
+where
+    R: Clock + AllocGlobal,
+    D: Watched,
+    E: Write + Drop,
+    ensures { D.keeps_word
+        → IfOk result (HasBegun D.keeps_word (settings_served desk.now.settings) device) }
+{
+    let mut server = mounted(rt.alloc(), device, &desk.settings)?;
+    match begin_first_run(rt, &mut server, desk, title, lines) {
+        Ok(()) => Ok(server),
+        Err(refused) => {
+            drop(server);
+            Err(refused)
+        }
+    }
+}
+
+/// The same for a later run.
+fn next_server<R, D, E>(
+    rt: &R,
+    device: D,
+    desk: &Desk,
+    lines: &mut Lines<E>,
+) -> Result<Server<D>, Refused>
+where
+    R: Clock + AllocGlobal,
+    D: Watched,
+    E: Write + Drop,
+    ensures { D.keeps_word
+        → IfOk result (HasBegun D.keeps_word (settings_served desk.now.settings) device) }
+{
+    let mut server = mounted(rt.alloc(), device, &desk.settings)?;
+    match begin_next_run(rt, &mut server, lines) {
+        Ok(()) => Ok(server),
+        Err(refused) => {
+            drop(server);
+            Err(refused)
+        }
+    }
+}
+
+/// Prints what is served, frees the seats of earlier runs if the settings say so, and prints whose
+/// seats are taken, and where the door is.
 fn begin_first_run<R, D, E>(
     rt: &R,
     server: &mut Server<D>,
-    sockets: &Sockets,
-    settings: &Settings,
+    desk: &Desk,
     title: &str,
     lines: &mut Lines<E>,
 ) -> Result<(), Refused>
@@ -715,19 +640,44 @@ where
     R: Clock + AllocGlobal,
     D: Watched,
     E: Write + Drop,
+    ensures { GoesAny D.keeps_word server.old server.new }
 {
     let now = Instant::now(rt)?;
+    print_start(server, title, lines, now);
+    if desk.settings.free_seats {
+        seating::free_dead_seats(rt, server, lines, now)?;
+        return print_places(server, desk, lines, now);
+    }
+    print_places(server, desk, lines, now)
+}
+
+/// Prints what is served, in which run.
+fn print_start<D, E>(server: &Server<D>, title: &str, lines: &mut Lines<E>, now: Instant)
+where
+    D: Watched,
+    E: Write + Drop,
+{
     let start = Start {
         title,
         run: calls::restart_count(server),
         replayed: has_replayed(server),
     };
     lines.print(&Line::Begins(start), now);
-    if settings.free_seats {
-        seating::free_dead_seats(rt, server, lines, now)?;
-    }
+}
+
+/// Prints whose seats are taken, and where the door is.
+fn print_places<D, E>(
+    server: &Server<D>,
+    desk: &Desk,
+    lines: &mut Lines<E>,
+    now: Instant,
+) -> Result<(), Refused>
+where
+    D: Watched,
+    E: Write + Drop,
+{
     seating::print_seats(server, lines, now);
-    lines.print(&Line::Listens(sockets.listening()?), now);
+    lines.print(&Line::Listens(desk.sockets.listening()?), now);
     Ok(())
 }
 
@@ -741,18 +691,11 @@ where
     R: Clock + AllocGlobal,
     D: Watched,
     E: Write + Drop,
+    ensures { GoesAny D.keeps_word server.old server.new }
 {
     let now = Instant::now(rt)?;
     lines.print(&Line::Run(calls::restart_count(server)), now);
     seating::free_dead_seats(rt, server, lines, now)?;
     seating::print_seats(server, lines, now);
     Ok(())
-}
-
-/// The owner id of this client; none if it has no record.
-fn owner_of<D: Watched>(server: &Server<D>, client: Option<u64>) -> &[u8] {
-    match client {
-        Some(client) => server.owner(client).unwrap_or(&[]),
-        None => &[],
-    }
 }

@@ -5,6 +5,7 @@
 mod calls;
 mod counted;
 mod counts;
+mod desk;
 mod glance;
 mod hub;
 mod line;

@@ -144,33 +144,20 @@ impl Display for Line<'_> {
         match *self {
             Line::Begins(start) => start.fmt(f),
             Line::Listens(listening) => listening.fmt(f),
-            Line::Run(run) => write!(f, "run {run}"),
+            Line::Run(run) => show_run(f, run),
             Line::Comes { from, taken } => show_place(f, from, "", taken),
             Line::Goes { from, taken } => show_place(f, from, " ended", taken),
-            Line::GivesWay { from, to } => {
-                write!(f, "connection from {from} gives way to one from {to}")
-            }
+            Line::GivesWay { from, to } => show_way(f, from, to),
             Line::TurnedAway(from) => show_refused(f, from, "too many wait"),
             Line::NotAllowed(from) => show_refused(f, from, "not allowed"),
-            Line::ComesAgain { operation, from } => {
-                write!(f, "told to come again: {operation}, {from}")
-            }
+            Line::ComesAgain { operation, from } => show_delay(f, operation, from),
             Line::SessionBegins(session) => session.fmt(f),
-            Line::SessionEnds { owner, from } => {
-                write!(f, "session of {}, {from}, ended", Escaped(owner))
-            }
-            Line::NoSpace(Room { sectors, nodes }) => write!(
-                f,
-                "no space for a change: {sectors} sectors, {nodes} nodes left"
-            ),
-            Line::Seat { number, owner, run } => {
-                write!(f, "seat {number}: {}, session of run {run}", Escaped(owner))
-            }
-            Line::SeatStays { number, status } => {
-                write!(f, "seat {number} is not freed: status {status}")
-            }
+            Line::SessionEnds { owner, from } => show_end(f, owner, from),
+            Line::NoSpace(room) => show_room(f, room),
+            Line::Seat { number, owner, run } => show_seat(f, number, owner, run),
+            Line::SeatStays { number, status } => show_kept(f, number, status),
             Line::NoSeat => f.write_str("no seat is free: new clients get no persistent session"),
-            Line::Fails(refused) => write!(f, "serving ended: {refused}"),
+            Line::Fails(refused) => show_failure(f, refused),
         }
     }
 }
@@ -212,6 +199,42 @@ fn show_place<W: Write>(
         f,
         "connection from {from}{ended}, {taken} of {MAX_CONNECTIONS} places taken"
     )
+}
+
+fn show_run<W: Write>(f: &mut Formatter<W>, run: u32) -> fmt::Result {
+    write!(f, "run {run}")
+}
+
+fn show_way<W: Write>(f: &mut Formatter<W>, from: SocketAddr, to: SocketAddr) -> fmt::Result {
+    write!(f, "connection from {from} gives way to one from {to}")
+}
+
+fn show_delay<W: Write>(f: &mut Formatter<W>, operation: Delayed, from: SocketAddr) -> fmt::Result {
+    write!(f, "told to come again: {operation}, {from}")
+}
+
+fn show_end<W: Write>(f: &mut Formatter<W>, owner: &[u8], from: SocketAddr) -> fmt::Result {
+    write!(f, "session of {}, {from}, ended", Escaped(owner))
+}
+
+fn show_room<W: Write>(f: &mut Formatter<W>, room: Room) -> fmt::Result {
+    let Room { sectors, nodes } = room;
+    write!(
+        f,
+        "no space for a change: {sectors} sectors, {nodes} nodes left"
+    )
+}
+
+fn show_seat<W: Write>(f: &mut Formatter<W>, number: usize, owner: &[u8], run: u32) -> fmt::Result {
+    write!(f, "seat {number}: {}, session of run {run}", Escaped(owner))
+}
+
+fn show_kept<W: Write>(f: &mut Formatter<W>, number: usize, status: u32) -> fmt::Result {
+    write!(f, "seat {number} is not freed: status {status}")
+}
+
+fn show_failure<W: Write>(f: &mut Formatter<W>, refused: Refused) -> fmt::Result {
+    write!(f, "serving ended: {refused}")
 }
 
 fn show_refused<W: Write>(f: &mut Formatter<W>, from: SocketAddr, why: &str) -> fmt::Result {

@@ -1,9 +1,11 @@
 //! The page of counts.
 
 use crate::counts::Counts;
+use crate::watched::Watched;
+use crate::{calls, seating};
 use disk::Counts as Calls;
 use metrics::{Kind, Page};
-use server::Room;
+use server::{Room, Server};
 use std::alloc::{AllocError, Global};
 use std::time::Instant;
 
@@ -21,6 +23,22 @@ pub struct State {
     pub calls: Option<Calls>,
 }
 
+impl State {
+    /// What a server has.
+    pub fn of<D: Watched>(server: &Server<D>) -> State {
+        State {
+            run: calls::restart_count(server),
+            connections: server.connection_count(),
+            clients: server.client_count(),
+            sessions: server.session_count(),
+            opens: server.open_count(),
+            seats: seating::count(server),
+            room: server.room(),
+            calls: server.device().calls(),
+        }
+    }
+}
+
 /// The page of these counts.
 pub fn page_of(
     alloc: Global,
@@ -29,14 +47,29 @@ pub fn page_of(
     now: Instant,
 ) -> Result<Page, AllocError> {
     let mut page = Page::new(alloc);
-    show_state(&mut page, state)?;
-    show_connections(&mut page, counts)?;
-    show_requests(&mut page, counts, now)?;
-    counts.operations.show(&mut page)?;
-    if let Some(calls) = &state.calls {
-        show_calls(&mut page, calls, counts.flushes)?;
+    match show_all(&mut page, state, counts, now) {
+        Ok(()) => Ok(page),
+        Err(error) => {
+            drop(page);
+            Err(error)
+        }
     }
-    Ok(page)
+}
+
+fn show_all(
+    page: &mut Page,
+    state: &State,
+    counts: &Counts,
+    now: Instant,
+) -> Result<(), AllocError> {
+    show_state(page, state)?;
+    show_connections(page, counts)?;
+    show_requests(page, counts, now)?;
+    counts.operations.show(page)?;
+    match &state.calls {
+        Some(calls) => show_calls(page, calls, counts.flushes),
+        None => Ok(()),
+    }
 }
 
 fn show_state(page: &mut Page, state: &State) -> Result<(), AllocError> {

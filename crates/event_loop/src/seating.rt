@@ -2,6 +2,8 @@
 //! call for that, so the loop asks it as a client does (RFC 8881, section 18.37): one
 //! DESTROY_SESSION for each seat, over a connection without a socket.
 
+ghost use Rattle.event_loop.specs.Runs.{GoesAny};
+
 use crate::calls;
 use crate::line::Line;
 use crate::lines::Lines;
@@ -83,22 +85,37 @@ where
     R: Clock + AllocGlobal,
     D: Device,
     E: Write + Drop,
+    ensures { GoesAny D.keeps_word server.old server.new }
 {
     let moment = moment(rt)?;
     let conn = calls::connect(server)?;
     for number in 0..SEATS {
-        if let Some(session) = dead_session(server, number) {
-            let status = destroy(rt.alloc(), server, conn, &session, moment)?;
-            if status != Status::Ok.code() {
-                let line = Line::SeatStays {
-                    number: number.saturating_add(1),
-                    status,
-                };
-                lines.print(&line, now);
-            }
+        let status = free_dead_seat(rt.alloc(), server, conn, number, moment)?;
+        if status != Status::Ok.code() {
+            let line = Line::SeatStays {
+                number: number.saturating_add(1),
+                status,
+            };
+            lines.print(&line, now);
         }
     }
     calls::hangup(server, conn, moment)
+}
+
+/// Frees the seat of this number if its session is not of this run. The status of the reply, or OK.
+fn free_dead_seat<D: Device>(
+    alloc: Global,
+    server: &mut Server<D>,
+    conn: usize,
+    number: usize,
+    moment: u64,
+) -> Result<u32, Refused>
+    ensures { GoesAny D.keeps_word server.old server.new }
+{
+    match dead_session(server, number) {
+        Some(session) => destroy(alloc, server, conn, &session, moment),
+        None => Ok(Status::Ok.code()),
+    }
 }
 
 /// The session whose seat this is, if this run has it not.
@@ -118,20 +135,43 @@ fn destroy<D: Device>(
     conn: usize,
     session: &[u8; 16],
     moment: u64,
-) -> Result<u32, Refused> {
-    let Ok(call) = destroy_session_call(alloc, session) else {
-        return Err(Refused::Memory);
-    };
-    calls::feed(server, conn, &call)?;
-    for _ in 0..u64::MAX {
-        if calls::turn(server, conn, moment)? != Turn::Ran {
-            break;
-        }
-    }
+) -> Result<u32, Refused>
+    ensures { GoesAny D.keeps_word server.old server.new }
+{
+    ask(alloc, server, conn, session)?;
+    run(server, conn, moment)?;
     match calls::take_output(server, conn)? {
         Some(reply) => Ok(status_of(&reply)),
         None => Ok(Status::ServerFault.code()),
     }
+}
+
+/// Has the server take a call that destroys a session.
+fn ask<D: Device>(
+    alloc: Global,
+    server: &mut Server<D>,
+    conn: usize,
+    session: &[u8; 16],
+) -> Result<(), Refused>
+    ensures { GoesAny D.keeps_word server.old server.new }
+{
+    let Ok(call) = destroy_session_call(alloc, session) else {
+        return Err(Refused::Memory);
+    };
+    calls::feed(server, conn, &call)?;
+    Ok(())
+}
+
+/// Gives the connection turns until nothing is left to run.
+fn run<D: Device>(server: &mut Server<D>, conn: usize, moment: u64) -> Result<(), Refused>
+    ensures { GoesAny D.keeps_word server.old server.new }
+{
+    for _ in 0..u64::MAX {
+        if calls::turn(server, conn, moment)? != Turn::Ran {
+            return Ok(());
+        }
+    }
+    Ok(())
 }
 
 fn status_of(reply: &[u8]) -> u32 {

@@ -1,5 +1,9 @@
 //! How a volume is served.
 
+ghost use Rattle.std.specs.Prelude.{◌≡◌, IfOk};
+ghost use Rattle.session.specs.Views.{name_of, settings_of};
+ghost use Rattle.event_loop.specs.Settled.{name_served, settings_served};
+
 use daemon::{Admission, Guests};
 use peer::Keeping;
 use server::{Holding, NameFault, ServerName};
@@ -55,7 +59,9 @@ impl Settings {
     }
 
     /// Those of the server.
-    pub fn of_server(&self, alloc: Global) -> Result<server::Settings, Refused> {
+    pub fn of_server(&self, alloc: Global) -> Result<server::Settings, Refused>
+        ensures { IfOk result (λ served. settings_of served ≡ settings_served self.now) }
+    {
         Ok(server::Settings {
             name: name_of(alloc, &self.name)?,
             holding: self.holding,
@@ -64,7 +70,9 @@ impl Settings {
     }
 }
 
-fn name_of(alloc: Global, name: &[u8]) -> Result<ServerName, Refused> {
+fn name_of(alloc: Global, name: &[u8]) -> Result<ServerName, Refused>
+    ensures { IfOk result (λ served. name_of served ≡ name_served name.now) }
+{
     if name.is_empty() {
         return Ok(ServerName::standard(alloc)?);
     }

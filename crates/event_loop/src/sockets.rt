@@ -1,5 +1,7 @@
 //! The sockets of a server: the door, and what the system reports of it and of the peers.
 
+ghost use Rattle.event_loop.specs.Runs.{RunsOn};
+
 use crate::counted::{Bytes, Counted};
 use crate::glance::Glance;
 use crate::line::Listening;
@@ -32,7 +34,7 @@ pub struct Sockets {
     /// Which connections are still accepted.
     admission: Admission,
     /// Where counts are asked for.
-    monitor: Option<Monitor>,
+    monitor: Option<Box<Monitor>>,
     /// Those of the peers, by their keys.
     places: [Option<Place>; MAX_CONNECTIONS],
     /// The bytes of the connections that are gone.
@@ -75,6 +77,14 @@ impl Place {
     fn origin(&self) -> Origin {
         Origin::of(self.from.ip())
     }
+}
+
+/// The peer of this key gives way to a connection: where both came from.
+#[derive(Clone, Copy)]
+struct Way {
+    key: usize,
+    from: SocketAddr,
+    to: SocketAddr,
 }
 
 /// How soon a connection gives way: later than those of addresses that have more places, and then
@@ -134,15 +144,15 @@ impl Sockets {
         &mut self,
         peers: &mut Peers<D, Counted>,
         timeout: Option<Duration>,
-    ) -> Result<bool, Refused> {
+    ) -> Result<bool, Refused>
+        ensures { RunsOn D.keeps_word peers.old peers.new }
+    {
         self.changes.wait(timeout)?;
         for event in &self.changes.events {
-            if event.token() == DOOR {
-                self.door.wake();
-            } else if event.token().0 < MAX_CONNECTIONS {
+            if event.token().0 < MAX_CONNECTIONS {
                 wake_peer(peers, event);
-            } else if let Some(monitor) = &mut self.monitor {
-                wake_monitor(monitor, event.token());
+            } else {
+                wake_listener(&mut self.door, &mut self.monitor, event.token());
             }
         }
         Ok(!self.changes.events.is_empty())
@@ -198,9 +208,9 @@ impl Sockets {
         self.admission.ends_by(error)
     }
 
-    /// Has a connection wait for a place. If too many do, one is handed out.
-    pub fn keep(&mut self, arrival: Arrival) -> Option<Arrival> {
-        self.door.keep(arrival)
+    /// Has a connection wait for a place. If too many do, one is closed, whose address is returned.
+    pub fn keep(&mut self, arrival: Arrival) -> Option<SocketAddr> {
+        Some(self.door.keep(arrival)?.from)
     }
 
     /// Which of the connections that wait has a place next: the first of the address that has the
@@ -248,12 +258,24 @@ impl Sockets {
         peers: &mut Peers<D, Counted>,
         number: usize,
         now: Instant,
-    ) -> Option<(SocketAddr, SocketAddr)> {
+    ) -> Option<(SocketAddr, SocketAddr)>
+        ensures { RunsOn D.keeps_word peers.old peers.new }
+    {
+        let way = self.way(peers, number, now)?;
+        peers.dismiss(way.key);
+        Some((way.from, way.to))
+    }
+
+    fn way<D: Device>(
+        &mut self,
+        peers: &Peers<D, Counted>,
+        number: usize,
+        now: Instant,
+    ) -> Option<Way> {
         let to = self.door.waiting().get(number)?.from;
         let key = self.gives_way(peers, Origin::of(to.ip()), now)?;
         let from = self.place(key)?.from;
-        peers.dismiss(key);
-        Some((from, to))
+        Some(Way { key, from, to })
     }
 
     /// Which peer gives way to a connection of this address: one of an address that has two places
@@ -359,9 +381,12 @@ fn monitor_of<R: Net + AllocGlobal>(
     rt: &R,
     poll: &Poll,
     address: Option<SocketAddr>,
-) -> io::Result<Option<Monitor>> {
+) -> io::Result<Option<Box<Monitor>>> {
     match address {
-        Some(address) => Ok(Some(Monitor::listen(rt, address, poll)?)),
+        Some(address) => {
+            let monitor = Monitor::listen(rt, address, poll)?;
+            Ok(Some(Box::new(rt.alloc(), monitor)?))
+        }
         None => Ok(None),
     }
 }
@@ -388,13 +413,24 @@ fn registered(poll: &Poll, mut stream: TcpStream, token: Token) -> Option<TcpStr
 }
 
 /// Wakes a peer by what the system reports of its stream.
-fn wake_peer<D: Device>(peers: &mut Peers<D, Counted>, event: &Event) {
+fn wake_peer<D: Device>(peers: &mut Peers<D, Counted>, event: &Event)
+    ensures { RunsOn D.keeps_word peers.old peers.new }
+{
     let is_broken = is_broken(event);
     peers.wake(
         event.token().0,
         event.is_readable() || is_broken,
         event.is_writable() || is_broken,
     );
+}
+
+/// Wakes the door or the monitor, as the system reports by this token.
+fn wake_listener(door: &mut Door, monitor: &mut Option<Box<Monitor>>, token: Token) {
+    if token == DOOR {
+        door.wake();
+    } else if let Some(monitor) = monitor {
+        wake_monitor(monitor, token);
+    }
 }
 
 fn wake_monitor(monitor: &mut Monitor, token: Token) {

@@ -1,0 +1,3 @@
+mod AnyCalls
+mod Runs
+mod Turns

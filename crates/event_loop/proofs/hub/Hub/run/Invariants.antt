@@ -1,0 +1,5 @@
+use Rattle.event_loop.specs.Runs.{RunsOn}
+use Rattle.event_loop.proofs.hub.Hub.run.Given as goal
+
+abbrev pub invariant-loop : goal.invariant-loop
+invariant-loop g l = RunsOn g.D.Device.keeps_word l.fn.self.peers l.self.peers
