@@ -1,16 +1,9 @@
-//! A socket of which bytes are counted.
+//! What a connection is served over: a stream, of which bytes are counted.
 
 use mio::net::TcpStream;
 use peer::Stream;
 use std::io;
 use std::io::{Read, Write};
-
-/// A socket, and how many bytes came and went.
-#[derive(Drop)]
-pub struct Counted {
-    stream: TcpStream,
-    pub bytes: Bytes,
-}
 
 /// How many bytes came and went.
 #[derive(Clone, Copy)]
@@ -31,19 +24,41 @@ impl Bytes {
     }
 }
 
-impl Counted {
+/// A stream over a connection that the system accepted. What the loop promises of a peer's bytes it
+/// promises of each such stream whose reads and writes say which bytes they moved.
+pub trait Socket: Stream + Drop {
     /// No byte came yet.
-    pub fn new(stream: TcpStream) -> Counted {
+    fn over(connection: TcpStream) -> Self;
+
+    /// The connection, over which no byte came or went.
+    fn into_connection(self) -> TcpStream;
+
+    /// How many bytes came and went.
+    fn bytes(&self) -> Bytes;
+}
+
+/// A TCP socket. Its reads and writes say how many bytes they moved, and not which.
+#[derive(Drop)]
+pub struct Counted {
+    stream: TcpStream,
+    bytes: Bytes,
+}
+
+impl Socket for Counted {
+    fn over(connection: TcpStream) -> Counted {
         Counted {
-            stream,
+            stream: connection,
             bytes: Bytes::NONE,
         }
     }
 
-    /// The socket, over which no byte came or went.
-    pub fn into_socket(self) -> TcpStream {
+    fn into_connection(self) -> TcpStream {
         let Counted { stream, .. } = self;
         stream
+    }
+
+    fn bytes(&self) -> Bytes {
+        self.bytes
     }
 }
 

@@ -4,7 +4,7 @@
 ghost use Rattle.std.specs.Prelude.{◌≡◌, IfOk};
 ghost use Rattle.event_loop.specs.Runs.{pace_after};
 
-use crate::counted::Counted;
+use crate::counted::Socket;
 use crate::counts::Counts;
 use crate::line::{Line, Session};
 use crate::lines::Lines;
@@ -75,7 +75,7 @@ impl Desk {
     }
 
     /// What was counted since the start.
-    pub fn counts<D: Watched>(&self, peers: &Peers<D, Counted>) -> Counts {
+    pub fn counts<D: Watched, S: Socket>(&self, peers: &Peers<D, S>) -> Counts {
         let mut counts = self.counts;
         counts.bytes = self.sockets.bytes(peers);
         counts.change(peers.server().change_count());
@@ -84,9 +84,9 @@ impl Desk {
 
     /// Serves whoever reads the counts: one read or one write. Without memory for the page the
     /// visitor asks again.
-    pub fn show_counts<D: Watched>(
+    pub fn show_counts<D: Watched, S: Socket>(
         &mut self,
-        peers: &Peers<D, Counted>,
+        peers: &Peers<D, S>,
         alloc: Global,
         now: Instant,
     ) -> Pace {
@@ -97,9 +97,9 @@ impl Desk {
         }
     }
 
-    fn give_counts<D: Watched>(
+    fn give_counts<D: Watched, S: Socket>(
         &mut self,
-        peers: &Peers<D, Counted>,
+        peers: &Peers<D, S>,
         alloc: Global,
         now: Instant,
     ) -> Pace {
@@ -166,33 +166,34 @@ impl Desk {
     ///
     /// # Errors
     /// The server has refused it for another reason.
-    pub fn give_back(
+    pub fn give_back<S: Socket>(
         &mut self,
         number: usize,
         from: SocketAddr,
-        refused: NotAdmitted<Counted>,
+        refused: NotAdmitted<S>,
     ) -> Result<Pace, Refused> {
         let NotAdmitted { fault, stream } = refused;
         if fault != ServerFault::Memory {
             return Err(fault.into());
         }
-        let stream = stream.into_socket();
+        let stream = stream.into_connection();
         self.sockets.give_back(number, Arrival { stream, from });
         Ok(Pace::Pauses)
     }
 
     /// Counts and prints what a step of a peer did, by its connection. Returns how soon to go on.
-    pub fn note_step<D, E>(
+    pub fn note_step<D, S, E>(
         &mut self,
-        peers: &Peers<D, Counted>,
+        peers: &Peers<D, S>,
         key: usize,
         conn: usize,
-        stepped: Stepped<Counted>,
+        stepped: Stepped<S>,
         now: Instant,
         lines: &mut Lines<E>,
     ) -> Pace
     where
         D: Watched,
+        S: Socket,
         E: Write + Drop,
         ensures { result ≡ pace_after stepped.step }
     {
@@ -328,8 +329,9 @@ impl Desk {
     }
 
     /// Its stream is closed with it, and another connection may have its place.
-    fn remove<E>(&mut self, key: usize, closed: Option<Counted>, now: Instant, lines: &mut Lines<E>)
+    fn remove<S, E>(&mut self, key: usize, closed: Option<S>, now: Instant, lines: &mut Lines<E>)
     where
+        S: Socket,
         E: Write + Drop,
     {
         if let Some(from) = self.sockets.remove(key, closed) {
@@ -344,7 +346,7 @@ impl Desk {
 }
 
 /// Whether a peer's reply waits for a flush.
-fn awaits_flush<D: Watched>(peers: &Peers<D, Counted>, key: usize) -> bool {
+fn awaits_flush<D: Watched, S: Socket>(peers: &Peers<D, S>, key: usize) -> bool {
     match peers.get(key) {
         Some(peer) => peer.awaits_flush(),
         None => false,

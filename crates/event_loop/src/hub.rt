@@ -6,7 +6,7 @@ ghost use Rattle.peer.specs.declared.pace.Pace.TheVariants.{Pauses};
 ghost use Rattle.event_loop.specs.Runs.{EveryLoop, GoesAny, HadTurns, HasBegun, HasNoPeer, LoopBegins, LoopBeginsAnew, RunsOn, StepsOne};
 ghost use Rattle.event_loop.specs.Settled.{settings_served};
 
-use crate::counted::Counted;
+use crate::counted::{Counted, Socket};
 use crate::counts::Counts;
 use crate::desk::Desk;
 use crate::glance::{has_replayed, syncs_of};
@@ -62,7 +62,7 @@ where
     E: Write + AsRawFd + Drop,
 {
     let mut lines = Lines::to(rt, err, settings.quiet);
-    let hub = Hub::begin(rt, device, door, settings, title, &mut lines)?;
+    let hub: Hub<D, Counted> = Hub::begin(rt, device, door, settings, title, &mut lines)?;
     if let Err(refused) = hub.print_address(out) {
         drop(hub);
         return Err(refused);
@@ -87,10 +87,11 @@ where
 }
 
 /// Serves one run after the other.
-fn serve_runs<R, D, E>(rt: &R, hub: Hub<D>, lines: &mut Lines<E>) -> Result<(), Refused>
+fn serve_runs<R, D, S, E>(rt: &R, hub: Hub<D, S>, lines: &mut Lines<E>) -> Result<(), Refused>
 where
     R: Clock + AllocGlobal,
     D: Watched,
+    S: Socket,
     E: Write + Drop,
 {
     let mut hub = hub;
@@ -119,8 +120,8 @@ pub enum End {
 
 /// A mounted volume, and the peers that it is served to.
 #[derive(Drop)]
-pub struct Hub<D: Watched> {
-    peers: Peers<D, Counted>,
+pub struct Hub<D: Watched, S: Socket> {
+    peers: Peers<D, S>,
     desk: Desk,
     /// How soon to go on.
     pace: Pace,
@@ -149,12 +150,12 @@ impl Sweep {
     }
 }
 
-impl<D: Watched> Hub<D> {
+impl<D: Watched, S: Socket> Hub<D, S> {
     /// Mounts the device's volume.
     ///
     /// # Errors
     /// Those of a mount; Io if the system reports no changes; Memory.
-    pub fn new<R>(rt: &R, device: D, door: Door, settings: Settings) -> Result<Hub<D>, Refused>
+    pub fn new<R>(rt: &R, device: D, door: Door, settings: Settings) -> Result<Hub<D, S>, Refused>
     where
         R: Net + AllocGlobal,
         ensures { D.keeps_word → IfOk result
@@ -174,7 +175,7 @@ impl<D: Watched> Hub<D> {
         server: Server<D>,
         door: Door,
         settings: Settings,
-    ) -> Result<Hub<D>, Refused>
+    ) -> Result<Hub<D, S>, Refused>
     where
         R: Net + AllocGlobal,
         ensures { IfOk result (λ hub. HasNoPeer D.keeps_word (Ok server) hub.peers) }
@@ -193,7 +194,7 @@ impl<D: Watched> Hub<D> {
         alloc: Global,
         server: Result<Server<D>, Refused>,
         desk: Desk,
-    ) -> Result<Hub<D>, Refused>
+    ) -> Result<Hub<D, S>, Refused>
         ensures { IfOk result (λ hub. HasNoPeer D.keeps_word server hub.peers) }
     {
         match peers_of(alloc, server, desk.settings.keeping) {
@@ -249,7 +250,7 @@ impl<D: Watched> Hub<D> {
         settings: Settings,
         title: &str,
         lines: &mut Lines<E>,
-    ) -> Result<Hub<D>, Refused>
+    ) -> Result<Hub<D, S>, Refused>
     where
         R: Net + Clock + AllocGlobal,
         E: Write + Drop,
@@ -265,7 +266,7 @@ impl<D: Watched> Hub<D> {
     ///
     /// # Errors
     /// Those of a mount; Io where the clock fails.
-    pub fn begin_anew<R, E>(self, rt: &R, lines: &mut Lines<E>) -> Result<Hub<D>, Refused>
+    pub fn begin_anew<R, E>(self, rt: &R, lines: &mut Lines<E>) -> Result<Hub<D, S>, Refused>
     where
         R: Clock + AllocGlobal,
         E: Write + Drop,
@@ -513,7 +514,7 @@ impl<D: Watched> Hub<D> {
         let Some(Arrival { stream, from }) = self.desk.sockets.take_waiting(number, key) else {
             return Ok(Pace::Goes);
         };
-        match self.peers.admit(inbox, Counted::new(stream), now) {
+        match self.peers.admit(inbox, S::over(stream), now) {
             Ok(key) => {
                 self.desk.settle(key, from, now, lines);
                 Ok(Pace::Goes)
@@ -559,11 +560,11 @@ impl<D: Watched> Hub<D> {
 }
 
 /// A server and its peers, of which there are none yet.
-fn peers_of<D: Watched>(
+fn peers_of<D: Watched, S: Socket>(
     alloc: Global,
     server: Result<Server<D>, Refused>,
     keeping: Keeping,
-) -> Result<Peers<D, Counted>, Refused>
+) -> Result<Peers<D, S>, Refused>
     ensures { IfOk result (HasNoPeer D.keeps_word server) }
 {
     let server = server?;

@@ -19,7 +19,7 @@ mod sockets;
 mod watched;
 
 pub use calls::mounted;
-pub use counted::Bytes;
+pub use counted::{Bytes, Counted, Socket};
 pub use counts::Counts;
 pub use daemon::{Admission, Door, Guests, Network};
 pub use hub::{End, Hub, serve};

@@ -2,7 +2,7 @@
 
 ghost use Rattle.event_loop.specs.Runs.{RunsOn};
 
-use crate::counted::{Bytes, Counted};
+use crate::counted::{Bytes, Socket};
 use crate::glance::Glance;
 use crate::line::Listening;
 use crate::settings::Settings;
@@ -140,9 +140,9 @@ impl Sockets {
 
     /// Waits for the system, and wakes the door and the peers of which it reports changes. Whether
     /// it reports any.
-    pub fn hear<D: Device>(
+    pub fn hear<D: Device, S: Socket>(
         &mut self,
-        peers: &mut Peers<D, Counted>,
+        peers: &mut Peers<D, S>,
         timeout: Option<Duration>,
     ) -> Result<bool, Refused>
         ensures { RunsOn D.keeps_word peers.old peers.new }
@@ -253,9 +253,9 @@ impl Sockets {
 
     /// Ends the peer that gives way to the connection of this number, if one does: its sessions
     /// live on, and its client connects again. Returns both addresses.
-    pub fn make_way<D: Device>(
+    pub fn make_way<D: Device, S: Socket>(
         &mut self,
-        peers: &mut Peers<D, Counted>,
+        peers: &mut Peers<D, S>,
         number: usize,
         now: Instant,
     ) -> Option<(SocketAddr, SocketAddr)>
@@ -266,9 +266,9 @@ impl Sockets {
         Some((way.from, way.to))
     }
 
-    fn way<D: Device>(
+    fn way<D: Device, S: Socket>(
         &mut self,
-        peers: &Peers<D, Counted>,
+        peers: &Peers<D, S>,
         number: usize,
         now: Instant,
     ) -> Option<Way> {
@@ -281,9 +281,9 @@ impl Sockets {
     /// Which peer gives way to a connection of this address: one of an address that has two places
     /// more, or one that was quiet for long; of these one of the address that has most places, and
     /// there the one that was quiet longest.
-    fn gives_way<D: Device>(
+    fn gives_way<D: Device, S: Socket>(
         &self,
-        peers: &Peers<D, Counted>,
+        peers: &Peers<D, S>,
         to: Origin,
         now: Instant,
     ) -> Option<usize> {
@@ -302,9 +302,9 @@ impl Sockets {
 
     /// How soon the peer of this key gives way, if it may: its address has enough places, or it was
     /// quiet for long.
-    fn rank<D: Device>(
+    fn rank<D: Device, S: Socket>(
         &self,
-        peers: &Peers<D, Counted>,
+        peers: &Peers<D, S>,
         key: usize,
         enough: usize,
         now: Instant,
@@ -356,20 +356,20 @@ impl Sockets {
     }
 
     /// A peer's stream is closed, and another connection may have its place. Returns its address.
-    pub fn remove(&mut self, key: usize, closed: Option<Counted>) -> Option<SocketAddr> {
+    pub fn remove<S: Socket>(&mut self, key: usize, closed: Option<S>) -> Option<SocketAddr> {
         if let Some(stream) = closed {
-            self.bytes = self.bytes.and(stream.bytes);
+            self.bytes = self.bytes.and(stream.bytes());
         }
         let place = self.places.get_mut(key)?.take()?;
         Some(place.from)
     }
 
     /// How many bytes came and went over all connections.
-    pub fn bytes<D: Device>(&self, peers: &Peers<D, Counted>) -> Bytes {
+    pub fn bytes<D: Device, S: Socket>(&self, peers: &Peers<D, S>) -> Bytes {
         let mut bytes = self.bytes;
         for key in 0..MAX_CONNECTIONS {
             if let Some(peer) = peers.get(key) {
-                bytes = bytes.and(peer.stream().bytes);
+                bytes = bytes.and(peer.stream().bytes());
             }
         }
         bytes
@@ -413,7 +413,7 @@ fn registered(poll: &Poll, mut stream: TcpStream, token: Token) -> Option<TcpStr
 }
 
 /// Wakes a peer by what the system reports of its stream.
-fn wake_peer<D: Device>(peers: &mut Peers<D, Counted>, event: &Event)
+fn wake_peer<D: Device, S: Socket>(peers: &mut Peers<D, S>, event: &Event)
     ensures { RunsOn D.keeps_word peers.old peers.new }
 {
     let is_broken = is_broken(event);

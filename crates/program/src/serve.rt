@@ -1,6 +1,6 @@
 //! Serving a volume over TCP.
 
-use event_loop::{Admission, Door, Hub, Lines, Settings, Watched, mounted};
+use event_loop::{Admission, Counted, Door, Hub, Lines, Settings, Watched, mounted};
 use std::io::Write;
 use std::net::{Ipv4Addr, SocketAddr};
 use system::{Machine, Refused};
@@ -22,12 +22,12 @@ where
     settings.admission = Admission::InTurn { left: count };
     let server = mounted(alloc, device, settings.of_server(alloc)?)?;
     let door = Door::listen(rt, SocketAddr::from((Ipv4Addr::LOCALHOST, port)))?;
-    let mut hub = Hub::of(rt, server, door, settings)?;
+    let mut hub: Hub<D, Counted> = Hub::of(rt, server, door, settings)?;
     run(rt, &mut hub, out)
 }
 
 /// Prints the port, and serves.
-fn run<R, D, O>(rt: &R, hub: &mut Hub<D>, out: &mut O) -> Result<(), Refused>
+fn run<R, D, O>(rt: &R, hub: &mut Hub<D, Counted>, out: &mut O) -> Result<(), Refused>
 where
     R: Machine,
     D: Watched,

@@ -3,7 +3,7 @@
 use crate::device::{RowDevice, Uncounted};
 use crate::host::holding_of;
 use crate::refusal::refusal;
-use event_loop::{Door, Hub, Keeping, Lines, Pace, Settings};
+use event_loop::{Counted, Door, Hub, Keeping, Lines, Pace, Settings};
 use std::alloc::Global;
 use std::io;
 use std::io::Sink;
@@ -32,7 +32,7 @@ impl Clock for Still {
 /// A loop over a server's peers.
 #[derive(Drop)]
 pub struct HubLoop {
-    hub: Hub<RowDevice>,
+    hub: Hub<RowDevice, Counted>,
     address: SocketAddr,
     lines: Lines<Sink>,
     clock: (Still, Global),
@@ -76,7 +76,7 @@ fn begin(
     rt: &HostRuntime,
     device: TrialDevice,
     choices: Choices,
-) -> Result<(Hub<RowDevice>, SocketAddr), Refused> {
+) -> Result<(Hub<RowDevice, Counted>, SocketAddr), Refused> {
     let door = Door::listen(rt, SocketAddr::from((Ipv4Addr::LOCALHOST, 0)))?;
     let address = door.address()?;
     let mut settings = Settings::standard(rt.alloc());

@@ -10,7 +10,7 @@ returns-in_default-take_waiting g c = runs_further c.args.self.now.peers c.make_
 pub returns-in-Ok-admit : goal.returns-in-Ok-admit
 returns-in-Ok-admit g c =
     runs_then (runs_further c.args.self.now.peers c.make_room.new.self c.make_room.ensures.serves)
-    (runs_joined c.make_room.new.self c.admit.new.self c.new.result c.in-Ok-admit.ensures.ok)
+    (runs_joined c.make_room.new.self c.admit.new.self c.over.result c.in-Ok-admit.ensures.ok)
 
 pub returns-in-Err : goal.returns-in-Err
 returns-in-Err g c =
