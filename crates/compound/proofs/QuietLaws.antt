@@ -2,7 +2,7 @@
 use Rattle.std.proofs.Common.{◌≡◌, ℕ, Bool, true, false, refl, sym, ap, ap₂, ◌∙◌, subst, inl, inr, ⊎_elim, arith}
 use Rattle.layout.specs.Stands.{Kept}
 use Rattle.volume.specs.Changes.{Given, Ending, Done, Nothing, Broken, EndsAs}
-use Rattle.volume.specs.VolumeState.{VolumeState, IsSameVolume, IsRecent, AddsTrees, MakesAtMost}
+use Rattle.volume.specs.VolumeState.{VolumeState, IsSameVolume, IsRecent, AddsKept, MakesAtMost}
 use Rattle.volume.specs.Shown.{ShowsAs}
 use Rattle.model_tree.specs.Trees.Tree.{Tree}
 use Rattle.fs.specs.Changes.{FsChanges, LetsWait, deferred}
@@ -16,9 +16,9 @@ same_volume old new is = record {
   run = ap (λ (h : VolumeState). h.run) is;
 }
 
-adds_nothing : (old new : VolumeState) (after : Kept) → new ≡ old → AddsTrees old after new.history
+adds_nothing : (old new : VolumeState) (after : Kept) → new ≡ old → AddsKept old after new.history
 adds_nothing old new after same =
-    subst (λ (held : VolumeState). AddsTrees old after held.history) (sym same) (λ recent is. record { later = omega arith; added = λ t image l left. inl left })
+    subst (λ (held : VolumeState). AddsKept old after held.history) (sym same) (λ recent is. record { later = omega arith; added = λ t image l left. inl left })
 
 no_calls : (old new : VolumeState) → new ≡ old → MakesAtMost 396 old new
 no_calls old new same = subst (λ (held : VolumeState). MakesAtMost 396 old held) (sym same) (omega arith)
@@ -76,7 +76,6 @@ answers_still keeps_word given old new before after same told up stays quiet =
             recent,
             record {
               ready = subst (λ (h : VolumeState). IsRecent h recent) (sym held) ready;
-              seats = ap (λ (h : VolumeState). h.seats) held ∙ sym (stays keeps kept is.0 is.1);
               no_others = λ one among. inl among;
               durable = λ durable one among. absurd (never lasts (none_lasts keeps kept lasts is) durable);
             },

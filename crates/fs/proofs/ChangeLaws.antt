@@ -249,7 +249,7 @@ waiting keeps_word old new failed same counts mode up defers waits = later keeps
   later = omega arith;
   none = λ other. refl;
   moments = λ keeps after lasts is recent ready.
-      subst (λ (h : VolumeState). AddsOnly (StandsForOne old.volume (MayAdd old.volume recent after)) old.volume.history h.history) (sym same) (AddsOnly-same _ old.volume.history);
+      subst (λ (h : VolumeState). AddsOnly (StandsForOne old.volume (MayAdd recent after)) old.volume.history h.history) (sym same) (AddsOnly-same _ old.volume.history);
   ends = record {
     still_up = ap (λ (h : VolumeState). h.is_down) same ∙ up;
     seats = λ keeps kept lasts is. ap (λ (h : VolumeState). h.seats) same ∙ sym (ap (λ (k : Kept). k.seats) is.0);
@@ -257,7 +257,6 @@ waiting keeps_word old new failed same counts mode up defers waits = later keeps
       recent,
       record {
         ready = subst (λ (h : VolumeState). IsRecent h recent) (sym same) ready;
-        seats = ap (λ (h : VolumeState). h.seats) same ∙ sym (ap (λ (k : Kept). k.seats) is.0);
         no_others = λ one among. inl among;
         durable = λ durable one among. absurd (never_true lasts durable is.1);
       },

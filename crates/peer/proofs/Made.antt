@@ -2,19 +2,16 @@
 use Rattle.std.proofs.Common.{◌≡◌, ◌↔◌, ℕ, List, [], ◌∷◌, ◌++◌, Option, Some, None, Result, Ok, Err, IfOk, IfErr, OnOk, OnErr, IsErrOf, Bool, true, false, inl, inr, refl, ap, sym, subst}
 use Rattle.std.specs.Global.{Vec}
 use Rattle.disk.specs.declared.device.Device.{Ghosts}
-use Rattle.model.specs.Server.Runs.{Event, Arrives, Turns, HangsUp, Takes}
-use Rattle.model_tree.specs.Trees.Tree.{Tree}
+use Rattle.model.specs.Server.Runs.{Event, Arrives, Turns, HangsUp, Takes, Left}
 use Rattle.server.specs.Connections.{turn_view}
 use Rattle.server.specs.Refused.{IsUntouched, HasTurned, RefusesTurn, RefusesHangUp, connection_at, view}
-use Rattle.server.specs.Seen.{Seen, Said, ServerCall, Did, Done, Took, Turned, Does, IsServed, IsTurned, Stays, trees_of}
+use Rattle.server.specs.Seen.{Seen, Said, ServerCall, Did, Done, Took, Turned, Does, IsReady, IsSeenReady, IsServed, IsTurned, Stays}
 use Rattle.server.specs.Seen as served
 use Rattle.server.specs.Views.{Serves, ServesAs, Turning, server_failures, files_of, gave, seen_with, volume_of, waits_of, world_of}
-use Rattle.server.proofs.Pairs.{ready_beside, recent_beside}
 use Rattle.server.specs.declared.fault.ServerFault.{ServerFault}
 use Rattle.server.specs.declared.fault.ServerFault.TheVariants as faults
 use Rattle.server.specs.declared.server.Server.{Server}
 use Rattle.server.specs.declared.turn.Turn.{Turn}
-use Rattle.volume.specs.VolumeState.{IsRecent}
 use Rattle.peer.specs.Calls.{MakesCalls, Goes, IsNone, IsOne, AreTurns, IsHangUp, IsEndAt, IsEnd, AreSomeTurns, HasGone, RefusesBytes, RefusesOutput}
 
 -- Calls after calls
@@ -65,7 +62,7 @@ goes_as {old = old} {new = new} {first = first} shows goes = record {
 
 -- a call, whether or not it defers
 abbrev pub MakesCall : {D : Type 0} {g : Ghosts D} → (old new : Server D g) → Event → Said → Type 0
-MakesCall old new event said = (recent : List Tree) → IsRecent (volume_of old) recent → (after : List Tree) × Does (seen_with old recent) event said (seen_with new after)
+MakesCall old new event said = (recent : List Left) → IsReady (volume_of old) recent → (after : List Left) × Does (seen_with old recent) event said (seen_with new after)
 
 pub makes : {D : Type 0} {g : Ghosts D} (defers : Bool) (old new : Server D g) (event : Event) (said : Said) → ServesAs defers old new event said
     → MakesCall old new event said
@@ -82,7 +79,7 @@ one_call {old = old} {new = new} event said up serves = record {
       record {
         after = done.0;
         calls = Did event said ∷ [];
-        ready = recent_beside (volume_of new) (volume_of new).seats done.0 done.1.ready;
+        ready = done.1.ready;
         are = refl;
         served = served.IsServed.Goes_on event said served.Begins done.1;
       };
@@ -206,15 +203,14 @@ turns_then connection now first old new calls before are (served.Goes_on {betwee
     turns_then connection now first between new (Did (Turns connection now) said ∷ calls)
     (served.IsServed.Goes_on (Turns connection now) said before does) ((refl, refl), are) more
 
-ready_then : (connection now : ℕ) (old new : Seen) → IsTurned connection now old new → IsRecent old.volume (trees_of old.serving.left)
-    → IsRecent new.volume (trees_of new.serving.left)
+ready_then : (connection now : ℕ) (old new : Seen) → IsTurned connection now old new → IsSeenReady old → IsSeenReady new
 ready_then connection now old new Stays ready = ready
 ready_then connection now old new (served.Goes_on {between = between} busy does more) ready = ready_then connection now between new more does.ready
 
 -- one that was done
 pub hung_up : {D : Type 0} {g : Ghosts D} {keeps : Type 0} {old new : Server D g} (connection now : ℕ)
     → (volume_of old).is_down ≡ false
-    → (keeps → Turning old connection now (λ between. (after : List Tree) × Does between (HangsUp connection) Done (seen_with new after)))
+    → (keeps → Turning old connection now (λ between. (after : List Left) × Does between (HangsUp connection) Done (seen_with new after)))
     → Goes keeps old new (IsHangUp connection now)
 hung_up {old = old} {new = new} connection now up turning = record {
   up = λ _. up;
@@ -224,7 +220,7 @@ hung_up {old = old} {new = new} connection now up turning = record {
       record {
         after = turned.2.0;
         calls = Did (HangsUp connection) Done ∷ calls.0;
-        ready = recent_beside (volume_of new) (volume_of new).seats turned.2.0 turned.2.1.ready;
+        ready = turned.2.1.ready;
         are = (refl, calls.2);
         served = served.IsServed.Goes_on (HangsUp connection) Done calls.1 turned.2.1;
       };
@@ -233,19 +229,18 @@ hung_up {old = old} {new = new} connection now up turning = record {
 -- and one that ended within its turns, for want of memory
 pub turned_only : {D : Type 0} {g : Ghosts D} {keeps : Type 0} {old new : Server D g} (connection now : ℕ)
     → (volume_of old).is_down ≡ false
-    → (keeps → Turning old connection now (λ between. (after : List Tree) × (between ≡ seen_with new after)))
+    → (keeps → Turning old connection now (λ between. (after : List Left) × (between ≡ seen_with new after)))
     → Goes keeps old new (AreTurns connection now)
 turned_only {old = old} {new = new} connection now up turning = record {
   up = λ _. up;
   made = λ keeps is_up recent is.
       let turned = turning keeps recent is in
       let calls = turns_then connection now (seen_with old recent) (seen_with old recent) turned.0 [] served.Begins tt turned.1 in
-      let ready = ready_then connection now (seen_with old recent) turned.0 turned.1 (ready_beside (volume_of old) (volume_of old).seats recent is) in
+      let ready = ready_then connection now (seen_with old recent) turned.0 turned.1 is in
       record {
         after = turned.2.0;
         calls = calls.0;
-        ready = recent_beside (volume_of new) (volume_of new).seats turned.2.0
-            (subst (λ (seen : Seen). IsRecent seen.volume (trees_of seen.serving.left)) turned.2.1 ready);
+        ready = subst IsSeenReady turned.2.1 ready;
         are = calls.2;
         served = subst (λ (seen : Seen). IsServed (seen_with old recent) calls.0 seen) turned.2.1 calls.1;
       };
@@ -258,7 +253,7 @@ up_by false never = refl
 -- what a hang-up answers: the server was up
 pub hangs_up : {D : Type 0} {g : Ghosts D} {keeps : Type 0} (old new : Server D g) (connection now : ℕ) (result : Result Unit ServerFault)
     → ((volume_of old).is_down ≡ true → IsErrOf result faults.Device × IsUntouched (view old) (view new))
-    → (keeps → OnOk result (Turning old connection now (λ between. (after : List Tree) × Does between (HangsUp connection) Done (seen_with new after))))
+    → (keeps → OnOk result (Turning old connection now (λ between. (after : List Left) × Does between (HangsUp connection) Done (seen_with new after))))
     → OnOk result (Goes keeps old new (IsHangUp connection now))
 hangs_up old new connection now (Ok done) down turning =
     hung_up {old = old} {new = new} connection now (up_by _ (λ is. let told = (down is).0 in let never : ⊥ = cc in never)) turning
@@ -267,8 +262,8 @@ hangs_up old new connection now (Err fault) down turning = tt
 -- and in any case
 pub hangs_by : {D : Type 0} {g : Ghosts D} {keeps : Type 0} (old new : Server D g) (connection now : ℕ) (result : Result Unit ServerFault)
     → ((volume_of old).is_down ≡ true → IsErrOf result faults.Device × IsUntouched (view old) (view new))
-    → (keeps → OnOk result (Turning old connection now (λ between. (after : List Tree) × Does between (HangsUp connection) Done (seen_with new after))))
-    → (keeps → IsErrOf result faults.Memory → Turning old connection now (λ between. (after : List Tree) × (between ≡ seen_with new after)))
+    → (keeps → OnOk result (Turning old connection now (λ between. (after : List Left) × Does between (HangsUp connection) Done (seen_with new after))))
+    → (keeps → IsErrOf result faults.Memory → Turning old connection now (λ between. (after : List Left) × (between ≡ seen_with new after)))
     → IfErr result (RefusesHangUp (view old) (view new) connection) → Goes keeps old new (IsEndAt connection now)
 hangs_by old new connection now (Ok done) down turning stops refused =
     goes_as {first = IsHangUp connection now} {kind = IsEndAt connection now}
@@ -288,7 +283,7 @@ hangs_by old new connection now (Err faults.Full) down turning stops refused = a
 -- one that was refused
 pub turns_by : {D : Type 0} {g : Ghosts D} {keeps : Type 0} (old new : Server D g) (connection now : ℕ) (result : Result Unit ServerFault)
     → ((volume_of old).is_down ≡ true → IsErrOf result faults.Device × IsUntouched (view old) (view new))
-    → (keeps → IsErrOf result faults.Memory → Turning old connection now (λ between. (after : List Tree) × (between ≡ seen_with new after)))
+    → (keeps → IsErrOf result faults.Memory → Turning old connection now (λ between. (after : List Left) × (between ≡ seen_with new after)))
     → IfErr result (RefusesHangUp (view old) (view new) connection) → OnErr result (Goes keeps old new (AreTurns connection now))
 turns_by old new connection now (Ok done) down stops refused = tt
 turns_by old new connection now (Err faults.Memory) down stops refused =

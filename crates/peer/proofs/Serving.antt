@@ -10,11 +10,10 @@ use Rattle.model.specs.Server.World.{World, can_connect}
 use Rattle.server.specs.Refused.{view, HasKept, IsUntouched, RefusesCheckpoint}
 use Rattle.server.specs.Seen.{Seen, ServerCall, Did, Done, IsServed, world_after}
 use Rattle.server.specs.Seen as served
-use Rattle.server.specs.Views.{FlushesServer, Keeps, files_of, seen_with, server_failures, volume_of, waits_of, world_of}
+use Rattle.server.specs.Views.{FlushesServer, Keeps, files_of, seen_with, server_failures, waits_of, world_of}
 use Rattle.server.specs.Views as server_views
 use Rattle.server.specs.declared.fault.ServerFault.{ServerFault}
 use Rattle.server.specs.declared.server.Server.{Server}
-use Rattle.server.proofs.Pairs.{recent_beside}
 use Rattle.server.proofs.Stops.{every_trace}
 use Rattle.peer.specs.Calls.{Goes, MakesCalls, IsNone, IsOne, AreTurns, AreSomeTurns, IsEnd}
 use Rattle.peer.specs.Peers.{IsSame, PeerBegins}
@@ -76,7 +75,7 @@ kept_further {old = old} {new = new} (Ok done) keeps_on has refuses = record {
       record {
         after = recent;
         calls = [];
-        ready = recent_beside (volume_of new) (volume_of new).seats recent keeps_so.ready;
+        ready = keeps_so.ready;
         are = refl;
         served = served.IsServed.Keeps_on served.Begins keeps_so;
       };
@@ -94,7 +93,7 @@ flushed_further {old = old} {new = new} (Ok done) waits flushes has refuses = re
       record {
         after = flushed.0;
         calls = [];
-        ready = recent_beside (volume_of new) (volume_of new).seats flushed.0 flushed.1.ready;
+        ready = flushed.1.ready;
         are = refl;
         served = served.IsServed.Flushed served.Begins flushed.1;
       };

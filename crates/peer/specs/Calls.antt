@@ -1,34 +1,32 @@
 -- The calls of the server that the loop makes.
 use Rattle.std.specs.Prelude.{ℕ, List, [], ◌∷◌, false, true, ◌≡◌, ◌⊎◌, Option, None, Result, Ok, Err}
 use Rattle.disk.specs.declared.device.Device.{Ghosts}
-use Rattle.model.specs.Server.Runs.{Arrives, Turns, HangsUp}
-use Rattle.model_tree.specs.Trees.Tree.{Tree}
+use Rattle.model.specs.Server.Runs.{Arrives, Turns, HangsUp, Left}
 use Rattle.model.specs.Server.World.{Connection}
 use Rattle.server.specs.Refused.{IsUntouched, connection_at, view}
-use Rattle.server.specs.Seen.{ServerCall, Did, Failed, Took, Done, IsServed}
+use Rattle.server.specs.Seen.{ServerCall, Did, Failed, Took, Done, IsReady, IsServed}
 use Rattle.server.specs.Views.{seen_with, volume_of}
 use Rattle.server.specs.declared.fault.ServerFault.{ServerFault}
 use Rattle.server.specs.declared.fault.ServerFault.TheVariants as faults
 use Rattle.server.specs.declared.server.Server.{Server}
-use Rattle.volume.specs.VolumeState.{IsRecent}
 
--- Calls of a kind, the newest first, each as the server has it: from the trees that a crash might
--- leave before them to those that it may leave after them.
-pub record MakesCalls {D : Type 0} {g : Ghosts D} (old new : Server D g) (recent : List Tree)
+-- Calls of a kind, the newest first, each as the server has it: from what a crash might leave
+-- before them to what it may leave after them.
+pub record MakesCalls {D : Type 0} {g : Ghosts D} (old new : Server D g) (recent : List Left)
     (kind : List ServerCall → Type 0) : Type 0 where
-  pub after : List Tree
+  pub after : List Left
   pub calls : List ServerCall
-  pub ready : IsRecent (volume_of new) after
+  pub ready : IsReady (volume_of new) after
   pub are : kind calls
   pub served : IsServed (seen_with old recent) calls (seen_with new after)
 
 -- The server made calls of this kind and no others: on a device that keeps its word, as long as it
--- has not failed, and whichever trees a crash might leave before.
+-- has not failed, and whatever a crash might leave before.
 pub record Goes {D : Type 0} {g : Ghosts D} (keeps : Type 0) (old new : Server D g)
     (kind : List ServerCall → Type 0) : Type 0 where
   pub up : (volume_of new).is_down ≡ false → (volume_of old).is_down ≡ false
   pub made : keeps → (volume_of new).is_down ≡ false
-      → (recent : List Tree) → IsRecent (volume_of old) recent → MakesCalls old new recent kind
+      → (recent : List Left) → IsReady (volume_of old) recent → MakesCalls old new recent kind
 
 -- Kinds
 

@@ -3,15 +3,15 @@
 use Rattle.std.specs.Prelude.{ℕ, true, false, Bool, ◌==◌, List, [], ◌∷◌, ◌++◌, Option, Some, is_some, ◌≡◌, if◌then◌else◌}
 use Rattle.std.specs.Io.KnownBytes.{Appends, Consumes}
 use Rattle.disk.specs.declared.device.Device.{Ghosts}
-use Rattle.model.specs.Server.Runs.{Event, Arrives, Turns, HangsUp, Connects, Takes}
+use Rattle.model.specs.Server.Runs.{Event, Arrives, Turns, HangsUp, Connects, Takes, Left}
 use Rattle.model.specs.Server.World.{World}
 use Rattle.model.specs.Sessions.Session.{Settings}
 use Rattle.model_tree.specs.Trees.Keyed.{at}
-use Rattle.model_tree.specs.Trees.Tree.{Tree}
 use Rattle.server.specs.Headline.{BeginsServing, Stopped}
-use Rattle.server.specs.Seen.{Seen, ServerCall, Did, Failed, Moves, AreTold, world_after}
+use Rattle.server.specs.Seen.{Seen, ServerCall, Did, Failed, Moves, AreTold, left_of, world_after}
 use Rattle.server.specs.Views.{seen_with, volume_of, world_of}
 use Rattle.server.specs.declared.server.Server.{Server}
+use Rattle.volume.specs.VolumeState.{kept_of}
 use Rattle.peer.specs.Calls.{Goes}
 use Rattle.peer.specs.Steps.{all_by, taken_by, given_by}
 use Rattle.peer.specs.declared.peer.Peer.{Peer}
@@ -111,13 +111,13 @@ ServesOneMore {D = D} {S = S} {g = g} keeps old new stream before after =
 -- stop at any moment of the next call.
 pub record AreOfRun {D S : Type 0} {g : Ghosts D} {h : stream.Ghosts S} (first now : Server D g)
     (streams : List (ℕ × S)) (peers : ℕ → Option (Peer S h)) : Type 0 where
-  pub recent : List Tree
+  pub recent : List Left
   pub calls : List ServerCall
   pub are : AreServed (world_of first) streams peers calls
   pub told : AreTold (world_of first) calls
   pub stops : (event : Event) (new : Seen) → Moves (seen_with now recent) event new
       → (stopped : Stopped) × (stopped.calls ≡ calls) × (stopped.new ≡ new)
-      × (stopped.first ≡ seen_with first ((volume_of first).tree ∷ []))
+      × (stopped.first ≡ seen_with first (left_of (kept_of (volume_of first)) ∷ []))
 
 -- What clients see on the wire is what runs of the server give: so `server::every_run` and
 -- `server::every_life` speak of it.

@@ -1,6 +1,7 @@
 -- A checkpoint between two calls: the machine is as it was, and a crash leaves what it might have left.
 use Rattle.std.proofs.Common.{◌≡◌, ◌⊎◌, ℕ, Bool, List, [], ◌∷◌, Result, Ok, Err, refl, sym, ap, ap₂, ◌∙◌, subst, inl, inr, true, false, true≢false, ⊎_elim}
 use Rattle.std.specs.List.{IsAmong}
+use Rattle.std.specs.Prelude.{map}
 use Rattle.disk.specs.Moments.{History, AddsOnly}
 use Rattle.disk.proofs.MomentLemmas.{AddsOnly-weaken}
 use Rattle.compound.specs.States.{Agrees, shared}
@@ -10,37 +11,36 @@ use Rattle.fs.specs.declared.fault.FsFault.{FsFault}
 use Rattle.fs.specs.declared.fault.FsFault.TheVariants as faults
 use Rattle.volume.proofs.FrontLaws.{among_more}
 use Rattle.layout.specs.Stands.{Kept}
-use Rattle.volume.specs.Changes.{Stays, LeavesTrees}
-use Rattle.volume.specs.VolumeState.{VolumeState, MakesAtMost, IsSameVolume, IsRecent, KeepsRecent, AddsTrees, StandsForOne, IsLeft, MayAdd, kept_of}
+use Rattle.volume.specs.Changes.{Stays, LeavesKept, LeavesOnCrash}
+use Rattle.volume.specs.VolumeState.{VolumeState, MakesAtMost, IsSameVolume, IsRecent, KeepsRecent, AddsKept, StandsForOne, MayAdd, kept_of}
 use Rattle.model_tree.specs.Trees.Keyed.{Keyed}
 use Rattle.model.specs.Sessions.Opens.{Opens}
-use Rattle.model.specs.Server.Runs.{Serving, Event, Left, left_after}
+use Rattle.model.specs.Server.Runs.{Serving, Event, Left}
 use Rattle.model_tree.specs.Seats.Seats.{Seats}
 use Rattle.model.specs.Sessions.Session.{Table}
 use Rattle.model_tree.specs.Trees.Tree.{Tree}
 use Rattle.model.specs.Server.World.{World, Connection}
-use Rattle.server.specs.Seen.{Seen, MayKeepDuring, left_of, Checkpoints, Breaks, FlushesAll}
-use Rattle.server.specs.Views.{world_by, beside, serving_by}
-use Rattle.server.proofs.Pairs.{among_beside, beside_left, ready_beside}
+use Rattle.server.specs.Seen.{Seen, MayKeepDuring, IsReady, kept_by, left_of, Checkpoints, Breaks, FlushesAll}
+use Rattle.server.specs.Views.{world_by, serving_by}
+use Rattle.server.proofs.Pairs.{among_kept, among_left, recent_left}
 use Rattle.server.proofs.Moves.{broken_leaves, leaves_now}
 use Rattle.server.proofs.ServedTurns.{broken}
 use Rattle.server.proofs.Turning.{agrees_on}
 
 -- whichever event it is taken for
-keeping_moments : (world : World) (waits : Bool) (held : VolumeState) (recent : List Tree) (new : History) → IsRecent held recent → AddsTrees held (kept_of held) new → (event : Event)
-    → AddsOnly (StandsForOne held (MayKeepDuring (serving_by world (beside held.seats recent) held.is_down waits) event)) held.history new
+keeping_moments : (world : World) (waits : Bool) (held : VolumeState) (recent : List Left) (new : History) → IsRecent held (map kept_by recent) → AddsKept held (kept_of held) new → (event : Event)
+    → AddsOnly (StandsForOne held (MayKeepDuring (serving_by world recent held.is_down waits) event)) held.history new
 keeping_moments world waits held recent new is adds event = AddsOnly-weaken
-    (StandsForOne held (MayAdd held recent (kept_of held))) (StandsForOne held (MayKeepDuring (serving_by world (beside held.seats recent) held.is_down waits) event)) held.history new
+    (StandsForOne held (MayAdd (map kept_by recent) (kept_of held))) (StandsForOne held (MayKeepDuring (serving_by world recent held.is_down waits) event)) held.history new
     (λ image found. (
       found.0,
       inl (⊎_elim
-          (λ (stays : IsLeft held recent found.0). beside_left held.seats recent (left_of found.0) stays.0 stays.1)
-          (λ (same : found.0 ≡ kept_of held).
-          subst (λ (kept : Kept). IsAmong (beside held.seats recent) (left_of kept)) (sym same) (beside_left held.seats recent (left_of (kept_of held)) is.newest refl))
+          (λ (stays : IsAmong (map kept_by recent) found.0). among_left recent found.0 stays)
+          (λ (same : found.0 ≡ kept_of held). subst (λ (kept : Kept). IsAmong recent (left_of kept)) (sym same) (among_left recent (kept_of held) is.newest))
           found.1),
       found.2,
     ))
-    (adds recent is)
+    (adds (map kept_by recent) is)
 
 -- The table agrees with the volume, as before, unless that is down
 
@@ -63,39 +63,41 @@ module _ (old new : FileSystem) (table : Table) (opens : Opens) (connections : K
 
 module _ (old new : FileSystem) (table : Table) (opens : Opens) (connections : Keyed Connection)
     (same : IsSameVolume old.volume new.volume) (changes : new.changes ≡ old.changes) (waits_same : new.waits ≡ old.waits) where
-  abbrev serving_of : FileSystem → List Tree → Serving
-  serving_of files recent = serving_by (world_by (shared files table opens) connections) (beside files.volume.seats recent) files.volume.is_down files.waits
+  abbrev serving_of : FileSystem → List Left → Serving
+  serving_of files recent = serving_by (world_by (shared files table opens) connections) recent files.volume.is_down files.waits
 
-  abbrev Keeps : (recent left : List Tree) → Type 0
+  abbrev Keeps : (recent left : List Left) → Type 0
   Keeps recent left =
       Checkpoints (record { serving = serving_of old recent; volume = old.volume }) (record { serving = serving_of new left; volume = new.volume })
 
   -- where it is done
   pub checkpointed : new.volume.tree ≡ old.volume.tree → new.volume.seats ≡ old.volume.seats → old.volume.is_down ≡ false → new.volume.is_down ≡ false → KeepsRecent old.volume new.volume
-      → AddsTrees old.volume (kept_of old.volume) new.volume.history → MakesAtMost 396 old.volume new.volume → (recent : List Tree) → IsRecent old.volume recent → Keeps recent recent
+      → AddsKept old.volume (kept_of old.volume) new.volume.history → MakesAtMost 396 old.volume new.volume → (recent : List Left) → IsReady old.volume recent → Keeps recent recent
   checkpointed trees seats up still_up keeps adds brief recent ready = record {
     serving =
-        ap (λ (world : World). serving_by world (beside new.volume.seats recent) new.volume.is_down new.waits) (kept_world old new table opens connections same changes trees)
-        ∙ (ap (λ (kept : Seats). serving_by (world_by (shared old table opens) connections) (beside kept recent) new.volume.is_down new.waits) seats
-        ∙ ap₂ (serving_by (world_by (shared old table opens) connections) (beside old.volume.seats recent)) (still_up ∙ sym up) waits_same);
+        ap (λ (world : World). serving_by world recent new.volume.is_down new.waits) (kept_world old new table opens connections same changes trees)
+        ∙ ap₂ (serving_by (world_by (shared old table opens) connections) recent) (still_up ∙ sym up) waits_same;
     moves = λ event. record {
-      moments = keeping_moments (world_by (shared old table opens) connections) old.waits old.volume recent new.volume.history ready adds event;
-      leaves = leaves_now new.volume recent (keeps recent ready).leaves;
+      moments = keeping_moments (world_by (shared old table opens) connections) old.waits old.volume recent new.volume.history ready.recent adds event;
+      leaves = leaves_now new.volume recent (keeps (map kept_by recent) ready.recent).leaves;
       same = same;
       brief = brief;
     };
-    ready = ready_beside new.volume new.volume.seats recent (keeps recent ready);
+    ready = record {
+      recent = keeps (map kept_by recent) ready.recent;
+      seated = λ one among. ready.seated one among ∙ sym seats;
+    };
   }
 
   -- where the device fails in it
-  pub checkpoint_fails : old.volume.is_down ≡ false → new.volume.is_down ≡ true → AddsTrees old.volume (kept_of old.volume) new.volume.history → MakesAtMost 396 old.volume new.volume
-      → (event : Event) (recent : List Tree) → IsRecent old.volume recent → (left : List Left)
+  pub checkpoint_fails : old.volume.is_down ≡ false → new.volume.is_down ≡ true → AddsKept old.volume (kept_of old.volume) new.volume.history → MakesAtMost 396 old.volume new.volume
+      → (event : Event) (recent : List Left) → IsReady old.volume recent → (left : List Left)
       × Breaks (record { serving = serving_of old recent; volume = old.volume }) event (record {
         serving = serving_by (record (world_by (shared new table opens) connections) { tree = old.volume.tree }) left new.volume.is_down new.waits;
         volume = new.volume;
       })
   checkpoint_fails up down adds brief event recent ready = (
-    left_of (kept_of old.volume) ∷ beside old.volume.seats recent,
+    left_of (kept_of old.volume) ∷ recent,
     record {
       fails = record {
         up = up;
@@ -103,14 +105,13 @@ module _ (old new : FileSystem) (table : Table) (opens : Opens) (connections : K
         down = down;
         waits = waits_same;
         no_others = λ one among. inl (⊎_elim
-            (λ (first : one ≡ left_of (kept_of old.volume)).
-            subst (IsAmong (beside old.volume.seats recent)) (sym first) (beside_left old.volume.seats recent (left_of (kept_of old.volume)) ready.newest refl))
-            (λ (rest : IsAmong (beside old.volume.seats recent) one). rest)
-            (among_more (left_of (kept_of old.volume)) (beside old.volume.seats recent) one among));
+            (λ (first : one ≡ left_of (kept_of old.volume)). subst (IsAmong recent) (sym first) (among_left recent (kept_of old.volume) ready.recent.newest))
+            (λ (rest : IsAmong recent one). rest)
+            (among_more (left_of (kept_of old.volume)) recent one among));
       };
       moves = record {
-        moments = keeping_moments (world_by (shared old table opens) connections) old.waits old.volume recent new.volume.history ready adds event;
-        leaves = broken_leaves old.volume new.volume (kept_of old.volume) recent ready adds same;
+        moments = keeping_moments (world_by (shared old table opens) connections) old.waits old.volume recent new.volume.history ready.recent adds event;
+        leaves = broken_leaves old.volume new.volume (kept_of old.volume) recent ready.recent adds same;
         same = same;
         brief = brief;
       };
@@ -130,38 +131,43 @@ agrees_flushed keeps_word old new before after table (Err fault) flushes keeps a
 
 module _ (old new : FileSystem) (table : Table) (opens : Opens) (connections : Keyed Connection)
     (same : IsSameVolume old.volume new.volume) (changes : new.changes ≡ old.changes) where
-  abbrev seen_of : FileSystem → List Tree → Seen
+  abbrev seen_of : FileSystem → List Left → Seen
   seen_of files recent = record {
-    serving = serving_by (world_by (shared files table opens) connections) (beside files.volume.seats recent) files.volume.is_down files.waits;
+    serving = serving_by (world_by (shared files table opens) connections) recent files.volume.is_down files.waits;
     volume = files.volume;
   }
 
   -- where it is done
   pub flushed_all : new.volume.tree ≡ old.volume.tree → new.volume.seats ≡ old.volume.seats → table.seats ≡ old.volume.seats → old.volume.is_down ≡ false → new.volume.is_down ≡ false → new.waits ≡ false
-      → AddsTrees old.volume (kept_of old.volume) new.volume.history → MakesAtMost 396 old.volume new.volume → LeavesTrees old.volume new.volume (kept_of old.volume) true
-      → (recent : List Tree) → IsRecent old.volume recent → (after : List Tree) × FlushesAll (seen_of old recent) (seen_of new after)
+      → AddsKept old.volume (kept_of old.volume) new.volume.history → MakesAtMost 396 old.volume new.volume → LeavesKept old.volume new.volume (kept_of old.volume) true
+      → (recent : List Left) → IsReady old.volume recent → (after : List Left) × FlushesAll (seen_of old recent) (seen_of new after)
   flushed_all trees seats seated up still_up none_waits adds brief leaves recent ready =
-      let left = leaves recent ready in (
-        left.0,
+      let left = leaves (map kept_by recent) ready.recent in (
+        map left_of left.0,
         record {
           flushes = record {
             up = up;
             world = kept_world old new table opens connections same changes trees;
             still_up = still_up;
             none_waits = none_waits;
-            newest = λ one among.
-                let is = among_beside new.volume.seats left.0 one among in
-                ap₂ (λ (t : Tree) (s : Seats). let l : Left = record { tree = t; seats = s } in l) (left.1.durable refl one.tree is.0) (is.1 ∙ (seats ∙ sym seated));
+            newest = λ one among. ap left_of (only left.0 left.1 one among)
+                ∙ ap (λ (s : Seats). let l : Left = record { tree = old.volume.tree; seats = s } in l) (sym seated);
           };
           moves = λ event. record {
-            moments = keeping_moments (world_by (shared old table opens) connections) old.waits old.volume recent new.volume.history ready adds event;
-            leaves = leaves_now new.volume left.0 left.1.ready.leaves;
+            moments = keeping_moments (world_by (shared old table opens) connections) old.waits old.volume recent new.volume.history ready.recent adds event;
+            leaves = leaves_now new.volume (map left_of left.0) (recent_left new.volume left.0 left.1.ready).leaves;
             same = same;
             brief = brief;
           };
-          ready = ready_beside new.volume new.volume.seats left.0 left.1.ready;
+          ready = record {
+            recent = recent_left new.volume left.0 left.1.ready;
+            seated = λ one among. ap (λ (kept : Kept). kept.seats) (only left.0 left.1 one among) ∙ sym seats;
+          };
         },
       )
+    where
+      only : (left : List Kept) → LeavesOnCrash new.volume (kept_of old.volume) true (map kept_by recent) left → (one : Left) → IsAmong (map left_of left) one → kept_by one ≡ kept_of old.volume
+      only left leaves_it one among = leaves_it.durable refl (kept_by one) (among_kept left one among)
 
 -- a volume that was up is refused for the device
 pub only_device : (fault : FsFault) → (fault ≡ faults.Device) ⊎ (fault ≡ faults.Down) → (fault ≡ faults.Down → ⊥) → fault ≡ faults.Device

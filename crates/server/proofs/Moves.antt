@@ -1,6 +1,7 @@
 -- What the calls of a server do to what a crash may leave.
 use Rattle.std.proofs.Common.{◌≡◌, ◌<◌, ◌≤◌, ◌+◌, ◌^◌, ℕ, List, [], ◌∷◌, length, Bool, false, None, refl, sym, ap, ap₂, ◌∙◌, subst, inl, arith, ⊎_elim}
 use Rattle.std.specs.List.{IsAmong}
+use Rattle.std.specs.Prelude.{map}
 use Rattle.std.proofs.Math.Logic.{∥∥₁_elim, ∥∥₁_map, ∥∥₁_prop}
 use Rattle.model_tree.specs.declared.limits.Limits.{Limits}
 use Rattle.model_tree.specs.Trees.Limits.{limits_of}
@@ -16,22 +17,23 @@ use Rattle.compound.specs.States.{shared}
 use Rattle.compound.proofs.QuietLaws.{same_volume}
 use Rattle.fs.specs.FileSystem.{FileSystem}
 use Rattle.layout.specs.Stands.{Kept}
-use Rattle.volume.specs.VolumeState.{VolumeState, IsSameVolume, StandsForOne, LeavesOne, IsRecent, Holds, IsLeft, MayAdd, AddsTrees, kept_of}
+use Rattle.volume.specs.VolumeState.{VolumeState, IsSameVolume, StandsForOne, LeavesOne, IsRecent, Holds, MayAdd, AddsKept, kept_of}
 use Rattle.volume.specs.Stands.{StandsFor}
+use Rattle.model.specs.Server.Runs as runs
 use Rattle.model.specs.Server.Runs.{Serving, Event, MayBeTaken, executed_of, effect_of}
 use Rattle.model.specs.Sessions.Opens.{Opens, no_opens}
 use Rattle.model.specs.Sessions.SeatRuns.{AreSeats}
 use Rattle.model_tree.specs.Seats.Seats.{Seats}
-use Rattle.model_tree.specs.Trees.Tree.{Tree}
 use Rattle.model_tree.specs.Trees.Keyed.{Keyed}
 use Rattle.model.specs.Sessions.Session.{Table, loaded_table, Settings}
 use Rattle.model.specs.Server.World.{World, Connection, mounted_world}
 use Rattle.server.specs.Headline.{IsMounted}
-use Rattle.server.specs.Views.{world_by, server_limits, beside, serving_by}
-use Rattle.server.specs.Seen.{Seen, left_of, LeavesNow, MayKeepDuring, Moves, Said, event_told, Does}
-use Rattle.server.proofs.Pairs.{beside_left, ready_beside}
+use Rattle.server.specs.Views.{world_by, server_limits, serving_by}
+use Rattle.server.specs.Seen.{Seen, kept_by, left_of, IsReady, LeavesNow, MayKeepDuring, Moves, Said, event_told, Does}
+use Rattle.server.proofs.Pairs.{among_left}
 use Rattle.server.proofs.Worlds.{happened_quietly}
 use Rattle.volume.proofs.FrontLaws.{among_rest}
+use Rattle.volume.proofs.ServeLaws.{among_one}
 use Rattle.volume.proofs.LoadLaws.{any_limits}
 use Rattle.disk.proofs.MomentLemmas.{AddsOnly-same}
 
@@ -67,51 +69,51 @@ stands_on old new kept image same stands =
     (subst (λ (n : ℕ). StandsFor old.sectors n new.run kept image) (sym (ap (λ l. l.nodes) same.limits))
     (subst (λ (r : ℕ). StandsFor old.sectors old.limits.nodes r kept image) (sym same.run) stands))
 
--- a volume leaves one list of seats, its own
-pub leaves_now : (held : VolumeState) (recent : List Tree) → LeavesOne held recent
-    → (image : Image) → Left held.history.now image → StandsForOne held (λ kept. IsAmong (beside held.seats recent) (left_of kept)) image
+-- what a volume leaves, the machine leaves
+pub leaves_now : (held : VolumeState) (recent : List runs.Left) → LeavesOne held (map kept_by recent)
+    → (image : Image) → Left held.history.now image → StandsForOne held (λ kept. IsAmong recent (left_of kept)) image
 leaves_now held recent leaves image left =
     let one = leaves image left in
-    (one.0, beside_left held.seats recent (left_of one.0) one.1.0 one.1.1, one.2)
+    (one.0, among_left recent one.0 one.1, one.2)
 
 -- after a failure a crash leaves what it might have left before the call, or what is kept after it
-pub broken_leaves : (held after_held : VolumeState) (after : Kept) (recent : List Tree) → IsRecent held recent → AddsTrees held after after_held.history → IsSameVolume held after_held
-    → (image : Image) → Left after_held.history.now image → StandsForOne after_held (λ kept. IsAmong (left_of after ∷ beside held.seats recent) (left_of kept)) image
+pub broken_leaves : (held after_held : VolumeState) (after : Kept) (recent : List runs.Left) → IsRecent held (map kept_by recent) → AddsKept held after after_held.history → IsSameVolume held after_held
+    → (image : Image) → Left after_held.history.now image → StandsForOne after_held (λ kept. IsAmong (left_of after ∷ recent) (left_of kept)) image
 broken_leaves held after_held after recent is adds same image left = ⊎_elim
     (λ (earlier : LeftSince held.history (moment held.history) image).
     let one = is.leaves image (left_now held.history image earlier) in
     stays one.0 one.1 one.2)
-    (λ (added : StandsForOne held (MayAdd held recent after) image). ⊎_elim
-    (λ (before : IsLeft held recent added.0). stays added.0 before added.2)
+    (λ (added : StandsForOne held (MayAdd (map kept_by recent) after) image). ⊎_elim
+    (λ (before : IsAmong (map kept_by recent) added.0). stays added.0 before added.2)
     (λ (behind : added.0 ≡ after). (
       added.0,
       (0, (omega arith, ap left_of behind)),
       stands_on held after_held added.0 image same added.2,
     ))
     added.1)
-    ((adds recent is).added (moment held.history) image (omega arith) (inl left))
+    ((adds (map kept_by recent) is).added (moment held.history) image (omega arith) (inl left))
   where
-    stays : (kept : Kept) → IsLeft held recent kept → StandsFor held.sectors held.limits.nodes held.run kept image
-        → StandsForOne after_held (λ kept. IsAmong (left_of after ∷ beside held.seats recent) (left_of kept)) image
+    stays : (kept : Kept) → IsAmong (map kept_by recent) kept → StandsFor held.sectors held.limits.nodes held.run kept image
+        → StandsForOne after_held (λ kept. IsAmong (left_of after ∷ recent) (left_of kept)) image
     stays kept among stands = (
       kept,
-      among_rest (left_of after) (beside held.seats recent) (left_of kept) (beside_left held.seats recent (left_of kept) among.0 among.1),
+      among_rest (left_of after) recent (left_of kept) (among_left recent kept among),
       stands_on held after_held kept image same stands,
     )
 
 -- a call that does an event without the device
 pub does_quietly : (held : VolumeState) (old new : World) (down waits : Bool) (event : Event) (said : Said) → executed_of old event ≡ None → down ≡ false → new ≡ effect_of old event
-    → new.table.seats ≡ held.seats → said ≡ event_told old event → MayBeTaken waits event → (recent : List Tree) → IsRecent held recent → (after : List Tree)
-    × (does : Does (record { serving = serving_by old (beside held.seats recent) down waits; volume = held }) event said (record { serving = serving_by new (beside held.seats after) down waits; volume = held }))
+    → new.table.seats ≡ held.seats → said ≡ event_told old event → MayBeTaken waits event → (recent : List runs.Left) → IsReady held recent → (after : List runs.Left)
+    × (does : Does (record { serving = serving_by old recent down waits; volume = held }) event said (record { serving = serving_by new after down waits; volume = held }))
     × (does.happens.defers ≡ false)
 unfolding happened_quietly
 does_quietly held old new down waits event said none up is seated says taken recent ready = (
   recent,
   record {
-    happens = happened_quietly old new recent held.seats down down waits event none up up is seated taken;
+    happens = happened_quietly old new recent held.seats ready.seated down down waits event none up up is seated taken;
     says = says;
-    moves = moves_none _ _ event held (leaves_now held recent ready.leaves);
-    ready = ready_beside held held.seats recent ready;
+    moves = moves_none _ _ event held (leaves_now held recent ready.recent.leaves);
+    ready = ready;
   },
   refl,
 )
@@ -142,11 +144,11 @@ module _ (fs : FileSystem) (table : Table) (opens : Opens) (connections : Keyed 
   -- and the server
   pub mounted_by : {keeps_word : Type 0} → keeps_word → fs.waits ≡ false → FindsSeats keeps_word fs.volume seats → fs.volume.run < 2 ^ 32 → fs.volume.is_down ≡ false → Holds fs.volume
       → ∥ IsStart fs.volume.limits fs.volume.run fs.volume.tree ∥₁ → fs.volume.limits.aces_set + 5 ≤ fs.volume.limits.aces
-      → IsMounted settings fs.volume.run (kept_of fs.volume) (record { serving = serving_by (world_by (shared fs table opens) connections) (beside fs.volume.seats (fs.volume.tree ∷ [])) fs.volume.is_down fs.waits; volume = fs.volume })
+      → IsMounted settings fs.volume.run (kept_of fs.volume) (record { serving = serving_by (world_by (shared fs table opens) connections) (left_of (kept_of fs.volume) ∷ []) fs.volume.is_down fs.waits; volume = fs.volume })
   mounted_by keeps none_waits finds few up holds starts room = record {
     serves =
-        ap (λ (w : World). serving_by w (beside fs.volume.seats (fs.volume.tree ∷ [])) fs.volume.is_down fs.waits) (begun_with ∙ ap begun (finds.are keeps))
-        ∙ ap₂ (serving_by (begun fs.volume.seats) (beside fs.volume.seats (fs.volume.tree ∷ []))) up none_waits;
+        ap (λ (w : World). serving_by w (left_of (kept_of fs.volume) ∷ []) fs.volume.is_down fs.waits) (begun_with ∙ ap begun (finds.are keeps))
+        ∙ ap₂ (serving_by (begun fs.volume.seats) (left_of (kept_of fs.volume) ∷ [])) up none_waits;
     counted = refl;
     few = few;
     begins = refl;
@@ -159,7 +161,10 @@ module _ (fs : FileSystem) (table : Table) (opens : Opens) (connections : Keyed 
     });
     starts = starts;
     room = room;
-    ready = holds;
+    ready = record {
+      recent = holds;
+      seated = λ one among. ap (λ (l : runs.Left). l.seats) (among_one (left_of (kept_of fs.volume)) one among);
+    };
   }
 
 -- the tree that was found is one with which this run may begin
@@ -176,9 +181,9 @@ found_start sectors old held found limits = ∥∥₁_elim found.stood ∥∥₁
 pub limits_room : (sectors : ℕ) (held : VolumeState) → held.limits ≡ limits_of sectors held.limits.nodes → held.limits.aces_set + 5 ≤ held.limits.aces
 limits_room sectors held limits = subst (λ (l : Limits). l.aces_set + 5 ≤ l.aces) (sym limits) (omega arith)
 
-pub same_seen : (old new : World) (recent : List Tree) (old_held new_held : VolumeState) (old_waits new_waits : Bool) → new ≡ old → new_held ≡ old_held → new_waits ≡ old_waits
-    → (let one : Seen = record { serving = serving_by old (beside old_held.seats recent) old_held.is_down old_waits; volume = old_held } in one)
-    ≡ record { serving = serving_by new (beside new_held.seats recent) new_held.is_down new_waits; volume = new_held }
+pub same_seen : (old new : World) (recent : List runs.Left) (old_held new_held : VolumeState) (old_waits new_waits : Bool) → new ≡ old → new_held ≡ old_held → new_waits ≡ old_waits
+    → (let one : Seen = record { serving = serving_by old recent old_held.is_down old_waits; volume = old_held } in one)
+    ≡ record { serving = serving_by new recent new_held.is_down new_waits; volume = new_held }
 same_seen old new recent old_held new_held old_waits new_waits worlds volumes waits =
-    ap (λ (w : World). let one : Seen = record { serving = serving_by w (beside old_held.seats recent) old_held.is_down old_waits; volume = old_held } in one) (sym worlds)
-    ∙ ap₂ (λ (h : VolumeState) (b : Bool). let one : Seen = record { serving = serving_by new (beside h.seats recent) h.is_down b; volume = h } in one) (sym volumes) (sym waits)
+    ap (λ (w : World). let one : Seen = record { serving = serving_by w recent old_held.is_down old_waits; volume = old_held } in one) (sym worlds)
+    ∙ ap₂ (λ (h : VolumeState) (b : Bool). let one : Seen = record { serving = serving_by new recent h.is_down b; volume = h } in one) (sym volumes) (sym waits)

@@ -1,49 +1,42 @@
--- Trees with the seats beside them, and whether seats are the same.
+-- What a volume leaves, as the machine has it, and whether seats are the same.
 use Rattle.std.proofs.Common.{◌≡◌, ◌≢◌, ◌<◌, ◌⊎◌, inl, inr, ℕ, zero, suc, Bool, true, List, [], ◌∷◌, length, get_or, Option, None, Some, refl, sym, ap, ap₂, ◌∙◌, subst, arith}
 use Rattle.std.specs.List.{IsAmong}
+use Rattle.std.specs.Prelude.{map}
 use Rattle.std.proofs.lemmas.Bool.{cases_eq}
 use Rattle.fs.specs.Changes.{HasToLast}
 use Rattle.layout.specs.Stands.{Kept}
 use Rattle.model.specs.Server.Runs.{Left}
 use Rattle.model_tree.specs.Seats.Seats.{HeldReply, Seat, Seats}
-use Rattle.model_tree.specs.Trees.Tree.{Tree}
 use Rattle.volume.specs.VolumeState.{VolumeState, IsRecent}
 use Rattle.volume.proofs.FrontLaws.{among_rest}
-use Rattle.server.specs.Seen.{trees_of}
-use Rattle.server.specs.Views.{beside}
+use Rattle.server.specs.Seen.{kept_by, left_of}
 
--- These seats beside each tree
+-- What a volume leaves, as the machine has it
 
-pub among_beside : (seats : Seats) (recent : List Tree) (left : Left) → IsAmong (beside seats recent) left → IsAmong recent left.tree × (left.seats ≡ seats)
-among_beside seats recent left among = by_place recent among.0 among.1.0 among.1.1
+among_each : {A B : Type 0} (to : A → B) (list : List A) (one : A) → IsAmong list one → IsAmong (map to list) (to one)
+among_each {A} {B} to list one among = by_place list among.0 among.1.0 among.1.1
   where
-    by_place : (recent : List Tree) (place : ℕ) → place < length (beside seats recent) → left ≡ get_or (beside seats recent) place left → IsAmong recent left.tree × (left.seats ≡ seats)
+    by_place : (list : List A) (place : ℕ) → place < length list → one ≡ get_or list place one → IsAmong (map to list) (to one)
     by_place [] place less e = absurd (omega (arith, less))
-    by_place (tree ∷ recent) zero less e = ((0, (omega arith, ap (λ (l : Left). l.tree) e)), ap (λ (l : Left). l.seats) e)
-    by_place (tree ∷ recent) (suc place) less e =
-        let later = by_place recent place (omega (arith, less)) e in
-        (among_rest tree recent left.tree later.0, later.1)
+    by_place (first ∷ rest) zero less e = (0, (omega arith, ap to e))
+    by_place (first ∷ rest) (suc place) less e = among_rest (to first) (map to rest) (to one) (by_place rest place (omega (arith, less)) e)
 
-there_beside : (seats : Seats) (recent : List Tree) (tree : Tree) → IsAmong recent tree → IsAmong (beside seats recent) (record { tree = tree; seats = seats })
-there_beside seats recent tree among = by_place recent among.0 among.1.0 among.1.1
-  where
-    by_place : (recent : List Tree) (place : ℕ) → place < length recent → tree ≡ get_or recent place tree → IsAmong (beside seats recent) (record { tree = tree; seats = seats })
-    by_place [] place less e = absurd (omega (arith, less))
-    by_place (first ∷ recent) zero less e = (0, (omega arith, ap (λ (t : Tree). let left : Left = record { tree = t; seats = seats } in left) e))
-    by_place (first ∷ recent) (suc place) less e = among_rest (record { tree = first; seats = seats }) (beside seats recent) (record { tree = tree; seats = seats }) (by_place recent place (omega (arith, less)) e)
+kept_left : (recent : List Left) → map left_of (map kept_by recent) ≡ recent
+kept_left [] = refl
+kept_left (one ∷ recent) = ap (λ (rest : List Left). one ∷ rest) (kept_left recent)
 
-pub beside_left : (seats : Seats) (recent : List Tree) (left : Left) → IsAmong recent left.tree → left.seats ≡ seats → IsAmong (beside seats recent) left
-beside_left seats recent left among same = subst (λ (s : Seats). IsAmong (beside s recent) left) same (there_beside left.seats recent left.tree among)
+left_kept : (recent : List Kept) → map kept_by (map left_of recent) ≡ recent
+left_kept [] = refl
+left_kept (kept ∷ recent) = ap (λ (rest : List Kept). kept ∷ rest) (left_kept recent)
 
-pub trees_beside : (seats : Seats) (recent : List Tree) → trees_of (beside seats recent) ≡ recent
-trees_beside seats [] = refl
-trees_beside seats (tree ∷ recent) = ap (λ (rest : List Tree). tree ∷ rest) (trees_beside seats recent)
+pub among_left : (recent : List Left) (kept : Kept) → IsAmong (map kept_by recent) kept → IsAmong recent (left_of kept)
+among_left recent kept among = subst (λ (left : List Left). IsAmong left (left_of kept)) (kept_left recent) (among_each left_of (map kept_by recent) kept among)
 
-pub ready_beside : (held : VolumeState) (seats : Seats) (recent : List Tree) → IsRecent held recent → IsRecent held (trees_of (beside seats recent))
-ready_beside held seats recent ready = subst (IsRecent held) (sym (trees_beside seats recent)) ready
+pub among_kept : (left : List Kept) (one : Left) → IsAmong (map left_of left) one → IsAmong left (kept_by one)
+among_kept left one among = subst (λ (kept : List Kept). IsAmong kept (kept_by one)) (left_kept left) (among_each kept_by (map left_of left) one among)
 
-pub recent_beside : (held : VolumeState) (seats : Seats) (recent : List Tree) → IsRecent held (trees_of (beside seats recent)) → IsRecent held recent
-recent_beside held seats recent ready = subst (IsRecent held) (trees_beside seats recent) ready
+pub recent_left : (held : VolumeState) (left : List Kept) → IsRecent held left → IsRecent held (map kept_by (map left_of left))
+recent_left held left recent = subst (IsRecent held) (sym (left_kept left)) recent
 
 -- Whether seats are the same
 

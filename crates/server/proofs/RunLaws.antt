@@ -11,8 +11,8 @@ use Rattle.model.specs.Server.Runs as runs
 use Rattle.model.specs.Server.World as world
 use Rattle.model.specs.Server.World.{World, Idle, InProgress, Next, Refuses, Reads, HasRun, Gives, Replays, Entry, Connection, Quiet, Waiting, Busy, Replied, Closed, one, turned, called, further, operates, behind, closes, has_run, is_last, is_to_hold, next_operation, in_room, run, noting}
 use Rattle.disk.specs.Moments.{moment, seen}
-use Rattle.server.specs.RunLaws.{IsSeenReady, HangUpIsCalls, IsBounded, NeverEmpty, IsIdle, OnlyIdle}
-use Rattle.server.specs.Seen.{Seen, ServerCall, Did, IsServed, IsTurned, Stays, count_of, left_of}
+use Rattle.server.specs.RunLaws.{HangUpIsCalls, IsBounded, NeverEmpty, IsIdle, OnlyIdle}
+use Rattle.server.specs.Seen.{Seen, ServerCall, Did, IsSeenReady, IsServed, IsTurned, Stays, count_of, left_of}
 use Rattle.server.specs.Seen as served
 use Rattle.server.proofs.Stops.{joined, mounted_leaves}
 

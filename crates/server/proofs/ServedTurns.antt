@@ -1,5 +1,6 @@
 -- A turn of a connection, as the turn of its server.
 use Rattle.std.proofs.Common.{◌≡◌, ℕ, true, not, ◌&&◌, List, subst, false, true≢false, Option, Some, Result, Ok, Err, IfOk, OnErr, refl, sym, ap, ap₂, ◌∙◌, ◌⊎◌, ◌≢◌, inl, inr, Bool}
+use Rattle.std.specs.Prelude.{map}
 use Rattle.disk.specs.Moments.{History, AddsOnly}
 use Rattle.disk.proofs.MomentLemmas.{AddsOnly-weaken}
 use Rattle.compound.specs.States.{Agrees, SharedState, HasState, with_state}
@@ -11,12 +12,11 @@ use Rattle.compound.specs.declared.step.Stepped.{Stepped}
 use Rattle.fs.specs.Changes.{FsChanges, LetsWait, HasToLast, deferred}
 use Rattle.fs.specs.FileSystem.{FileSystem}
 use Rattle.layout.specs.Stands.{Kept}
-use Rattle.volume.specs.Changes.{Given, Done}
-use Rattle.volume.specs.VolumeState.{VolumeState, IsSameVolume, AddsTrees, StandsForOne, IsRecent}
-use Rattle.volume.specs.VolumeState.{MayAdd}
+use Rattle.volume.specs.Changes.{Given, Done, LeavesOnCrash}
+use Rattle.volume.specs.VolumeState.{VolumeState, IsSameVolume, AddsKept, MayAdd, StandsForOne, IsRecent}
 use Rattle.model_tree.specs.declared.limits.Limits.{Limits}
-use Rattle.model_tree.specs.Trees.Tree.{Tree}
 use Rattle.model_tree.specs.Trees.Keyed.{Keyed, at, with}
+use Rattle.model_tree.specs.Trees.Tree.{Tree}
 use Rattle.model_tree.proofs.Trees.KeyedLaws.{at-with_same}
 use Rattle.model.specs.Server.Runs as runs
 use Rattle.model.specs.Server.Runs.{Serving}
@@ -25,12 +25,12 @@ use Rattle.model.specs.Server.World as world
 use Rattle.model.specs.Server.World.{World, one, with_connection}
 use Rattle.server.specs.declared.turn.Turn.{Turn}
 use Rattle.server.specs.Connections.{ConnectionTurns, IsRising, HasGoneOn, turn_view}
-use Rattle.server.specs.Seen.{MayKeepDuring, left_of}
-use Rattle.server.specs.Views.{world_by, server_limits, beside, serving_by}
+use Rattle.server.specs.Seen.{MayKeepDuring, IsReady, kept_by, left_of}
+use Rattle.server.specs.Views.{world_by, server_limits, serving_by}
 use Rattle.model.proofs.Sessions.AlteredRuns.{one_settings}
 use Rattle.server.proofs.Turning.{one_is, agrees_on}
-use Rattle.server.proofs.Pairs.{beside_left, same_seats, lasting_by, lasting_more, has_to_last}
-use Rattle.server.proofs.Worlds.{may_be_left_from}
+use Rattle.server.proofs.Pairs.{among_left, recent_left, same_seats, lasting_by, lasting_more, has_to_last}
+use Rattle.server.proofs.Worlds.{may_be_left_from, seats_left}
 
 pub has_state : (state : SharedState) (connections : Keyed world.Connection) → HasState (world_by state connections) state
 has_state state connections = record {
@@ -142,22 +142,34 @@ gives_waiting state connections number now before is keeps_word new lets keeps d
 
 -- what a crash within it may leave
 
-abbrev pub serving_of : SharedState → Keyed world.Connection → List Tree → Serving
-serving_of state connections recent = serving_by (world_by state connections) (beside state.files.volume.seats recent) state.files.volume.is_down state.files.waits
+abbrev pub serving_of : SharedState → Keyed world.Connection → List runs.Left → Serving
+serving_of state connections recent = serving_by (world_by state connections) recent state.files.volume.is_down state.files.waits
 
-pub turning_moments : (state : SharedState) (old : Keyed world.Connection) (number now : ℕ) (recent : List Tree) (new : History) → IsRecent state.files.volume recent → state.files.volume.is_down ≡ false
-    → AddsTrees state.files.volume (kept_of_world (turn_of state old number now).world) new
+pub turning_moments : (state : SharedState) (old : Keyed world.Connection) (number now : ℕ) (recent : List runs.Left) (new : History) → IsRecent state.files.volume (map kept_by recent) → state.files.volume.is_down ≡ false
+    → AddsKept state.files.volume (kept_of_world (turn_of state old number now).world) new
     → AddsOnly (StandsForOne state.files.volume (MayKeepDuring (serving_of state old recent) (runs.Turns number now))) state.files.volume.history new
 turning_moments state old number now recent new is up moments =
     AddsOnly-weaken _ (StandsForOne state.files.volume (MayKeepDuring (serving_of state old recent) (runs.Turns number now))) state.files.volume.history new
-    (λ image found. (found.0, either found.0 found.1, found.2)) (moments recent is)
+    (λ image found. (found.0, either found.0 found.1, found.2)) (moments (map kept_by recent) is)
   where
-    either : (kept : Kept) → MayAdd state.files.volume recent (kept_of_world (turn_of state old number now).world) kept
+    either : (kept : Kept) → MayAdd (map kept_by recent) (kept_of_world (turn_of state old number now).world) kept
         → MayKeepDuring (serving_of state old recent) (runs.Turns number now) kept
-    either kept (inl stays) = inl (beside_left state.files.volume.seats recent (left_of kept) stays.0 stays.1)
+    either kept (inl stays) = inl (among_left recent kept stays)
     either kept (inr goes) =
         subst (MayKeepDuring (serving_of state old recent) (runs.Turns number now)) (sym goes)
-        (may_be_left_from (world_by state old) (beside state.files.volume.seats recent) state.files.volume.is_down state.files.waits (runs.Turns number now) up)
+        (may_be_left_from (world_by state old) recent state.files.volume.is_down state.files.waits (runs.Turns number now) up)
+
+-- and what one after it may leave
+pub ready_turned : (state : SharedState) (old : Keyed world.Connection) (number now : ℕ) (recent : List runs.Left) (held : VolumeState) (left : List Kept) → IsReady state.files.volume recent
+    → state.files.volume.is_down ≡ false → held.seats ≡ (turn_of state old number now).world.table.seats
+    → LeavesOnCrash held (kept_of_world (turn_of state old number now).world) (turn_lasts_now state old number now) (map kept_by recent) left → IsReady held (map left_of left)
+ready_turned state old number now recent held left ready up seats leaves = record {
+  recent = recent_left held left leaves.ready;
+  seated = λ one among.
+      seats_left held state.files.volume.seats (world_by state old) recent left state.files.volume.is_down state.files.waits (runs.Turns number now) up ready.seated
+      (same_seats (turn_of state old number now).world.table.seats state.files.volume.seats) (lasts (turn_of state old number now).executed && not state.files.defers) leaves one among
+      ∙ sym seats;
+}
 
 -- The table agrees with the volume after a step too, unless that is down
 

@@ -1,6 +1,5 @@
 -- The calls of a server are a run of the machine, and what a crash within one leaves stands for what the machine may leave.
-use Rattle.std.proofs.Common.{◌≡◌, ◌<◌, ◌+◌, ◌^◌, ℕ, List, refl, sym, ap, ◌∙◌, subst, inl, arith, ap₂, ⊎_elim}
-use Rattle.std.specs.List.{IsAmong}
+use Rattle.std.proofs.Common.{◌≡◌, ◌<◌, ◌+◌, ◌^◌, ℕ, List, refl, sym, ap, ◌∙◌, subst, inl, arith, ⊎_elim}
 use Rattle.std.proofs.Math.Logic.{∥∥₁_elim, ∥∥₁_map}
 use Rattle.std.proofs.Props.{props}
 use Rattle.disk.specs.Moments.{Image, History, LeftSince, moment, seen}
@@ -12,25 +11,23 @@ use Rattle.volume.specs.Stands.{StandsFor, IsBase}
 use Rattle.volume.specs.Superblock.{last_run}
 use Rattle.volume.proofs.FormatLaws.{fresh_stands_for}
 use Rattle.volume.proofs.OneTree.{Kept-set, one_stands}
-use Rattle.model.proofs.Server.Headline.{only_one}
 use Rattle.model.proofs.Server.HeldLaws.{every_held_is_kept}
 use Rattle.model.proofs.Operations.AnswerLaws.{every_answer_is_permitted}
 use Rattle.model.proofs.Operations.GivenLaws.{every_stamp_is_given}
 use Rattle.model.proofs.Server.StampLaws.{every_stamp}
 use Rattle.model.specs.Server.StampRuns.{AreGiven}
 use Rattle.model.specs.Server.Runs as runs
-use Rattle.model.specs.Server.Runs.{Serving, Left, Event, Takes, IsRun, AreStamped, history_after, history_failing, effect_of, mounted}
+use Rattle.model.specs.Server.Runs.{Serving, Event, Takes, IsRun, AreStamped, history_after, history_failing, effect_of, mounted}
 use Rattle.model.specs.Server.World.{World}
-use Rattle.model_tree.specs.Seats.Seats.{Seats}
-use Rattle.model_tree.specs.Trees.Tree.{Tree}
 use Rattle.volume.proofs.RemountLaws.{seen_left, rests_left, lasting, served_good}
 use Rattle.volume.specs.Formats.{IsFresh}
 use Rattle.volume.specs.Remounts.{StandsForGood, LeavesGood}
 use Rattle.server.specs.Headline.{IsMounted, IsGoodKept, EveryStop, EveryRun, EveryFirst, IsNewVolume, Formatted, Powers, NeverLost, IsNotLost, EveryTrace, Stopped, executed_in, Follows, IsLater, Next, Then, EveryLife, EveryStamping, EveryAnswer}
 use Rattle.volume.specs.VolumeState.{StandsForOne}
-use Rattle.server.specs.Seen.{Seen, left_of, trees_of, LeavesNow, MayKeepDuring, Moves, ServerCall, IsServed, Begins, Goes_on, Fails_at, Stays_down, Keeps_on, Flushed, world_after, history_of, AreTold, event_told}
+use Rattle.server.specs.Seen.{Seen, left_of, LeavesNow, MayKeepDuring, Moves, ServerCall, IsServed, Begins, Goes_on, Fails_at, Stays_down, Keeps_on, Flushed, world_after, history_of, AreTold, event_told}
 use Rattle.server.specs.Views.{server_limits}
 use Rattle.server.proofs.Moves.{left_now}
+use Rattle.server.proofs.Pairs.{among_left}
 use Rattle.model.specs.Sessions.Session.{Settings}
 
 -- a crash within a call
@@ -114,14 +111,8 @@ joined first last calls leaves (Flushed {old = old} {new = new} before flushes) 
 -- a server that was just mounted leaves what it begins with
 pub mounted_leaves : (settings : Settings) (run : ℕ) (start : Kept) (first : Seen) → IsMounted settings run start first → LeavesNow first
 mounted_leaves settings run start first mounted image left =
-    let one = mounted.ready.leaves image left in
-    let seated : first.volume.seats ≡ start.seats = ap (λ (kept : Kept). kept.seats) mounted.begins in
-    let tree : one.0.tree ≡ start.tree = only_one start.tree one.0.tree (subst (λ (s : Serving). IsAmong (trees_of s.left) one.0.tree) mounted.serves one.1.0) in
-    let is : left_of one.0 ≡ left_of start = ap₂ (λ (t : Tree) (s : Seats). let l : Left = record { tree = t; seats = s } in l) tree (one.1.1 ∙ seated) in (
-      one.0,
-      subst (λ (s : Serving). IsAmong s.left (left_of one.0)) (sym mounted.serves) (0, (omega arith, is)),
-      one.2,
-    )
+    let one = mounted.ready.recent.leaves image left in
+    (one.0, among_left first.serving.left one.0 one.1, one.2)
 
 -- The laws
 

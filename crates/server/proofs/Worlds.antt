@@ -1,6 +1,7 @@
 -- Events of a server that keeps each change at once, or lets it wait for the next flush.
-use Rattle.std.proofs.Common.{◌≡◌, ◌+◌, ◌<◌, ◌≤◌, ℕ, Bool, true, false, not, ◌&&◌, List, [], ◌∷◌, ◌++◌, length, None, Some, Result, Ok, Err, IfOk, OnOk, OnErr, refl, sym, ap, ◌∙◌, subst, inl, inr, cond, arith, lt-ltb, ◌≢◌, ◌⊎◌, ap₂}
+use Rattle.std.proofs.Common.{◌≡◌, ◌+◌, ◌<◌, ◌≤◌, ℕ, Bool, true, false, not, ◌&&◌, List, [], ◌∷◌, ◌++◌, length, None, Some, Result, Ok, Err, IfOk, OnOk, OnErr, refl, sym, ap, ◌∙◌, subst, inl, inr, cond, arith, lt-ltb, ◌≢◌, ◌⊎◌}
 use Rattle.std.specs.List.{IsAmong}
+use Rattle.std.specs.Prelude.{map}
 use Rattle.std.proofs.lemmas.Bool.{cases_eq, false≢true}
 use Rattle.layout.specs.Stands.{Kept}
 use Rattle.model_tree.specs.Trees.Keyed.{Keyed, at, with, without}
@@ -8,7 +9,6 @@ use Rattle.model.specs.Wire.Record.{RecordLimits, Front, Partial, Refused, Whole
 use Rattle.model.specs.Wire.Rpc.{is_call_read, read_call}
 use Rattle.model.specs.Server.Runs.{Event, Happens, TakesNone, MayBeTaken, DeviceFails, StaysDown, effect_of, executed_of, executed_by, Left, left_after, MayBeLeft, IsAfterEvent, Serving}
 use Rattle.model_tree.specs.Seats.Seats.{Seats}
-use Rattle.model_tree.specs.Trees.Tree.{Tree}
 use Rattle.model.specs.Server.World as world
 use Rattle.model.specs.Server.World.{World, Quiet, Closed, arrives, arrives_at, arrived, takes, without_reply, connects, can_connect, connection_changed, with_connection, hangs_up, is_busy}
 use Rattle.model_tree.proofs.Trees.KeyedLaws.{at-with_same, at-with_other, at-without_same, at-without_other}
@@ -24,8 +24,9 @@ use Rattle.slab.specs.Slab.{Slab, slab_len, Updates}
 use Rattle.server.specs.declared.connection.Connection.{Connection}
 use Rattle.server.specs.Connections.{IsOfRun, connections_of, connection_view}
 use Rattle.server.proofs.SlabLaws.{with_slot, grew, grew_count}
-use Rattle.server.specs.Views.{world_by, beside, serving_by}
-use Rattle.server.proofs.Pairs.{among_beside, beside_left, same_seats, lasting_by, lasting_more}
+use Rattle.server.specs.Seen.{kept_by, left_of}
+use Rattle.server.specs.Views.{world_by, serving_by}
+use Rattle.server.proofs.Pairs.{among_kept, among_left, same_seats, lasting_by, lasting_more}
 
 -- Events
 
@@ -39,10 +40,10 @@ may_take false event none = tt
 may_take true event none = absurd (false≢true (sym none))
 
 -- an event that executes nothing leaves what might be left
-unfoldable pub happened_quietly : (old new : World) (recent : List Tree) (kept : Seats) (old_down new_down waits : Bool) (event : Event) → executed_of old event ≡ None → old_down ≡ false → new_down ≡ false
+unfoldable pub happened_quietly : (old new : World) (recent : List Left) (kept : Seats) → ((one : Left) → IsAmong recent one → one.seats ≡ kept) → (old_down new_down waits : Bool) (event : Event) → executed_of old event ≡ None → old_down ≡ false → new_down ≡ false
     → new ≡ effect_of old event → new.table.seats ≡ kept → MayBeTaken waits event
-    → Happens (serving_by old (beside kept recent) old_down waits) event (serving_by new (beside kept recent) new_down waits)
-happened_quietly old new recent kept old_down new_down waits event none up still is seated taken = record {
+    → Happens (serving_by old recent old_down waits) event (serving_by new recent new_down waits)
+happened_quietly old new recent kept are_kept old_down new_down waits event none up still is seated taken = record {
   up = up;
   world = is;
   still_up = still;
@@ -55,39 +56,39 @@ happened_quietly old new recent kept old_down new_down waits event none up still
   durable = λ at_once entry e lasts left among.
       let done : executed_of old event ≡ Some entry = subst (λ (b : Bool). executed_by old event b ≡ Some entry) up e in
       let never : ⊥ = cc in absurd never;
-  seats = λ left among. (among_beside kept recent left among).1 ∙ sym seated;
+  seats = λ left among. are_kept left among ∙ sym seated;
 }
 
 -- what there is after it may be left
 pub may_be_left_from : (old : World) (left : List Left) (down waits : Bool) (event : Event) → down ≡ false → MayBeLeft (serving_by old left down waits) event (left_after (effect_of old event))
 may_be_left_from old left down waits event up = inr (subst (λ (b : Bool). IsAfterEvent old event b (left_after (effect_of old event))) (sym up) refl)
 
--- An event that leaves a crash some of the trees before and the one after it, and after what has to last that one alone: where the seats change, that is so
-module _ (before held : VolumeState) (old : World) (recent left : List Tree) (down waits : Bool) (event : Event) (up : down ≡ false)
-    (seats : held.seats ≡ (effect_of old event).table.seats) where
+-- An event that leaves a crash some of what it might leave before, with the same seats, and what there is after it, and after what has to last only that: where the seats change, that is so
+module _ (held : VolumeState) (before : Seats) (old : World) (recent : List Left) (left : List Kept) (down waits : Bool) (event : Event) (up : down ≡ false)
+    (seated : (one : Left) → IsAmong recent one → one.seats ≡ before) where
   abbrev after : Kept
   after = kept_of_world (effect_of old event)
 
   abbrev serves : Serving
-  serves = serving_by old (beside before.seats recent) down waits
+  serves = serving_by old recent down waits
 
-  after_it : (one : Left) → one.tree ≡ after.tree → one.seats ≡ held.seats → MayBeLeft serves event one
-  after_it one tree same =
-      let is : one ≡ left_after (effect_of old event) = ap₂ (λ (t : Tree) (s : Seats). let l : Left = record { tree = t; seats = s } in l) tree (same ∙ seats) in
-      subst (MayBeLeft serves event) (sym is) (may_be_left_from old (beside before.seats recent) down waits event up)
+  after_it : (one : Left) → kept_by one ≡ after → MayBeLeft serves event one
+  after_it one is = subst (MayBeLeft serves event) (sym (ap left_of is)) (may_be_left_from old recent down waits event up)
 
-  pub others_left : (same : (after.seats ≡ before.seats) ⊎ (after.seats ≢ before.seats)) → (lasting : Bool) → LeavesOnCrash held after (lasting_by same lasting) recent left
-      → (one : Left) → IsAmong (beside held.seats left) one → MayBeLeft serves event one
+  pub others_left : (lasting : Bool) → LeavesOnCrash held after lasting (map kept_by recent) left → (one : Left) → IsAmong (map left_of left) one → MayBeLeft serves event one
+  others_left lasting leaves one among = elim (leaves.no_others (kept_by one) (among_kept left one among)) [
+    | inl stays ↦ inl (among_left recent (kept_by one) stays)
+    | inr behind ↦ after_it one behind
+  ]
+
+  pub seats_left : (same : (after.seats ≡ before) ⊎ (after.seats ≢ before)) → (lasting : Bool) → LeavesOnCrash held after (lasting_by same lasting) (map kept_by recent) left
+      → (one : Left) → IsAmong (map left_of left) one → one.seats ≡ after.seats
   unfolding lasting_by
-  others_left (inl same) lasting leaves one among =
-      let is = among_beside held.seats left one among in
-      elim (leaves.no_others one.tree is.0) [
-        | inl stays ↦ inl (beside_left before.seats recent one stays (is.1 ∙ (seats ∙ same)))
-        | inr behind ↦ after_it one behind is.1
-      ]
-  others_left (inr differs) lasting leaves one among =
-      let is = among_beside held.seats left one among in
-      after_it one (leaves.durable refl one.tree is.0) is.1
+  seats_left (inl same) lasting leaves one among = elim (leaves.no_others (kept_by one) (among_kept left one among)) [
+    | inl stays ↦ seated one (among_left recent (kept_by one) stays) ∙ sym same
+    | inr behind ↦ ap (λ (k : Kept). k.seats) behind
+  ]
+  seats_left (inr differs) lasting leaves one among = ap (λ (k : Kept). k.seats) (leaves.durable refl (kept_by one) (among_kept left one among))
 
 -- what has to last is kept at once where the call does not defer
 pub kept_at_once : (lasting defers : Bool) → lasting ≡ true → defers ≡ false → (lasting && not defers) ≡ true
@@ -95,17 +96,17 @@ kept_at_once true false one other = refl
 kept_at_once true true one other = absurd (false≢true (sym other))
 kept_at_once false defers one other = absurd (false≢true one)
 
-unfoldable pub happened_leaving : (before held : VolumeState) (old new : World) (recent left : List Tree) (old_down new_down old_waits new_waits its_defers : Bool) (event : Event) → old_down ≡ false → new_down ≡ false
-    → new ≡ effect_of old event → new.table.seats ≡ held.seats
-    → LeavesOnCrash held (kept_of_world (effect_of old event)) (lasting_by (same_seats (effect_of old event).table.seats before.seats) (lasts (executed_of old event) && not its_defers)) recent left
+unfoldable pub happened_leaving : (before held : VolumeState) (old new : World) (recent : List Left) (left : List Kept) → ((one : Left) → IsAmong recent one → one.seats ≡ before.seats) → (old_down new_down old_waits new_waits its_defers : Bool) (event : Event) → old_down ≡ false → new_down ≡ false
+    → new ≡ effect_of old event
+    → LeavesOnCrash held (kept_of_world (effect_of old event)) (lasting_by (same_seats (effect_of old event).table.seats before.seats) (lasts (executed_of old event) && not its_defers)) (map kept_by recent) left
     → MayBeTaken old_waits event → (old_waits ≡ true → new_waits ≡ true) → (its_defers ≡ false → new_waits ≡ old_waits)
     → (its_defers ≡ true → lasts (executed_of old event) ≡ true → new_waits ≡ true)
-    → Happens (serving_by old (beside before.seats recent) old_down old_waits) event (serving_by new (beside held.seats left) new_down new_waits)
-happened_leaving before held old new recent left old_down new_down old_waits new_waits its_defers event up still is seated leaves taken waits_on at_once owes = record {
+    → Happens (serving_by old recent old_down old_waits) event (serving_by new (map left_of left) new_down new_waits)
+happened_leaving before held old new recent left seated old_down new_down old_waits new_waits its_defers event up still is leaves taken waits_on at_once owes = record {
   up = up;
   world = is;
   still_up = still;
-  no_others = others_left before held old recent left old_down old_waits event up leaves.seats same (lasts (executed_of old event) && not its_defers) leaves;
+  no_others = others_left held before.seats old recent left old_down old_waits event up seated (lasting_by same (lasts (executed_of old event) && not its_defers)) leaves;
   defers = its_defers;
   deferred = λ defers entry e durable. owes defers (ap lasts (subst (λ (b : Bool). executed_by old event b ≡ Some entry) up e) ∙ durable);
   waits_on = waits_on;
@@ -114,8 +115,10 @@ happened_leaving before held old new recent left old_down new_down old_waits new
   durable = λ once entry e durable one among.
       let done : executed_of old event ≡ Some entry = subst (λ (b : Bool). executed_by old event b ≡ Some entry) up e in
       let fits : EntryFits old.tree (effect_of old event).tree (Some entry) = subst (EntryFits old.tree (effect_of old event).tree) done (event_fits old event) in
-      leaves.durable (lasting_more same (lasts (executed_of old event) && not its_defers) (kept_at_once (lasts (executed_of old event)) its_defers (ap lasts done ∙ durable) once)) one.tree (among_beside held.seats left one among).0 ∙ fits.1;
-  seats = λ one among. (among_beside held.seats left one among).1 ∙ sym seated;
+      ap (λ (k : Kept). k.tree) (leaves.durable (lasting_more same (lasts (executed_of old event) && not its_defers) (kept_at_once (lasts (executed_of old event)) its_defers (ap lasts done ∙ durable) once)) (kept_by one) (among_kept left one among))
+      ∙ fits.1;
+  seats = λ one among. seats_left held before.seats old recent left old_down old_waits event up seated same (lasts (executed_of old event) && not its_defers) leaves one among
+      ∙ sym (ap (λ (w : World). w.table.seats) is);
 }
   where
     same : ((effect_of old event).table.seats ≡ before.seats) ⊎ ((effect_of old event).table.seats ≢ before.seats)

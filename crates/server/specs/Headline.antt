@@ -12,13 +12,13 @@ use Rattle.model.specs.Server.StampRuns.{AreGiven}
 use Rattle.model_tree.specs.Trees.Tree.{Tree}
 use Rattle.model.specs.Server.World.{Entry}
 use Rattle.volume.specs.Formats.{IsFresh, LeavesFresh}
-use Rattle.volume.specs.VolumeState.{VolumeState, IsRecent, kept_of}
+use Rattle.volume.specs.VolumeState.{VolumeState, kept_of}
 use Rattle.volume.specs.MountAnswers.{IsMountRefused}
 use Rattle.volume.specs.Remounts.{Remounts, IsFound, LeavesGood}
 use Rattle.volume.specs.Stands.{StandsFor}
 use Rattle.volume.specs.Superblock.{last_run}
 use Rattle.volume.specs.declared.fault.MountFault.TheVariants as mounts
-use Rattle.server.specs.Seen.{Seen, ServerCall, Moves, IsServed, world_after, history_of, AreTold, MayKeepDuring, trees_of}
+use Rattle.server.specs.Seen.{Seen, ServerCall, Moves, IsServed, world_after, history_of, AreTold, IsSeenReady, MayKeepDuring, left_of}
 use Rattle.server.specs.Views.{server_limits, volume_of, seen_with}
 use Rattle.server.specs.declared.server.Server.{Server}
 use Rattle.disk.specs.declared.device.Device.{Ghosts}
@@ -36,13 +36,13 @@ pub record IsMounted (settings : Settings) (run : ℕ) (start : Kept) (first : S
   pub seats : AreSeats run start.seats
   pub starts : ∥ IsStart first.volume.limits run start.tree ∥₁
   pub room : first.volume.limits.aces_set + 5 ≤ first.volume.limits.aces
-  pub ready : IsRecent first.volume (trees_of first.serving.left)
+  pub ready : IsSeenReady first
 
 -- so begins a server that a mount gives
 abbrev pub BeginsServing : {D : Type 0} {g : Ghosts D} → (settings : Settings) → Server D g → Type 0
 BeginsServing settings server =
     IsMounted settings (volume_of server).run (kept_of (volume_of server))
-    (seen_with server ((volume_of server).tree ∷ []))
+    (seen_with server (left_of (kept_of (volume_of server)) ∷ []))
 
 -- A run that was stopped at some moment of a call, or since its start.
 pub record Stopped : Type 0 where

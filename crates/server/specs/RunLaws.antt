@@ -5,14 +5,9 @@ use Rattle.layout.specs.Stands.{Kept}
 use Rattle.model_tree.specs.Trees.Keyed.{at}
 use Rattle.model.specs.Wire.Rpc.{NoCall, read_call}
 use Rattle.model.specs.Server.World.{World, Connection, Waiting, Busy, Idle, one}
-use Rattle.volume.specs.VolumeState.{IsRecent}
 use Rattle.server.specs.Headline.{IsMounted}
-use Rattle.server.specs.Seen.{Seen, ServerCall, IsServed, IsTurned, count_of, trees_of}
+use Rattle.server.specs.Seen.{Seen, ServerCall, IsServed, IsTurned, IsSeenReady, count_of}
 use Rattle.model.specs.Sessions.Session.{Settings}
-
--- the next call can be made
-abbrev pub IsSeenReady : Seen → Type 0
-IsSeenReady seen = IsRecent seen.volume (trees_of seen.serving.left)
 
 -- The turns of a hang-up are calls, as those of a run, and further calls can be made after them,
 -- also where it was refused for memory

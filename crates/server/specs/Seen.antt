@@ -6,7 +6,6 @@ use Rattle.disk.specs.Moments.{Image, AddsOnly, Left}
 use Rattle.layout.specs.Stands.{Kept}
 use Rattle.volume.specs.VolumeState.{VolumeState, IsSameVolume, MakesAtMost, StandsForOne, IsRecent}
 use Rattle.model_tree.specs.Trees.Keyed.{at}
-use Rattle.model_tree.specs.Trees.Tree.{Tree}
 use Rattle.model.specs.Server.Runs.{Serving, Event, Arrives, Turns, HangsUp, Connects, Takes, Happens, Flushes, DeviceFails, StaysDown, RunHistory, no_history, history_after, history_failing, effect_of, MayBeLeft}
 use Rattle.model.specs.Server.Runs as runs
 use Rattle.model.specs.Server.World as world
@@ -20,9 +19,19 @@ pub record Seen : Type 0 where
 abbrev pub left_of : Kept → runs.Left
 left_of kept = record { tree = kept.tree; seats = kept.seats }
 
--- the trees of these
-abbrev pub trees_of : List runs.Left → List Tree
-trees_of left = map (λ one. one.tree) left
+-- what the machine leaves, as a volume keeps it
+abbrev pub kept_by : runs.Left → Kept
+kept_by left = record { tree = left.tree; seats = left.seats }
+
+-- What a crash may leave of a volume, now and within the next call. Each has the volume's seats: a
+-- change of these is flushed.
+pub record IsReady (held : VolumeState) (left : List runs.Left) : Type 0 where
+  pub recent : IsRecent held (map kept_by left)
+  pub seated : (one : runs.Left) → IsAmong left one → one.seats ≡ held.seats
+
+-- so the next call can be made
+abbrev pub IsSeenReady : Seen → Type 0
+IsSeenReady seen = IsReady seen.volume seen.serving.left
 
 -- what the machine leaves now
 abbrev pub IsLeftBy : Serving → Kept → Type 0
@@ -79,8 +88,7 @@ pub record Does (old : Seen) (event : Event) (said : Said) (new : Seen) : Type 0
   pub happens : Happens old.serving event new.serving
   pub says : said ≡ event_told old.serving.world event
   pub moves : Moves old event new
-  -- so the next call can be made
-  pub ready : IsRecent new.volume (trees_of new.serving.left)
+  pub ready : IsSeenReady new
 
 pub record Breaks (old : Seen) (event : Event) (new : Seen) : Type 0 where
   pub fails : DeviceFails old.serving event new.serving
@@ -92,20 +100,18 @@ pub record GivesDown (old : Seen) (connection : ℕ) (said : Said) (new : Seen) 
   pub moves : Moves old (Takes connection) new
 
 -- A checkpoint is no event: content was moved on the device. A crash within it leaves what it may
--- have left before, whatever event it is taken for, and a crash after it no other tree.
+-- have left before, whatever event it is taken for, and a crash after it nothing else.
 pub record Checkpoints (old new : Seen) : Type 0 where
   pub serving : new.serving ≡ old.serving
   pub moves : (event : Event) → Moves old event new
-  -- so the next call can be made
-  pub ready : IsRecent new.volume (trees_of new.serving.left)
+  pub ready : IsSeenReady new
 
 -- Nor is a flush of what waits one. A crash within it leaves what it might have left before, and a
 -- crash after it only the newest.
 pub record FlushesAll (old new : Seen) : Type 0 where
   pub flushes : Flushes old.serving new.serving
   pub moves : (event : Event) → Moves old event new
-  -- so the next call can be made
-  pub ready : IsRecent new.volume (trees_of new.serving.left)
+  pub ready : IsSeenReady new
 
 -- what was done, the newest first
 pub data ServerCall : Type 0 where

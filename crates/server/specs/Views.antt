@@ -1,5 +1,5 @@
 -- What contracts see of a server: its world, and what stands on its device.
-use Rattle.std.specs.Prelude.{ℕ, Bool, true, false, List, Option, Result, OnErr, ◌≡◌, map}
+use Rattle.std.specs.Prelude.{ℕ, Bool, true, false, List, Option, Result, OnErr, ◌≡◌}
 use Rattle.std.specs.Global.{Vec}
 use Rattle.std.specs.Option.{option_map}
 use Rattle.compound.specs.States.{SharedState, most_reply_bytes, shared_of}
@@ -8,18 +8,17 @@ use Rattle.fs.specs.FileSystem.{FileSystem}
 use Rattle.fs.specs.Views.{fs_of, fs_failures}
 use Rattle.model_tree.specs.declared.limits.Limits.{Limits}
 use Rattle.model.specs.Server.Runs.{Serving, Event, Left}
-use Rattle.model_tree.specs.Seats.Seats.{Seats}
 use Rattle.model_tree.specs.Trees.Tree.{Tree}
 use Rattle.model.specs.Server.World as world
 use Rattle.model.specs.Server.World.{World, ServerLimits, mounted_world}
 use Rattle.rpc.specs.Assembly.{record_limits}
 use Rattle.session.specs.Limits.{served}
 use Rattle.volume.specs.MountAnswers.{MountServes}
-use Rattle.volume.specs.VolumeState.{VolumeState, IsRecent}
+use Rattle.volume.specs.VolumeState.{VolumeState}
 use Rattle.server.specs.Connections.{connections_of}
 use Rattle.server.specs.declared.fault.ServerFault.{ServerFault}
 use Rattle.server.specs.declared.server.Server.{Server}
-use Rattle.server.specs.Seen.{Seen, LeavesNow, Said, Gave, Does, Breaks, Checkpoints, FlushesAll, GivesDown, IsTurned, AreAtOnce}
+use Rattle.server.specs.Seen.{Seen, IsReady, LeavesNow, Said, Gave, Does, Breaks, Checkpoints, FlushesAll, GivesDown, IsTurned, AreAtOnce}
 use Rattle.model.specs.Sessions.Session.{Settings}
 
 -- how many connections there may be at a time
@@ -82,10 +81,6 @@ MountsServer {g = g} device server = MountServes g.keeps_word g.size g.failed g.
 unfoldable pub waits_of : {D : Type 0} {g : Ghosts D} → Server D g → Bool
 waits_of server = (fs_of server.fs).waits
 
--- these trees, each with these seats beside it
-abbrev pub beside : Seats → List Tree → List Left
-beside seats recent = map (λ tree. record { tree = tree; seats = seats }) recent
-
 -- the machine of the headline: a crash may leave these now
 abbrev pub serving_by : World → List Left → (is_down waits : Bool) → Serving
 serving_by world left is_down waits = record {
@@ -95,13 +90,13 @@ serving_by world left is_down waits = record {
   waits = waits;
 }
 
--- the server as that machine: a crash may leave these trees now, with the seats of its volume alone
-abbrev pub serving : {D : Type 0} {g : Ghosts D} → Server D g → List Tree → Serving
-serving server recent = serving_by (world_of server) (beside (volume_of server).seats recent)
-    (volume_of server).is_down (waits_of server)
+-- the server as that machine
+abbrev pub serving : {D : Type 0} {g : Ghosts D} → Server D g → List Left → Serving
+serving server recent =
+    serving_by (world_of server) recent (volume_of server).is_down (waits_of server)
 
 -- the same with the volume below it
-abbrev pub seen_with : {D : Type 0} {g : Ghosts D} → Server D g → List Tree → Seen
+abbrev pub seen_with : {D : Type 0} {g : Ghosts D} → Server D g → List Left → Seen
 seen_with server recent = record { serving = serving server recent; volume = volume_of server }
 
 -- and one that is down: what its volume shows since it failed is left open, and its world has the
@@ -117,13 +112,13 @@ seen_down server tree left = record {
 abbrev pub gave : Option (Vec ℕ) → Said
 gave output = Gave (option_map (λ reply. reply.items) output)
 
--- Whichever trees a crash may leave before a call: it does the event, and a crash may leave these
--- trees after it. By whether the call defers.
+-- Whatever a crash may leave before a call: it does the event, and a crash may leave these after
+-- it. By whether the call defers.
 abbrev pub ServesAs : {D : Type 0} {g : Ghosts D} → (defers : Bool) → (old new : Server D g) → Event
     → Said
     → Type 0
-ServesAs defers old new event said = (recent : List Tree) → IsRecent (volume_of old) recent
-    → (after : List Tree)
+ServesAs defers old new event said = (recent : List Left) → IsReady (volume_of old) recent
+    → (after : List Left)
     × (does : Does (seen_with old recent) event said (seen_with new after))
     × (does.happens.defers ≡ defers)
 
@@ -143,19 +138,19 @@ abbrev pub LetsWait : {D : Type 0} {g : Ghosts D} {T : Type 0} → (old new : Se
 LetsWait old new result = (waits_of old ≡ true → waits_of new ≡ true)
     × OnErr result (waits_of new ≡ waits_of old)
 
--- a flush of all that waits: whichever trees a crash may leave before it, after it only the newest
+-- a flush of all that waits: whatever a crash may leave before it, after it only the newest
 abbrev pub FlushesServer : {D : Type 0} {g : Ghosts D} → (old new : Server D g) → Type 0
-FlushesServer old new = (recent : List Tree) → IsRecent (volume_of old) recent
-    → (after : List Tree) × FlushesAll (seen_with old recent) (seen_with new after)
+FlushesServer old new = (recent : List Left) → IsReady (volume_of old) recent
+    → (after : List Left) × FlushesAll (seen_with old recent) (seen_with new after)
 
--- a checkpoint: whichever trees a crash may leave before it, a crash may leave after it
+-- a checkpoint: whatever a crash may leave before it, a crash may leave after it
 abbrev pub Keeps : {D : Type 0} {g : Ghosts D} → (old new : Server D g) → Type 0
-Keeps old new = (recent : List Tree) → IsRecent (volume_of old) recent
+Keeps old new = (recent : List Left) → IsReady (volume_of old) recent
     → Checkpoints (seen_with old recent) (seen_with new recent)
 
 -- the device fails in it
 abbrev pub ServerFails : {D : Type 0} {g : Ghosts D} → (old new : Server D g) → Event → Type 0
-ServerFails old new event = (recent : List Tree) → IsRecent (volume_of old) recent
+ServerFails old new event = (recent : List Left) → IsReady (volume_of old) recent
     → (left : List Left)
     × Breaks (seen_with old recent) event (seen_down new (volume_of old).tree left)
 
@@ -170,6 +165,6 @@ GivesReply old new connection said = (tree : Tree) (left : List Left)
 -- so many turns of a connection, none of which defers, and then what comes
 abbrev pub Turning : {D : Type 0} {g : Ghosts D} → (old : Server D g) → (connection now : ℕ)
     → (Seen → Type 0) → Type 0
-Turning old connection now then = (recent : List Tree) → IsRecent (volume_of old) recent
+Turning old connection now then = (recent : List Left) → IsReady (volume_of old) recent
     → (between : Seen) × (turned : IsTurned connection now (seen_with old recent) between)
     × then between × AreAtOnce connection now (seen_with old recent) between turned

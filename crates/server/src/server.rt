@@ -50,7 +50,6 @@ impl<D: Device> Server<D> {
     ghost use Rattle.model_tree.specs.Seats.SeatViews.{seats_view};
     ghost use Rattle.std.specs.Prelude.{◌≢◌, ◌≡◌, ◌≤◌, ◌↔◌, List, true, false, Some, None, length, OnOk, OnErr, IfOk, IfErr, IsErrOf};
     ghost use Rattle.model.specs.Server.Runs as runs;
-    ghost use Rattle.model_tree.specs.Trees.Tree.{Tree};
     ghost use Rattle.model.specs.Server.World.{Closed, is_busy, can_connect};
     ghost use Rattle.server.specs.Connections.{turn_view};
     ghost use Rattle.server.specs.Refused.{view, IsUntouched, connection_at, HasKept, HasRunOn, HasTurned, RefusesCheckpoint, RefusesTurn, RefusesHangUp, UsesDevice};
@@ -371,7 +370,7 @@ impl<D: Device> Server<D> {
     pub fn hangup(&mut self, conn: usize, now: u64) -> Result<(), ServerFault>
         // Done
         ensures ok { D.keeps_word → OnOk result
-            (Turning self.old conn now (λ between. (after : List Tree)
+            (Turning self.old conn now (λ between. (after : List runs.Left)
             × Does between (runs.HangsUp conn) Done (seen_with self.new after))) }
         ensures gone { OnOk result (connection_at (view self.new) conn ≡ None) }
         ensures on { OnOk result (HasRunOn (view self.old) (view self.new) conn) }
@@ -379,7 +378,7 @@ impl<D: Device> Server<D> {
         // Ended within its turns: no memory for one, or the device fails in one
         ensures memory { D.keeps_word → IsErrOf result ServerFault.Memory
             → Turning self.old conn now (λ between.
-            (after : List Tree) × (between ≡ seen_with self.new after)) }
+            (after : List runs.Left) × (between ≡ seen_with self.new after)) }
         ensures fails { D.keeps_word → (volume_of self.old).is_down ≡ false
             → IsErrOf result ServerFault.Device → Turning self.old conn now (λ between.
             (left : List runs.Left) × Breaks between (runs.Turns conn now)

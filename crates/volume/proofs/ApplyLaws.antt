@@ -19,11 +19,10 @@ use Rattle.layout.specs.CachedNodes.{CachedNode, tree_of, cards_in}
 use Rattle.layout.specs.Stands.{Kept, StandsNow, seats_at}
 use Rattle.layout.proofs.KeptLaws.{now_told, same_kept, stands_now}
 use Rattle.model_tree.specs.declared.limits.Limits.{Limits}
-use Rattle.model_tree.specs.Seats.Seats.{Seats}
 use Rattle.model_tree.specs.Trees.Tree.{Tree}
 use Rattle.volume.specs.Changes.{Given, Done, Broken, VolumeChanges, ending_of}
-use Rattle.volume.specs.VolumeState.{VolumeState, IsRecent, AddsTrees, MakesAtMost, fronts_from, with_tree}
-use Rattle.volume.specs.Known.{IsServing, kept_in_image}
+use Rattle.volume.specs.VolumeState.{VolumeState, IsRecent, AddsKept, MakesAtMost, fronts_from, kept_of}
+use Rattle.volume.specs.Known.{IsServing}
 use Rattle.volume.specs.Refusals.{fault_of}
 use Rattle.volume.specs.Stands.{VolumeStands}
 use Rattle.volume.specs.Views.{volume_state_by}
@@ -60,31 +59,26 @@ module _ (limits : Limits) (run : ℕ) (cards : List (Option CachedNode)) (old n
   pub moved_seats : seats_at (contents new) ≡ seats_at (contents old)
   moved_seats = ∥∥₁_elim serving (Seats-set (seats_at (contents new)) (seats_at (contents old))) (seats_stay limits.nodes run cards old new same)
 
-  -- these seats beside a tree
-  abbrev beside : Tree → Kept
-  beside tree = record { tree = tree; seats = seats_at (contents new) }
+  pub moved_kept : kept_of (volume_state_by limits run cards new) ≡ kept_of (volume_state_by limits run cards old)
+  moved_kept = same_kept (kept_of (volume_state_by limits run cards new)) (kept_of (volume_state_by limits run cards old)) moved_tree moved_seats
 
-  was_beside : (tree : Tree) → with_tree (volume_state_by limits run cards old) tree ≡ beside tree
-  was_beside tree = ap (λ (seats : Seats). let of : Kept = record { tree = tree; seats = seats } in of) (sym moved_seats)
-
-  covered : (recent : List Tree) → IsRecent (volume_state_by limits run cards old) recent → (count : ℕ) → count ≤ length new.list
-      → (tree : Tree) × IsAmong recent tree × ∥ VolumeStands new.size limits.nodes (applied_all (take count new.list) new.base) run (beside tree) ∥₁
+  covered : (recent : List Kept) → IsRecent (volume_state_by limits run cards old) recent → (count : ℕ) → count ≤ length new.list
+      → (kept : Kept) × IsAmong recent kept × ∥ VolumeStands new.size limits.nodes (applied_all (take count new.list) new.base) run kept ∥₁
   covered recent is count few =
       let before = front_moved old.list old new moved count few in
       let one = is.covers (applied_all (take before.0 old.list) old.base) (front_among old.base old.list before.0 before.1) in (
         one.0,
         one.1,
-        ∥∥₁_map one.2 (λ stands. subst (λ (s : ℕ). VolumeStands s limits.nodes (applied_all (take count new.list) new.base) run (beside one.0)) (sym size)
-            (stands_same old.size limits.nodes (applied_all (take before.0 old.list) old.base) (applied_all (take count new.list) new.base) run (beside one.0) (same_placed old.area old.size _ _ placed before.2)
-            (subst (VolumeStands old.size limits.nodes (applied_all (take before.0 old.list) old.base) run) (was_beside one.0) stands))),
+        ∥∥₁_map one.2 (λ stands. subst (λ (s : ℕ). VolumeStands s limits.nodes (applied_all (take count new.list) new.base) run one.0) (sym size)
+            (stands_same old.size limits.nodes (applied_all (take before.0 old.list) old.base) (applied_all (take count new.list) new.base) run one.0 (same_placed old.area old.size _ _ placed before.2) stands)),
       )
 
-  pub moved_recent : (recent : List Tree) → IsRecent (volume_state_by limits run cards old) recent → IsRecent (volume_state_by limits run cards new) recent
+  pub moved_recent : (recent : List Kept) → IsRecent (volume_state_by limits run cards old) recent → IsRecent (volume_state_by limits run cards new) recent
   moved_recent recent is = record {
     leaves = λ image left.
         let one = covered recent is 0 (omega arith) in (
-          beside one.0,
-          (one.1, refl),
+          one.0,
+          one.1,
           ∥∥₁_map one.2 (λ stands. record { base = new.base; settles = settles_placed new.area new.size image new.base (placed_on new.area old.area new.size old.size area size placed) (settled image left); stands = stands }),
         );
     covers = λ front among.
@@ -92,9 +86,9 @@ module _ (limits : Limits) (run : ℕ) (cards : List (Option CachedNode)) (old n
         let one = covered recent is there.0 there.1 in (
           one.0,
           one.1,
-          subst (λ (i : Image). ∥ VolumeStands new.size limits.nodes i run (beside one.0) ∥₁) (sym there.2) one.2,
+          subst (λ (i : Image). ∥ VolumeStands new.size limits.nodes i run one.0 ∥₁) (sym there.2) one.2,
         );
-    newest = subst (IsAmong recent) (sym moved_tree) is.newest;
+    newest = subst (IsAmong recent) (sym moved_kept) is.newest;
   }
 
 -- with one transaction more after the list
@@ -116,55 +110,45 @@ stands_after nodes run old updates is after behind = ∥∥₁_map behind.stands
 abbrev pub seated : Log → Tree → Kept
 seated log tree = record { tree = tree; seats = seats_at (contents log) }
 
--- what serves after a transaction
-module _ (nodes run : ℕ) (cards is : List (Option CachedNode)) (old : Log) (updates : List Update) (after : Kept)
-    (behind : StandsWith nodes run old updates is after) (serving : ∥ IsServing old nodes run cards ∥₁) where
+-- What serves after a transaction, which may make other cached nodes of those that stand, or other
+-- seats
+module _ (limits : Limits) (run : ℕ) (cards is : List (Option CachedNode)) (old : Log) (updates : List Update) (after : Kept)
+    (behind : StandsWith limits.nodes run old updates is after) (serving : ∥ IsServing old limits.nodes run cards ∥₁) where
   abbrev then_log : Log
   then_log = listed_with old updates
+
+  abbrev then_held : VolumeState
+  then_held = volume_state_by limits run is then_log
 
   then_contents : contents then_log ≡ applied updates (contents old)
   then_contents = applied_all-push old.list updates old.base
 
-  pub then_tree : tree_of (contents then_log) is ≡ after.tree
+  then_tree : tree_of (contents then_log) is ≡ after.tree
   then_tree = ap (λ (image : Image). tree_of image is) then_contents ∙ behind.tree
 
-  pub then_seats : seats_at (contents then_log) ≡ after.seats
+  then_seats : seats_at (contents then_log) ≡ after.seats
   then_seats = ∥∥₁_elim behind.stands (Seats-set (seats_at (contents then_log)) after.seats) (λ stands.
-      ap seats_at then_contents ∙ now_told old.size nodes (applied updates (contents old)) run after stands)
+      ap seats_at then_contents ∙ now_told old.size limits.nodes (applied updates (contents old)) run after stands)
 
-  pub then_serves : ∥ IsServing then_log nodes run is ∥₁
+  pub then_kept : kept_of then_held ≡ after
+  then_kept = same_kept (kept_of then_held) after then_tree then_seats
+
+  pub then_serves : ∥ IsServing then_log limits.nodes run is ∥₁
   then_serves = ∥∥₁_map serving (λ served. record {
-    read = behind.read ∙ ap (cards_in nodes) (sym then_contents);
-    stands = subst (λ (kept : Kept). ∥ StandsNow old.size nodes (contents then_log) run kept ∥₁) (sym (same_kept (kept_in_image (contents then_log) is) after then_tree then_seats))
-        (subst (λ (image : Image). ∥ StandsNow old.size nodes image run after ∥₁) (sym then_contents) behind.stands);
+    read = behind.read ∙ ap (cards_in limits.nodes) (sym then_contents);
+    stands = subst (λ (kept : Kept). ∥ StandsNow old.size limits.nodes (contents then_log) run kept ∥₁) (sym then_kept)
+        (subst (λ (image : Image). ∥ StandsNow old.size limits.nodes image run after ∥₁) (sym then_contents) behind.stands);
     settled = served.settled;
   })
 
--- A transaction makes other cached nodes of those that stand, and the tree is another one.
-module _ (limits : Limits) (run : ℕ) (cards is : List (Option CachedNode)) (old : Log) (updates : List Update) (after : Tree)
-    (behind : StandsWith limits.nodes run old updates is (seated old after)) (serving : ∥ IsServing old limits.nodes run cards ∥₁) where
-  abbrev mid : Log
-  mid = listed_with old updates
-
-  pub pushed_tree : tree_of (contents mid) is ≡ after
-  pushed_tree = then_tree limits.nodes run cards is old updates (seated old after) behind serving
-
-  pub pushed_seats : seats_at (contents mid) ≡ seats_at (contents old)
-  pushed_seats = then_seats limits.nodes run cards is old updates (seated old after) behind serving
-
-  pub pushed_serves : ∥ IsServing mid limits.nodes run is ∥₁
-  pushed_serves = then_serves limits.nodes run cards is old updates (seated old after) behind serving
-
-  pub pushed_recent : (recent : List Tree) → IsRecent (volume_state_by limits run cards old) recent → IsRecent (volume_state_by limits run is mid) (after ∷ recent)
-  pushed_recent recent ready =
-      subst (λ (t : Tree). IsRecent (record (volume_state_by limits run cards old) { tree = t; seats = seats_at (contents mid); fronts = fronts_from old.base (list_with old updates) }) (after ∷ recent))
-      (sym pushed_tree)
-      (subst (λ (s : Seats). IsRecent (record (volume_state_by limits run cards old) { tree = after; seats = s; fronts = fronts_from old.base (list_with old updates) }) (after ∷ recent))
-      (sym pushed_seats)
-      (applied_recent (volume_state_by limits run cards old) old refl refl refl updates after (stands_after limits.nodes run old updates is (seated old after) behind) recent ready))
+  pub then_recent : (recent : List Kept) → IsRecent (volume_state_by limits run cards old) recent → IsRecent then_held (after ∷ recent)
+  then_recent recent ready =
+      subst (λ (kept : Kept). IsRecent (record (volume_state_by limits run cards old) { tree = kept.tree; seats = kept.seats; fronts = fronts_from old.base (list_with old updates) }) (after ∷ recent))
+      (sym then_kept)
+      (applied_recent (volume_state_by limits run cards old) old refl refl refl updates after (stands_after limits.nodes run old updates is after behind) recent ready)
 
 -- The journal takes a transaction
-module _ (keeps_word : Type 0) (limits : Limits) (run : ℕ) (cards is : List (Option CachedNode)) (old new : Log) (updates : List Update) (after : Tree) (failed_before failed_after : ℕ)
+module _ (keeps_word : Type 0) (limits : Limits) (run : ℕ) (cards is : List (Option CachedNode)) (old new : Log) (updates : List Update) (after : Kept) (failed_before failed_after : ℕ)
     (safe : IsSafe keeps_word old new) (placed : old.area ≡ in_front old.size) (later : failed_before ≤ failed_after) where
   abbrev was : VolumeState
   was = volume_state_by limits run cards old
@@ -172,18 +156,18 @@ module _ (keeps_word : Type 0) (limits : Limits) (run : ℕ) (cards is : List (O
   abbrev now : VolumeState
   now = volume_state_by limits run is new
 
-  -- the tree after it, which may be lost
+  -- what is kept after it, which may be lost
   abbrev given : Given
-  given kept lasts = (kept ≡ seated old after) × (lasts ≡ false)
+  given kept lasts = (kept ≡ after) × (lasts ≡ false)
 
-  moments : keeps_word → (kept : Kept) (lasts : Bool) → given kept lasts → AddsTrees was kept new.history
+  moments : keeps_word → (kept : Kept) (lasts : Bool) → given kept lasts → AddsKept was kept new.history
   moments k kept lasts is_given = flush_adds limits run cards old new kept placed (safe.moments k)
 
   brief : keeps_word → MakesAtMost 396 was now
   brief k = few_for_call (moment old.history) (moment new.history) (few_in_front old.area old.size (moment old.history) (moment new.history) placed (safe.brief k))
 
   module _ (up : new.is_down ≡ false) (has : HasApplied keeps_word updates old new) (serves : keeps_word → ∥ IsServing old limits.nodes run cards ∥₁)
-      (behind : keeps_word → StandsWith limits.nodes run old updates is (seated old after)) where
+      (behind : keeps_word → StandsWith limits.nodes run old updates is after) where
     abbrev between : Log
     between = listed_with old updates
 
@@ -192,18 +176,17 @@ module _ (keeps_word : Type 0) (limits : Limits) (run : ℕ) (cards is : List (O
     goes k = let moved = has.moved k in record { count = moved.count; within = moved.within; base = moved.base; list = moved.list }
 
     middle : keeps_word → ∥ IsServing between limits.nodes run is ∥₁
-    middle k = pushed_serves limits run cards is old updates after (behind k) (serves k)
+    middle k = then_serves limits run cards is old updates after (behind k) (serves k)
 
     pub applied_serves : keeps_word → ∥ IsServing new limits.nodes run is ∥₁
     applied_serves k = moved_serves limits run is between new placed safe.area safe.size (goes k) (safe.settled k up) (middle k)
 
-    pub applied_tree : keeps_word → now.tree ≡ after
-    applied_tree k = moved_tree limits run is between new placed safe.area safe.size (goes k) (safe.settled k up) (middle k)
-        ∙ pushed_tree limits run cards is old updates after (behind k) (serves k)
+    pub applied_kept : keeps_word → kept_of now ≡ after
+    applied_kept k = moved_kept limits run is between new placed safe.area safe.size (goes k) (safe.settled k up) (middle k)
+        ∙ then_kept limits run cards is old updates after (behind k) (serves k)
 
-    applied_seats : keeps_word → now.seats ≡ was.seats
-    applied_seats k = moved_seats limits run is between new placed safe.area safe.size (goes k) (safe.settled k up) (middle k)
-        ∙ pushed_seats limits run cards is old updates after (behind k) (serves k)
+    pub applied_tree : keeps_word → now.tree ≡ after.tree
+    applied_tree k = ap (λ (of : Kept). of.tree) (applied_kept k)
 
     pub apply_done : failed_after ≡ failed_before → VolumeChanges keeps_word given was now failed_before failed_after Done
     apply_done told = record {
@@ -214,15 +197,14 @@ module _ (keeps_word : Type 0) (limits : Limits) (run : ℕ) (cards is : List (O
       brief = brief;
       ends = record {
         still_up = up;
-        seats = λ k kept lasts is_given. applied_seats k ∙ sym (ap (λ (of : Kept). of.seats) is_given.0);
+        seats = λ k kept lasts is_given. ap (λ (of : Kept). of.seats) (applied_kept k ∙ sym is_given.0);
         leaves = λ k kept lasts is_given recent ready. (
           after ∷ recent,
           record {
-            seats = applied_seats k ∙ sym (ap (λ (of : Kept). of.seats) is_given.0);
             ready = moved_recent limits run is between new placed safe.area safe.size (goes k) (safe.settled k up) (middle k) (after ∷ recent)
-                (pushed_recent limits run cards is old updates after (behind k) (serves k) recent ready);
+                (then_recent limits run cards is old updates after (behind k) (serves k) recent ready);
             no_others = λ one among. ⊎_elim
-                (λ (first : one ≡ after). inr (first ∙ sym (ap (λ (of : Kept). of.tree) is_given.0)))
+                (λ (first : one ≡ after). inr (first ∙ sym is_given.0))
                 (λ (rest : IsAmong recent one). inl rest)
                 (among_more after recent one among);
             durable = λ durable. absurd (true≢false (sym durable ∙ is_given.1));
@@ -246,10 +228,10 @@ module _ (keeps_word : Type 0) (limits : Limits) (run : ℕ) (cards is : List (O
   }
 
 -- The journal refuses it
-pub apply_refused : (keeps_word : Type 0) (limits : Limits) (run : ℕ) (cards : List (Option CachedNode)) (old new : Log) (after : Tree) (failed_before failed_after : ℕ) (fault : JournalFault)
+pub apply_refused : (keeps_word : Type 0) (limits : Limits) (run : ℕ) (cards : List (Option CachedNode)) (old new : Log) (after : Kept) (failed_before failed_after : ℕ) (fault : JournalFault)
     → IsSafe keeps_word old new → old.area ≡ in_front old.size → old.is_down ≡ false → (fault ≡ faults.TooMany → ⊥) → AnswersByDevice {T = Unit {0}} old new failed_before failed_after (Err fault)
     → (fault ≡ faults.TooMany) ⊎ ((fault ≡ faults.Fault) ⊎ (fault ≡ faults.Down))
-    → VolumeChanges keeps_word (λ kept lasts. (kept ≡ seated old after) × (lasts ≡ false)) (volume_state_by limits run cards old) (volume_state_by limits run cards new) failed_before failed_after
+    → VolumeChanges keeps_word (λ kept lasts. (kept ≡ after) × (lasts ≡ false)) (volume_state_by limits run cards old) (volume_state_by limits run cards new) failed_before failed_after
     (ending_of {T = Unit {0}} (Err (fault_of fault)))
 apply_refused keeps_word limits run cards old new after failed_before failed_after faults.Fault safe placed up few answers refuses =
     apply_broken keeps_word limits run cards cards old new [] after failed_before failed_after safe placed answers.later (answers.goes_down refl) (answers.counted refl)

@@ -11,11 +11,10 @@ use Rattle.journal.specs.Settled.{AreSame}
 use Rattle.journal.proofs.Fronts.{applied_keeps}
 use Rattle.layout.specs.CachedNodes.{CachedNode}
 use Rattle.layout.specs.Stands.{Kept}
+use Rattle.layout.proofs.KeptLaws.{same_kept}
 use Rattle.model_tree.specs.declared.limits.Limits.{Limits}
-use Rattle.model_tree.specs.Seats.Seats.{Seats}
-use Rattle.model_tree.specs.Trees.Tree.{Tree}
 use Rattle.volume.specs.Changes.{Done, Stays, VolumeChanges}
-use Rattle.volume.specs.VolumeState.{VolumeState, KeepsRecent, fronts_from, with_tree}
+use Rattle.volume.specs.VolumeState.{VolumeState, KeepsRecent, fronts_from, kept_of}
 use Rattle.volume.specs.Known.{IsServing}
 use Rattle.volume.specs.Stands.{VolumeStands}
 use Rattle.volume.specs.Views.{volume_state_by}
@@ -56,20 +55,20 @@ module _ (keeps_word : Type 0) (limits : Limits) (run : ℕ) (cards : List (Opti
   stands_on a b kept same stands =
       subst (λ (size : ℕ). VolumeStands size limits.nodes b run kept) (sym safe.size) (stands_same old.size limits.nodes a b run kept same stands)
 
-  beside : keeps_word → (tree : Tree) → with_tree was tree ≡ with_tree is tree
-  beside k tree = ap (λ (seats : Seats). let of : Kept = record { tree = tree; seats = seats } in of) (sym (checkpoint_seats k))
+  checkpoint_kept : keeps_word → kept_of is ≡ kept_of was
+  checkpoint_kept k = same_kept (kept_of is) (kept_of was) (checkpoint_keeps k) (checkpoint_seats k)
 
   pub checkpoint_recent : keeps_word → KeepsRecent was is
   checkpoint_recent k recent ready =
       let first = ready.covers old.base (front_among old.base old.list 0 (omega arith)) in
       record {
         leaves = λ image left. (
-          with_tree was first.0,
-          (first.1, sym (checkpoint_seats k)),
+          first.0,
+          first.1,
           ∥∥₁_map first.2 (λ stands. record {
             base = new.base;
             settles = settles_placed new.area new.size image new.base (placed_on new.area old.area new.size old.size safe.area safe.size placed) (safe.settled k up image left);
-            stands = stands_on old.base new.base (with_tree was first.0) (same_placed old.area old.size _ _ placed (done.base k)) stands;
+            stands = stands_on old.base new.base first.0 (same_placed old.area old.size _ _ placed (done.base k)) stands;
           }),
         );
         covers = λ front among.
@@ -78,10 +77,9 @@ module _ (keeps_word : Type 0) (limits : Limits) (run : ℕ) (cards : List (Opti
             let covered = ready.covers there.0 there.1 in (
               covered.0,
               covered.1,
-              ∥∥₁_map covered.2 (λ stands. subst (VolumeStands new.size limits.nodes front run) (beside k covered.0)
-                  (stands_on there.0 front (with_tree was covered.0) there.2 stands)),
+              ∥∥₁_map covered.2 (λ stands. stands_on there.0 front covered.0 there.2 stands),
             );
-        newest = subst (λ (tree : Tree). IsAmong recent tree) (sym (checkpoint_keeps k)) ready.newest;
+        newest = subst (λ (kept : Kept). IsAmong recent kept) (sym (checkpoint_kept k)) ready.newest;
       }
 
   pub checkpoint_done : (before after : ℕ) → before ≤ after → after ≡ before → VolumeChanges keeps_word (Stays was) was is before after Done
@@ -97,7 +95,6 @@ module _ (keeps_word : Type 0) (limits : Limits) (run : ℕ) (cards : List (Opti
       leaves = λ k kept lasts given recent ready. (
         recent,
         record {
-          seats = checkpoint_seats k ∙ sym (ap (λ (of : Kept). of.seats) given.0);
           ready = checkpoint_recent k recent ready;
           no_others = λ one among. inl among;
           durable = λ durable. absurd (true≢false (sym durable ∙ given.1));

@@ -14,8 +14,7 @@ use Rattle.journal.specs.Log.{Log, StandsForFront, applied_all}
 use Rattle.journal.specs.Settled.{Settles}
 use Rattle.journal.proofs.Fronts.{applied_all-push}
 use Rattle.layout.specs.Stands.{Kept}
-use Rattle.model_tree.specs.Trees.Tree.{Tree}
-use Rattle.volume.specs.VolumeState.{VolumeState, StandsForOne, IsRecent, MayAdd, AddsTrees, fronts_from, with_tree}
+use Rattle.volume.specs.VolumeState.{VolumeState, StandsForOne, IsRecent, MayAdd, AddsKept, fronts_from}
 use Rattle.volume.specs.Stands.{VolumeStands}
 use Rattle.volume.proofs.StandLaws.{settles_placed}
 
@@ -61,7 +60,7 @@ module _ (held : VolumeState) (log : Log) (size : held.sectors ≡ log.size) (hi
     here : (image base : Image) → Settles log.area image base → Settles (in_front held.sectors) image base
     here image base settles = settles_placed log.area held.sectors image base (placed ∙ ap in_front (sym size)) settles
 
-    one_front : (recent : List Tree) → IsRecent held recent → (image : Image) → StandsForFront log.area log.base (log.list ++ updates ∷ []) image → StandsForOne held (MayAdd held recent after) image
+    one_front : (recent : List Kept) → IsRecent held recent → (image : Image) → StandsForFront log.area log.base (log.list ++ updates ∷ []) image → StandsForOne held (MayAdd recent after) image
     one_front recent is image front = elim (cases_lt (length log.list) front.count) [
       | inl last ↦
           let many : length (log.list ++ updates ∷ []) ≡ length log.list + 1 = length-append log.list (updates ∷ []) in
@@ -81,8 +80,8 @@ module _ (held : VolumeState) (log : Log) (size : held.sectors ≡ log.size) (hi
           let same : take front.count (log.list ++ updates ∷ []) ≡ take front.count log.list = take-append-le front.count log.list (updates ∷ []) earlier in
           let covered = is.covers (applied_all (take front.count log.list) log.base)
           (subst (λ (l : List Image). IsAmong l (applied_all (take front.count log.list) log.base)) (sym fronts) (front_among log.base log.list front.count earlier)) in (
-            with_tree held covered.0,
-            inl (covered.1, refl),
+            covered.0,
+            inl covered.1,
             ∥∥₁_map covered.2 (λ stands. record {
               base = applied_all (take front.count log.list) log.base;
               settles = subst (λ (i : Image). Settles (in_front held.sectors) image i) (ap (λ (l : List (List Update)). applied_all l log.base) same)
@@ -93,23 +92,23 @@ module _ (held : VolumeState) (log : Log) (size : held.sectors ≡ log.size) (hi
     ]
 
     -- a flush of the whole list and one more: what `durable::keep` adds is what the file system says
-    pub keeps_fronts : (new : History) → AddsOnly (StandsForFront log.area log.base (log.list ++ updates ∷ [])) log.history new → AddsTrees held after new
+    pub keeps_fronts : (new : History) → AddsOnly (StandsForFront log.area log.base (log.list ++ updates ∷ [])) log.history new → AddsKept held after new
     keeps_fronts new adds recent is =
-        subst (λ (h : History). AddsOnly (StandsForOne held (MayAdd held recent after)) h new) (sym history)
-        (AddsOnly-weaken (StandsForFront log.area log.base (log.list ++ updates ∷ [])) (StandsForOne held (MayAdd held recent after)) log.history new (one_front recent is) adds)
+        subst (λ (h : History). AddsOnly (StandsForOne held (MayAdd recent after)) h new) (sym history)
+        (AddsOnly-weaken (StandsForFront log.area log.base (log.list ++ updates ∷ [])) (StandsForOne held (MayAdd recent after)) log.history new (one_front recent is) adds)
 
-  -- a change that is not flushed: the trees that a crash may leave from now on, and the device is as it was
-  pub applied_recent : (after : Tree) → ∥ VolumeStands held.sectors held.limits.nodes (applied updates (applied_all log.list log.base)) held.run (with_tree held after) ∥₁
-      → (recent : List Tree) → IsRecent held recent
-      → IsRecent (record held { tree = after; fronts = fronts_from log.base (log.list ++ updates ∷ []) }) (after ∷ recent)
+  -- a change that is not flushed: what a crash may leave from now on, and the device is as it was
+  pub applied_recent : (after : Kept) → ∥ VolumeStands held.sectors held.limits.nodes (applied updates (applied_all log.list log.base)) held.run after ∥₁
+      → (recent : List Kept) → IsRecent held recent
+      → IsRecent (record held { tree = after.tree; seats = after.seats; fronts = fronts_from log.base (log.list ++ updates ∷ []) }) (after ∷ recent)
   applied_recent after behind recent is = record {
-    leaves = λ image left. (let one = is.leaves image left in (one.0, (among_rest after recent one.0.tree one.1.0, one.1.1), one.2));
+    leaves = λ image left. (let one = is.leaves image left in (one.0, among_rest after recent one.0 one.1, one.2));
     covers = λ front among. elim (front_more log.base log.list updates front among) [
       | inl old ↦
           let one = is.covers front (subst (λ (l : List Image). IsAmong l front) (sym fronts) old) in
           (one.0, among_rest after recent one.0 one.1, one.2)
       | inr new ↦
-          (after, (0, (omega arith, refl)), subst (λ (i : Image). ∥ VolumeStands held.sectors held.limits.nodes i held.run (with_tree held after) ∥₁) (sym new) behind)
+          (after, (0, (omega arith, refl)), subst (λ (i : Image). ∥ VolumeStands held.sectors held.limits.nodes i held.run after ∥₁) (sym new) behind)
     ];
     newest = (0, (omega arith, refl));
   }

@@ -9,10 +9,9 @@ use Rattle.tree_edits.specs.Outlines.{without_data}
 use Rattle.disk.proofs.MomentLemmas.{AddsOnly-join, AddsOnly-same, AddsOnly-weaken}
 use Rattle.layout.specs.Stands.{Kept}
 use Rattle.layout.proofs.KeptLaws.{same_kept}
-use Rattle.model_tree.specs.Trees.Tree.{Tree}
 use Rattle.volume.specs.Changes.{Given, Ending, Done, Nothing, Broken, IsTree, VolumeChanges, ending_of}
 use Rattle.volume.specs.Formed.{ShowsTree}
-use Rattle.volume.specs.VolumeState.{VolumeState, IsSameVolume, StandsForOne, IsLeft, MakesAtMost, MayAdd, AddsTrees, kept_of, with_tree}
+use Rattle.volume.specs.VolumeState.{VolumeState, IsSameVolume, StandsForOne, MakesAtMost, MayAdd, AddsKept, kept_of}
 use Rattle.volume.specs.Shown.{ShowsAs}
 use Rattle.volume.specs.Stands.{StandsFor}
 use Rattle.volume.specs.declared.fault.VolumeFault.{VolumeFault}
@@ -32,44 +31,44 @@ counted_later before between after later counted = elim counted [
 pub few_with_flush : (first middle last : ℕ) → middle ≤ first + 198 → last ≤ middle + 198 → last ≤ first + 396
 few_with_flush first middle last few then_few = omega (arith, few, then_few)
 
-module _ (keeps_word : Type 0) (was between now : VolumeState) (after : Tree)
+module _ (keeps_word : Type 0) (was between now : VolumeState) (after : Kept)
     (first middle last : ℕ)
-    (change : VolumeChanges keeps_word (λ kept lasts. (kept ≡ with_tree was after) × (lasts ≡ false)) was between first middle Done)
-    (shown : ShowsTree keeps_word after between.tree)
+    (change : VolumeChanges keeps_word (λ kept lasts. (kept ≡ after) × (lasts ≡ false)) was between first middle Done)
+    (shown : ShowsTree keeps_word after.tree between.tree)
     (few : keeps_word → MakesAtMost 198 was between) (then_few : keeps_word → MakesAtMost 198 between now) where
   abbrev Flushes : Ending → Type 0
   Flushes ending = VolumeChanges keeps_word (IsTree between between.tree) between now middle last ending
 
+  -- what is kept after the call, and has to last
+  abbrev Keeps : Given
+  Keeps kept lasts = kept ≡ after
+
   -- what stands for what is kept in between stands for what may be kept of the volume before
-  one_before : (recent left : List Tree) (kept : Kept) → ((one : Tree) → IsAmong left one → IsAmong recent one ⊎ (one ≡ kept.tree))
-      → between.tree ≡ kept.tree → between.seats ≡ kept.seats → kept.seats ≡ was.seats
-      → (image : Image) → StandsForOne between (MayAdd between left (kept_of between)) image → StandsForOne was (MayAdd was recent kept) image
-  one_before recent left kept no_others same seats stay image one =
+  one_before : (recent left : List Kept) → ((one : Kept) → IsAmong left one → IsAmong recent one ⊎ (one ≡ after)) → kept_of between ≡ after
+      → (image : Image) → StandsForOne between (MayAdd left (kept_of between)) image → StandsForOne was (MayAdd recent after) image
+  one_before recent left no_others same image one =
       let volume = change.same in (
         one.0,
         ⊎_elim
-            (λ (among : IsLeft between left one.0). ⊎_elim
-            (λ (stood : IsAmong recent one.0.tree). inl (stood, among.1 ∙ (seats ∙ stay)))
-            (λ (newest : one.0.tree ≡ kept.tree). inr (same_kept one.0 kept newest (among.1 ∙ seats)))
-            (no_others one.0.tree among.0))
-            (λ (newest : one.0 ≡ kept_of between). inr (newest ∙ same_kept (kept_of between) kept same seats))
+            (λ (among : IsAmong left one.0). no_others one.0 among)
+            (λ (newest : one.0 ≡ kept_of between). inr (newest ∙ same))
             one.1,
         subst (λ (sectors : ℕ). StandsFor sectors was.limits.nodes was.run one.0 image) volume.sectors
             (subst (λ (nodes : ℕ). StandsFor between.sectors nodes was.run one.0 image) (ap (λ limits. limits.nodes) volume.limits)
             (subst (λ (run : ℕ). StandsFor between.sectors between.limits.nodes run one.0 image) volume.run one.2)),
       )
 
-  same_as : (kept : Kept) → keeps_word → kept ≡ with_tree was after → between.tree ≡ kept.tree
-  same_as kept k is = shown.tree_is k ∙ sym (ap (λ (of : Kept). of.tree) is)
+  kept_between : keeps_word → kept_of between ≡ after
+  kept_between k = same_kept (kept_of between) after (shown.tree_is k) (change.ends.seats k after false (refl, refl))
 
-  moments : (ending : Ending) → Flushes ending → keeps_word → (kept : Kept) (lasts : Bool) → kept ≡ with_tree was after → AddsTrees was kept now.history
-  moments ending flush k kept lasts is recent ready =
-      let there = change.ends.leaves k kept false (is, refl) recent ready in
-      AddsOnly-join (StandsForOne was (MayAdd was recent kept)) was.history between.history now.history
-      (change.moments k kept false (is, refl) recent ready)
-      (AddsOnly-weaken (StandsForOne between (MayAdd between there.0 (kept_of between))) (StandsForOne was (MayAdd was recent kept)) between.history now.history
-      (one_before recent there.0 kept there.1.no_others (same_as kept k is) there.1.seats (ap (λ (of : Kept). of.seats) is))
-      (flush.moments k (kept_of between) lasts refl there.0 there.1.ready))
+  moments : (ending : Ending) → Flushes ending → keeps_word → (kept : Kept) (lasts : Bool) → Keeps kept lasts → AddsKept was kept now.history
+  moments ending flush k kept lasts is = subst (λ (of : Kept). AddsKept was of now.history) (sym is) (λ recent ready.
+      let there = change.ends.leaves k after false (refl, refl) recent ready in
+      AddsOnly-join (StandsForOne was (MayAdd recent after)) was.history between.history now.history
+      (change.moments k after false (refl, refl) recent ready)
+      (AddsOnly-weaken (StandsForOne between (MayAdd there.0 (kept_of between))) (StandsForOne was (MayAdd recent after)) between.history now.history
+      (one_before recent there.0 there.1.no_others (kept_between k))
+      (flush.moments k (kept_of between) lasts refl there.0 there.1.ready)))
 
   brief : keeps_word → MakesAtMost 396 was now
   brief k = few_with_flush (moment was.history) (moment between.history) (moment now.history) (few k) (then_few k)
@@ -81,7 +80,7 @@ module _ (keeps_word : Type 0) (was between now : VolumeState) (after : Tree)
     run = flush.same.run ∙ change.same.run;
   }
 
-  pub keep_done : Flushes Done → VolumeChanges keeps_word (IsTree was after) was now first last Done
+  pub keep_done : Flushes Done → VolumeChanges keeps_word Keeps was now first last Done
   keep_done flush = record {
     same = same_volume Done flush;
     later = omega (arith, change.later, flush.later);
@@ -90,18 +89,21 @@ module _ (keeps_word : Type 0) (was between now : VolumeState) (after : Tree)
     brief = brief;
     ends = record {
       still_up = flush.ends.still_up;
-      seats = λ k after_it lasts is. flush.ends.seats k (kept_of between) lasts refl ∙ change.ends.seats k after_it false (is, refl);
+      seats = λ k after_it lasts is.
+          flush.ends.seats k (kept_of between) lasts refl ∙ ap (λ (of : Kept). of.seats) (kept_between k ∙ sym is);
       leaves = λ k after_it lasts is recent ready.
-          let there = change.ends.leaves k after_it false (is, refl) recent ready in
+          let there = change.ends.leaves k after false (refl, refl) recent ready in
           let kept = flush.ends.leaves k (kept_of between) lasts refl there.0 there.1.ready in
-          let same = same_as after_it k is in (
+          let same : kept_of between ≡ after_it = kept_between k ∙ sym is in (
             kept.0,
             record {
               ready = kept.1.ready;
-              seats = kept.1.seats ∙ there.1.seats;
               no_others = λ one among. ⊎_elim
-                  (λ (stood : IsAmong there.0 one). there.1.no_others one stood)
-                  (λ (newest : one ≡ between.tree). inr (newest ∙ same))
+                  (λ (stood : IsAmong there.0 one). ⊎_elim
+                  (λ (was_there : IsAmong recent one). inl was_there)
+                  (λ (newest : one ≡ after). inr (newest ∙ sym is))
+                  (there.1.no_others one stood))
+                  (λ (newest : one ≡ kept_of between). inr (newest ∙ same))
                   (kept.1.no_others one among);
               durable = λ durable one among. kept.1.durable durable one among ∙ same;
             },
@@ -116,7 +118,7 @@ module _ (keeps_word : Type 0) (was between now : VolumeState) (after : Tree)
       (λ (each : (kept : Kept) (lasts : Bool) → kept ≡ kept_of between → ShowsAs kept.tree now.tree). each (kept_of between) false refl)
       either
 
-  pub keep_broken : Flushes Broken → VolumeChanges keeps_word (IsTree was after) was now first last Broken
+  pub keep_broken : Flushes Broken → VolumeChanges keeps_word Keeps was now first last Broken
   keep_broken flush = record {
     same = same_volume Broken flush;
     later = omega (arith, change.later, flush.later);
@@ -132,7 +134,7 @@ module _ (keeps_word : Type 0) (was between now : VolumeState) (after : Tree)
 
   -- a flush is refused for the device alone, where the change answered
   pub keep_flushed : (result : Result (Unit {0}) VolumeFault) → Flushes (ending_of result) → (IsErrOf result faults.Down ↔ (between.is_down ≡ true))
-      → IfErr result (λ fault. (fault ≡ faults.Device) ⊎ (fault ≡ faults.Down)) → VolumeChanges keeps_word (IsTree was after) was now first last (ending_of result)
+      → IfErr result (λ fault. (fault ≡ faults.Device) ⊎ (fault ≡ faults.Down)) → VolumeChanges keeps_word Keeps was now first last (ending_of result)
   keep_flushed (Ok done) flush down refuses = keep_done flush
   keep_flushed (Err faults.Device) flush down refuses = keep_broken flush
   keep_flushed (Err faults.Down) flush down refuses = absurd (true≢false (sym (down.0 refl) ∙ change.ends.still_up))
@@ -140,9 +142,9 @@ module _ (keeps_word : Type 0) (was between now : VolumeState) (after : Tree)
   keep_flushed (Err faults.Memory) flush down refuses = absurd (⊎_elim (λ (is : faults.Memory ≡ faults.Device). cc) (λ (is : faults.Memory ≡ faults.Down). cc) refuses)
 
 -- where the change did not answer, what is said of a change that may be lost holds of one that is kept
-pub unchanged : (keeps_word : Type 0) (was now : VolumeState) (after : Tree) (first last : ℕ) (ending : Ending) → (ending ≡ Done → ⊥)
-    → VolumeChanges keeps_word (λ kept lasts. (kept ≡ with_tree was after) × (lasts ≡ false)) was now first last ending
-    → VolumeChanges keeps_word (IsTree was after) was now first last ending
+pub unchanged : (keeps_word : Type 0) (was now : VolumeState) (after : Kept) (first last : ℕ) (ending : Ending) → (ending ≡ Done → ⊥)
+    → VolumeChanges keeps_word (λ kept lasts. (kept ≡ after) × (lasts ≡ false)) was now first last ending
+    → VolumeChanges keeps_word (λ kept lasts. kept ≡ after) was now first last ending
 unchanged keeps_word was now after first last Done never change = absurd (never refl)
 unchanged keeps_word was now after first last Nothing never change = record {
   same = change.same;
@@ -163,15 +165,15 @@ unchanged keeps_word was now after first last Broken never change = record {
     cause = change.ends.cause;
     shows = ⊎_elim
         (λ (same : ShowsAs was.tree now.tree). inl same)
-        (λ (each : (kept : Kept) (lasts : Bool) → (kept ≡ with_tree was after) × (lasts ≡ false) → ShowsAs kept.tree now.tree). inr (λ kept lasts is. each kept false (is, refl)))
+        (λ (each : (kept : Kept) (lasts : Bool) → (kept ≡ after) × (lasts ≡ false) → ShowsAs kept.tree now.tree). inr (λ kept lasts is. each kept false (is, refl)))
         change.ends.shows;
   };
 }
 
 -- which is where it was refused
-pub refused_unchanged : (keeps_word : Type 0) (was now : VolumeState) (after : Tree) (first last : ℕ) (fault : VolumeFault)
-    → VolumeChanges keeps_word (λ kept lasts. (kept ≡ with_tree was after) × (lasts ≡ false)) was now first last (ending_of {T = Unit {0}} (Err fault))
-    → VolumeChanges keeps_word (IsTree was after) was now first last (ending_of {T = Unit {0}} (Err fault))
+pub refused_unchanged : (keeps_word : Type 0) (was now : VolumeState) (after : Kept) (first last : ℕ) (fault : VolumeFault)
+    → VolumeChanges keeps_word (λ kept lasts. (kept ≡ after) × (lasts ≡ false)) was now first last (ending_of {T = Unit {0}} (Err fault))
+    → VolumeChanges keeps_word (λ kept lasts. kept ≡ after) was now first last (ending_of {T = Unit {0}} (Err fault))
 refused_unchanged keeps_word was now after first last faults.NoSpace change = unchanged keeps_word was now after first last Nothing (λ done. cc) change
 refused_unchanged keeps_word was now after first last faults.Memory change = unchanged keeps_word was now after first last Nothing (λ done. cc) change
 refused_unchanged keeps_word was now after first last faults.Device change = unchanged keeps_word was now after first last Broken (λ done. cc) change

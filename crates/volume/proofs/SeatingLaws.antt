@@ -13,7 +13,7 @@ use Rattle.tree_edits.proofs.BlankLaws.{each_outline}
 use Rattle.journal.specs.Calls.{IsSafe, HasApplied, HasFlushed, list_with}
 use Rattle.journal.specs.Layout.{in_front}
 use Rattle.journal.specs.Log.{Log, AnswersByDevice, Moved, StandsForFront, contents, applied_all}
-use Rattle.journal.specs.Settled.{AreSame, Settles}
+use Rattle.journal.specs.Settled.{AreSame}
 use Rattle.journal.specs.declared.fault.JournalFault.{JournalFault}
 use Rattle.journal.specs.declared.fault.JournalFault.TheVariants as faults
 use Rattle.journal.proofs.Fronts.{applied_all-push}
@@ -22,6 +22,7 @@ use Rattle.layout.specs.CachedNodes.{CachedNode, cards_in, node_sector, tree_of}
 use Rattle.layout.specs.Rewriting.{IsRewritten}
 use Rattle.layout.specs.Stands as layout
 use Rattle.layout.specs.Stands.{HoldSeats, Kept, StandsNow, current_version, seats_at, spare_by}
+use Rattle.layout.proofs.KeptLaws.{same_kept}
 use Rattle.layout.proofs.Rewriting.{current_second, form_stays, rewritten_cards, rewritten_stands}
 use Rattle.layout.proofs.SeatLaws.{spare_seats}
 use Rattle.model_tree.specs.declared.limits.Limits.{Limits}
@@ -31,12 +32,12 @@ use Rattle.model_tree.specs.Trees.Tree.{Tree}
 use Rattle.volume.specs.SeatTransactions.{AreUpdates}
 use Rattle.seats.specs.Spelling.{ArePlaces, seat_sector, seats_sector}
 use Rattle.volume.specs.Changes.{Done, Broken, IsSeats, VolumeChanges, ending_of}
-use Rattle.volume.specs.VolumeState.{VolumeState, Holds, IsRecent, IsSameVolume, MakesAtMost, MayAdd, StandsForOne, AddsTrees, with_tree}
+use Rattle.volume.specs.VolumeState.{VolumeState, Holds, IsRecent, IsSameVolume, MakesAtMost, MayAdd, StandsForOne, AddsKept, kept_of}
 use Rattle.volume.specs.Known.{IsServing, kept_in_image}
 use Rattle.volume.specs.Refusals.{fault_of}
 use Rattle.volume.specs.Stands.{VolumeStands}
 use Rattle.volume.specs.Views.{volume_state_by}
-use Rattle.volume.proofs.ApplyLaws.{StandsWith, listed_with, moved_seats, moved_serves, moved_tree, stands_after, then_seats, then_serves, then_tree}
+use Rattle.volume.proofs.ApplyLaws.{StandsWith, listed_with, moved_kept, moved_serves, stands_after, then_kept, then_serves}
 use Rattle.volume.proofs.ChangeLaws.{StandsWith-prop}
 use Rattle.volume.proofs.FrontLaws.{front_among}
 use Rattle.volume.proofs.KeepLaws.{counted_later, few_with_flush}
@@ -161,22 +162,18 @@ module _ (keeps_word : Type 0) (limits : Limits) (run : ℕ) (cards : List (Opti
   goes k = let moved = has.moved k in record { count = moved.count; within = moved.within; base = moved.base; list = moved.list }
 
   listed : keeps_word → ∥ IsServing between limits.nodes run cards ∥₁
-  listed k = then_serves limits.nodes run cards cards old updates after (behind k) (serves k)
+  listed k = then_serves limits run cards cards old updates after (behind k) (serves k)
 
   mid_serves : keeps_word → ∥ IsServing mid limits.nodes run cards ∥₁
   mid_serves k = moved_serves limits run cards between mid placed safe.area safe.size (goes k) (safe.settled k up) (listed k)
 
-  mid_tree : keeps_word → tree_of (contents mid) cards ≡ before.tree
-  mid_tree k = moved_tree limits run cards between mid placed safe.area safe.size (goes k) (safe.settled k up) (listed k)
-      ∙ then_tree limits.nodes run cards cards old updates after (behind k) (serves k)
-
-  mid_seats : keeps_word → seats_at (contents mid) ≡ seats
-  mid_seats k = moved_seats limits run cards between mid placed safe.area safe.size (goes k) (safe.settled k up) (listed k)
-      ∙ then_seats limits.nodes run cards cards old updates after (behind k) (serves k)
+  mid_kept : keeps_word → kept_of (volume_state_by limits run cards mid) ≡ after
+  mid_kept k = moved_kept limits run cards between mid placed safe.area safe.size (goes k) (safe.settled k up) (listed k)
+      ∙ then_kept limits run cards cards old updates after (behind k) (serves k)
 
   -- each front of the list with the transaction stands for what a crash may leave, and all of it for the edited seats
-  front_stands : keeps_word → (recent : List Tree) → IsRecent before recent → (count : ℕ) → count ≤ length all
-      → (kept : Kept) × MayAdd before recent after kept × ∥ VolumeStands old.size limits.nodes (applied_all (take count all) old.base) run kept ∥₁
+  front_stands : keeps_word → (recent : List Kept) → IsRecent before recent → (count : ℕ) → count ≤ length all
+      → (kept : Kept) × MayAdd recent after kept × ∥ VolumeStands old.size limits.nodes (applied_all (take count all) old.base) run kept ∥₁
   front_stands k recent ready count few = ⊎_elim
       (λ (whole : length old.list < count).
       let many : length all ≡ length old.list + 1 = length-append old.list (updates ∷ []) in
@@ -189,13 +186,13 @@ module _ (keeps_word : Type 0) (limits : Limits) (run : ℕ) (cards : List (Opti
       (λ (part : count ≤ length old.list).
       let same : take count all ≡ take count old.list = take-append-le count old.list (updates ∷ []) part in
       let covered = ready.covers (applied_all (take count old.list) old.base) (front_among old.base old.list count part) in (
-        with_tree before covered.0,
-        inl (covered.1, refl),
-        subst (λ (l : List (List Update)). ∥ VolumeStands old.size limits.nodes (applied_all l old.base) run (with_tree before covered.0) ∥₁) (sym same) covered.2,
+        covered.0,
+        inl covered.1,
+        subst (λ (l : List (List Update)). ∥ VolumeStands old.size limits.nodes (applied_all l old.base) run covered.0 ∥₁) (sym same) covered.2,
       ))
       (cases_lt (length old.list) count)
 
-  mid_front : keeps_word → (recent : List Tree) → IsRecent before recent → (image : Image) → StandsForFront mid.area mid.base mid.list image → StandsForOne before (MayAdd before recent after) image
+  mid_front : keeps_word → (recent : List Kept) → IsRecent before recent → (image : Image) → StandsForFront mid.area mid.base mid.list image → StandsForOne before (MayAdd recent after) image
   mid_front k recent ready image front =
       let at = applied_all (take front.count mid.list) mid.base in
       let there = front_moved all old mid (has.moved k) front.count front.within in
@@ -219,11 +216,11 @@ module _ (keeps_word : Type 0) (limits : Limits) (run : ℕ) (cards : List (Opti
     same_volume : IsSameVolume before now_held
     same_volume = record { sectors = flushes.size ∙ safe.size; limits = refl; run = refl }
 
-    moments : keeps_word → (kept : Kept) → kept ≡ after → AddsTrees before kept new.history
-    moments k kept is = subst (λ (of : Kept). AddsTrees before of new.history) (sym is) (λ recent ready.
-        AddsOnly-join (StandsForOne before (MayAdd before recent after)) old.history mid.history new.history
+    moments : keeps_word → (kept : Kept) → kept ≡ after → AddsKept before kept new.history
+    moments k kept is = subst (λ (of : Kept). AddsKept before of new.history) (sym is) (λ recent ready.
+        AddsOnly-join (StandsForOne before (MayAdd recent after)) old.history mid.history new.history
         (flush_adds limits run cards old mid after placed (safe.moments k) recent ready)
-        (AddsOnly-weaken (StandsForFront mid.area mid.base mid.list) (StandsForOne before (MayAdd before recent after)) mid.history new.history
+        (AddsOnly-weaken (StandsForFront mid.area mid.base mid.list) (StandsForOne before (MayAdd recent after)) mid.history new.history
         (mid_front k recent ready) (flushes.moments k)))
 
     brief : keeps_word → MakesAtMost 396 before now_held
@@ -239,24 +236,21 @@ module _ (keeps_word : Type 0) (limits : Limits) (run : ℕ) (cards : List (Opti
       brief = brief;
       ends = record {
         still_up = is_up;
-        seats = λ k kept lasts is. new_seats k ∙ sym (ap (λ (of : Kept). of.seats) is);
+        seats = λ k kept lasts is. ap (λ (of : Kept). of.seats) (new_kept k ∙ sym is);
         leaves = λ k kept lasts is recent ready. (
-          now_held.tree ∷ [],
+          kept_of now_held ∷ [],
           record {
             ready = holds k;
-            seats = new_seats k ∙ sym (ap (λ (of : Kept). of.seats) is);
-            no_others = λ one among. inr (among_one now_held.tree one among ∙ (new_tree k ∙ sym (ap (λ (of : Kept). of.tree) is)));
-            durable = λ durable one among. among_one now_held.tree one among ∙ (new_tree k ∙ sym (ap (λ (of : Kept). of.tree) is));
+            no_others = λ one among. inr (among_one (kept_of now_held) one among ∙ (new_kept k ∙ sym is));
+            durable = λ durable one among. among_one (kept_of now_held) one among ∙ (new_kept k ∙ sym is);
           },
         );
       };
     }
       where
-        new_tree : keeps_word → now_held.tree ≡ before.tree
-        new_tree k = flush_keeps keeps_word limits.nodes run cards mid new mid_placed flushed mid_serves k ∙ mid_tree k
-
-        new_seats : keeps_word → now_held.seats ≡ seats
-        new_seats k = flush_seats keeps_word limits.nodes run cards mid new mid_placed flushed mid_serves k ∙ mid_seats k
+        new_kept : keeps_word → kept_of now_held ≡ after
+        new_kept k = same_kept (kept_of now_held) (kept_of (volume_state_by limits run cards mid)) (flush_keeps keeps_word limits.nodes run cards mid new mid_placed flushed mid_serves k)
+            (flush_seats keeps_word limits.nodes run cards mid new mid_placed flushed mid_serves k) ∙ mid_kept k
 
         holds : keeps_word → Holds now_held
         holds k = holds_base limits run cards new flushed.emptied
@@ -268,7 +262,7 @@ module _ (keeps_word : Type 0) (limits : Limits) (run : ℕ) (cards : List (Opti
     seated_serves k is_up same = ∥∥₁_elim (mid_serves k) ∥∥₁_prop (still_serving limits.nodes run cards mid new (same_placed mid.area mid.size _ _ mid_placed same) flushes.size (flushes.settled k is_up))
 
     pub seated_tree : keeps_word → HasFlushed keeps_word mid new → now_held.tree ≡ before.tree
-    seated_tree k flushed = flush_keeps keeps_word limits.nodes run cards mid new mid_placed flushed mid_serves k ∙ mid_tree k
+    seated_tree k flushed = flush_keeps keeps_word limits.nodes run cards mid new mid_placed flushed mid_serves k ∙ ap (λ (of : Kept). of.tree) (mid_kept k)
 
     seated_broken : new.is_down ≡ true → IsCounted middle last → VolumeChanges keeps_word (IsSeats before seats) before now_held first last Broken
     seated_broken down counted = record {

@@ -24,7 +24,7 @@ use Rattle.journal.specs.declared.fault.JournalFault.{JournalFault}
 use Rattle.journal.specs.declared.fault.JournalFault.TheVariants as faults
 use Rattle.volume.specs.Changes.{Given, Done, Nothing, Broken, IsTree, VolumeChanges, ending_of}
 use Rattle.volume.specs.Refusals.{fault_of}
-use Rattle.volume.specs.VolumeState.{VolumeState, IsSameVolume, Holds, MayAdd, StandsForOne, AddsTrees, fronts_from, with_tree}
+use Rattle.volume.specs.VolumeState.{VolumeState, IsSameVolume, Holds, MayAdd, StandsForOne, AddsKept, fronts_from, kept_of}
 use Rattle.volume.specs.Known.{IsServing, kept_in_image}
 use Rattle.volume.specs.Stands.{VolumeStands}
 use Rattle.volume.specs.Views.{volume_state_by}
@@ -81,15 +81,15 @@ pub flush_seats : (keeps_word : Type 0) (nodes run : ℕ) (cards : List (Option 
 flush_seats keeps_word nodes run cards old new placed flushed serves k =
     ∥∥₁_elim (serves k) (Seats-set (seats_at (contents new)) (seats_at (contents old))) (seats_stay nodes run cards old new (same_placed old.area old.size _ _ placed (flushed.contents k)))
 
--- what a flush adds to what a crash may leave are trees that it may leave already
+-- what a flush adds to what a crash may leave, it may leave already
 pub flush_adds : (limits : Limits) (run : ℕ) (cards : List (Option CachedNode)) (old new : Log) (after : Kept) → old.area ≡ in_front old.size → AddsFronts old new
-    → AddsTrees (volume_state_by limits run cards old) after new.history
+    → AddsKept (volume_state_by limits run cards old) after new.history
 flush_adds limits run cards old new after placed adds recent is = AddsOnly-weaken
-    (StandsForFront old.area old.base old.list) (StandsForOne (volume_state_by limits run cards old) (MayAdd (volume_state_by limits run cards old) recent after)) old.history new.history
+    (StandsForFront old.area old.base old.list) (StandsForOne (volume_state_by limits run cards old) (MayAdd recent after)) old.history new.history
     (λ image front.
     let covered = is.covers (applied_all (take front.count old.list) old.base) (front_among old.base old.list front.count front.within) in (
-      with_tree (volume_state_by limits run cards old) covered.0,
-      inl (covered.1, refl),
+      covered.0,
+      inl covered.1,
       ∥∥₁_map covered.2 (λ stands. record { base = applied_all (take front.count old.list) old.base; settles = settles_placed old.area old.size image (applied_all (take front.count old.list) old.base) placed front.settles; stands = stands }),
     ))
     adds
@@ -112,11 +112,11 @@ holds_base limits run cards log listed stands placed settled =
     record {
       leaves = λ image left. (
         kept,
-        ((0, (omega arith, refl)), refl),
+        (0, (omega arith, refl)),
         ∥∥₁_map here (λ is. record { base = log.base; settles = settles_placed log.area log.size image log.base placed (settled image left); stands = is }),
       );
       covers = λ front among. (
-        kept.tree,
+        kept,
         (0, (omega arith, refl)),
         subst (λ (i : Image). ∥ VolumeStands log.size limits.nodes i run kept ∥₁) (sym (among_one log.base front (subst (λ (l : List Image). IsAmong l front) only among))) here,
       );
@@ -162,21 +162,21 @@ module _ (keeps_word : Type 0) (limits : Limits) (run : ℕ) (cards : List (Opti
       brief = λ k. few_for_call (moment old.history) (moment new.history) (few_in_front old.area old.size (moment old.history) (moment new.history) placed (safe.brief k));
       ends = record {
         still_up = false_from_ne_true;
-        seats = λ k after lasts given. flush_seats keeps_word limits.nodes run cards old new placed flushed serves k ∙ sym (ap (λ (kept : Kept). kept.seats) given);
+        seats = λ k after lasts given. ap (λ (kept : Kept). kept.seats) (kept k ∙ sym given);
         leaves = λ k after lasts given recent ready. (
-          is.tree ∷ [],
+          kept_of is ∷ [],
           record {
             ready = holds k;
-            seats = flush_seats keeps_word limits.nodes run cards old new placed flushed serves k ∙ sym (ap (λ (kept : Kept). kept.seats) given);
-            no_others = λ one among. inr (among_one is.tree one among ∙ kept k ∙ sym (ap (λ (kept : Kept). kept.tree) given));
-            durable = λ durable one among. among_one is.tree one among ∙ kept k ∙ sym (ap (λ (kept : Kept). kept.tree) given);
+            no_others = λ one among. inr (among_one (kept_of is) one among ∙ (kept k ∙ sym given));
+            durable = λ durable one among. among_one (kept_of is) one among ∙ (kept k ∙ sym given);
           },
         );
       };
     }
       where
-        kept : keeps_word → is.tree ≡ was.tree
-        kept = flush_keeps keeps_word limits.nodes run cards old new placed flushed serves
+        kept : keeps_word → kept_of is ≡ kept_of was
+        kept k = same_kept (kept_of is) (kept_of was) (flush_keeps keeps_word limits.nodes run cards old new placed flushed serves k)
+            (flush_seats keeps_word limits.nodes run cards old new placed flushed serves k)
 
         holds : keeps_word → Holds is
         holds k = holds_base limits run cards new flushed.emptied

@@ -8,7 +8,7 @@ use Rattle.model_tree.specs.Seats.Seats.{Seats}
 use Rattle.model_tree.specs.Trees.Tree.{Tree}
 use Rattle.volume.specs.declared.fault.VolumeFault.{VolumeFault}
 use Rattle.volume.specs.declared.fault.VolumeFault.TheVariants as fault
-use Rattle.volume.specs.VolumeState.{VolumeState, IsSameVolume, IsRecent, AddsTrees, MakesAtMost}
+use Rattle.volume.specs.VolumeState.{VolumeState, IsSameVolume, IsRecent, AddsKept, MakesAtMost}
 use Rattle.volume.specs.VolumeState.{kept_of, with_tree}
 use Rattle.volume.specs.Shown.{ShowsAs}
 
@@ -25,18 +25,18 @@ ending_of (Err fault.Memory) = Nothing
 ending_of (Err fault.Device) = Broken
 ending_of (Err fault.Down) = Nothing
 
--- What the definition says of a call: what is kept after it, a tree and the seats, and whether what
--- it did to the tree has to last. A change that may be lost until a later one, as an unstable
--- write, is one that does not. Seats always last.
+-- What the definition says of a call: what is kept after it, a tree and the seats, and whether that
+-- has to last. A change that may be lost until a later one, as an unstable write, is one that does
+-- not.
 abbrev pub Given : Type 1
 Given = (after : Kept) → (lasts : Bool) → Type 0
 
--- that it is this tree, and the seats as they were. It says nothing of `lasts`, so the tree has to
--- last; a relation that says false lets it be lost.
+-- that it is this tree, and the seats as they were. It says nothing of `lasts`, so it has to last;
+-- a relation that says false lets it be lost.
 abbrev pub IsTree : VolumeState → Tree → Given
 IsTree held tree after lasts = after ≡ with_tree held tree
 
--- that it is the tree as it was, with these seats
+-- that it is the tree as it was, with these seats, and has to last
 abbrev pub IsSeats : VolumeState → Seats → Given
 IsSeats held seats after lasts = after ≡ record { tree = held.tree; seats = seats }
 
@@ -44,26 +44,25 @@ IsSeats held seats after lasts = after ≡ record { tree = held.tree; seats = se
 abbrev pub Stays : VolumeState → Given
 Stays held after lasts = (after ≡ kept_of held) × (lasts ≡ false)
 
--- a crash after the call leaves these trees: of those before and the one after it, and of what has
--- to last that one alone; and the seats after it
-pub record LeavesOnCrash (new : VolumeState) (after : Kept) (lasts : Bool) (recent left : List Tree)
+-- a crash after the call leaves one of these: each is from before, or what is kept after it; if
+-- that has to last, nothing from before
+pub record LeavesOnCrash (new : VolumeState) (after : Kept) (lasts : Bool) (recent left : List Kept)
     : Type 0 where
   pub ready : IsRecent new left
-  pub seats : new.seats ≡ after.seats
-  pub no_others : (tree : Tree) → IsAmong left tree → IsAmong recent tree ⊎ (tree ≡ after.tree)
-  pub durable : lasts ≡ true → (tree : Tree) → IsAmong left tree → tree ≡ after.tree
+  pub no_others : (kept : Kept) → IsAmong left kept → IsAmong recent kept ⊎ (kept ≡ after)
+  pub durable : lasts ≡ true → (kept : Kept) → IsAmong left kept → kept ≡ after
 
--- whichever trees a crash may leave before it
-abbrev pub LeavesTrees : (old new : VolumeState) → (after : Kept) → (lasts : Bool) → Type 0
-LeavesTrees old new after lasts = (recent : List Tree) → IsRecent old recent
-    → (left : List Tree) × LeavesOnCrash new after lasts recent left
+-- whatever a crash may leave before it
+abbrev pub LeavesKept : (old new : VolumeState) → (after : Kept) → (lasts : Bool) → Type 0
+LeavesKept old new after lasts = (recent : List Kept) → IsRecent old recent
+    → (left : List Kept) × LeavesOnCrash new after lasts recent left
 
 pub record HasAnswered (keeps_word : Type 0) (given : Given) (old new : VolumeState) : Type 0 where
   pub still_up : new.is_down ≡ false
   pub seats : keeps_word → (after : Kept) (lasts : Bool) → given after lasts
       → new.seats ≡ after.seats
   pub leaves : keeps_word → (after : Kept) (lasts : Bool) → given after lasts
-      → LeavesTrees old new after lasts
+      → LeavesKept old new after lasts
 
 -- it is down, and the device counted a failure; and on any device it shows what it showed before
 -- the call, or the tree after it
@@ -87,9 +86,9 @@ pub record VolumeChanges (keeps_word : Type 0) (given : Given) (old new : Volume
   pub later : failed_before ≤ failed_after
   -- whatever failed in it is told
   pub none : (ending ≡ Broken → ⊥) → failed_after ≡ failed_before
-  -- at each moment of it a crash leaves a tree from before, or what is kept after it
+  -- at each moment of it a crash leaves something from before, or what is kept after it
   pub moments : keeps_word → (after : Kept) (lasts : Bool) → given after lasts
-      → AddsTrees old after new.history
+      → AddsKept old after new.history
   -- It makes at most 396 writes and syncs, however it ends: a flush makes at most 198, since it may
   -- copy the log home first, and a call flushes at most twice.
   pub brief : keeps_word → MakesAtMost 396 old new

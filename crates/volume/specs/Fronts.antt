@@ -4,8 +4,7 @@ use Rattle.disk.specs.Moments.{History, AddsOnly, applied}
 use Rattle.journal.specs.Layout.{in_front}
 use Rattle.journal.specs.Log.{Log, StandsForFront, applied_all}
 use Rattle.layout.specs.Stands.{Kept}
-use Rattle.model_tree.specs.Trees.Tree.{Tree}
-use Rattle.volume.specs.VolumeState.{VolumeState, IsRecent, AddsTrees, fronts_from, with_tree}
+use Rattle.volume.specs.VolumeState.{VolumeState, IsRecent, AddsKept, fronts_from}
 use Rattle.volume.specs.Stands.{VolumeStands}
 
 pub record IsOver (held : VolumeState) (log : Log) : Type 0 where
@@ -25,14 +24,15 @@ KeepsFronts =
     → IsOver held log
     → StandsUpdated held log updates after
     → AddsOnly (StandsForFront log.area log.base (log.list ++ updates ∷ [])) log.history new
-    → AddsTrees held after new
+    → AddsKept held after new
 
 abbrev pub AppliedRecent : Type 0
-AppliedRecent = (held : VolumeState) (log : Log) (updates : List Update) (after : Tree)
-    (recent : List Tree) → IsOver held log
-    → StandsUpdated held log updates (with_tree held after)
+AppliedRecent = (held : VolumeState) (log : Log) (updates : List Update) (after : Kept)
+    (recent : List Kept) → IsOver held log
+    → StandsUpdated held log updates after
     → IsRecent held recent
     → IsRecent (record held {
-      tree = after;
+      tree = after.tree;
+      seats = after.seats;
       fronts = fronts_from log.base (log.list ++ updates ∷ []);
     }) (after ∷ recent)

@@ -56,27 +56,23 @@ abbrev pub StandsForOne : VolumeState → (Kept → Type 0) → Image → Type 0
 StandsForOne held may image = (kept : Kept) × may kept
     × StandsFor held.sectors held.limits.nodes held.run kept image
 
--- one of these trees, with the volume's seats: what of these was changed is flushed
-abbrev pub IsLeft : VolumeState → List Tree → Kept → Type 0
-IsLeft held recent kept = IsAmong recent kept.tree × (kept.seats ≡ held.seats)
-
--- each map that a crash leaves now stands for one of these trees
-abbrev pub LeavesOne : VolumeState → List Tree → Type 0
+-- each map that a crash leaves now stands for one of these
+abbrev pub LeavesOne : VolumeState → List Kept → Type 0
 LeavesOne held recent =
-    (image : Image) → Left held.history.now image → StandsForOne held (IsLeft held recent) image
+    (image : Image) → Left held.history.now image → StandsForOne held (IsAmong recent) image
 
--- The trees that a crash may leave, now and within a flush: those of its fronts. The one in memory
--- is among them.
-pub record IsRecent (held : VolumeState) (recent : List Tree) : Type 0 where
+-- What a crash may leave, now and within a flush, each a tree with the seats beside it: what its
+-- fronts stand for. What is in memory is among them.
+pub record IsRecent (held : VolumeState) (recent : List Kept) : Type 0 where
   pub leaves : LeavesOne held recent
   pub covers : (front : Image) → IsAmong held.fronts front
-      → (tree : Tree) × IsAmong recent tree
-      × ∥ VolumeStands held.sectors held.limits.nodes front held.run (with_tree held tree) ∥₁
-  pub newest : IsAmong recent held.tree
+      → (kept : Kept) × IsAmong recent kept
+      × ∥ VolumeStands held.sectors held.limits.nodes front held.run kept ∥₁
+  pub newest : IsAmong recent (kept_of held)
 
--- whichever trees a crash might leave before, it may leave now, and no others
+-- whatever a crash might leave before, it may leave now, and nothing else
 abbrev pub KeepsRecent : (old new : VolumeState) → Type 0
-KeepsRecent old new = (recent : List Tree) → IsRecent old recent → IsRecent new recent
+KeepsRecent old new = (recent : List Kept) → IsRecent old recent → IsRecent new recent
 
 -- so many writes and syncs were done at most
 abbrev pub MakesAtMost : ℕ → (old new : VolumeState) → Type 0
@@ -88,15 +84,15 @@ LeavesCurrent held = (image : Image) → Left held.history.now image
     → ∥ ((base : Image) × Settles (in_front held.sectors) image base
     × StandsNow held.sectors held.limits.nodes base held.run (kept_of held)) ∥₁
 
--- a crash leaves the tree in memory
+-- a crash leaves what is in memory
 abbrev pub Holds : VolumeState → Type 0
-Holds held = IsRecent held (held.tree ∷ [])
+Holds held = IsRecent held (kept_of held ∷ [])
 
-abbrev pub MayAdd : VolumeState → List Tree → (after : Kept) → Kept → Type 0
-MayAdd held recent after kept = IsLeft held recent kept ⊎ (kept ≡ after)
+abbrev pub MayAdd : (recent : List Kept) → (after : Kept) → Kept → Type 0
+MayAdd recent after kept = IsAmong recent kept ⊎ (kept ≡ after)
 
--- at every moment since, a map left is one left before, or stands for one of the trees before or
+-- at every moment since, a map left is one left before, or stands for what might be left before or
 -- for what is kept after the change
-abbrev pub AddsTrees : VolumeState → (after : Kept) → History → Type 0
-AddsTrees held after new = (recent : List Tree) → IsRecent held recent
-    → AddsOnly (StandsForOne held (MayAdd held recent after)) held.history new
+abbrev pub AddsKept : VolumeState → (after : Kept) → History → Type 0
+AddsKept held after new = (recent : List Kept) → IsRecent held recent
+    → AddsOnly (StandsForOne held (MayAdd recent after)) held.history new

@@ -12,7 +12,6 @@ use Rattle.server.proofs.Refusals.{told_by, begins_on, runs_on, hang_up_refused}
 use Rattle.server.specs.Views.{world_of, volume_of, waits_of, server_failures, seen_with}
 use Rattle.server.proofs.HangUps.{turned_on, once_on, fewer_left}
 use Rattle.server.proofs.Moves.{does_quietly, same_seen}
-use Rattle.server.proofs.Pairs.{recent_beside}
 use Rattle.server.proofs.SlabLaws.{stands_none, without_slot, absent, present, removed_count}
 use Rattle.server.proofs.Worlds.{AllOfRun, all_of_run_without, hung_up, may_be}
 use Rattle.server.proofs.server.Server.hangup.Goals as goal
@@ -64,7 +63,7 @@ loop-self-preserved g c =
             does.0,
             turned_on c.args.conn c.args.now (seen_with old recent) (seen_with mid was.0) (seen_with new does.0) _ was.1 busy does.1,
             once_on c.args.conn c.args.now (seen_with old recent) (seen_with mid was.0) (seen_with new does.0) _ was.1 busy does.1 was.2 does.2,
-            recent_beside (volume_of new) (volume_of new).seats does.0 does.1.ready,
+            does.1.ready,
           );
       later = omega (arith, inv.later, c.turn.ensures.device.later);
       waits = c.turn.ensures.waits ∙ inv.waits;

@@ -1,4 +1,5 @@
 use Rattle.std.proofs.Common.{◌≡◌, ℕ, Some, true, inl, inr, refl, sym, ap, ap₂, ◌∙◌, subst, arith}
+use Rattle.std.specs.Prelude.{map}
 use Rattle.compound.specs.declared.fault.Fault.TheVariants as turns
 use Rattle.slab.specs.Slab.{with_value}
 use Rattle.compound.specs.States.{shared, shared_of}
@@ -11,16 +12,16 @@ use Rattle.session.specs.Views.{table_of}
 use Rattle.server.specs.Connections.{connections_of, connection_view}
 use Rattle.server.specs.Faults.{turn_fault}
 use Rattle.server.specs.declared.fault.ServerFault.TheVariants as faults
-use Rattle.server.specs.Seen.{Turned}
-use Rattle.server.specs.Views.{world_of, volume_of, waits_of, files_of, server_failures, world_by, beside}
+use Rattle.server.specs.Seen.{Turned, kept_by, left_of}
+use Rattle.server.specs.Views.{world_of, volume_of, waits_of, files_of, server_failures, world_by}
 use Rattle.compound.proofs.QuietLaws.{left_all, broken≢done}
 use Rattle.model_tree.proofs.Trees.KeyedLaws.{at-with_other}
 use Rattle.model_tree.specs.Trees.Keyed.{at}
 use Rattle.server.proofs.Moves.{broken_leaves, leaves_now}
-use Rattle.server.proofs.Pairs.{ready_beside}
+use Rattle.server.proofs.Pairs.{recent_left}
 use Rattle.server.proofs.Refusals.{told_by, device_told, turn_refused}
 use Rattle.server.proofs.SlabLaws.{stands, stands_none, wrote, wrote_count, rewrote, numbers_rise}
-use Rattle.server.proofs.ServedTurns.{turned, turn_of, undone, broken, gone_on_at, gives_deferred, gives_waiting, turning_moments}
+use Rattle.server.proofs.ServedTurns.{turned, turn_of, undone, broken, gone_on_at, gives_deferred, gives_waiting, ready_turned, turning_moments}
 use Rattle.server.proofs.Worlds.{may_be, AllOfRun, all_of_run_with, happened_leaving, failed_from}
 use Rattle.server.proofs.server.Server.take_turn.Goals as goal
 
@@ -103,13 +104,13 @@ returns-in_err-turn-clause-fails g c =
     λ recent ready. (
       _,
       record {
-        fails = failed_from _ _ (beside (fs_of s.fs).volume.seats recent) _ _ _ _ (runs.Turns c.args.conn c.args.now) up failed.volume_changes.ends.down
+        fails = failed_from _ _ recent _ _ _ _ (runs.Turns c.args.conn c.args.now) up failed.volume_changes.ends.down
             (broken (shared_of s.fs s.table s.opens) (shared_of c.turn.new.engine.fs.now c.turn.new.engine.table.now c.turn.new.engine.opens.now) (connections_of s.connections) _ volume.same (failed.no_count broken≢done)
             (ap₂ (shared (fs_of c.turn.new.engine.fs.now)) back.1.0 back.1.1) (rewrote s.connections c.args.conn before after c.in-Some.ensures.value back.0) (fs_of s.fs).volume.tree)
             (failed.lets_wait.undone broken≢done);
         moves = record {
-          moments = turning_moments (shared_of s.fs s.table s.opens) (connections_of s.connections) c.args.conn c.args.now recent _ ready up adds;
-          leaves = broken_leaves (fs_of s.fs).volume (fs_of c.turn.new.engine.fs.now).volume left recent ready adds volume.same;
+          moments = turning_moments (shared_of s.fs s.table s.opens) (connections_of s.connections) c.args.conn c.args.now recent _ ready.recent up adds;
+          leaves = broken_leaves (fs_of s.fs).volume (fs_of c.turn.new.engine.fs.now).volume left recent ready.recent adds volume.same;
           same = volume.same;
           brief = volume.brief keeps;
         };
@@ -170,21 +171,20 @@ returns-clause-ok g c =
     let made = turned (shared_of s.fs s.table s.opens) (shared_of c.turn.new.engine.fs.now c.turn.new.engine.table.now c.turn.new.engine.opens.now) (connections_of s.connections) _ c.args.conn c.args.now
     (connection_view before) (connection_view after) (wrote s.connections c.args.conn before after c.in-Some.ensures.value) c.in_ok-turn.field-0
     ((rw c.in_ok-turn.was at c.turn.ensures.turn) keeps) (numbers_rise s.connections) there volume.same in
-    let agreed = c.turn.new.engine.agrees keeps volume.ends.still_up in
-    let left = volume.ends.leaves keeps _ _ gives recent ready in (
-      left.0,
+    let left = volume.ends.leaves keeps _ _ gives (map kept_by recent) ready.recent in (
+      map left_of left.0,
       record {
-        happens = happened_leaving (fs_of s.fs).volume (fs_of c.turn.new.engine.fs.now).volume _ _ recent left.0 _ _ _ _ (fs_of s.fs).defers (runs.Turns c.args.conn c.args.now) up volume.ends.still_up made.1
-            agreed.seats left.1 (may_be _ (runs.Turns c.args.conn c.args.now) tt) did.lets_wait.waits_on did.lets_wait.at_once
+        happens = happened_leaving (fs_of s.fs).volume (fs_of c.turn.new.engine.fs.now).volume _ _ recent left.0 ready.seated _ _ _ _ (fs_of s.fs).defers (runs.Turns c.args.conn c.args.now) up volume.ends.still_up made.1
+            left.1 (may_be _ (runs.Turns c.args.conn c.args.now) tt) did.lets_wait.waits_on did.lets_wait.at_once
             (gives_waiting (shared_of s.fs s.table s.opens) (connections_of s.connections) c.args.conn c.args.now (connection_view before) there _ (fs_of c.turn.new.engine.fs.now) did.lets_wait keeps);
         says = ap Turned made.0;
         moves = record {
-          moments = turning_moments (shared_of s.fs s.table s.opens) (connections_of s.connections) c.args.conn c.args.now recent _ ready up (volume.moments keeps _ _ gives);
-          leaves = leaves_now (fs_of c.turn.new.engine.fs.now).volume left.0 left.1.ready.leaves;
+          moments = turning_moments (shared_of s.fs s.table s.opens) (connections_of s.connections) c.args.conn c.args.now recent _ ready.recent up (volume.moments keeps _ _ gives);
+          leaves = leaves_now (fs_of c.turn.new.engine.fs.now).volume (map left_of left.0) (recent_left _ left.0 left.1.ready).leaves;
           same = volume.same;
           brief = volume.brief keeps;
         };
-        ready = ready_beside (fs_of c.turn.new.engine.fs.now).volume (fs_of c.turn.new.engine.fs.now).volume.seats left.0 left.1.ready;
+        ready = ready_turned (shared_of s.fs s.table s.opens) (connections_of s.connections) c.args.conn c.args.now recent (fs_of c.turn.new.engine.fs.now).volume left.0 ready up (volume.ends.seats keeps _ _ gives) left.1;
       },
       refl,
     )

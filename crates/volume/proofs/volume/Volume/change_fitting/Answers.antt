@@ -21,6 +21,7 @@ use Rattle.volume.specs.Formed.{IsFormed, ShowsTree}
 use Rattle.volume.specs.Known.{AreKnownNodes, IsServing}
 use Rattle.volume.specs.Refusals.{fault_of}
 use Rattle.volume.specs.Views.{volume_state_by, volume_state, volume_failures}
+use Rattle.volume.specs.VolumeState.{with_tree}
 use Rattle.volume.proofs.ApplyLaws.{applied_serves, applied_tree, apply_done, apply_refused}
 use Rattle.volume.proofs.ChangeLaws.{behind_serving, formed_after, journal_targets, known_after, log_same, may_settle, outline_after, parents_behind}
 use Rattle.volume.proofs.EditLaws.{front_room, outline_doable, outline_few}
@@ -94,7 +95,7 @@ returns-in_err-apply-clause-volume g c =
     let told = told_err c.from_residual-in_err-apply.result (fault_of fault) c.from_residual-in_err-apply.ensures.1 in
     let up : old.is_down ≡ false = sym c.is_down.ensures ∙ c.if-is_down.false in
     let short : length c.in_ok-outcome.outcome.updates.items ≤ 48 = omega (arith, c.requires.change.few, c.in_ok-outcome.ensures.done.count) in
-    rw told (apply_refused word volume.limits volume.run volume.table old new (edited_by (volume_state_by volume.limits volume.run volume.table old) c.args.edits.now) _ _ fault
+    rw told (apply_refused word volume.limits volume.run volume.table old new (with_tree (volume_state_by volume.limits volume.run volume.table old) (edited_by (volume_state_by volume.limits volume.run volume.table old) c.args.edits.now)) _ _ fault
     (subst (λ (log : Log). IsSafe word log new) same c.in_err-apply.ensures.safe) volume.placed up
     (λ many. (let bound = (c.in_err-apply.ensures.too_many (ap (λ (log : Log). log.is_down) same ∙ up)).0 (ap (λ x. Err x) many) in omega (arith, bound, short)))
     (subst (λ (log : Log). AnswersByDevice {T = Unit {0}} log new (journal_failures volume.store.journal) (journal_failures c.apply.new.self) (Err fault)) same
@@ -170,7 +171,7 @@ invariant_of-self-2 g c =
           (subst (λ (put : Option (ℕ × ℕ)). PutsParent c.settle.new.self volume.parents c.put_parent.new.parents put)
           c.put_by-put.ensures c.put_parent.ensures)));
       serves = λ k is_up. subst (λ (cards : List (Option CachedNode)). ∥ IsServing new nodes volume.run cards ∥₁) settled
-          (applied_serves word volume.limits volume.run volume.table (cards_after volume.table outcome) old new outcome.updates.items (edited_by held edits) 0 0
+          (applied_serves word volume.limits volume.run volume.table (cards_after volume.table outcome) old new outcome.updates.items (with_tree held (edited_by held edits)) 0 0
           safe volume.placed (omega arith) is_up has (λ kept. volume.serves kept up)
           (λ kept. behind_serving word kept nodes volume.run old volume.table volume.places edits outcome volume.known.are_cards.count comes
           (subst (λ l. IsFormed l (stamp (volume.run + 1) 0) (edited_by held edits)) volume.limited (c.requires.change.formed fit)) (volume.serves kept up)) k);
@@ -198,7 +199,7 @@ returns-clause-volume g c =
     c.requires.fitting in
     subst (λ (cards : List (Option CachedNode)). VolumeChanges word (IsEdited held edits) held (volume_state_by volume.limits volume.run cards new) (journal_failures volume.store.journal) (journal_failures c.apply.new.self) Done)
     (sym c.settle.ensures)
-    (apply_done word volume.limits volume.run volume.table (cards_after volume.table outcome) old new outcome.updates.items (edited_by held edits)
+    (apply_done word volume.limits volume.run volume.table (cards_after volume.table outcome) old new outcome.updates.items (with_tree held (edited_by held edits))
     (journal_failures volume.store.journal) (journal_failures c.apply.new.self) safe volume.placed (let later = c.in_ok-apply.ensures.answers.later in omega (arith, later, failed))
     (c.in_ok-apply.ensures.answers.stays_up (ap (λ (log : Log). log.is_down) same ∙ up) (λ fault. cc)) has (λ kept. volume.serves kept up)
     (λ kept. behind_serving word kept nodes volume.run old volume.table volume.places edits outcome volume.known.are_cards.count c.in_ok-outcome.ensures.done
@@ -228,7 +229,7 @@ returns-clause-shows g c =
     (sym c.settle.ensures)
     (record {
       outline = outline_after word volume.limits volume.run old volume.table volume.places edits outcome c.requires.change volume.known c.in_ok-outcome.ensures.done (contents new);
-      tree_is = λ k. applied_tree word volume.limits volume.run volume.table (cards_after volume.table outcome) old new outcome.updates.items (edited_by held edits) 0 0
+      tree_is = λ k. applied_tree word volume.limits volume.run volume.table (cards_after volume.table outcome) old new outcome.updates.items (with_tree held (edited_by held edits)) 0 0
           safe volume.placed (omega arith) (c.in_ok-apply.ensures.answers.stays_up (ap (λ (log : Log). log.is_down) same ∙ up) (λ fault. cc)) has (λ kept. volume.serves kept up)
           (λ kept. behind_serving word kept nodes volume.run old volume.table volume.places edits outcome volume.known.are_cards.count c.in_ok-outcome.ensures.done
           (subst (λ l. IsFormed l (stamp (volume.run + 1) 0) (edited_by held edits)) volume.limited (c.requires.change.formed fit)) (volume.serves kept up)) k;
