@@ -40,6 +40,10 @@ IsTree held tree after lasts = after ≡ with_tree held tree
 abbrev pub IsSeats : VolumeState → Seats → Given
 IsSeats held seats after lasts = after ≡ record { tree = held.tree; seats = seats }
 
+-- the same tree with these seats, which a crash may lose until the next flush
+abbrev pub IsReseated : VolumeState → Seats → Given
+IsReseated held seats after lasts = IsSeats held seats after lasts × (lasts ≡ false)
+
 -- that it is as it was, and that nothing has to last that did not before
 abbrev pub Stays : VolumeState → Given
 Stays held after lasts = (after ≡ kept_of held) × (lasts ≡ false)
