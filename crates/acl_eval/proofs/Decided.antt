@@ -1,4 +1,4 @@
--- What the entries from some place on decide of the rights that those before it left undecided.
+-- What the entries from a place on decide about the rights that those before it left undecided.
 use Rattle.std.proofs.Common.{◌≡◌, ◌≢◌, ◌∙◌, sym, ap, refl, ⊎_elim, ℕ, zero, suc, ◌+◌, ◌-◌, ◌*◌, ◌^◌, ◌<◌, ◌≤◌, ◌==◌, Bool, true, false, cond, ◌&&◌, ◌||◌, not, List, [], ◌∷◌, filter, map, min, Option, Some, arith, bit_and}
 use Rattle.std.specs.List.{list_all, range_with_len}
 use Rattle.std.specs.Int.{bit_at}
@@ -38,7 +38,7 @@ meets_at a k (suc (suc n)) e h = absurd (omega arith)
 pub meets-pow : (a k : ℕ) → meets a (2 ^ k) ≡ (bit_at a k == 1)
 meets-pow a k = meets_at a k (bit_at a k) refl (bit_at-lt a k)
 
--- the values of two bits, and of the one that is left
+-- a bit that is left when another is removed
 left_bit : (a b : ℕ) → a < 2 → b < 2 → (min a (1 - b) == 1) ≡ ((a == 1) && not (b == 1))
 left_bit zero zero h l = refl
 left_bit zero (suc zero) h l = refl
@@ -61,7 +61,7 @@ common_bit (suc zero) (suc zero) h l e = absurd (false≢true (sym e))
 common_bit (suc zero) (suc (suc b)) h l e = absurd (omega arith)
 common_bit (suc (suc a)) b h l e = absurd (omega arith)
 
--- words of which no bit is common have none in common
+-- words that share no bit have the conjunction 0
 and_from_bits : (a b : ℕ) → a < 2 ^ 32 → ((k : ℕ) → k < 32 → (meets a (2 ^ k) && meets b (2 ^ k)) ≡ false) → bit_and a b ≡ 0
 and_from_bits a b fits apart =
     let small = and_le_l a b in
@@ -206,7 +206,7 @@ same_test true false e = absurd (false≢true e)
 same_test false true e = absurd (false≢true e)
 same_test false false e = refl
 
--- no entry is left: nothing may be asked for any more
+-- if no entry is left, only the empty set of rights is allowed
 pub allow_all-nil : (is_matching : Who → Bool) (word : ℕ) → word < 2 ^ 32 → allow_all is_matching [] word ≡ (word == 0)
 unfolding first_of
 allow_all-nil is_matching word fits =
@@ -249,7 +249,7 @@ module _ (acl : List Ace) (owner group : ℕ) (cred : Cred) (mask : ℕ) where
   abbrev names : Who → Bool
   names name = matches name owner group cred
 
-  -- `grants`, asked of each right of the mask
+  -- `grants`, for each right of the mask
   abbrev grants_bit : ℕ → Bool
   grants_bit right = not (meets mask right) || (allows (first_of names acl right) || ((cred.uid == owner) && is_owners_right right))
 

@@ -8,7 +8,7 @@ use bitflags::Flags;
 pub use model_tree::acl::{Ace, AceFlags, AceKind, Acl, Cred, Gids, Mask, Who};
 pub use model_tree::node::NodeKind;
 
-// With these no list locks the owner out.
+// The owner always has these, so that no list locks it out.
 fn owners_rights() -> Mask
     ensures { result.0 ≡ read_acl + write_acl + write_attributes }
 {
@@ -17,7 +17,7 @@ fn owners_rights() -> Mask
         .union(Mask::WRITE_ATTRIBUTES)
 }
 
-// Whether an entry says something about the node itself, and of this caller.
+// Whether an entry applies to the node itself and to this caller.
 fn concerns(ace: &Ace, owner: u32, group: u32, cred: &Cred) -> bool
     ensures { result ≡ (counts ace.now && matches ace.now.who owner group cred.now) }
 {
@@ -27,9 +27,9 @@ fn concerns(ace: &Ace, owner: u32, group: u32, cred: &Cred) -> bool
 /// Whether a caller has all the rights of a mask on a node of this owner and group.
 ///
 /// Each right is decided by the first entry that counts, names it and matches the caller: it is
-/// granted where that entry is ALLOW, and denied where there is none. The owner may always read and
-/// write the list and write the attributes. No user is above the list, whatever its number. Takes
-/// no memory.
+/// granted if that entry is ALLOW, and denied if there is none. The owner may always read and write
+/// the list and write the attributes. No user is exempt from the list, whatever its number.
+/// Allocates no memory.
 pub fn granted(acl: &[Ace], owner: u32, group: u32, cred: &Cred, mask: Mask) -> bool
     ensures { result ≡ granted acl.now owner group cred.now mask.0 }
 {

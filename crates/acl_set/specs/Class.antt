@@ -1,4 +1,4 @@
--- Whose bits of a mode are asked for.
+-- Whose bits of a mode are meant.
 use Rattle.std.specs.Prelude.{Bool, ◌||◌}
 use Rattle.model_tree.specs.Rights.Mode.{is_owner, is_group, is_everyone}
 use Rattle.model_tree.specs.declared.acl.Who.{Who}

@@ -3,7 +3,7 @@
 use std::alloc::AllocError;
 use thiserror::Error;
 
-/// Why a call answers no list.
+/// Why a call returns no list.
 #[derive(Debug, Drop, Error)]
 pub enum AclFault {
     #[error("out of memory")]

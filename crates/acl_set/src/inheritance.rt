@@ -1,4 +1,4 @@
-//! What a new node gets of its directory's list.
+//! What a new node inherits from its directory's list.
 
 ghost use Rattle.std.specs.Prelude.{◌≡◌, ◌≤◌, true, not, position, MatchOption, IfOk, IsOkUnless};
 ghost use Rattle.std.specs.Option.{ForSome, option_copied};
@@ -12,14 +12,14 @@ use acl_eval::{Ace, AceFlags, Acl, NodeKind, Who};
 use bitflags::Flags;
 use std::alloc::Global;
 
-/// What a creation gave of the new node's attributes.
+/// The attributes given for a new node.
 #[derive(Clone, Copy)]
 pub struct Given<'a> {
-    /// No attribute was given. Looked at where neither a mode nor a list was.
+    /// No attribute was given. Ignored if a mode or a list was given.
     pub empty: bool,
     /// A mode of at most 0o777.
     pub mode: Option<u32>,
-    /// A list; a mode beside it is not looked at.
+    /// A list; a mode given with it is ignored.
     pub acl: Option<&'a [Ace]>,
 }
 
@@ -33,7 +33,7 @@ fn inheritance() -> AceFlags
         .union(AceFlags::INHERIT_ONLY)
 }
 
-// Whether a new node of this kind takes the entry.
+// Whether a new node of this kind inherits the entry.
 fn is_inherited(kind: NodeKind, ace: &Ace) -> bool
     ensures { result ≡ is_inherited_by kind ace.now }
 {
@@ -47,7 +47,7 @@ fn is_inherited(kind: NodeKind, ace: &Ace) -> bool
     }
 }
 
-// The flags that the new node takes it with.
+// The flags with which the new node inherits it.
 fn flags_inherited(kind: NodeKind, flags: AceFlags) -> AceFlags
     ensures { result.0 ≡ inherited_flags kind flags.0 }
 {
@@ -68,7 +68,7 @@ fn flags_inherited(kind: NodeKind, flags: AceFlags) -> AceFlags
 
 /// The list that a new node of a kind inherits from its directory's list (RFC 8881, section 6.4.3).
 ///
-/// Refused for want of memory alone.
+/// Fails only if memory runs out.
 pub fn inherit(alloc: Global, parent: &[Ace], kind: NodeKind) -> Result<Acl, AclFault>
     ensures list { IfOk result (λ list. list ≡ inherited parent.now kind) }
     ensures memory { IsOkUnless result AclFault.Memory }
@@ -100,7 +100,7 @@ pub fn are_flags_for(kind: NodeKind, flags: AceFlags) -> bool
     }
 }
 
-// A number has 32 bits by its type: this does nothing but say so.
+// A number has 32 bits by its type; this function only states it.
 fn tell_width(who: Who)
     ensures { has_width who ≡ true }
 {
@@ -126,12 +126,12 @@ fn first_unfit(kind: NodeKind, acl: &[Ace]) -> Option<usize>
     acl.iter().position(|ace| !is_entry_for(kind, ace))
 }
 
-/// The index of the first entry that a client may not set on a node of this kind: one of a right
-/// that there is not, one of flags that the kind may not have, or the 65th. Takes no memory.
+/// The index of the first entry that a client may not set on a node of this kind: one with an
+/// unknown right, one with flags that the kind may not have, or the 65th. Allocates no memory.
 ///
-/// A file's entries have no flags. A directory's have NO_PROPAGATE or INHERIT_ONLY only beside
-/// FILE_INHERIT or DIRECTORY_INHERIT, and no other flag than these four: that a number is a group's
-/// stands in the name.
+/// A file's entries have no flags. A directory's have NO_PROPAGATE or INHERIT_ONLY only together
+/// with FILE_INHERIT or DIRECTORY_INHERIT, and no flag other than these four: the name says whether
+/// a number is a group's.
 pub fn first_refused(kind: NodeKind, acl: &[Ace]) -> Option<usize>
     ensures { result ≡ first_refused most_set kind acl.now }
 {
@@ -141,11 +141,11 @@ pub fn first_refused(kind: NodeKind, acl: &[Ace]) -> Option<usize>
     (place < acl.len()).then_some(place)
 }
 
-/// The list of a new node: the one given, else the mode's over what is inherited, else what is
-/// inherited; and the empty one where no attribute was given.
+/// The list of a new node: the list given; else what setting the mode given makes of the inherited
+/// list; else the inherited list, or the empty list if no attribute was given.
 ///
-/// A given list is refused at its first entry that may not be set; nothing else is refused but for
-/// want of memory.
+/// A given list is refused at its first entry that may not be set; apart from that, the call fails
+/// only if memory runs out.
 pub fn at_creation(
     alloc: Global,
     parent: &[Ace],

@@ -1,7 +1,7 @@
 //! Access control lists as modes set them and as new nodes get them (RFC 8881, sections 6.3 and
 //! 6.4).
 //!
-//! Each call answers exactly what `model_tree`'s definitions give.
+//! Each call returns exactly what `model_tree`'s definitions give.
 #![tactic(auto)]
 
 pub use acl_eval::{Ace, AceFlags, AceKind, Acl, Mask, NodeKind, Who};

@@ -9,8 +9,8 @@ use acl_eval::{Ace, AceFlags, NodeKind};
 use bitflags::Flags;
 use model_tree::limits::Limits;
 
-// Whether the entry is what setting a mode replaces: of a special name, counting, and not handed
-// down.
+// Whether setting a mode replaces the entry: it is of a special name, it counts, and it is not
+// handed down.
 fn is_plain(ace: &Ace) -> bool
     ensures { result ≡ is_plain ace.now }
 {
@@ -27,7 +27,7 @@ fn are_entries_for(kind: NodeKind, acl: &[Ace]) -> bool
     acl.iter().all(|ace| is_entry_for(kind, ace))
 }
 
-// How many entries setting a mode leaves.
+// How many entries setting a mode keeps.
 fn count_set(acl: &[Ace]) -> usize
     ensures { result ≡ count_by (λ ace. not (is_plain ace)) acl.now }
 {
@@ -35,7 +35,7 @@ fn count_set(acl: &[Ace]) -> usize
 }
 
 /// Whether a node of this kind may have the list: it may have each entry, and neither all of them
-/// nor those that setting a mode leaves are more than the limits allow. Takes no memory.
+/// nor those that setting a mode keeps are more than the limits allow. Allocates no memory.
 #[tactic(auto, unfolding(model_tree::specs::Rights::Acl::is_list_for))]
 pub fn is_list_for(kind: NodeKind, acl: &[Ace], limits: &Limits) -> bool
     ensures { result ≡ is_list_for limits.now.aces_set limits.now.aces kind acl.now }

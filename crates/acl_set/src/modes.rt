@@ -10,10 +10,10 @@ use acl_eval::{Ace, AceFlags, AceKind, Acl, Mask, NodeKind, Who};
 use bitflags::Flags;
 use std::alloc::{AllocError, Global};
 
-/// The most that the nine bits of a mode are.
+/// The greatest value of the nine bits of a mode.
 pub const MAX_MODE: u32 = 0o777;
 
-// Whose three bits of a mode.
+// Whose three bits of a mode are meant.
 #[derive(Clone, Copy)]
 pub(crate) enum Class {
     Owner,
@@ -50,7 +50,7 @@ fn is_allow(kind: AceKind) -> bool
     matches!(kind, AceKind::Allow)
 }
 
-// Whether an entry decides a right for a class, where none before it does.
+// Whether an entry decides a right for a class, if none before it does.
 fn decides(ace: &Ace, class: Class, right: Mask) -> bool
     ensures { result ≡ ((counts ace.now && named_by class ace.now.who)
         && meets ace.now.mask.0 right.0) }
@@ -82,7 +82,7 @@ fn permissions_of(acl: &[Ace], class: Class) -> u32
     value_if(can_read, 4) + value_if(can_write, 2) + value_if(can_execute, 1)
 }
 
-/// The mode of a list: nine bits, at most 0o777 (RFC 8881, section 6.3.2). Takes no memory.
+/// The mode of a list: nine bits, at most 0o777 (RFC 8881, section 6.3.2). Allocates no memory.
 pub fn mode_of(acl: &[Ace]) -> u32
     ensures value { result ≡ mode_of acl.now }
     ensures nine_bits { result ≤ MAX_MODE }
@@ -126,7 +126,7 @@ fn entry(kind: AceKind, who: Who, mask: Mask) -> Ace
     }
 }
 
-// Puts an entry at the end of the list, unless it names no right.
+// Appends an entry to the list, unless it names no right.
 fn push_if_any(list: &mut Acl, ace: Ace) -> Result<(), AllocError>
     ensures { OnOk result (list.new ≡ list.old ++ filter has_rights (ace ∷ [])) }
 {
@@ -136,7 +136,7 @@ fn push_if_any(list: &mut Acl, ace: Ace) -> Result<(), AllocError>
     Ok(())
 }
 
-// What a mode allows and denies to a special name.
+// Appends what a mode allows and denies to a special name.
 fn push_special(list: &mut Acl, kind: NodeKind, who: Who, bits: u32) -> Result<(), AllocError>
     ensures { OnOk result (list.new ≡ list.old
         ++ filter has_rights (entry AceKind.Allow who (rights_of kind bits)
@@ -146,7 +146,7 @@ fn push_special(list: &mut Acl, kind: NodeKind, who: Who, bits: u32) -> Result<(
     push_if_any(list, entry(AceKind::Deny, who, rights_lacking(kind, bits)))
 }
 
-// An entry of a number, an ALLOW without the rights that the group lacks.
+// An entry for a number; an ALLOW entry loses the rights that the group lacks.
 fn limited(ace: &Ace, lacking: Mask) -> Ace
     ensures { result ≡ record ace.now {
       mask = record {
@@ -164,7 +164,7 @@ fn limited(ace: &Ace, lacking: Mask) -> Ace
     }
 }
 
-// Whether an entry says something about its own node and of a user or a group by number.
+// Whether an entry applies to its own node and is for a user or a group by number.
 fn is_of_number(ace: &Ace) -> bool
     ensures { result ≡ (counts ace.now && not (is_special ace.now.who)) }
 {
@@ -185,7 +185,7 @@ fn push_numbers(list: &mut Acl, kind: NodeKind, acl: &[Ace], mode: u32) -> Resul
     Ok(())
 }
 
-// Whether a list hands the entry down whatever the mode.
+// Whether an entry is handed down, whatever the mode.
 fn is_handed_down(ace: &Ace) -> bool
     ensures { result ≡ is_handed_down ace.now }
 {
@@ -216,11 +216,12 @@ fn push_handed_down(list: &mut Acl, acl: &[Ace]) -> Result<(), AllocError>
 
 /// The list that setting a mode makes of a node's list (within RFC 8881, section 6.4.1).
 ///
-/// The three special names get what the mode says. Entries of numbers stay, but an ALLOW loses each
-/// right of read, write and execute that the group's bits lack. What is handed down to new nodes
-/// stays and no longer counts on this one. An entry that names no right is left out.
+/// The three special names get what the mode says. Entries for numbers remain, but an ALLOW entry
+/// loses each right of read, write and execute that the group's bits lack. Entries that are handed
+/// down to new nodes remain, and no longer count on this one. An entry that names no right is left
+/// out.
 ///
-/// Refused for want of memory alone.
+/// Fails only if memory runs out.
 pub fn with_mode(alloc: Global, kind: NodeKind, acl: &[Ace], mode: u32) -> Result<Acl, AclFault>
     requires { mode ≤ MAX_MODE }
     ensures list { IfOk result (λ list. list ≡ moded kind acl.now mode) }

@@ -1,4 +1,4 @@
--- The tests of attributes, and the values that a node shows.
+-- The tests of attributes, and the values that a node has.
 pub mod Attribute
 pub mod AttributeValue
 pub mod AclText

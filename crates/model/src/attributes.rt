@@ -7,8 +7,8 @@ ghost use Rattle.model.specs.Attributes.Attribute.{GivenListsFit};
 ghost use Rattle.model.specs.Attributes.AttributeValue.{ReadsWhole, values};
 ghost use Rattle.model.specs.Attributes.NodeAttributes.{AnswersAsked, AnswersSupported};
 
-/// The values of any attributes are exact: so they have one spelling, and no spelling begins
-/// another.
+/// The values of any attributes are exact: so they have one encoding, and no encoding is a prefix
+/// of another.
 #[tactic(auto, using(crate::proofs::Wire::AttributeExact::values_exact, crate::proofs::Wire::AttributeExact::one_values))]
 pub fn values_are_exact()
     ensures exact { (attributes : List ℕ) → Exact (values attributes) }
@@ -16,8 +16,8 @@ pub fn values_are_exact()
     ensures whole { ReadsWhole }
 {}
 
-/// Numbers, names and entries are read exactly where they are written (RFC 8881, sections 5.9 and
-/// 6.2.1).
+/// Numbers, names and entries are read exactly from what is written for them (RFC 8881, sections
+/// 5.9 and 6.2.1).
 pub fn texts_are_exact()
     ensures numbers { ReadsNumbers }
     ensures names { ReadsNames }
@@ -35,8 +35,8 @@ pub fn each_has_a_value()
     ensures { AnswersSupported }
 {}
 
-/// The bitmap that a node answers tells the attributes whose values stand beside it: those that
-/// were asked and are supported.
+/// The bitmap that a node returns names the attributes whose values come with it: those that were
+/// asked for and are supported.
 pub fn answers_tell_their_attributes()
     ensures { AnswersAsked }
 {}

@@ -1,8 +1,8 @@
-//! Which replies the volume holds, so that they outlive a crash.
+//! Which replies the volume holds, so that they survive a crash.
 
 /// The replies to requests on persistent sessions that a seat of the session holds on the volume
-/// (RFC 8881, section 2.10.6.5). Every reply is kept in memory too, so within a run a retry gets the
-/// same bytes; after a crash a retry gets a held reply, or DEADSESSION.
+/// (RFC 8881, section 2.10.6.5). Every reply is kept in memory too, so within a run a retry gets
+/// the same bytes; after a crash a retry gets a held reply, or DEADSESSION.
 #[derive(Clone, Copy, PartialEq, Eq)]
 pub enum Holding {
     /// None: no session is persistent.

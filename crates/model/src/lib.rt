@@ -1,7 +1,7 @@
-//! The definitions of operations, sessions, RPC and the server, above those of trees (`model_tree`),
-//! which storage meets alone.
+//! The definitions of operations, sessions, RPC and the server, on top of those of trees
+//! (`model_tree`), which are the only ones that storage needs.
 //!
-//! `specs/` has one file a subject, each with the section of the public standard that it comes
+//! `specs/` has one file for each subject, with the section of the public standard that it comes
 //! from.
 #![tactic(auto)]
 

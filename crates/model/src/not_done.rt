@@ -1,4 +1,4 @@
-//! Why an operation is not done.
+//! Why an operation fails.
 
 ghost use Rattle.std.specs.Prelude.{◌≡◌};
 ghost use Rattle.model.specs.declared.not_done.NotDone.TheVariants as not_done;
@@ -7,10 +7,10 @@ use model_tree::status::Status;
 use std::alloc::{AllocError, AllocFailed};
 use thiserror::Error;
 
-/// Why an operation is not done: what it works on is as it was.
+/// Why an operation fails: what it works on is then unchanged.
 #[derive(Clone, Copy, Debug, PartialEq, Eq, Error)]
 pub enum NotDone {
-    /// What the operation answers.
+    /// What the operation returns.
     #[error("refused")]
     Status(Status),
     /// No memory is left.

@@ -11,7 +11,7 @@ pub fn every_cut()
     ensures { EveryCut }
 {}
 
-/// A record that is sent is read again, whatever follows it.
+/// A record that is sent is read back, whatever follows it.
 pub fn sent_is_read()
     ensures { SentIsRead }
 {}
@@ -28,8 +28,8 @@ pub fn only_sent()
     ensures { OnlySent }
 {}
 
-/// A record is read as a call exactly where it is the spelling of a call's header and the call's
-/// arguments after it; no header begins another (RFC 5531, section 9).
+/// A record is read as a call exactly if it is the encoding of a call's header, followed by the
+/// call's arguments; no header is a prefix of another (RFC 5531, section 9).
 pub fn calls_are_exact()
     ensures exact { Exact call_head }
     ensures one { OneSpelling call_head }
@@ -37,16 +37,17 @@ pub fn calls_are_exact()
     ensures credentials { ReadsCredentials }
 {}
 
-/// A record is read as a reply exactly where it is the reply's spelling; no header begins another.
+/// A record is read as a reply exactly if it is the reply's encoding; no header is a prefix of
+/// another.
 pub fn replies_are_exact()
     ensures exact { Exact reply_head }
     ensures one { OneSpelling reply_head }
     ensures read { ReadsReplies }
 {}
 
-/// The result of a COMPOUND is read exactly where it is spelled, and no spelling begins another;
-/// what the server makes of a request's results is such a spelling, at each moment of every run
-/// (RFC 8881, section 16.2.2).
+/// The result of a COMPOUND is read exactly from its encoding, and no encoding is a prefix of
+/// another; what the server makes of a request's results is such an encoding, at each moment of
+/// every run (RFC 8881, section 16.2.2).
 pub fn results_are_exact()
     ensures exact { Exact compound_result }
     ensures one { OneSpelling compound_result }
@@ -54,8 +55,8 @@ pub fn results_are_exact()
     ensures each { EveryRequestHasResults }
 {}
 
-/// A stream that is fed in pieces, each whole request let go before the next record begins, comes
-/// to the records of the bytes that were taken, in their order (RFC 5531, section 11).
+/// A stream that is fed in pieces, each whole request released before the next record begins, gives
+/// the records of the bytes that were taken, in their order (RFC 5531, section 11).
 pub fn every_feeding()
     ensures { EveryFeeding }
 {}

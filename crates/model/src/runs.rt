@@ -6,17 +6,17 @@ ghost use Rattle.model.specs.Sessions.SeatRuns.{EveryReplyIsHeld, EverySeatStays
 ghost use Rattle.model.specs.Server.ServedOnce.{EveryServedSlot};
 ghost use Rattle.model.specs.Sessions.StateIdRuns.{EveryOtherRunRefuses, EveryStateIdGoesOn, JoinsAreCounted};
 
-/// Whatever bytes arrive on whatever connections, and wherever the server crashes: the tree that
-/// a crash may leave is the one that a prefix of the executed operations gives. None of them is
-/// skipped and none is there in part; the prefix holds every change and COMMIT whose reply was
-/// handed out (an unstable write apart), and every change in it was permitted.
+/// Whatever bytes arrive on whatever connections, and whenever the server crashes: the tree that a
+/// crash may leave is the one that a prefix of the executed operations gives. None of them is
+/// skipped and none is there in part; the prefix has every change and COMMIT whose reply was handed
+/// out (apart from unstable writes), and every change in it was permitted.
 pub fn every_run()
     ensures { EveryRun }
 {}
 
 /// What the definitions rule out: a prefix that skips an unstable write, a reply before its change
 /// is kept, a change that is taken away and put back, a held reply without its change, a retry that
-/// runs again, a reply that is forgotten, a slot that takes another number than the next, a turn
+/// runs again, a reply that is forgotten, a slot that takes a number other than the next, a turn
 /// that runs more than one operation, and a hang-up that drops the rest of a request.
 pub fn ruled_out()
     ensures skip { NoSkip }
@@ -52,11 +52,11 @@ pub fn every_stamp()
     ensures { EveryStamp }
 {}
 
-/// From the moment on at which an OPEN is answered with a stateid, at each later moment of the run:
-/// its open stands as the OPENs that joined it since have made it, or it has ended and never comes
-/// back. The stateid names the open until one joins it, is OLD_STATEID after that until seqids
-/// begin again at 1, and BAD_STATEID for another client, on another file and once the open has
-/// ended; in every other run it is BAD_STATEID.
+/// From the moment on at which an OPEN returns a stateid, at each later moment of the run: its open
+/// is as the OPENs that joined it since have made it, or it has ended and never comes back. The
+/// stateid names the open until one joins it, is OLD_STATEID after that until seqids begin again at
+/// 1, and BAD_STATEID for another client, on another file and once the open has ended; in every
+/// other run it is BAD_STATEID.
 pub fn every_stateid_goes_on()
     ensures goes_on { EveryStateIdGoesOn }
     ensures joins { JoinsAreCounted }
@@ -64,9 +64,9 @@ pub fn every_stateid_goes_on()
 {}
 
 /// Exactly once over restarts, on sessions that have a seat, over any list of runs and crashes: a
-/// reply that was stored is held until the next of its slot is or its seat is freed, beside a tree
-/// that has what it names; a session of an earlier run is answered by what its seat holds, and runs
-/// nothing; so a slot runs a number again only after the 2^32 - 1 others.
+/// reply that was stored is held until the next of its slot is or its seat is freed, together with
+/// a tree that has what it names; a session of an earlier run is answered from what its seat holds,
+/// and runs nothing; so a slot runs a number again only after the 2^32 - 1 others.
 pub fn every_life()
     ensures held { EveryReplyIsHeld }
     ensures stays { EverySeatStays }

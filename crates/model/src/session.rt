@@ -29,15 +29,15 @@ pub fn kept_replies_are_short()
     ensures { KeepsShort }
 {}
 
-/// At each moment of every run of the server: a slot runs a request exactly where one connection is
+/// At each moment of every run of the server: a slot runs a request exactly if one connection is
 /// busy on it.
 pub fn every_running_slot()
     ensures { EveryRunningSlot }
 {}
 
-/// At each moment of every run of the server: each open and each session is of a client whose
-/// confirmed record stands, and a request that has begun runs in a session of its client. So no
-/// open outlives its client.
+/// At each moment of every run of the server: each open and each session is of a client that has a
+/// confirmed record, and a request that has begun runs in a session of its client. So no open
+/// outlives its client.
 pub fn every_open_has_client()
     ensures { EveryOpenHasClient }
 {}

@@ -1,4 +1,4 @@
-//! That the tree stays well formed and nobody is answered what he may not have, whatever happens.
+//! The tree stays well formed and nobody is given what he may not have, whatever happens.
 
 ghost use Rattle.model.specs.Server.AnswerRuns.{EveryAnswerIsPermitted};
 ghost use Rattle.model.specs.Sessions.OpensLaws.{EveryRunKeepsOpens};
@@ -6,8 +6,8 @@ ghost use Rattle.model.specs.Server.SoundRuns.{EveryTreeIsSound};
 ghost use Rattle.model.specs.Server.StampRuns.{EveryStampIsGiven};
 ghost use Rattle.model.specs.Server.World.{ServerLimits};
 
-/// Whatever bytes arrive on whatever connections, and wherever the server crashes: the tree that
-/// a crash may leave is well formed, and no later run gives one of its stamps again.
+/// Whatever bytes arrive on whatever connections, and whenever the server crashes: the tree that a
+/// crash may leave is well formed, and no later run gives one of its stamps again.
 pub fn every_tree()
     ensures { (limits : ServerLimits) → EveryTreeIsSound limits }
 {}
@@ -18,7 +18,7 @@ pub fn every_run_keeps_opens()
     ensures { EveryRunKeepsOpens }
 {}
 
-/// Nobody is answered what the lists deny him: whatever was answered OK, a reading as well as a
+/// Nobody is given what the lists deny him: whatever was answered OK, a reading as well as a
 /// change, was permitted to its caller by the lists of the tree that it was answered from.
 pub fn every_answer_is_permitted()
     ensures { EveryAnswerIsPermitted }

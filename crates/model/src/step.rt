@@ -18,7 +18,8 @@ pub fn file_examples()
     ensures { FileExamples }
 {}
 
-/// Who lacks a right of an operation is answered ACCESS, for each right of each operation.
+/// A caller that lacks a right which an operation needs gets ACCESS, for each right of each
+/// operation.
 pub fn rights()
     ensures { RightsExamples }
 {}
@@ -34,7 +35,7 @@ pub fn every_step_keeps_opens()
     ensures { EveryStepKeepsOpens }
 {}
 
-/// A page of READDIR has the first entries after the cookie, as many as its spelling has room for.
+/// A page of READDIR has the first entries after the cookie, as many as fit into its encoding.
 pub fn every_page()
     ensures { EveryPage }
 {}
@@ -44,7 +45,7 @@ pub fn every_run_begins()
     ensures { RunsBeginSound }
 {}
 
-/// What a stateid that OPEN answered means from then on. The newest names its open; once a later
+/// What a stateid that OPEN returned means from then on. The newest names its open; once a later
 /// OPEN joins the open it is OLD_STATEID; for another client, on another file, in another run and
 /// once the open has ended it is BAD_STATEID.
 pub fn every_stateid()
@@ -56,7 +57,7 @@ pub fn every_stateid()
     ensures ended { EndedIsBad }
 {}
 
-/// OPEN answers the newest stateid; an operation leaves an open as it is, joins it by an OPEN, or
+/// OPEN returns the newest stateid; an operation leaves an open as it is, joins it by an OPEN, or
 /// ends it by a CLOSE, a REMOVE or a RENAME, and none that has ended comes back.
 pub fn every_open_goes_on()
     ensures answers { OpenAnswersNewest }

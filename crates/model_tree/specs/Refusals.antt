@@ -1,4 +1,4 @@
--- Why something is refused: the tests in their order, each with the status that it answers.
+-- Why something is refused: the tests in their order, each with the status that it returns.
 pub mod Refusal
 pub mod Status
 pub mod Name

@@ -69,7 +69,7 @@ bitflag_items! {
         const DIRECTORY_INHERIT = 0x2;
         const NO_PROPAGATE = 0x4;
         const INHERIT_ONLY = 0x8;
-        /// On the wire: the number is a group's. In an [`Ace`] its `who` tells that.
+        /// On the wire: the number is a group's. In an [`Ace`] its `who` says so.
         const IDENTIFIER_GROUP = 0x40;
     }
 }
@@ -104,7 +104,7 @@ pub enum AceKind {
     Deny = 1,
 }
 
-/// Whom an entry speaks of (RFC 8881, section 6.2.1.5).
+/// Whom an entry is for (RFC 8881, section 6.2.1.5).
 #[derive(Clone, Copy, PartialEq, Eq)]
 pub enum Who {
     /// `OWNER@`: the node's owner.
@@ -129,7 +129,7 @@ impl Who {
         matches!(self, Who::Owner | Who::Group | Who::Everyone)
     }
 
-    /// Whether a caller is meant, on a node of this owner and group.
+    /// Whether this matches a caller, on a node of this owner and group.
     pub fn matches(self, owner: u32, group: u32, cred: &Cred) -> bool
         ensures { result ≡ matches self owner group cred.now }
     {
@@ -155,7 +155,7 @@ pub struct Ace {
 impl Ace {
     ghost use Rattle.model_tree.specs.Rights.Acl.{counts};
 
-    /// Whether the entry says something about its own node: one with `INHERIT_ONLY` does not.
+    /// Whether the entry applies to its own node: one with `INHERIT_ONLY` does not.
     pub fn counts(&self) -> bool
         ensures { result ≡ counts self.now }
     {
@@ -170,7 +170,7 @@ impl Ace {
 #[derive(Drop)]
 pub struct Acl {
     alloc: Global,
-    /// None, where there are no entries.
+    /// None if there are no entries.
     entries: Option<Rc<Vec<Ace>>>,
 }
 
@@ -191,7 +191,7 @@ impl Acl {
     /// How many entries a node's list may have.
     pub const MAX_STORED: usize = 72;
 
-    /// A list without entries. Takes no memory.
+    /// A list without entries. Allocates no memory.
     pub fn new(alloc: Global) -> Acl
         ensures { result ≡ [] }
     {
@@ -229,8 +229,8 @@ impl Acl {
         })
     }
 
-    /// Puts an entry at the end, in place where nobody shares the memory. Where no memory is had,
-    /// the list stays as it is.
+    /// Appends an entry, in place if nobody shares the memory. If memory runs out, the list is
+    /// unchanged.
     pub fn push(&mut self, ace: Ace) -> Result<(), AllocError>
         ensures added { OnOk result (self.new ≡ self.old ++ ace ∷ []) }
         ensures kept { OnErr result (self.new ≡ self.old) }
@@ -258,7 +258,7 @@ impl Acl {
     }
 }
 
-/// The groups that a caller is a member of beside the first one: at most [`Gids::MAX_GIDS`] (RFC
+/// The groups that a caller is a member of besides the first one: at most [`Gids::MAX_GIDS`] (RFC
 /// 5531, appendix A).
 ///
 /// Contracts see the list of their numbers.
@@ -276,7 +276,7 @@ impl Model for Gids {
 }
 
 impl Gids {
-    /// The most groups.
+    /// The maximum number of groups.
     pub const MAX_GIDS: usize = 16;
 
     /// No groups.
@@ -288,7 +288,7 @@ impl Gids {
         }
     }
 
-    /// Puts a group at the end.
+    /// Appends a group.
     pub fn push(&mut self, gid: u32)
         requires { length self.old < Gids.MAX_GIDS }
         ensures { self.new ≡ self.old ++ gid ∷ [] }
@@ -313,8 +313,8 @@ impl From<Words<16>> for Gids {
     }
 }
 
-/// Who asks: a user, its first group and its other groups, as its call says (RFC 5531, appendix A,
-/// AUTH_SYS).
+/// The caller: a user, its first group and its other groups, as its call says (RFC 5531, appendix
+/// A, AUTH_SYS).
 #[derive(Drop)]
 pub struct Cred {
     pub uid: u32,

@@ -19,7 +19,7 @@ pub fn modes_keep_limits()
     ensures { ModesKeepLimits }
 {}
 
-/// What is inherited of a list that a directory may have is a list that the new node may have.
+/// What is inherited from a list that a directory may have is a list that the new node may have.
 pub fn inheritance_keeps_limits()
     ensures { InheritanceKeepsLimits }
 {}

@@ -1,7 +1,7 @@
-//! The definitions of trees, rights and seats, which storage meets as well as operations, and the
-//! plain data types that they speak of.
+//! The definitions of trees, rights and seats, which storage needs as well as operations, and the
+//! plain data types that they are about.
 //!
-//! `specs/` has one file a subject, each with the section of the public standard that it comes
+//! `specs/` has one file for each subject, with the section of the public standard that it comes
 //! from.
 #![tactic(auto)]
 

@@ -1,11 +1,11 @@
-//! The limits of a volume and of what it keeps.
+//! The limits of a volume and of what it stores.
 
 ghost use Rattle.std.specs.Prelude.{◌≡◌, ◌+◌, ◌≤◌};
 
 /// What a tree may have: this server's profile. The definitions take the limits as an argument.
 #[derive(Clone, Copy, PartialEq, Eq)]
 pub struct Limits {
-    /// Sectors of the data region, which nodes are charged.
+    /// Sectors of the data region, against which nodes are charged.
     pub data_sectors: usize,
     pub nodes: usize,
     /// Names of one directory.
@@ -16,7 +16,7 @@ pub struct Limits {
     pub aces_set: usize,
     /// Entries of the list that a node has.
     pub aces: usize,
-    /// Bytes that one READ gives or one WRITE takes.
+    /// Bytes that one READ returns or one WRITE takes.
     pub transfer_bytes: usize,
     /// Opens of all clients.
     pub opens: usize,
@@ -25,7 +25,7 @@ pub struct Limits {
 impl Limits {
     ghost use Rattle.model_tree.specs.Trees.Limits.{limits_of};
 
-    /// The limits of a volume of so many sectors and nodes.
+    /// The limits of a volume of `sectors` sectors and `nodes` nodes.
     pub fn of_volume(sectors: usize, nodes: usize) -> Limits
         requires { 148 + nodes ≤ sectors }
         ensures { result ≡ limits_of sectors nodes }

@@ -5,10 +5,10 @@ ghost use Rattle.std.specs.Prelude.{◌≡◌, ◌≤◌, ◌<◌, ◌^◌, leng
 /// How many places a volume has for seats.
 pub const SEATS: usize = 5;
 
-/// The most bytes of a result that a seat holds.
+/// The most bytes that the result in a seat has.
 pub const MAX_HELD_RESULT: usize = 16_360;
 
-/// The reply that a seat holds of a slot's request.
+/// The reply that a seat holds for a request of a slot.
 #[derive(Drop)]
 pub struct HeldReply {
     /// The request's number, and who sent it.
@@ -16,7 +16,7 @@ pub struct HeldReply {
     pub uid: u32,
     /// The whole COMPOUND result.
     pub result: Vec<u8>,
-    // What a proof knows so of the numbers without a read.
+    // What a proof thus knows about the numbers without a read.
     ghost number_fits: { number < 2 ^ 32 },
     ghost uid_fits: { uid < 2 ^ 32 },
     ghost short: { length result.items ≤ 16360 },
@@ -30,9 +30,9 @@ pub struct Seat {
     /// The owner id and the principal of its client.
     pub owner: Vec<u8>,
     pub principal: u32,
-    /// What is held of each slot.
+    /// What is held for each slot.
     pub slots: Vec<Option<HeldReply>>,
-    // What a proof knows so of the id and the number without a read.
+    // What a proof thus knows about the id and the number without a read.
     ghost sixteen: { length session ≡ 16 },
     ghost principal_fits: { principal < 2 ^ 32 },
     ghost owned: { length owner.items ≤ 1024 },
@@ -54,13 +54,13 @@ pub enum SeatEdit {
     Stays,
     /// It is free from then on.
     Frees,
-    /// This seat stands there.
+    /// This seat takes it.
     Takes(Seat),
-    /// The seat that stands there holds this reply of a slot.
+    /// The seat in it holds this reply for a slot.
     Holds { slot: usize, held: HeldReply },
 }
 
-/// What becomes of the places: one edit of each.
+/// What becomes of the places: one edit for each.
 #[derive(Drop)]
 pub struct SeatEdits {
     pub list: Vec<SeatEdit>,

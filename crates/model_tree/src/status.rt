@@ -1,9 +1,9 @@
-//! What an operation answers (RFC 8881, section 15.1).
+//! What an operation returns (RFC 8881, section 15.1).
 
 ghost use Rattle.std.specs.Prelude.{◌≡◌};
 ghost use Rattle.model_tree.specs.Refusals.Status.{code_of};
 
-/// The statuses that this server answers, with their numbers on the wire.
+/// The statuses that this server returns, with their numbers on the wire.
 #[derive(Clone, Copy, Debug, PartialEq, Eq)]
 pub enum Status {
     Ok = 0,

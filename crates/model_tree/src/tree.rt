@@ -21,7 +21,8 @@ pub fn maps()
     ensures name_order { KeepsOrder DirEntry }
 {}
 
-/// A stamp tells its run and its number in it, stamps rise, and a filehandle tells its number.
+/// A stamp determines its run and its number in it, stamps rise, and a filehandle determines its
+/// number.
 pub fn stamps()
     ensures only { OnlyStamp }
     ensures rise { StampsRise }
@@ -33,7 +34,7 @@ pub fn fresh()
     ensures { (limits : Limits) → FreshIsWellFormed limits }
 {}
 
-/// A node is below another exactly where it is reached from it.
+/// A node is below another exactly if it is reached from it.
 pub fn below()
     ensures { IsBelowIsReached }
 {}

@@ -4,11 +4,11 @@ use Rattle.std.specs.List.{flat_map, AllByRecursion}
 use Rattle.std.proofs.Common.{refl, sym, ap, ap₂, ◌∙◌, arith, append_assoc, get_or}
 use Rattle.std.proofs.lemmas.List.{length-append, drop_at, drop-drop, drop_more}
 
--- each record has this width
+-- every record is encoded in `width` bytes
 abbrev pub AreWide : {A : Type 0} → (A → List ℕ) → ℕ → Type 0
 AreWide {A = A} spelling width = (record_ : A) → length (spelling record_) ≡ width
 
--- The first records of these bytes, whatever the bytes are: each is read from its place on.
+-- The first `count` records of these bytes, whatever the bytes are: each is read at its offset.
 abbrev pub records_at_front : {A : Type 0} → (List ℕ → A) → (width count : ℕ) → List ℕ → List A
 records_at_front read width zero bytes = []
 records_at_front read width (suc count) bytes =
@@ -48,7 +48,7 @@ module _ {A : Type 0} (spelling : A → List ℕ) (width : ℕ) (wide : AreWide 
   drop-records_all xs rest =
       drop_at (flat_map spelling xs) rest (width * length xs) (length-records xs)
 
-  -- where one record is read back, all are
+  -- if each record is read back from its encoding, so is a list of them
   pub records-back : (read : List ℕ → A) (P : A → Type 0)
       → ((x : A) (rest : List ℕ) → P x → read (spelling x ++ rest) ≡ x)
       → (xs : List A) (rest : List ℕ) → AllByRecursion P xs

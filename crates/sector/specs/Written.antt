@@ -1,4 +1,4 @@
--- Records of one width that are written one after the other from a place on, and read there.
+-- Records of one width that are written one after the other from an offset on, and read from there.
 use Rattle.std.specs.Prelude.{◌≡◌, ◌≤◌, ◌<◌, ◌+◌, ◌*◌, ℕ, zero, suc, List, [], ◌∷◌, ◌++◌, length, take, drop, replicate}
 use Rattle.std.specs.List.{flat_map, AllByRecursion}
 use Rattle.std.proofs.Common.{sym, ap, ◌∙◌, arith, append_assoc, get_or}
@@ -6,13 +6,13 @@ use Rattle.std.proofs.lemmas.List.{append-nil, length-replicate, length_push, dr
 use Rattle.std.proofs.lemmas.List.Concat.{flat_map-append}
 use Rattle.sector.specs.Records.{AreWide, drop-record}
 
--- `new` has the first n records from `base` on, after what `old` has there
+-- `new` begins with the first `base` bytes of `old` and the first n records
 pub record AreWritten {A : Type 0} (spelling : A → List ℕ) (width base : ℕ) (old new : List ℕ)
     (xs : List A) (n : ℕ) : Type 0 where
   pub front : take (base + width * n) new ≡ take base old ++ flat_map spelling (take n xs)
   pub len : length new ≡ 4096
 
--- each of these is such a record
+-- if P holds of each, it holds of the k-th
 pub each_at : {A : Type 0} (P : A → Type 0) (xs : List A) (k : ℕ) (d : A) → AllByRecursion P xs
     → k < length xs → P (get_or xs k d)
 each_at P [] k d all h = absurd (omega arith)
@@ -59,7 +59,8 @@ module _ {A : Type 0} (spelling : A → List ℕ) (width base : ℕ) where
       ∙ append_assoc (take base old) (flat_map spelling (take (length xs) xs)) (replicate count 0)
       ∙ ap (λ (ys : List A). take base old ++ (flat_map spelling ys ++ replicate count 0)) all
 
--- The first n of `count` records that stand from `base` on: if any stand there, these do.
+-- `xs` are the first n of the `count` records from `base` on: if `count` records are stored there,
+-- they begin with these.
 pub record AreRead {A : Type 0} (spelling : A → List ℕ) (P : A → Type 0) (base count : ℕ)
     (sector : List ℕ) (xs : List A) (n : ℕ) : Type 0 where
   pub len : length xs ≡ n
@@ -70,7 +71,7 @@ pub record AreRead {A : Type 0} (spelling : A → List ℕ) (P : A → Type 0) (
 module _ {A : Type 0} (spelling : A → List ℕ) (P : A → Type 0) (width : ℕ)
     (wide : AreWide spelling width) (base count : ℕ) (sector : List ℕ) (xs : List A) (n : ℕ)
     (far : AreRead spelling P base count sector xs n) where
-  -- the n-th of the records, if any stand there
+  -- the n-th record, if `count` records are stored from `base` on
   there : (others : List A) (rest : List ℕ) (d : A) (at : ℕ) → length others ≡ count
       → drop base sector ≡ flat_map spelling others ++ rest → n < count → at ≡ base + width * n
       → drop at sector ≡ spelling (get_or others n d) ++ (flat_map spelling (drop (n + 1) others)
@@ -93,7 +94,7 @@ module _ {A : Type 0} (spelling : A → List ℕ) (P : A → Type 0) (width : �
         ∙ sym (take_more others n x (omega arith));
   }
 
-  -- where no record stands at the n-th place, no records do
+  -- if no record is stored at the n-th place, `count` records are not stored from `base` on
   pub none_there : (d : A) (at : ℕ) → n < count → at ≡ base + width * n
       → ((other : A) (rest : List ℕ) → P other → drop at sector ≡ spelling other ++ rest → ⊥)
       → (others : List A) (rest : List ℕ) → AllByRecursion P others → length others ≡ count

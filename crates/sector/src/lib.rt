@@ -7,10 +7,10 @@ ghost use Rattle.sector.specs.Placed.{Places, IsNumberAt};
 
 use byteorder::{BigEndian, ByteOrder};
 
-/// The bytes of a sector.
+/// The size of a sector in bytes.
 pub const SIZE: usize = 4096;
 
-/// Writes a number of two bytes from place `at` on.
+/// Writes a two-byte number at offset `at`.
 pub fn put_u16(sector: &mut [u8; SIZE], at: usize, number: u16)
     requires { at + 2 ≤ SIZE }
     ensures { Places sector.old sector.new at (to_be_bytes w16 number) }
@@ -20,7 +20,7 @@ pub fn put_u16(sector: &mut [u8; SIZE], at: usize, number: u16)
     put_bytes(sector, at, &bytes);
 }
 
-/// Writes a number of four bytes from place `at` on.
+/// Writes a four-byte number at offset `at`.
 pub fn put_u32(sector: &mut [u8; SIZE], at: usize, number: u32)
     requires { at + 4 ≤ SIZE }
     ensures { Places sector.old sector.new at (to_be_bytes w32 number) }
@@ -30,7 +30,7 @@ pub fn put_u32(sector: &mut [u8; SIZE], at: usize, number: u32)
     put_bytes(sector, at, &bytes);
 }
 
-/// Writes a number of eight bytes from place `at` on.
+/// Writes an eight-byte number at offset `at`.
 pub fn put_u64(sector: &mut [u8; SIZE], at: usize, number: u64)
     requires { at + 8 ≤ SIZE }
     ensures { Places sector.old sector.new at (to_be_bytes w64 number) }
@@ -40,7 +40,7 @@ pub fn put_u64(sector: &mut [u8; SIZE], at: usize, number: u64)
     put_bytes(sector, at, &bytes);
 }
 
-/// Writes bytes from place `at` on.
+/// Writes bytes at offset `at`.
 pub fn put_bytes(sector: &mut [u8; SIZE], at: usize, bytes: &[u8])
     requires { at + length bytes.now ≤ SIZE }
     ensures { Places sector.old sector.new at bytes.now }
@@ -48,7 +48,7 @@ pub fn put_bytes(sector: &mut [u8; SIZE], at: usize, bytes: &[u8])
     sector[at..at + bytes.len()].copy_from_slice(bytes);
 }
 
-/// Writes zeros from place `at` on.
+/// Writes `count` zeros at offset `at`.
 pub fn put_zeros(sector: &mut [u8; SIZE], at: usize, count: usize)
     requires { at + count ≤ SIZE }
     ensures { Places sector.old sector.new at (replicate count 0) }
@@ -56,7 +56,7 @@ pub fn put_zeros(sector: &mut [u8; SIZE], at: usize, count: usize)
     sector[at..at + count].fill(0);
 }
 
-/// The number of two bytes from place `at` on.
+/// The two-byte number at offset `at`.
 pub fn u16_at(sector: &[u8; SIZE], at: usize) -> u16
     requires { at + 2 ≤ SIZE }
     ensures value { result ≡ from_be_bytes w16 (drop at sector.now) }
@@ -65,7 +65,7 @@ pub fn u16_at(sector: &[u8; SIZE], at: usize) -> u16
     BigEndian::read_u16(&sector[at..])
 }
 
-/// The number of four bytes from place `at` on.
+/// The four-byte number at offset `at`.
 pub fn u32_at(sector: &[u8; SIZE], at: usize) -> u32
     requires { at + 4 ≤ SIZE }
     ensures value { result ≡ from_be_bytes w32 (drop at sector.now) }
@@ -74,7 +74,7 @@ pub fn u32_at(sector: &[u8; SIZE], at: usize) -> u32
     BigEndian::read_u32(&sector[at..])
 }
 
-/// The number of eight bytes from place `at` on.
+/// The eight-byte number at offset `at`.
 pub fn u64_at(sector: &[u8; SIZE], at: usize) -> u64
     requires { at + 8 ≤ SIZE }
     ensures value { result ≡ from_be_bytes w64 (drop at sector.now) }

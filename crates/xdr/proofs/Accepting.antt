@@ -1,4 +1,4 @@
--- A reader that gives what an exact grammar reads takes exactly its spellings.
+-- A reader that returns what an exact grammar reads consumes exactly its encodings.
 use Rattle.std.proofs.Common.{◌≡◌, ℕ, List, Result, Ok, Err, sym, ap, ◌∙◌, inl, inr}
 use Rattle.xdr.specs.declared.refusal.Refusal.{Refusal}
 use Rattle.xdr.specs.Grammar.{Grammar}

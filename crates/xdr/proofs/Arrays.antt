@@ -14,7 +14,7 @@ use Rattle.xdr.proofs.Steps.{bind_ok, guard_ok, pass_ok, chosen, ok_is, IsBytes-
 use Rattle.xdr.proofs.Numbers.{int_takes, int_again, int_exact, length-number_32}
 use Rattle.xdr.proofs.Passing.{only_exact, boolean_takes, boolean_again}
 
--- what a list of elements takes from bytes
+-- what reading a list of elements consumes
 pub record TakesEach {V : Type 0} (g : Grammar V) (bytes : List ℕ) (vs : List V) (text rest : List ℕ) : Type 0 where
   pub fits : AllByRecursion g.Fits vs
   pub parts : bytes ≡ text ++ rest

@@ -5,7 +5,7 @@ use Rattle.xdr.specs.declared.refusal.Refusal.{Refusal}
 use Rattle.xdr.specs.Grammar.{◌>>=◌}
 use Rattle.xdr.specs.Forms.{each_at}
 
--- what was read before, and what is still read
+-- what was read before, followed by what is read now
 abbrev pub with_front : {V : Type 0} → List V → Result (List V × List ℕ) Refusal → Result (List V × List ℕ) Refusal
 with_front front read = read >>= λ x. Ok (front ++ x.0, x.1)
 

@@ -36,7 +36,7 @@ always_exact k g k_fits exact = record {
   again = λ v rest fits. rw (exact.again k rest k_fits, eq-eqb k k refl) refl;
 }
 
--- what truth a number tells
+-- which boolean a number encodes
 pub truth_ok : (x : ℕ × List ℕ) (y : Bool × List ℕ) → truth_at x ≡ Ok y → (x.0 ≡ code_of y.0) × (x.1 ≡ y.1)
 truth_ok x y e =
     let no : Bool × List ℕ = (false, x.1) in

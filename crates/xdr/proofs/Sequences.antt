@@ -1,4 +1,4 @@
--- A sequence of exact grammars is exact, and so is one under other names.
+-- A sequence of exact grammars is exact, and so is a structure with named fields over one.
 use Rattle.std.proofs.Common.{◌≡◌, ℕ, List, ◌++◌, Ok, refl, sym, ap, subst, ◌∙◌, append_assoc}
 use Rattle.xdr.specs.Grammar.{Grammar, ◌>>=◌, ◌&◌, void, of}
 use Rattle.xdr.specs.Laws.{IsBytes, Exact, OneSpelling}
@@ -30,7 +30,7 @@ then_again a b ea eb v rest fits =
 pub then_exact : {A B : Type 0} {a : Grammar A} {b : Grammar B} → Exact a → Exact b → Exact (a & b)
 then_exact {a = a} {b = b} ea eb = record { takes = then_takes a b ea eb; again = then_again a b ea eb }
 
--- `parts` undoes `make` on what has a spelling, and `make` undoes `parts`
+-- `parts` and `make` are inverses
 pub of_exact : {V W : Type 0} (make : V → W) (parts : W → V) (g : Grammar V) → ((v : V) → parts (make v) ≡ v) → ((w : W) → make (parts w) ≡ w) → Exact g → Exact (of make parts g)
 of_exact {V = V} {W = W} make parts g there back exact = record {
   takes = λ bytes w rest fits e.
@@ -43,7 +43,7 @@ of_exact {V = V} {W = W} make parts g there back exact = record {
   again = λ w rest fits. rw (exact.again (parts w) rest fits, back w) refl;
 }
 
--- one value, one spelling
+-- one value, one encoding
 pub one_spelling : {V : Type 0} (g : Grammar V) → Exact g → OneSpelling g
 one_spelling {V = V} g exact v w x y fv fw e =
     let both : V × List ℕ = (v, x) in

@@ -9,7 +9,7 @@ use Rattle.xdr.specs.Laws.{IsBytes, Exact}
 use Rattle.xdr.proofs.Steps.{bind_ok, pass_ok, chosen, ok_is, IsBytes-behind}
 use Rattle.xdr.proofs.Numbers.{int_takes, int_again}
 
--- what was read by number n tells n, and is spelled so
+-- the value read for number n has this number, and the bytes that were read are its encoding
 pub record TakesOne {W : Type 0} (told : W → Told) (n : ℕ) (bytes : List ℕ) (w : W) (rest : List ℕ) : Type 0 where
   pub is_number : n ≡ (told w).number
   pub fits : (told w).Fits
@@ -20,7 +20,7 @@ abbrev pub TakesBy : {W : Type 0} → (W → Told) → (ℕ → Type 0) → Choi
 TakesBy {W = W} told P choice =
     (n : ℕ) (bytes : List ℕ) (w : W) (rest : List ℕ) → P n → IsBytes bytes → choice n bytes ≡ Ok (w, rest) → TakesOne told n bytes w rest
 
--- what was told is read by its number
+-- a value is read back from its encoding, by its number
 abbrev pub AgainBy : {W : Type 0} → (W → Told) → Choice W → Type 0
 AgainBy {W = W} told choice = (w : W) (rest : List ℕ) → (told w).number < 2 ^ 32 → (told w).Fits → choice (told w).number ((told w).text ++ rest) ≡ Ok (w, rest)
 
@@ -75,6 +75,6 @@ union_exact told choice takes again = record {
   again = λ w rest fits. rw (append_assoc (number w32 (told w).number) (told w).text rest, int_again (told w).number ((told w).text ++ rest) fits.0) (again w rest fits.0 fits.1);
 }
 
--- one case read again
+-- one case, read back
 pub made_again : {V W : Type 0} (g : Grammar V) (make : V → W) → Exact g → (v : V) (rest : List ℕ) → g.Fits v → made make g (g.spelling v ++ rest) ≡ Ok (make v, rest)
 made_again g make exact v rest fits = rw (exact.again v rest fits) refl

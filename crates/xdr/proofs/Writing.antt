@@ -1,4 +1,4 @@
--- What follows what: one write after the other.
+-- Writes one after the other.
 use Rattle.std.proofs.Common.{◌≡◌, ℕ, ◌+◌, ◌<◌, List, [], ◌++◌, length, get_or, drop, ◌∷◌, Result, Ok, Err, refl, sym, ap, subst, ◌∙◌, take, replicate, append_assoc, arith}
 use Rattle.std.specs.Prelude.{OnOk, OnErr}
 use Rattle.std.specs.Result.{IsErrAnd}
@@ -49,7 +49,7 @@ pub wrote_end : {a b : Written} {r : Result (Unit {0}) Refusal} {e : Refusal} {t
 wrote_end {r = Ok x} is w = absurd is
 wrote_end {r = Err y} is w = record { ok = tt; full = w.full; memory = is ∙ w.memory; keeps = w.keeps; stands = w.stands }
 
--- a write whose front was dropped where it failed
+-- a write that failed, and whose bytes were dropped
 take_front : (front more : List ℕ) → take (length front) (front ++ more) ≡ front
 take_front front more = take_at front more (length front) refl
 
@@ -90,7 +90,7 @@ wrote_nothing a b t same none =
       stands = begins_same b.bytes a.bytes here;
     }
 
--- one element more in a loop, and an element that failed
+-- one more element in a loop, and an element whose write failed
 
 pub wrote_more : {A : Type 0} {a b c : Written} (spelling : A → List ℕ) (xs : List A) (i : ℕ) (x : A) → i < length xs → x ≡ get_or xs i x
     → Wrote a b (Ok tt) (flat_map spelling (take i xs)) → Wrote b c (Ok tt) (spelling x) → Wrote a c (Ok tt) (flat_map spelling (take (i + 1) xs))

@@ -5,7 +5,8 @@ use Rattle.xdr.specs.declared.refusal.Refusal.{Refusal}
 use Rattle.xdr.specs.Grammar.{number_at}
 use Rattle.xdr.specs.Forms.{each_at}
 
--- n numbers from `old` on are `words`, and `result` is what is left; or its refusal is theirs
+-- `words` are the n numbers read from `old`, and `result` is what is left; or it is the error of
+-- reading them
 abbrev pub Fills : List ℕ → ℕ → List ℕ → Result (List ℕ) Refusal → Type 0
 Fills old n words (Ok rest) = each_at (λ bytes. number_at w32 bytes) n old ≡ Ok (words, rest)
 Fills old n words (Err e) = each_at (λ bytes. number_at w32 bytes) n old ≡ Err e

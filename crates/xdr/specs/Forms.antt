@@ -22,7 +22,7 @@ only test g = record {
 abbrev pub below : ℕ → Grammar ℕ
 below n = only (λ k. nat_lt k n) unsigned_int
 
--- a value that is always the same, and tells nothing
+-- a value that is always the same, and carries no information
 abbrev pub always : ℕ → Grammar ℕ → Grammar (Unit {0})
 always k g = record {
   Fits = λ _. Unit {0};
@@ -135,7 +135,7 @@ optional g = record {
   read = λ bytes. number_at w32 bytes >>= one_at_most g.read;
 }
 
--- A chain (section 4.19): before each element true, and after the last one false
+-- A chain (section 4.19): true before each element, and false after the last one
 
 unfoldable pub links : {V : Type 0} → (V → List ℕ) → List V → List ℕ
 links spelling [] = number w32 0
@@ -164,7 +164,7 @@ chain g = record {
 abbrev pub bitmap : Grammar (List ℕ)
 bitmap = array 8 unsigned_int
 
--- no word at the end is zero
+-- the last word, if there is one, is not zero
 abbrev pub is_trimmed : List ℕ → Bool
 is_trimmed [] = true
 is_trimmed (zero ∷ []) = false

@@ -1,13 +1,13 @@
--- A grammar of XDR (RFC 4506): which values have a spelling, the bytes of it, and how bytes are
--- read from the left. `Laws` says what makes a grammar exact; each of the forms here and in `Forms`
--- and `Union` keeps it.
+-- A grammar of XDR (RFC 4506): which values have an encoding, its bytes, and how bytes are read
+-- from the left. `Laws` says what makes a grammar exact; each of the forms here and in `Forms` and
+-- `Union` keeps grammars exact.
 use Rattle.std.specs.Prelude.{ℕ, ◌<◌, ◌^◌, List, [], ◌++◌, length, take, drop, Result, Ok, Err, nat_lt, if◌then◌else◌}
 use Rattle.std.specs.Int.{Width, w32, w64, byte_len, to_be_bytes, from_be_bytes}
 use Rattle.xdr.specs.declared.refusal.Refusal.{Refusal}
 use Rattle.xdr.specs.declared.refusal.Refusal.TheVariants.{Short}
 
 pub record Grammar (V : Type 0) : Type 1 where
-  -- what has a spelling
+  -- which values have an encoding
   pub Fits : V → Type 0
   pub spelling : V → List ℕ
   -- the value at the front, and the bytes after it

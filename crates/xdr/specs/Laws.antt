@@ -6,13 +6,13 @@ use Rattle.xdr.specs.Grammar.{Grammar}
 abbrev pub IsBytes : List ℕ → Type 0
 IsBytes bytes = (i : ℕ) → slice_index bytes i < 256
 
--- what is read from bytes fits, and is spelled so
+-- what is read from bytes fits, and the bytes that were read are its encoding
 abbrev pub EncodesBack : {V : Type 0} → Grammar V → Type 0
 EncodesBack {V = V} g =
     (bytes : List ℕ) (v : V) (rest : List ℕ) → IsBytes bytes → g.read bytes ≡ Ok (v, rest)
     → g.Fits v × (bytes ≡ g.spelling v ++ rest)
 
--- what fits is read again, whatever follows
+-- what fits is read back from its encoding, whatever follows
 abbrev pub ReadsAgain : {V : Type 0} → Grammar V → Type 0
 ReadsAgain {V = V} g =
     (v : V) (rest : List ℕ) → g.Fits v → g.read (g.spelling v ++ rest) ≡ Ok (v, rest)
@@ -21,7 +21,8 @@ pub record Exact {V : Type 0} (g : Grammar V) : Type 0 where
   pub takes : EncodesBack g
   pub again : ReadsAgain g
 
--- One value has one spelling, one spelling is of one value, and no spelling begins another.
+-- Each value has one encoding, each encoding is of one value, and no encoding is a prefix of
+-- another.
 abbrev pub OneSpelling : {V : Type 0} → Grammar V → Type 0
 OneSpelling {V = V} g =
     (v w : V) (x y : List ℕ) → g.Fits v → g.Fits w → g.spelling v ++ x ≡ g.spelling w ++ y

@@ -5,8 +5,8 @@ use Rattle.xdr.specs.declared.refusal.Refusal.{Refusal}
 use Rattle.xdr.specs.declared.refusal.Refusal.TheVariants.{Value}
 use Rattle.xdr.specs.Grammar.{Grammar, ◌>>=◌, number, number_at}
 
--- what a value of a union says: its number, whether it has a spelling, and what is spelled after
--- the number
+-- what a value of a union is encoded as: its number, whether it has an encoding, and the bytes
+-- after the number
 pub record Told : Type 1 where
   pub number : ℕ
   pub Fits : Type 0
@@ -30,7 +30,7 @@ on n g make otherwise m bytes = if m == n then made make g bytes else otherwise 
 abbrev pub no_other : {W : Type 0} → Choice W
 no_other m bytes = Err Value
 
--- any other number stands for itself, and what follows is not looked at
+-- any other number is a value by itself, and the bytes after it are not read
 abbrev pub any_other : {W : Type 0} → (ℕ → W) → Choice W
 any_other make m bytes = Ok (make m, bytes)
 

@@ -1,5 +1,5 @@
-//! The laws of the grammars: each is exact, and so one value has one spelling and no spelling
-//! begins another.
+//! The laws of the grammars: each is exact, so each value has one encoding and no encoding is a
+//! prefix of another.
 
 ghost use Rattle.std.specs.Prelude.{ℕ, ◌<◌, ◌^◌};
 ghost use Rattle.xdr.specs.Grammar.{unsigned_int, unsigned_hyper};
@@ -15,7 +15,7 @@ pub fn numbers_are_exact()
     ensures enumeration { (n : ℕ) → Exact (below n) }
 {}
 
-/// Truth values.
+/// Booleans.
 pub fn booleans_are_exact()
     ensures exact { Exact boolean }
     ensures one { OneSpelling boolean }

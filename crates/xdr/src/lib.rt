@@ -1,8 +1,9 @@
-//! XDR (RFC 4506): a reader over bytes and a writer, each by the grammars of `specs/`.
+//! XDR (RFC 4506): a reader and a writer of bytes, specified by the grammars of `specs/`.
 //!
-//! A grammar says which values have a spelling, which bytes it is, and what is read from bytes. The
-//! grammars are exact: what is read is spelled so, and what is spelled is read again, whatever
-//! follows. So one value has one spelling, and no spelling begins another.
+//! A grammar says which values have an encoding, which bytes it is, and what is read from bytes.
+//! The grammars are exact: the bytes from which a value is read are its encoding, and from its
+//! encoding a value is read back, whatever follows. So each value has one encoding, and no encoding
+//! is a prefix of another.
 #![tactic(auto)]
 
 mod laws;

@@ -1,4 +1,4 @@
-//! Reading from the left.
+//! Reading, from the first byte on.
 
 ghost use Rattle.std.specs.Prelude.{◌≡◌, ◌<◌, ◌↔◌, IsTrue, length};
 ghost use Rattle.xdr.specs.Grammar.{unsigned_int, unsigned_hyper};
@@ -10,9 +10,9 @@ use crate::refusal::Refusal;
 use byteorder::{BigEndian, ByteOrder};
 use std::marker::Model;
 
-/// A place in bytes: what is read next, up to the end. In a contract it is the bytes that are left.
+/// A position in bytes. In a contract it is the bytes that are left to read.
 ///
-/// A read that is refused leaves the reader where it was.
+/// A read that fails leaves the reader unchanged.
 #[derive(Drop)]
 pub struct Reader<'a> {
     rest: &'a [u8],
@@ -31,14 +31,14 @@ impl<'a> Model for Reader<'a> {
 }
 
 impl<'a> Reader<'a> {
-    /// At the start of the bytes.
+    /// A reader at the start of the bytes.
     pub fn new(bytes: &'a [u8]) -> Reader<'a>
         ensures { result ≡ bytes.now }
     {
         Reader { rest: bytes }
     }
 
-    /// A second reader at the same place.
+    /// A second reader at the same position.
     pub fn fork(&self) -> Reader<'a>
         ensures same { result ≡ self.now }
         ensures bytes { IsBytes self.now }
@@ -46,7 +46,7 @@ impl<'a> Reader<'a> {
         Reader { rest: self.rest }
     }
 
-    /// A number of 4 bytes (RFC 4506, section 4.2).
+    /// Reads a number of 4 bytes (RFC 4506, section 4.2).
     #[tactic(auto, using(crate::proofs::Reading::short_int, crate::proofs::Reading::found_int))]
     pub fn read_u32(&mut self) -> Result<u32, Refusal>
         ensures { Scans (λ n. n) (unsigned_int.read) self.old self.new result }
@@ -60,7 +60,7 @@ impl<'a> Reader<'a> {
         Ok(BigEndian::read_u32(front))
     }
 
-    /// A number of 8 bytes (RFC 4506, section 4.5).
+    /// Reads a number of 8 bytes (RFC 4506, section 4.5).
     #[tactic(auto, using(crate::proofs::Reading::short_hyper, crate::proofs::Reading::found_hyper))]
     pub fn read_u64(&mut self) -> Result<u64, Refusal>
         ensures { Scans (λ n. n) (unsigned_hyper.read) self.old self.new result }
@@ -95,7 +95,7 @@ impl<'a> Reader<'a> {
         self.rest
     }
 
-    /// One of the numbers below `n` (RFC 4506, section 4.3).
+    /// Reads a number below `n` (RFC 4506, section 4.3).
     pub fn read_below(&mut self, n: u32) -> Result<u32, Refusal>
         ensures { Scans (λ k. k) ((below n).read) self.old self.new result }
     {
@@ -108,7 +108,7 @@ impl<'a> Reader<'a> {
         Ok(number)
     }
 
-    /// The number `k` and no other.
+    /// Reads the number `k` and no other.
     pub fn read_always(&mut self, k: u32) -> Result<(), Refusal>
         ensures { Scans (λ u. u) ((always k unsigned_int).read) self.old self.new result }
     {
@@ -121,7 +121,7 @@ impl<'a> Reader<'a> {
         Ok(())
     }
 
-    /// The number `k` of 8 bytes and no other.
+    /// Reads the number `k` of 8 bytes and no other.
     pub fn read_always_u64(&mut self, k: u64) -> Result<(), Refusal>
         ensures { Scans (λ u. u) ((always k unsigned_hyper).read) self.old self.new result }
     {
@@ -134,7 +134,7 @@ impl<'a> Reader<'a> {
         Ok(())
     }
 
-    /// A truth value: 0 or 1 (RFC 4506, section 4.4).
+    /// Reads a boolean: 0 or 1 (RFC 4506, section 4.4).
     pub fn read_bool(&mut self) -> Result<bool, Refusal>
         ensures { Scans (λ b. b) (boolean.read) self.old self.new result }
     {
@@ -148,7 +148,7 @@ impl<'a> Reader<'a> {
         Ok(truth)
     }
 
-    /// `n` bytes, after which the pad bytes are zero (RFC 4506, section 4.9).
+    /// Reads `n` bytes, and zero bytes up to a multiple of 4 (RFC 4506, section 4.9).
     #[tactic(auto, using(crate::proofs::Reading::short_bytes, crate::proofs::Reading::short_pad, crate::proofs::Reading::other_pad, crate::proofs::Reading::found_padded))]
     pub fn read_fixed(&mut self, n: usize) -> Result<&'a [u8], Refusal>
         ensures { Scans (λ bytes. bytes.now) ((fixed_opaque n).read) self.old self.new result }
@@ -170,7 +170,7 @@ impl<'a> Reader<'a> {
         Ok(bytes)
     }
 
-    /// `N` bytes as an array (RFC 4506, section 4.9).
+    /// Reads `N` bytes as an array (RFC 4506, section 4.9).
     #[tactic(auto, using(crate::proofs::Reading::padded_len))]
     pub fn read_array<const N: usize>(&mut self) -> Result<[u8; N], Refusal>
         ensures { Scans (λ bytes. bytes) ((fixed_opaque N).read) self.old self.new result }
@@ -181,8 +181,8 @@ impl<'a> Reader<'a> {
         Ok(array)
     }
 
-    /// A length of at most `limit`, so many bytes, and zero bytes up to a multiple of 4 (RFC 4506,
-    /// sections 4.10 and 4.11). A greater length is `Long`, whatever follows.
+    /// Reads a length of at most `limit`, that many bytes, and zero bytes up to a multiple of 4
+    /// (RFC 4506, sections 4.10 and 4.11). A greater length is `Long`, whatever follows.
     #[tactic(auto, unfolding(crate::specs::Forms::counted_at))]
     pub fn read_opaque(&mut self, limit: u32) -> Result<&'a [u8], Refusal>
         ensures { Scans (λ bytes. bytes.now) ((opaque limit).read) self.old self.new result }

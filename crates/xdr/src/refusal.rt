@@ -1,4 +1,4 @@
-//! Why bytes are not read, or not written.
+//! Why a read or a write fails.
 
 ghost use Rattle.std.specs.Prelude.{◌≡◌};
 ghost use Rattle.xdr.specs.declared.refusal.Refusal.TheVariants.{Memory};
@@ -6,13 +6,13 @@ ghost use Rattle.xdr.specs.declared.refusal.Refusal.TheVariants.{Memory};
 use std::alloc::{AllocError, AllocFailed};
 use thiserror::Error;
 
-/// Why a reader or a writer refuses. It is then where it was.
+/// Why a read or a write fails. The reader or the writer is then unchanged.
 #[derive(Clone, Copy, Debug, PartialEq, Eq, Error)]
 pub enum Refusal {
     /// The bytes end within the value.
     #[error("the bytes end within a value")]
     Short,
-    /// A number or a pad byte that the grammar does not have there.
+    /// A number or a pad byte that the grammar does not allow there.
     #[error("a value that the grammar does not have")]
     Value,
     /// A length or a count above its limit.

@@ -31,7 +31,7 @@ impl<const N: usize> Model for Words<N> {
 }
 
 impl<const N: usize> Words<N> {
-    /// No number.
+    /// An empty array.
     pub fn new() -> Words<N>
         ensures { result ≡ [] }
     {
@@ -49,7 +49,7 @@ impl<const N: usize> Words<N> {
         &self.words[..self.count]
     }
 
-    /// Their number, and so many numbers (RFC 4506, section 4.13). More than `N` are `Long`,
+    /// Reads a count and that many numbers (RFC 4506, section 4.13). A count above `N` is `Long`,
     /// whatever follows.
     #[tactic(auto, unfolding(crate::specs::Forms::elements_at))]
     pub fn read(r: &mut Reader<'_>) -> Result<Words<N>, Refusal>
@@ -66,7 +66,7 @@ impl<const N: usize> Words<N> {
         Ok(Words { words, count })
     }
 
-    /// One number more.
+    /// Appends a number.
     pub fn push(&mut self, word: u32)
         requires { length self.old < N }
         ensures { self.new ≡ self.old ++ word ∷ [] }
@@ -85,7 +85,7 @@ impl<const N: usize> Words<N> {
         4 + 4 * self.as_slice().len()
     }
 
-    /// Writes their number and the numbers (RFC 4506, section 4.13).
+    /// Writes the count and the numbers (RFC 4506, section 4.13).
     #[tactic(auto, using(crate::proofs::Writing::wrote_undone, crate::proofs::Writing::unchanged))]
     pub fn write(&self, w: &mut Writer) -> Result<(), Refusal>
         requires { N < 2 ^ 32 }
@@ -116,7 +116,7 @@ fn write_each(w: &mut Writer, words: &[u32]) -> Result<(), Refusal>
     Ok(())
 }
 
-/// A number for each place of `words`, and the reader after them.
+/// Reads a number for each place of `words`, and returns the reader after them.
 fn fill_words<'a>(at: Reader<'a>, words: &mut [u32]) -> Result<Reader<'a>, Refusal>
     ensures { Fills at.entry (length words.old) words.new result }
 {

@@ -1,4 +1,4 @@
-//! Writing to the right.
+//! Writing, by appending.
 
 ghost use Rattle.std.specs.Prelude.{◌≡◌, ◌≤◌, ◌<◌, ◌^◌, ◌+◌, length, take, IfOk, OnOk, OnErr};
 ghost use Rattle.std.specs.Int.{w32, w64};
@@ -12,10 +12,11 @@ use byteorder::{BigEndian, ByteOrder};
 use std::alloc::{AllocError, Global};
 use std::marker::Model;
 
-/// The bytes written so far. In a contract it is these bytes, and for how many there is memory.
+/// The bytes written so far. In a contract it is these bytes, and the number of bytes for which
+/// there is memory.
 ///
-/// A write refused for want of memory leaves the bytes as they were; it is never refused where
-/// there is memory for it.
+/// A write that fails for lack of memory leaves the bytes as they were; no write fails if there is
+/// memory for it.
 #[derive(Drop)]
 pub struct Writer {
     bytes: Vec<u8>,
@@ -33,7 +34,7 @@ impl Model for Writer {
 impl Writer {
     ghost use Rattle.std.specs.Prelude.{[], vec_capacity};
 
-    /// No byte, and no memory taken.
+    /// An empty writer, with no memory allocated.
     pub fn new(alloc: Global) -> Writer
         ensures { result.bytes ≡ [] }
     {
@@ -42,7 +43,7 @@ impl Writer {
         }
     }
 
-    /// No byte, and memory for `capacity` bytes.
+    /// An empty writer with memory for `capacity` bytes.
     pub fn with_capacity(alloc: Global, capacity: usize) -> Result<Writer, Refusal>
         ensures bytes { IfOk result (λ w. w.bytes ≡ []) }
         ensures capacity { IfOk result (λ w. w.capacity ≡ capacity) }
@@ -52,7 +53,7 @@ impl Writer {
         })
     }
 
-    /// After the bytes of a vector.
+    /// A writer that appends to the bytes of a vector.
     pub fn from_vec(bytes: Vec<u8>) -> Writer
         ensures bytes { result.bytes ≡ bytes.items }
         ensures capacity { result.capacity ≡ vec_capacity bytes }
@@ -82,7 +83,7 @@ impl Writer {
         self.bytes.as_slice()
     }
 
-    /// Takes memory for `additional` bytes more.
+    /// Reserves memory for at least `additional` more bytes.
     pub fn reserve(&mut self, additional: usize) -> Result<(), Refusal>
         ensures bytes { self.new.bytes ≡ self.old.bytes }
         ensures ok { OnOk result (length self.new.bytes + additional ≤ self.new.capacity) }
@@ -93,7 +94,7 @@ impl Writer {
         Ok(())
     }
 
-    /// Drops all but the first `len` bytes. The memory stays.
+    /// Drops all but the first `len` bytes. The memory is kept.
     pub fn truncate(&mut self, len: usize)
         ensures bytes { self.new.bytes ≡ take len self.old.bytes }
         ensures capacity { self.new.capacity ≡ self.old.capacity }
@@ -101,7 +102,7 @@ impl Writer {
         self.bytes.truncate(len);
     }
 
-    /// The bytes as they are.
+    /// Appends the bytes as they are.
     #[tactic(auto, using(crate::proofs::Writing::begins_same, crate::proofs::Writing::begins_on))]
     fn append(&mut self, bytes: &[u8]) -> Result<(), Refusal>
         ensures wrote { Wrote self.old self.new result bytes.now }
@@ -111,7 +112,7 @@ impl Writer {
         Ok(())
     }
 
-    /// A number of 4 bytes (RFC 4506, section 4.2).
+    /// Writes a number of 4 bytes (RFC 4506, section 4.2).
     #[tactic(auto, unfolding(crate::specs::Grammar::number))]
     pub fn write_u32(&mut self, n: u32) -> Result<(), Refusal>
         ensures wrote { Wrote self.old self.new result (number w32 n) }
@@ -122,7 +123,7 @@ impl Writer {
         self.append(&bytes)
     }
 
-    /// A number of 8 bytes (RFC 4506, section 4.5).
+    /// Writes a number of 8 bytes (RFC 4506, section 4.5).
     #[tactic(auto, unfolding(crate::specs::Grammar::number))]
     pub fn write_u64(&mut self, n: u64) -> Result<(), Refusal>
         ensures wrote { Wrote self.old self.new result (number w64 n) }
@@ -133,7 +134,7 @@ impl Writer {
         self.append(&bytes)
     }
 
-    /// A truth value: 0 or 1 (RFC 4506, section 4.4).
+    /// Writes a boolean: 0 or 1 (RFC 4506, section 4.4).
     pub fn write_bool(&mut self, truth: bool) -> Result<(), Refusal>
         ensures wrote { Wrote self.old self.new result (number w32 (code_of truth)) }
         ensures err { OnErr result (self.new.bytes ≡ self.old.bytes) }
@@ -141,7 +142,7 @@ impl Writer {
         self.write_u32(if truth { 1 } else { 0 })
     }
 
-    /// The bytes, and zero bytes up to a multiple of 4 (RFC 4506, section 4.9).
+    /// Writes the bytes, and zero bytes up to a multiple of 4 (RFC 4506, section 4.9).
     #[tactic(auto, using(crate::proofs::Writing::wrote_undone, crate::proofs::Writing::unchanged))]
     pub fn write_fixed(&mut self, bytes: &[u8]) -> Result<(), Refusal>
         ensures wrote { Wrote self.old self.new result (padded bytes.now) }
@@ -152,8 +153,8 @@ impl Writer {
         self.undo(mark, result)
     }
 
-    /// The length, the bytes, and zero bytes up to a multiple of 4 (RFC 4506, sections 4.10 and
-    /// 4.11).
+    /// Writes the length, the bytes, and zero bytes up to a multiple of 4 (RFC 4506, sections 4.10
+    /// and 4.11).
     #[tactic(auto, using(crate::proofs::Writing::wrote_undone, crate::proofs::Writing::unchanged))]
     pub fn write_opaque(&mut self, bytes: &[u8]) -> Result<(), Refusal>
         requires { length bytes.now < 2 ^ 32 }
@@ -165,11 +166,10 @@ impl Writer {
         self.undo(mark, result)
     }
 
-    /// Gives `outcome` back; where it is a refusal, all but the first `mark` bytes are dropped
-    /// first.
+    /// Returns `outcome`; if it is an error, all but the first `mark` bytes are dropped first.
     ///
-    /// So several writes are one: with the length before them as `mark`, a refusal leaves the bytes
-    /// as they were.
+    /// This makes several writes one: with the length before them as `mark`, a failure leaves the
+    /// bytes as they were.
     pub fn undo(&mut self, mark: usize, outcome: Result<(), Refusal>) -> Result<(), Refusal>
         ensures same { result ≡ outcome }
         ensures ok { OnOk result (self.new.bytes ≡ self.old.bytes) }
@@ -202,7 +202,7 @@ impl Writer {
     }
 }
 
-/// How many bytes `write_opaque` writes of these.
+/// How many bytes `write_opaque` writes for these.
 #[tactic(auto, using(crate::proofs::Sizes::counted_length))]
 pub fn opaque_size(bytes: &[u8]) -> usize
     requires { length bytes.now < 2 ^ 32 }

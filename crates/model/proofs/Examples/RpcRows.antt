@@ -9,7 +9,8 @@ use Rattle.model.specs.Wire.Rpc.{words, read_call, CallRead, NoCall, OtherVersio
 abbrev limits : RecordLimits
 limits = record { bytes = 16384; fragments = 64 }
 
--- Row by row: the record that answers this record without an operation, and nothing where there is none
+-- Row by row: the record that replies to this record without an operation, and nothing if there is
+-- none
 
 abbrev answered : ℕ → Request → List ℕ
 answered xid (Answers reply) = framed (reply_text xid reply)

@@ -1,4 +1,5 @@
--- Worked rows over the definitions of client records and sessions, in run 1 with the limits that the server serves.
+-- Worked rows over the definitions of client records and sessions, in run 1 with the limits that
+-- the server serves.
 use Rattle.std.proofs.Common.{◌≡◌, ℕ, refl, List, [], ◌∷◌, Ok, Err, None, Some, Bool, true, false, codes}
 use Rattle.model_tree.specs.declared.status.Status.TheVariants as status
 use Rattle.model.specs.Operations.Operation.{Channel, ExchangeIdArguments, CreateSessionArguments, SequenceArguments}
@@ -72,7 +73,7 @@ create_misordered : (create_session limits 7 (create 4294967297 3) opened).answe
 unfolding exchange_id create_session
 create_misordered = refl
 
--- a known owner: its record, by its own principal alone
+-- a known owner: its record, only by its own principal
 exchange_known : (exchange_id limits no_opens 7 (hello verifier) opened).0 ≡ Ok (exchange_answer plain_settings.name 4294967297 2 0x80010000)
 unfolding exchange_id create_session
 exchange_known = refl
@@ -86,7 +87,8 @@ exchange_restarted : (exchange_id limits no_opens 7 (hello (0 ∷ [])) opened).0
 unfolding exchange_id create_session
 exchange_restarted = refl
 
--- With room for one record an unconfirmed one gives way to that of another owner id, if the settings say so; a confirmed one never does
+-- With room for one record an unconfirmed one gives way to that of another owner id, if the
+-- settings say so; a confirmed one never does
 abbrev one_client : SessionLimits
 one_client = record limits { clients = 1 }
 
@@ -108,7 +110,8 @@ keeps_a_confirmed_one : (exchange_id one_client no_opens 7 (hello_by (codes "oth
 unfolding exchange_id create_session
 keeps_a_confirmed_one = refl
 
--- In run 7 five seats of earlier runs and other clients: the one of run 2 gives way to a session that asks for a seat, if the settings say so
+-- In run 7 five seats of earlier runs and other clients: the one of run 2 gives way to a session
+-- that asks for a seat, if the settings say so
 abbrev seat_in : ℕ → Seat
 seat_in run = record { session = session_id (client_number run 1) 1; owner = codes "other"; principal = 7; slots = None ∷ [] }
 
@@ -165,7 +168,7 @@ runs_next : begin 8 4 (request 0 2) done ≡ Runs
 unfolding exchange_id create_session session_id begin started finish
 runs_next = refl
 
--- neither the number after the next, nor one on a slot that ran nothing but 1
+-- neither the number after the next, nor any but 1 on a slot that has run nothing
 skips_none : begin 7 4 (request 0 3) done ≡ Refuses status.SeqMisordered
 unfolding exchange_id create_session session_id begin started finish
 skips_none = refl

@@ -1,5 +1,5 @@
--- Worked rows over the world, bytes in and bytes out, on a fresh volume of 256 sectors and 16 nodes in its first run; the caller has
--- uid 7 and gid 7, and each turn is at the moment 0.
+-- Worked rows over the world, bytes in and bytes out, on a fresh volume of 256 sectors and 16 nodes
+-- in its first run; the caller has uid 7 and gid 7, and each turn is at the moment 0.
 use Rattle.std.proofs.Common.{◌≡◌, ℕ, zero, suc, ◌+◌, ◌*◌, refl, List, [], ◌∷◌, ◌++◌, length, replicate, fold, true, false, Option, Some, None}
 use Rattle.std.specs.Int.{w32}
 use Rattle.xdr.specs.Grammar.{number, number_at}
@@ -58,7 +58,8 @@ compound xid uid count operations =
 abbrev compound_reply : (xid status count : ℕ) → List ℕ → List ℕ
 compound_reply xid status count results = record_of (xid ∷ 1 ∷ 0 ∷ 0 ∷ 0 ∷ 0 ∷ status ∷ 0 ∷ count ∷ results)
 
--- the world after a record that comes on a connection; after so many turns there; the turn that is taken next
+-- the world after a record that arrives on a connection; after `turns` turns there; the turn that
+-- is taken next
 comes : World → ℕ → List ℕ → World
 unfolding arrives front_from fragment behind_header read_call number number_at padded padded_at counted_at
 comes world connection bytes = arrives world connection bytes
@@ -72,7 +73,7 @@ next_turn : World → ℕ → Turn
 unfolding turned
 next_turn world connection = (one world connection 0).turn
 
--- a record, and the reply after so many turns, which is taken
+-- a record, and the reply after `turns` turns, which is taken
 answer : ℕ → World → ℕ → List ℕ → Option (List ℕ)
 unfolding comes turned
 answer turns world connection bytes = reply_at (turned turns (comes world connection bytes) connection) connection
@@ -81,7 +82,8 @@ behind : ℕ → World → ℕ → List ℕ → World
 unfolding comes turned takes
 behind turns world connection bytes = takes (turned turns (comes world connection bytes) connection) connection
 
--- EXCHANGE_ID of the owner `cl` with the verifier 0102030405060708: client id 4294967297, sequence 1
+-- EXCHANGE_ID of the owner `cl` with the verifier 0102030405060708: client id 4294967297, sequence
+-- 1
 abbrev exchange_call : List ℕ
 exchange_call = words (
     0x80000068 ∷ 2 ∷ 0 ∷ 2 ∷ 0x186a3 ∷ 4 ∷ 1 ∷ 1 ∷ 0x14 ∷ 0 ∷ 0 ∷ 7
@@ -170,7 +172,8 @@ no_turn : next_turn (turned 4 waiting 0) 0 ≡ Idle
 unfolding waiting next_turn
 no_turn = refl
 
--- the same request again, on another connection: one turn, the same reply, and the root has one name
+-- the same request again, on another connection: one turn, the same reply, and the root has one
+-- name
 made : World
 unfolding opened behind
 made = behind 4 opened 0 (make_call 7)
@@ -192,7 +195,8 @@ misordered : answer 1 made 1 (compound 10 7 1 (begin_on 0 3)) ≡ Some (words (0
 unfolding made answer
 misordered = refl
 
--- while the request runs: DELAY for its number, and for the next SEQ_MISORDERED; DESTROY_SESSION waits too
+-- while the request runs: DELAY for its number, and for the next SEQ_MISORDERED; DESTROY_SESSION
+-- waits too
 half_made : World
 unfolding waiting turned
 half_made = turned 2 waiting 0
@@ -220,7 +224,7 @@ destroy_twice : answer 1 (behind 1 made 1 destroy_call) 1 destroy_call ≡ Some 
 unfolding made answer behind
 destroy_twice = refl
 
--- A pad fault in the last operation: what stands before it has run, and "b" is there
+-- A pad fault in the last operation: those before it have run, and "b" is there
 abbrev padded_call : List ℕ
 padded_call = compound 10 7 4 (begin_on 0 2 ++ (24 ∷ (make_directory 0x62000000 ++ (15 ∷ 1 ∷ 0x61000001 ∷ []))))
 
@@ -241,7 +245,8 @@ garbage : answer 1 made 0 padded_tag ≡ Some (record_of (10 ∷ 1 ∷ 0 ∷ 0 �
 unfolding made answer
 garbage = refl
 
--- A hang-up after one turn runs the rest of the request: "h" is there, and a new connection gets the kept reply
+-- A hang-up after one turn runs the rest of the request: "h" is there, and a new connection gets
+-- the kept reply
 abbrev hang_call : List ℕ
 hang_call = compound 9 7 3 (begin_on 0 1 ++ (24 ∷ make_directory 0x68000000))
 
@@ -258,7 +263,8 @@ hung_kept : answer 1 hung 1 hang_call ≡ Some (compound_reply 9 0 3
 unfolding hung answer
 hung_kept = refl
 
--- The tests around the operations: no results, another minor version, too many operations, and operations out of their place
+-- The tests around the operations: no results, another minor version, too many operations, and
+-- operations out of place
 no_operation : answer 1 made 0 (compound 10 7 0 []) ≡ Some (compound_reply 10 0 0 [])
 unfolding made answer
 no_operation = refl
@@ -336,12 +342,13 @@ no_room_made : length (names_at (behind 4 small 0 (make_call 7)).tree root) ≡ 
 unfolding small behind
 no_room_made = refl
 
--- one turn runs SEQUENCE alone, and two run nothing that makes "a"
+-- one turn runs only SEQUENCE, and two run nothing that makes "a"
 one_operation : length (names_at half_made.tree root) ≡ 0
 unfolding half_made
 one_operation = refl
 
--- Lengths and counts that are too great: a name of 2^32 - 1 bytes and a bitmap of 9 words in the last operation, a tag of 256 bytes
+-- Lengths and counts that are too great: a name of 2^32 - 1 bytes and a bitmap of 9 words in the
+-- last operation, a tag of 256 bytes
 abbrev begun_reply : (status operation : ℕ) → List ℕ
 begun_reply status operation = compound_reply 10 status 3 (53 ∷ 0 ∷ 1 ∷ 1 ∷ 0 ∷ 1 ∷ 2 ∷ 0 ∷ 7 ∷ 7 ∷ 0 ∷ 24 ∷ 0 ∷ operation ∷ status ∷ [])
 
@@ -359,7 +366,7 @@ long_tag : answer 1 made 0 (record_of (10 ∷ 0 ∷ 2 ∷ 0x186a3 ∷ 4 ∷ 1 �
 unfolding made answer
 long_tag = refl
 
--- of a CREATE of another type nothing more is looked at: BADTYPE
+-- after a CREATE of another type the rest is ignored: BADTYPE
 other_type : answer 3 made 0 (compound 10 7 3 (begin_on 0 2 ++ (24 ∷ 6 ∷ 1 ∷ 5 ∷ 5 ∷ []))) ≡ Some (begun_reply 10007 6)
 unfolding made answer
 other_type = refl
@@ -373,7 +380,8 @@ not_permitted : answer 4 made 0 (other_caller (make_directory 0x62000000))
 unfolding made answer
 not_permitted = refl
 
--- A removal between another connection's turns: "f" is looked up, removed on slot 1, and then read: STALE
+-- A removal between another connection's turns: "f" is looked up, removed on slot 1, and then read:
+-- STALE
 abbrev make_file : List ℕ
 make_file = compound 9 7 3 (begin_on 0 1 ++ (24 ∷ 18 ∷ 0 ∷ 3 ∷ 0 ∷ 0 ∷ 0 ∷ 1 ∷ 0x6f000000 ∷ 1 ∷ 0 ∷ 2 ∷ 0 ∷ 2 ∷ 4 ∷ 0x1a4 ∷ 0 ∷ 1 ∷ 0x66000000 ∷ []))
 
@@ -435,7 +443,8 @@ seated_opened : World
 unfolding seated_greeted behind
 seated_opened = behind 1 seated_greeted 0 (persist_call 1)
 
--- SEQUENCE, PUTROOTFH, CREATE "a", GETFH: each operation a turn that answers Ran, and one more makes the reply
+-- SEQUENCE, PUTROOTFH, CREATE "a", GETFH: each operation is a turn that returns Ran, and one more
+-- makes the reply
 seated_waiting : World
 unfolding seated_opened comes
 seated_waiting = comes seated_opened 0 (make_call 7)
@@ -461,7 +470,8 @@ seated_made : World
 unfolding seated_opened behind
 seated_made = behind 5 seated_opened 0 (make_call 7)
 
--- after a restart the retry has the same reply and makes nothing; the next number, and another caller, find a dead session
+-- after a restart the retry has the same reply and makes nothing; the next number, and another
+-- caller, find a dead session
 restarted : World → World
 unfolding mounted
 restarted world = mounted 2 world.tree world.table.seats
@@ -505,7 +515,8 @@ unknown_then : answer 1 (behind 1 (restarted seated_made) 1 destroy_call) 1 (mak
 unfolding seated_made restarted behind answer
 unknown_then = refl
 
--- Five sessions of one client take the five seats: the sixth is as if PERSIST was not asked for, by another client too
+-- Five sessions of one client take the five seats: the sixth is as if PERSIST was not asked for, by
+-- another client too
 abbrev persisting : World → (sequence : ℕ) → World
 persisting world sequence = behind 1 world 0 (persist_call sequence)
 
@@ -551,7 +562,8 @@ sixth_of_another : answer 1 (greeted_by 7 0x636d0000 0x5060708 five) 0 (create_b
 unfolding five behind answer
 sixth_of_another = refl
 
--- a session that is destroyed frees its seat, which the sixth takes: another client's, or the owner's
+-- a session that is destroyed frees its seat, which the sixth takes: another client's, or the
+-- owner's
 one_freed : World
 unfolding five behind
 one_freed = behind 1 five 0 destroy_call
@@ -568,7 +580,8 @@ sixth_seats : (persisting one_freed 6).table.seats ≡ seat_of 1 1 6 ∷ behind_
 unfolding one_freed behind
 sixth_seats = refl
 
--- the client starts again, with another verifier: its first session ends the five, whose seats give way
+-- the client starts again, with another verifier: its first session ends the five, whose seats give
+-- way
 client_again : World
 unfolding five behind
 client_again = greeted_by 7 0x636c0000 0x5060709 five
@@ -598,7 +611,7 @@ dead_gave_way : (behind 1 owner_again 0 (create_by 7 2 1 1 1)).table.seats ≡ s
 unfolding owner_again behind
 dead_gave_way = refl
 
--- .. where none is asked for too; the dead session is unknown from then on
+-- .. if none is asked for too; the dead session is unknown from then on
 none_taken : (behind 1 owner_again 0 (create_by 7 2 1 1 0)).table.seats ≡ no_seats
 unfolding owner_again behind
 none_taken = refl
@@ -607,7 +620,7 @@ unknown_behind : answer 1 (behind 1 owner_again 0 (create_by 7 2 1 1 0)) 1 (make
 unfolding owner_again behind answer
 unknown_behind = refl
 
--- .. and not where CREATE_SESSION is refused, here with the number 2, nor by EXCHANGE_ID alone
+-- .. and not if CREATE_SESSION is refused, here with the number 2, nor by just EXCHANGE_ID
 refused_frees_none : (behind 1 owner_again 0 (create_by 7 2 1 2 1)).table.seats ≡ seat_of 1 1 1 ∷ behind_first
 unfolding owner_again behind
 refused_frees_none = refl

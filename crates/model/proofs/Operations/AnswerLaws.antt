@@ -69,7 +69,7 @@ module _ (world : World) (request : InProgress) (operation : Argument) (free : p
   reclaimed_permitted None = λ done. free
   reclaimed_permitted (Some reason) = λ done. free
 
--- the operations on clients and sessions ask for no right
+-- the operations on clients and sessions need no right
 run_permitted : (world : World) (request : InProgress) (now : ℕ) (operation : Argument)
     → RanPermitted world request operation (run_of world request now operation)
 unfolding run_of permitted

@@ -70,7 +70,7 @@ no_directory : (b : Bool) → refused_or b status.IsDir None ≡ None → b ≡ 
 no_directory true none = absurd (some≢none status.IsDir none)
 no_directory false none = refl
 
--- Bytes of a file, and what it shows
+-- Bytes of a file, and its metadata
 
 module _ (limits : Limits) (state : State) (sound : IsSound limits state) (place : ℕ) (file : IsFileAt state.tree place) where
   old_list : is_list_for limits.aces_set limits.aces kind.File file.node.acl ≡ true
@@ -83,7 +83,7 @@ module _ (limits : Limits) (state : State) (sound : IsSound limits state) (place
   old_same : bytes_of file.node.content ≡ file.bytes
   old_same = ap bytes_of file.content
 
-  -- a file with other bytes that shows something else
+  -- a file with other bytes and other metadata
   rewritten_keeps : (bytes : List ℕ) → IsContent limits (File bytes) → (shown : Node) → shown.content ≡ File bytes
       → is_list_for limits.aces_set limits.aces kind.File shown.acl ≡ true → shown.change ≡ stamp_of state
       → IsChanged limits (stamp_of state) state.tree (with state.tree place shown) 0
@@ -235,7 +235,7 @@ module _ (modes : ModesKeepLimits) (inheritance : InheritanceKeepsLimits) where
         let attributes = none_in_both tested (size_refusals state arguments) tests.1 in
         (attributes.0, attributes.1, current_key state tests.0)
 
-    -- where a size is set it is a file
+    -- if a size is set, it is a file
     sized_file : (size : ℕ) → size_given given ≡ Some size → is_directory_at state.tree place ≡ false
     sized_file size said = by_given (size_given given) said set_tests.1
       where
@@ -368,7 +368,7 @@ module _ (modes : ModesKeepLimits) (inheritance : InheritanceKeepsLimits) where
         directory_node None is = absurd (true≢false (sym is))
         directory_node (Some node) is = (node, refl, is)
 
-    -- what an opening by name is, whether the name is there and whether the file is cut
+    -- what an opening by name is, whether the name is there and whether the file is truncated
 
     by_cut : (how : OpenType) (cut : Bool) → cuts how ≡ cut → cut ≡ true → first_refusal (known_refusals limits state (number_named state.tree (current state) name) how) ≡ None
         → is_name_there state name ≡ true
@@ -406,7 +406,7 @@ module _ (modes : ModesKeepLimits) (inheritance : InheritanceKeepsLimits) where
       by_name limits state now sound name how (is_name_there state name) refl is middle
       (not-false (is_directory_at state.tree (current state)) directory.0) directory.1
 
--- An opening that makes and cuts nothing leaves all as it is
+-- An opening that neither makes nor truncates a file leaves everything as it is
 
 pub opening_leaves : (state : State) (now : ℕ) (opening : Opening) → (makes_file state opening || cuts_file state opening) ≡ false
     → opening_done state now opening ≡ state

@@ -1,4 +1,4 @@
--- The bitmap that is answered tells the attributes whose values stand beside it.
+-- The bitmap that is returned names the attributes whose values come with it.
 use Rattle.std.proofs.Common.{◌≡◌, ◌⊎◌, inl, inr, ℕ, zero, suc, ◌+◌, ◌*◌, ◌/◌, ◌%◌, ◌<◌, ◌≤◌, Bool, true, false, ◌&&◌, ◌||◌, ◌==◌, cond, min, nat_eq, get_or, List, [], ◌∷◌, ◌++◌, map, filter, refl, sym, ap, ◌∙◌, arith, bit_and, eqb-true, eq-eqb, ne_eqb}
 use Rattle.std.specs.List.{list_any, range_with_len, AllByRecursion}
 use Rattle.std.specs.Int.{bit_at}
@@ -51,7 +51,7 @@ all-filter P q (x ∷ xs) all = by_test (q x) all.0 (all-filter P q xs all.1)
     by_test true here later = (here, later)
     by_test false here later = later
 
--- what stands in a word
+-- what a word has
 
 abbrev has : (word bit : ℕ) → Bool
 has word bit = bit_at word bit == 1
@@ -84,7 +84,7 @@ range_from : (a n least : ℕ) → least ≤ a → AllByRecursion (λ x. least �
 range_from a zero least within = tt
 range_from a (suc n) least within = (within, range_from (a + 1) n least (omega (arith, within)))
 
--- a number of a range that passes, where it stands `g` further on
+-- a number of a range that passes, when it is `g` further on
 any_in : (g a n b : ℕ) (q : ℕ → Bool) → a ≤ b → b < a + n → list_any (λ x. q x && nat_eq (g + b) (g + x)) (range_with_len a n) ≡ q b
 any_in g a zero b q low high = absurd (omega arith)
 any_in g a (suc n) b q low high = by_place (cases_lt a b) (λ above. any_in g (a + 1) n b q (omega (arith, above)) (omega arith))
@@ -158,7 +158,7 @@ nth-get [] k = refl
 nth-get (word ∷ words) zero = refl
 nth-get (word ∷ words) (suc k) = nth-get words k
 
--- an attribute is asked where its bit is set
+-- an attribute is asked for exactly if its bit is set
 pub asked_bit : (words : List ℕ) (n : ℕ) → is_among (attributes_of words) n ≡ (bit_at (get_or words (n / 32) 0) (n % 32) == 1)
 unfolding attributes_of
 asked_bit words n =

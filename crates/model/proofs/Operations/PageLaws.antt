@@ -10,7 +10,7 @@ use Rattle.model.specs.Operations.PageLaws.{page_size, EveryPage}
 use Rattle.model.specs.Operations.ReadDir.{entry_size, fitting, all_entries, page_room, page}
 use Rattle.model.specs.Wire.WireAnswers as answers
 
--- what entries come to
+-- how many bytes entries have
 sizes : List Entry → ℕ
 sizes [] = 0
 sizes (entry ∷ rest) = entry_size entry + sizes rest
@@ -43,7 +43,7 @@ unfolding sizes
 sizes_more [] entry = omega arith
 sizes_more (first ∷ rest) entry = let others = sizes_more rest entry in omega (arith, others)
 
--- what fits in so much room
+-- what fits in this much room
 record Fitted (room : ℕ) (all shown : List Entry) : Type 0 where
   pub rest : List Entry
   pub front : all ≡ shown ++ rest

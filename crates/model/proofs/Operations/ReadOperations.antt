@@ -1,4 +1,5 @@
--- An operation that comes only first in a COMPOUND is read as no later one, and each that is read is served.
+-- An operation that may only be the first of a COMPOUND is not read as a later one, and each that
+-- is read is served.
 use Rattle.std.proofs.Common.{◌≡◌, ℕ, Bool, true, false, not, ◌&&◌, ◌||◌, ◌==◌, if◌then◌else◌, List, Result, Ok, Err, refl, ap, sym, subst, ◌∙◌, ◌⊎◌, inl, inr, nat_lt}
 use Rattle.std.proofs.lemmas.Bool.{eqb-true, eq-eqb, not-false}
 use Rattle.std.specs.Int.{w32}
@@ -84,7 +85,7 @@ arguments_first : Firsts arguments_at
 unfolding arguments_at
 arguments_first = choice_first
 
--- What is read comes first where it is to, and is served
+-- What is read comes first if it must, and is served
 
 abbrev Passed : InProgress → Argument → Type 0
 Passed request argument = (is_first (operation_of argument) ≡ true → request.answered ≡ 0) × (is_served (operation_of argument) ≡ true)
@@ -180,7 +181,7 @@ pub first_read : (request : InProgress) (argument : Argument) (rest : List ℕ) 
     → is_first (operation_of argument) ≡ true → request.answered ≡ 0
 first_read request argument rest is = (passed_tests request argument rest is).0
 
--- What is read first of all comes first, and stands alone where it is to
+-- What is read first of all may come first, and is the only one if it must be
 
 abbrev ComesFirst : InProgress → Next → Type 0
 ComesFirst request (Refuses operation reason) = Unit {0}

@@ -1,10 +1,10 @@
--- Refusals one after the other: the first one, and what holds where there is none.
+-- Refusals one after the other: the first one, and what holds if there is none.
 use Rattle.std.proofs.Common.{◌≡◌, Bool, true, false, [], ◌∷◌, ◌++◌, Option, Some, None, refl}
 use Rattle.model_tree.specs.declared.status.Status.{Status}
 use Rattle.model_tree.specs.Refusals.Refusal.{Refusals, first_refusal, refused_or}
 use Rattle.model_tree.proofs.Facts.OptionLaws.{some≢none}
 
--- the first of two answers
+-- the first of two statuses
 abbrev pub or_else : Option Status → Option Status → Option Status
 or_else None second = second
 or_else (Some first) second = Some first
@@ -23,7 +23,7 @@ pub none_in_front : (test : Bool) (reason : Status) (rest : Option Status) → r
 none_in_front true reason rest none = absurd (some≢none reason none)
 none_in_front false reason rest none = (refl, none)
 
--- where none of all holds, none of each part does
+-- if none of all holds, none of each part does
 pub none_in_both : (front rest : Refusals) → first_refusal (front ++ rest) ≡ None
     → (first_refusal front ≡ None) × (first_refusal rest ≡ None)
 none_in_both [] rest none = (refl, none)

@@ -34,7 +34,7 @@ granted_both tree context (one ∷ first) then not-false others =
     and_from (list_any (is_granted tree context.cred) one) (are_granted tree context (first ++ then)) parts.0
     (granted_both tree context first then parts.1 others)
 
--- What passed every test but those of a change
+-- What passed every test except those of a change
 pub record PassesTests (limits : Limits) (state : State) (operation : Argument) : Type 0 where
   pub early : first_refusal (early limits state operation) ≡ None
   pub permitted : permitted state.tree state.context operation ≡ true

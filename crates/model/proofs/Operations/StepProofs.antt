@@ -220,7 +220,7 @@ renamed_changed limits state now arguments passes sound another =
           true≢false (sym directory ∙ (ap (is_directory_at tree) same ∙ is_file))
     ])
 
--- the number of the node that an operation takes away, 0 where it takes none
+-- the number of the node that an operation removes, 0 if it removes none
 abbrev pub gone_by : State → Argument → ℕ
 gone_by state (Argument.Remove name) = number_named state.tree (current state) name
 gone_by state (Argument.Rename arguments) = target_number state arguments

@@ -1,4 +1,5 @@
--- The headline, by induction over a run: what a crash may leave is the tree of a good prefix of what was executed.
+-- The headline, by induction over a run: what a crash may leave is the tree of a good prefix of
+-- what was executed.
 use Rattle.std.proofs.Common.{◌≡◌, ℕ, zero, suc, ◌<◌, ◌≤◌, ◌⊎◌, inl, inr, Bool, true, false, not, cond, ◌==◌, List, [], ◌∷◌, ◌++◌, length, take, get_or, slice_get, option_to_list, Option, None, Some, refl, sym, ap, ◌∙◌, subst, arith, append-nil, length-append, take_all}
 use Rattle.std.proofs.lemmas.List.{take-append-le}
 use Rattle.std.specs.List.{IsAmong, AllByRecursion}
@@ -70,7 +71,7 @@ pub record StandsFor (start : Tree) (done : List Entry) (settled : ℕ) (tree : 
 pub AreBelow : ℕ → List ℕ → Type 0
 AreBelow bound names = AllByRecursion (λ i. i < bound) names
 
--- and what each reply names that a seat held
+-- and what each reply that a seat held names
 pub AreReplied : ℕ → List (Stored × List ℕ) → Type 0
 AreReplied bound replies = AllByRecursion (λ (reply : Stored × List ℕ). AreBelow bound reply.1) replies
 
@@ -81,7 +82,7 @@ pub record AreNamed (bound settled : ℕ) (history : RunHistory) : Type 0 where
   pub handed_out : AreBelow settled history.handed_out
   pub replies : AreReplied bound history.replies
 
--- of the trees, and of what is known of `done`
+-- what holds of the trees, and of what is known of `done`
 pub record Core (start : Tree) (serving : Serving) (done : List Entry) (settled : ℕ) : Type 0 where
   pub within : settled ≤ length done
   pub whole : serving.is_down ≡ false → serving.waits ≡ false → settled ≡ length done
@@ -99,7 +100,7 @@ pub record Holds (start : Tree) (serving : Serving) (history : RunHistory) : Typ
   pub told : serving.waits ≡ false → bound ≤ settled
   pub names : AreNamed bound settled history
 
--- One more operation executed: nothing of what stood before is lost
+-- One more operation executed: nothing that held before is lost
 
 pub StandsFor-append : (start : Tree) (done : List Entry) (settled : ℕ) (tree : Tree) (more : List Entry) → settled ≤ length done
     → StandsFor start done settled tree → StandsFor start (done ++ more) settled tree
@@ -176,7 +177,7 @@ stands_behind start done None tree (inr stands) durable =
 stands_behind start done (Some entry) tree (inl after) durable = latest start done entry _ tree (omega arith) after
 stands_behind start done (Some entry) tree (inr stands) durable = behind_one start done entry tree (is_durable entry) refl (durable entry refl) stands
 
--- what may be left, where the last one need not be kept
+-- what may be left, if the last one need not be kept
 stands_failing : (start : Tree) (done : List Entry) (settled : ℕ) (executed : Option Entry) (tree : Tree) → settled ≤ length done
     → (IsAfter executed tree) ⊎ (StandsFor start done settled tree) → StandsFor start (Joined done executed) settled tree
 stands_failing start done settled None tree within (inl after) = absurd after
@@ -185,7 +186,7 @@ stands_failing start done settled (Some entry) tree within (inl after) =
     latest start done entry settled tree (omega (arith, length-append done (entry ∷ []))) after
 stands_failing start done settled (Some entry) tree within (inr stands) = StandsFor-append start done settled tree (entry ∷ []) within stands
 
--- what an event may leave, by what stood before it
+-- what an event may leave, by what there was before it
 after_by : (start old new : Tree) (done : List Entry) (settled : ℕ) (tree : Tree) (made : Option Entry) → settled ≤ length done → old ≡ tree_after start done
     → EntryFits old new made → tree ≡ new → (IsAfter made tree) ⊎ (StandsFor start done settled tree)
 after_by start old new done settled tree None within at fits same = inr (of_all start done settled tree within (same ∙ fits ∙ at))
@@ -218,7 +219,7 @@ kept_by old new event left happens none among entry e lasts = by_mode happens.de
     by_mode false mode = happens.durable mode entry e lasts left among
     by_mode true mode = absurd (false≢true (sym none ∙ happens.deferred mode entry e lasts))
 
--- where nothing waits after it nothing waited before it
+-- if nothing waits after it, nothing waited before it
 none_waited : (old new : Serving) (event : Event) → Happens old event new → new.waits ≡ false → old.waits ≡ false
 none_waited old new event happens none = by_old old.waits refl
   where
@@ -250,7 +251,7 @@ core_goes start old new event done settled core happens none =
     settled_whole tree e (inl after) = inl after
     settled_whole tree e (inr stands) = inr (subst (λ (n : ℕ). StandsFor start done n tree) e stands)
 
--- where something waits after it, what was settled stays so
+-- if something waits after it, what was settled stays so
 core_waits : (start : Tree) (old new : Serving) (event : Event) (done : List Entry) (settled : ℕ) → Core start old done settled → Happens old event new → new.waits ≡ true
     → Core start new (Joined done (executed_of old.world event)) settled
 core_waits start old new event done settled core happens waits =

@@ -1,4 +1,5 @@
--- What a held reply names is kept, by induction over a run: each pair that may be left has a level of its own.
+-- What a held reply names is kept, by induction over a run: each pair that may be left has its own
+-- level.
 use Rattle.std.proofs.Common.{◌≡◌, ℕ, zero, suc, ◌<◌, ◌≤◌, ◌⊎◌, inl, inr, Bool, true, false, List, [], ◌∷◌, ◌++◌, length, get_or, option_to_list, Option, None, Some, refl, sym, ap, ◌∙◌, subst, arith, append-nil}
 use Rattle.std.specs.List.{IsAmong}
 use Rattle.std.proofs.lemmas.Bool.{false≢true}
@@ -20,12 +21,13 @@ record NamedBelow (level : ℕ) (replies : List (Stored × List ℕ)) (stored : 
 named_more : (level : ℕ) (replies more : List (Stored × List ℕ)) (stored : Stored) → NamedBelow level replies stored → NamedBelow level (replies ++ more) stored
 named_more level replies more stored is = record { names = is.names; among = among_left replies more (stored, is.names) is.among; below = is.below }
 
--- what each reply names that these seats hold
+-- what each reply that these seats hold names
 HeldBelow : ℕ → List (Stored × List ℕ) → Seats → Type 0
 HeldBelow level replies seats =
     (stored : Stored) (names : List ℕ) → IsAmong replies (stored, names) → held_at stored.session stored.slot seats ≡ Some stored.held → NamedBelow level replies stored
 
--- its tree has each durable operation below the level, and the replies in its seats name nothing above
+-- its tree has each durable operation below the level, and the replies in its seats name nothing
+-- above
 record IsLevel (start : Tree) (done : List Entry) (replies : List (Stored × List ℕ)) (settled : ℕ) (left : Left) : Type 0 where
   level : ℕ
   above : settled ≤ level

@@ -50,7 +50,7 @@ no_early_reply = record {
     given_by old new connection waits (inl happens) = subst (λ (b : Bool). MayBeTaken b (Takes connection)) waits happens.taken
     given_by old new connection waits (inr stays) = true≢false (sym waits ∙ stays.none_waits)
 
--- what stands at a place stands there with more after it
+-- what is at a place is still there with more after it
 still_there : (done more : List Entry) (i : ℕ) (entry : Entry) → slice_get done i ≡ Some entry → slice_get (done ++ more) i ≡ Some entry
 still_there [] more i entry is = let never : ⊥ = cc in absurd never
 still_there (first ∷ done) more zero entry is = is
@@ -150,7 +150,7 @@ no_gap uid count arguments table session known e =
 
 -- One operation a turn
 
--- the same request, but for its context, its slot and what follows
+-- the same request, except for its context, its slot and what follows
 record IsSameRequest (request left : InProgress) : Type 0 where
   xid : left.xid ≡ request.xid
   tag : left.tag ≡ request.tag
@@ -244,9 +244,9 @@ in_room_keeps world request operation (Gives (Outcome.Done answer) after left) k
     keeps (same_request request)
 in_room_keeps world request operation (Replays result session slot) keeps = keeps
 
--- What stands at the connection then
+-- What the connection has then
 
--- what the operation that stands next has come to, with the bytes after it
+-- what the next operation has come to, with the bytes after it
 record HasCome (old : World) (request : InProgress) (next : Next) (left : InProgress) (world : World) (outcome : Outcome) (entry : Option Entry) : Type 0 where
   rest : List ℕ
   same : IsSameRequest (record request { rest = rest }) left

@@ -24,7 +24,8 @@ use Rattle.model_tree.specs.Trees.Keyed.{at}
 use Rattle.model.specs.Server.Runs.{is_done, before, Event, Arrives, Turns, HangsUp, Connects, Takes, effect_of, executed_of}
 use Rattle.model.proofs.Operations.RefusalLaws.{none_before}
 
--- One operation on the tree: where the tree differs, it was permitted, is a change by its kind, and was answered OK
+-- One operation on the tree: if the tree differs, it was permitted, is a change by its kind, and
+-- was answered OK
 
 abbrev Lawful : State → Argument → Stepped → Type 0
 Lawful state operation stepped = (state.tree ≢ stepped.state.tree)

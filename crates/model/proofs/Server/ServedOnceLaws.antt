@@ -95,7 +95,7 @@ either_goes : (id : List ℕ) (slot last : ℕ) (operation : Argument) (b : Bool
 either_goes id slot last operation true x y first second = first
 either_goes id slot last operation false x y first second = second
 
--- nothing runs where an operation is refused
+-- nothing runs if an operation is refused
 refused_none : (id : List ℕ) (slot : ℕ) (operation : Argument) (number : ℕ) (reason : Status) → number_by id slot operation (Outcome.Refused number reason) ≡ None
 refused_none id slot (Argument.Sequence arguments) number reason = refl
 refused_none id slot _ number reason = refl

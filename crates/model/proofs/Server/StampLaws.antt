@@ -27,7 +27,7 @@ use Rattle.model_tree.proofs.Facts.BooleanLaws.{second_held}
 abbrev Differs : Entry → Type 0
 Differs entry = before entry ≢ entry.after
 
--- One operation: where the tree differs, it was counted, and a stamp was left
+-- One operation: if the tree differs, it was counted, and a stamp was left
 
 abbrev pub Counts : (old new : ℕ) → (differs : Type 0) → Type 0
 Counts old new differs = (old ≤ new) × (differs → (new ≡ old + 1) × (old + 1 < 2 ^ 32))

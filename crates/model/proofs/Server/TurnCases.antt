@@ -21,7 +21,8 @@ pub data GoesWith (world : World) (here : ℕ) : InProgress → Type 0 where
 abbrev pub read_of : InProgress → List ℕ → InProgress
 read_of request rest = record request { rest = rest }
 
--- nothing; a reply without an operation; one made of a request that has ended; one refused before it runs; one whose result has no room, or has it; a reply that a slot keeps
+-- nothing; a reply without an operation; one made of a request that has ended; one refused before
+-- it runs; one whose result has no room, or has it; a reply that a slot keeps
 pub data IsTurn (world : World) (here now : ℕ) : Turned → Type 0 where
   Idles : IsTurn world here now (idle world)
   Says : (bytes : List ℕ) (xid : ℕ) (reply : Reply) → at here world.connections ≡ Some (Waiting bytes) → IsTurn world here now (replies world here xid reply)

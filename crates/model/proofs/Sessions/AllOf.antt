@@ -1,4 +1,5 @@
--- What holds of each element of a list: of fewer, of those that a function makes of them, and of the one that a test finds.
+-- What holds of each element of a list: of fewer, of those that a function makes of them, and of
+-- the one that a test finds.
 use Rattle.std.proofs.Common.{◌≡◌, ◌<◌, ◌≤◌, Bool, true, false, cond, List, [], ◌∷◌, ◌++◌, map, filter, length, find, Some, refl, sym, ◌∙◌, subst, arith}
 use Rattle.std.specs.List.{AllByRecursion, list_all}
 use Rattle.std.proofs.lemmas.Bool.{true≢false, and_parts}
@@ -36,7 +37,7 @@ none_pass {A} test (y ∷ xs) none = by_test (none_pass test xs) (test y) refl n
     by_test rest true is none = absurd (omega (arith, none))
     by_test rest false is none = (λ passes. true≢false (sym passes ∙ is), rest none)
 
--- where at most one passes a test, it is the one that is found
+-- if at most one passes a test, it is the one that is found
 pub only_found : {A : Type 0} (test : A → Bool) (xs : List A) (x : A) → length (filter test xs) ≤ 1 → find test xs ≡ Some x
     → AllByRecursion (λ (y : A). test y ≡ true → y ≡ x) xs
 only_found test [] x few found = tt

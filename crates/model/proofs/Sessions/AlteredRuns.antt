@@ -1,4 +1,5 @@
--- A request that has begun remembers whether a change that has to last is among what it names; and the settings of a run stay.
+-- A request that has begun remembers whether a change that has to last is among what it names; and
+-- the settings of a run stay.
 use Rattle.std.proofs.Common.{◌≡◌, ◌≢◌, ℕ, ◌+◌, ◌<◌, ◌==◌, ◌&&◌, ◌||◌, ◌⊎◌, inl, inr, Bool, true, false, not, cond, List, [], ◌∷◌, ◌++◌, length, option_to_list, slice_get, find, Option, None, Some, zero, suc, Result, Ok, Err, refl, sym, ap, ◌∙◌, subst, arith, append-nil, eqb-true, eq-eqb}
 use Rattle.std.specs.List.{IsAmong}
 use Rattle.std.proofs.lemmas.Bool.{true≢false, cases_eq, and_from, or_left, or_right}

@@ -1,5 +1,5 @@
--- Each call on the tables of clients and sessions leaves a confirmed record to each client that has a session or an open, and
--- leaves each session that runs.
+-- Each call on the tables of clients and sessions leaves a confirmed record to each client that has
+-- a session or an open, and leaves each session that runs.
 use Rattle.std.proofs.Common.{◌≡◌, ℕ, ◌≤◌, Bool, true, false, not, cond, ◌&&◌, ◌||◌, ◌==◌, List, [], ◌∷◌, ◌++◌, map, filter, find, Option, None, Some, Result, refl, sym, ap, ◌∙◌, bytes_eq, eqb-true, eq-eqb}
 use Rattle.std.specs.List.{list_all, list_any}
 use Rattle.std.proofs.lemmas.Bool.{true≢false, and_parts, and_from, not-false, not-true, or_parts}
@@ -55,7 +55,7 @@ find-map {A} p f (x ∷ xs) y same found =
     by_test later true found = let is : x ≡ y = cc in ap (λ z. Some (f z)) is
     by_test later false found = later found
 
--- where each passes one test and none another
+-- if each passes one test and none another
 all-step : {A : Type 0} (p bad q : A → Bool) (xs : List A) → ((x : A) → p x ≡ true → bad x ≡ false → q x ≡ true) → list_all p xs ≡ true
     → list_any bad xs ≡ false → list_all q xs ≡ true
 all-step p bad q [] step all none = refl

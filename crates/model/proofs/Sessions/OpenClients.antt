@@ -1,4 +1,5 @@
--- At each moment of a run each open, each session and each request that has begun is of a client with a confirmed record.
+-- At each moment of a run each open, each session and each request that has begun is of a client
+-- with a confirmed record.
 use Rattle.std.proofs.Common.{◌≡◌, ◌≢◌, ℕ, ◌≤◌, ◌+◌, ◌⊎◌, inl, inr, Bool, true, false, ◌&&◌, ◌==◌, nat_lt, List, [], ◌∷◌, find, filter, Option, None, Some, Result, Ok, Err, refl, sym, ap, ◌∙◌, subst, arith, eqb-true, eq-eqb, ltb-false, bytes_eq, is_some}
 use Rattle.std.specs.List.{list_all}
 use Rattle.std.proofs.lemmas.Bool.{true≢false, cases_eq, and_parts, and_from, or_left}
@@ -80,7 +81,8 @@ module _ {A : Type 0} (p : ℕ × A → Bool) where
           subst (λ (e : ℕ × A). p e ≡ true) entry_is first
       by_key false same there first later = later there
 
--- What an operation on the tree makes of the opens: each is of a client that had one, or of the caller
+-- What an operation on the tree makes of the opens: each is of a client that had one, or of the
+-- caller
 
 module _ (table : Table) where
   abbrev Known : Opens → Type 0
@@ -128,7 +130,7 @@ module _ (table : Table) where
     | inr not_gone ↦ subst (λ (s : Stepped). Known s.state.opens) (sym not_gone.1) known
   ]
 
--- What stands between two events
+-- What holds between two events
 
 pub record Living (world : World) : Type 0 where
   pub lives : Lives world.table world.opens
@@ -183,7 +185,8 @@ abbrev HasLeft : World → HasRun → Type 0
 HasLeft world (Gives outcome after left) = Leaves world outcome after left
 HasLeft world (Replays result session slot) = Unit {0}
 
--- what stands alone is the last one, and all but a first operation run in a session that does
+-- an operation that must be the only one is the last one, and all except a first operation run in a
+-- session that runs
 record Goes (world : World) (request : InProgress) (operation : Argument) : Type 0 where
   last : stands_alone (operation_of operation) ≡ true → is_last request ≡ true
   within : is_first (operation_of operation) ≡ false → RunsInSession world.table request

@@ -27,7 +27,7 @@ module _ (limits : Limits) (state : State) (are : AreOpens limits state.tree sta
   abbrev known : Keyed Open
   known = state.opens.known
 
-  -- what is opened stands, and is the caller's
+  -- what is opened is there, and is the caller's
   stands : (joins : Option (ℕ × Open)) → at (opened_by state.opens asked joins).serial (opened_by state.opens asked joins).opens.known
       ≡ Some (opened_by state.opens asked joins).state
   stands (Some entry) = at-with_same known entry.0 (upgraded asked.access entry.1)

@@ -128,7 +128,7 @@ effect_fewer limits state now operation other are = fewer_same state.opens state
 abbrev pub other_of : (run serial : ℕ) → List ℕ
 other_of run serial = to_be_bytes w32 run ++ to_be_bytes w64 serial
 
--- an open that was opened stands, with the stateid that was answered
+-- an open that was opened is there, with the stateid that was returned
 pub record IsOpened (run : ℕ) (asked : Open) (state : StateId) (new : Opens) : Type 0 where
   pub serial : ℕ
   pub known : Open
@@ -242,7 +242,7 @@ module _ (most : ℕ) (opens : Opens) (are : AreCounted opens) (asked : Open) (f
   opened_others (Some entry) serial apart = at-with_other opens.known entry.0 serial (upgraded asked.access entry.1) apart
   opened_others None serial apart = at-with_other opens.known (opens.given + 1) serial asked apart
 
-  -- and one that stood under its serial is joined
+  -- and one that was there under its serial is joined
   opened_joined : (joins : Option (ℕ × Open)) → open_like opens asked ≡ joins → (serial : ℕ) (known : Open) → at serial opens.known ≡ Some known
       → serial ≡ (behind_open joins).serial → (behind_open joins).state ≡ upgraded asked.access known
   opened_joined (Some entry) like serial known there one =

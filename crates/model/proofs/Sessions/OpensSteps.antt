@@ -1,4 +1,5 @@
--- Every operation keeps the opens: those of a file that goes end, and an open that is new stands on a file.
+-- Every operation keeps the opens: those of a file that is removed end, and a new open is of a
+-- file.
 use Rattle.std.proofs.Common.{ℕ, Bool, true, false, List, ◌++◌, ◌≡◌, ◌≢◌, ◌+◌, ◌-◌, ◌^◌, ◌<◌, ◌≤◌, ◌&&◌, ◌||◌, ◌==◌, not, if◌then◌else◌, inl, inr, refl, sym, ap, ◌∙◌, subst, arith, is_some, length, filter, nat_le, eq-eqb}
 use Rattle.std.specs.Prelude.{Option, Some, None, is_none}
 use Rattle.std.specs.List.{list_any}
@@ -130,7 +131,7 @@ closes limits state after are tree (Names serial known) opens = record {
   counts = rw opens (omega arith);
 }
 
--- OPEN: one open more, or one that is joined, on a file of the tree that is left
+-- OPEN: one more open, or one that is joined, on a file of the tree that is left
 opens_one : (limits : Limits) (state after : State) (asked : Open) → AreOpens limits state.tree state.opens
     → ((serial : ℕ) (known : Open) → at serial state.opens.known ≡ Some known
     → (is_key known.number after.tree ≡ true) × (is_directory_at after.tree known.number ≡ false))
@@ -300,7 +301,7 @@ module _ (modes : ModesKeepLimits) (inheritance : InheritanceKeepsLimits) (limit
       (λ serial known there. stays_file arguments.opening refl known.number (are.nodes serial known there) (are.files serial known there))
       (opened_file arguments.opening refl) (open_like state.opens (asked_open state arguments)) refl room.0 refl
 
--- The other operations: none gives a serial, and REMOVE and RENAME take opens away
+-- The other operations: none gives a serial, and REMOVE and RENAME end opens
 
 abbrev is_other : Argument → Bool
 is_other (Argument.Open arguments) = false
@@ -390,7 +391,7 @@ module _ (modes : ModesKeepLimits) (inheritance : InheritanceKeepsLimits) where
     | inr not_gone ↦ subst (λ (s : Stepped). KeepsOpens limits state s.state) (sym not_gone.1) (record { opens = are; counts = omega arith })
   ]
 
--- no opens, and the opens but those of clients that end
+-- no opens, and the opens except those of clients that end
 
 pub no_opens_are : (limits : Limits) (tree : Tree) → AreOpens limits tree no_opens
 no_opens_are limits tree = record {

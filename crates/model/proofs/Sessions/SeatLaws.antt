@@ -170,7 +170,7 @@ module _ (name : List ℕ) (place : ℕ) (held : HeldReply) where
       by_test rest true = (has_holding other.session seats ∙ apart.0, rest)
       by_test rest false = (has_holding other.session seats ∙ apart.0, rest)
 
-  -- of a session without a seat nothing is held
+  -- nothing is held for a session without a seat
   pub holding_none : (seats : Seats) → has_seat name seats ≡ false → holding name place held seats ≡ seats
   holding_none [] none = refl
   holding_none (None ∷ seats) none = ap (λ (rest : Seats). None ∷ rest) (holding_none seats none)
@@ -215,7 +215,7 @@ module _ (name : List ℕ) (place : ℕ) (held : HeldReply) where
           by_test true same = ap (λ (s : Seat). length s.slots) (sym (same_seat (with_held place held old) seat same)) ∙ length-set old.slots place (Some held)
           by_test false same = ap (λ (s : Seat). length s.slots) (sym (same_seat old seat same))
 
--- What is held tells that there is a seat
+-- If something is held, there is a seat
 pub seat_holds : (id : List ℕ) (place : ℕ) (seats : Seats) (held : HeldReply) → held_at id place seats ≡ Some held → (seat : Seat) × (seat_of id seats ≡ Some seat)
 seat_holds id place seats held e = by_option (seat_of id seats) refl
   where

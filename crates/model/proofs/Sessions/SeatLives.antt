@@ -375,7 +375,7 @@ module _ (limits : ServerLimits) (stop : Stop limits) (id : List ℕ) (slot : �
   pub its_own : (numbers_in id slot (executed_in stop) ≡ []) ⊎ (run_of id ≡ stop.run)
   its_own = own_with stop.serving.is_down refl
 
--- Over runs: those of one run alone
+-- Over runs: only those of one run
 
 none_later : (limits : ServerLimits) (stop : Stop limits) (lives : List (Stop limits)) → AreLives stop lives → (id : List ℕ) (slot : ℕ) → run_of id < stop.run + 1
     → numbers_over id slot lives ≡ []

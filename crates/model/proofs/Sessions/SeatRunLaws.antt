@@ -46,7 +46,7 @@ module _ (limits : ServerLimits) (run : ℕ) (world : World) (held : Held limits
   event_seated (Connects connection) = quiet (connects world connection) (connects_table world connection)
   event_seated (Takes connection) = quiet (takes world connection) (takes_table world connection)
 
--- What is kept stays so where more was stored or freed
+-- What is kept stays so if more was stored or freed
 kept_more : (seats : Seats) (stored more : List Stored) (gone also : List (List ℕ)) (i : ℕ) (one : Stored) → IsKept seats stored gone i one
     → IsKept seats (stored ++ more) (gone ++ also) i one
 kept_more seats stored more gone also i one (inl holds) = inl (record {

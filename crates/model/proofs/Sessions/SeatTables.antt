@@ -1,4 +1,5 @@
--- What holds of the seats beside the tables of clients and sessions, and that each call on them keeps it.
+-- What holds of the seats together with the tables of clients and sessions, and that each call on
+-- them keeps it.
 use Rattle.std.proofs.Common.{◌≡◌, ℕ, zero, suc, ◌+◌, ◌-◌, ◌/◌, ◌^◌, ◌<◌, ◌≤◌, ◌⊎◌, inl, inr, Bool, true, false, not, cond, ◌==◌, nat_lt, nat_le, List, [], ◌∷◌, ◌++◌, map, filter, length, take, option_to_list, slice_get, find, Option, None, Some, is_some, refl, sym, ap, ◌∙◌, subst, arith, bytes_eq, length-set, append-nil, leb-true, ltb-true, eqb-true, eq-eqb, get_or, get_or-set_same, get_or-set_other, replicate}
 use Rattle.std.specs.Int.{w64, to_be_bytes, from_be_bytes}
 use Rattle.std.specs.List.{AllByRecursion, IsAmong}
@@ -23,7 +24,7 @@ use Rattle.model.proofs.Sessions.StoringTurns.{same_seats, nothing_stored}
 use Rattle.model.proofs.Sessions.TableCalls.{Holds, either, found_passes, found_given}
 use Rattle.model.proofs.Sessions.TableLaws.{Clients, Sessions, given_by, given_serial}
 
--- Ids tell their run
+-- Ids determine their run
 
 abbrev pub in_run : ℕ → ℕ
 in_run client = client / 2 ^ 32
@@ -66,7 +67,7 @@ past_made run made client serial before small = record {
 abbrev pub id_in : Session → List ℕ
 id_in session = session_id session.client session.serial
 
--- its seat has as many slots as the session
+-- its seat and the session have equally many slots
 abbrev pub SeatFits : Seats → Session → Type 0
 SeatFits seats session = (seat : Seat) → seat_of (id_in session) seats ≡ Some seat → length seat.slots ≡ length session.slots
 
@@ -183,7 +184,7 @@ module _ (run : ℕ) (table : Table) (stored : List Stored) (gone : List (List �
     listed = among_left gone (freed_between table.seats left) one.session freed_before.listed;
   })
 
-  -- what is held of the seats that are left was held before
+  -- what the seats that are left hold was held before
   held_before : (id : List ℕ) (place : ℕ) (held : HeldReply) → held_at id place left ≡ Some held → held_at id place table.seats ≡ Some held
   held_before id place held there =
       let seat = seat_holds id place left held there in
@@ -241,7 +242,7 @@ has_none : (o : Bool) → (o ≡ true → ⊥) → o ≡ false
 has_none true never = absurd (never refl)
 has_none false never = refl
 
--- one session more
+-- one more session
 module _ (run : ℕ) (table : Table) (stored : List Stored) (gone : List (List ℕ)) (is : Seated run table stored gone) (new : Session)
     (next : new.serial ≡ table.session_serial + 1) (of_run : in_run new.client ≡ run) (small : table.session_serial + 1 < 2 ^ 64)
     (below : AllByRecursion (IsBelow table.session_serial) table.sessions) where

@@ -1,4 +1,4 @@
--- A seat goes only where it is asked for.
+-- A seat is freed only if that is asked for.
 use Rattle.std.proofs.Common.{◌≡◌, ℕ, Bool, true, false, cond, ◌==◌, List, [], ◌∷◌, find, Option, None, Some, is_some, Result, Ok, Err, refl, sym, ap, ◌∙◌, subst}
 use Rattle.std.proofs.lemmas.Bool.{true≢false}
 use Rattle.std.proofs.lemmas.Slice.Eq.{bytes_eq-Decides}
@@ -21,7 +21,7 @@ use Rattle.model.proofs.Sessions.SlotLaw.{exchange_same, destroy_client_same, re
 use Rattle.model.proofs.Sessions.TableCalls.{either}
 use Rattle.model.proofs.Server.TurnCases.{IsTurn, Idles, Says, Closes, Unread, TooBig, Gave, Repeats, turn_is, read_of}
 
--- Of seats alone
+-- Only seats
 
 freed_tells : (gone : Seat → Bool) (id : List ℕ) (seats : Seats) (seat : Seat) → SeatsApart seats → seat_of id seats ≡ Some seat → has_seat id (freed gone seats) ≡ false → gone seat ≡ true
 freed_tells gone id seats seat apart there went = by_test (gone seat) refl

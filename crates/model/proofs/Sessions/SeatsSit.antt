@@ -1,4 +1,4 @@
--- A session has a seat exactly where its CREATE_SESSION was answered with flag 1.
+-- A session has a seat exactly if its CREATE_SESSION returned flag 1.
 use Rattle.std.proofs.Common.{◌≡◌, ◌≢◌, ◌↔◌, ℕ, ◌+◌, ◌<◌, ◌^◌, ◌==◌, Bool, true, false, cond, List, [], ◌∷◌, find, Option, None, Some, is_some, Result, Ok, Err, refl, sym, ap, ◌∙◌, subst, arith}
 use Rattle.std.proofs.lemmas.Bool.{true≢false, and_parts}
 use Rattle.model_tree.specs.declared.status.Status.{Status}
@@ -21,7 +21,7 @@ use Rattle.model.proofs.Sessions.SlotsHeld.{Held, run_held}
 use Rattle.model.proofs.Sessions.TableCalls.{Holds, either}
 use Rattle.model.proofs.Server.TurnCases.{IsTurn, Idles, Says, Closes, Unread, TooBig, Gave, Repeats, turn_is, read_of}
 
--- Of seats alone: a seat that finds a free place is there
+-- Only seats: a seat that finds a free place is there
 
 seated_there : (new : Seat) (seats : Seats) → has_free seats ≡ true → has_seat new.session (seated new seats) ≡ true
 seated_there new [] free = absurd (true≢false (sym free))
@@ -57,7 +57,7 @@ behind_serial number after request (Done answer) executed =
 abbrev SitsIn : Table → CreateSessionAnswer → Type 0
 SitsIn table answer = (answer.flags ≡ 1) ↔ (has_seat answer.session table.seats ≡ true)
 
--- what it answers, where it makes a session
+-- what it returns, if it makes a session
 abbrev Sits : Table → CreateSessionOutcome → Type 0
 Sits old o = (answer : CreateSessionAnswer) → o.answer ≡ Ok answer → o.table.session_serial ≢ old.session_serial → SitsIn o.table answer
 

@@ -53,7 +53,7 @@ found : {A : Type 0} (P : A → Type 0) (test : A → Bool) (xs : List A) → Al
 found P test [] h x e = cc
 found P test (y ∷ xs) h x e = found_from P test x y xs (test y) refl h.0 (found P test xs h.1) e
 
--- What stands in a table
+-- What a table has
 
 -- each session of this id has this last number on the slot
 abbrev pub HasLast : List ℕ → ℕ → ℕ → Session → Type 0
@@ -73,7 +73,7 @@ pub record Stands (id : List ℕ) (slot last : ℕ) (table : Table) : Type 0 whe
   pub each : AllByRecursion (HasLast id slot last) table.sessions
   pub new_or_old : (last ≡ 0) ⊎ IsOld id table.session_serial
 
--- The calls that leave the sessions alone
+-- The calls that do not change the sessions
 
 pub record SameSessions (old new : Table) : Type 0 where
   pub sessions : new.sessions ≡ old.sessions
@@ -179,7 +179,7 @@ serial_left limits arguments client table e =
     (second_of_neither (nat_le limits.sessions (length (staying client table))) (nat_le (2 ^ 64 - 1) table.session_serial)
     (last_passes (take 4 (create_refusals limits arguments client table)) (is_full_of_sessions limits client table) status.Delay e))
 
--- the serial's bytes tell the serial
+-- the serial's bytes determine the serial
 pub session_id-serial : (client serial client' serial' : ℕ) → serial < 2 ^ 64 → serial' < 2 ^ 64 → session_id client serial ≡ session_id client' serial' → serial ≡ serial'
 unfolding session_id
 session_id-serial client serial client' serial' small small' e =
@@ -256,7 +256,7 @@ unfolding create_session
 create_stands limits id slot last uid arguments table stands =
     create_by_stands limits id slot last uid arguments table (find (is_client arguments.client) table.clients) stands
 
--- A slot that is put, where the session has it, and where it is another
+-- A slot that is put, if the session has it, and if it is another
 
 put_last : (session : Session) (place slot : ℕ) (new : Slot) (last : ℕ) → slot ≡ place → new.last ≡ last → slot < length session.slots
     → (slot_at (with_slot place new session) slot).last ≡ last
@@ -311,7 +311,7 @@ finish_stands id slot last name place holds reply table stands = record {
   new_or_old = stands.new_or_old;
 }
 
--- What SEQUENCE looked at where the slot runs
+-- What SEQUENCE looked at if the slot runs
 
 pub cond_runs : (b : Bool) (x y : Begun) → (y ≡ Runs → ⊥) → cond b x y ≡ Runs → (b ≡ true) × (x ≡ Runs)
 cond_runs true x y never e = (refl, e)

@@ -210,7 +210,7 @@ pub created_runs : (limits : SessionLimits) (uid : ℕ) (arguments : CreateSessi
 unfolding create_session
 created_runs limits uid arguments table = create_same limits uid arguments table (find (is_client arguments.client) table.clients)
 
--- Of an id that one session has, that session tells what runs
+-- If one session has an id, that session determines what runs
 
 none_of : (id : List ℕ) (place : ℕ) (sessions : List Session) → size (is_session id) sessions ≡ 0 → list_any (runs_at id place) sessions ≡ false
 none_of id place [] none = refl
@@ -278,7 +278,7 @@ module _ (table : Table) (one_each : (id : List ℕ) → size (is_session id) ta
 
   -- SEQUENCE: a slot that rests runs from then on
 
-  -- where it runs, the slot was at rest
+  -- if it runs, the slot was at rest
   record Rested (arguments : SequenceArguments) (known : Option Session) : Type 0 where
     pub session : Session
     pub is : known ≡ Some session

@@ -1,4 +1,4 @@
--- A slot runs exactly where one connection is busy on it, at each moment of a run.
+-- A slot runs exactly if one connection is busy on it, at each moment of a run.
 use Rattle.std.proofs.Common.{◌≡◌, ◌≢◌, ℕ, ◌<◌, ◌≤◌, ◌⊎◌, inl, inr, Bool, true, false, not, cond, ◌&&◌, ◌||◌, nat_lt, is_some, length, List, [], ◌++◌, find, Option, None, Some, Result, Ok, Err, refl, sym, ap, ◌∙◌, subst, arith}
 use Rattle.std.proofs.lemmas.Bool.{true≢false, cases_eq, and_parts, false_from_ne_true}
 use Rattle.model_tree.specs.Seats.Seats.{Seats}
@@ -26,7 +26,7 @@ use Rattle.model.proofs.Sessions.TableCalls.{Holds, either, call_holds, begins, 
 use Rattle.model_tree.proofs.Facts.Counting.{size}
 use Rattle.model.proofs.Server.TurnCases.{arrival_only, taking_only}
 
--- What stands between two events
+-- What holds between two events
 pub record Held (limits : ServerLimits) (world : World) : Type 0 where
   pub law : RunsWhereBusy world
   pub begun : (number : ℕ) (request : InProgress) → at number world.connections ≡ Some (Busy request) → 0 < request.answered
@@ -63,7 +63,7 @@ module _ (before : World) (law : RunsWhereBusy before) (here : ℕ) (new : Conne
       → is_busy_on id place (at other after.connections) ≡ true
   moved id place number other same is = ap (λ (n : ℕ). is_busy_on id place (at n after.connections)) (sym same) ∙ is
 
-  -- on which connection here is not busy, another one is not either
+  -- the connection here and another one are not both busy on it
   not_both : (id : List ℕ) (place other : ℕ) → other ≢ here → is_busy_on id place (at other after.connections) ≡ true
       → is_busy_on id place (Some new) ≡ true → ⊥
   not_both id place other apart there mine =
@@ -347,7 +347,7 @@ module _ (limits : ServerLimits) (world : World) (held : Held limits world) (her
   abbrev busy : List ℕ → ℕ → Bool
   busy id place = is_busy_on id place (at here world.connections)
 
-  -- a reply is put down where no request has begun
+  -- a reply is put down if no request has begun
   replied : (reply : List ℕ) → ((id : List ℕ) (place : ℕ) → busy id place ≡ false) → Held limits (with_connection world here (Replied reply))
   replied reply idle =
       put_down limits world held here (Replied reply) (with_connection world here (Replied reply)) held.limits_are refl held.holds
@@ -528,7 +528,7 @@ module _ (limits : ServerLimits) (world : World) (held : Held limits world) (her
   taking_same (Replied reply) id place = refl
   taking_same Closed id place = refl
 
-  -- a new one stands where none stood
+  -- a new one is put at a number that had none
   connected : at here world.connections ≡ None → Held limits (with_connection world here (Quiet []))
   connected none = replaced (Quiet []) (λ request wrong. absurd (quiet request wrong)) (λ id place. sym (ap (is_busy_on id place) none))
     where

@@ -1,4 +1,4 @@
--- What an answered open stateid means from then on.
+-- What an open's stateid means once it was returned.
 use Rattle.std.proofs.Common.{ℕ, Bool, true, false, List, ◌++◌, ◌≡◌, ◌≢◌, ◌+◌, ◌-◌, ◌^◌, ◌⊎◌, ◌&&◌, ◌||◌, ◌==◌, if◌then◌else◌, inl, inr, refl, sym, ap, ◌∙◌, arith, take, drop, bytes_eq, nat_lt, ne_eqb, eq-eqb}
 use Rattle.std.specs.Prelude.{Some, None}
 use Rattle.std.specs.Int.{w32, w64, to_be_bytes, from_be_bytes}

@@ -1,4 +1,4 @@
--- What a stateid that OPEN answered means at each later moment of its run, and in every other run.
+-- What a stateid that OPEN returned means at each later moment of its run, and in every other run.
 use Rattle.std.proofs.Common.{ℕ, Bool, true, false, List, [], ◌∷◌, ◌++◌, ◌≡◌, ◌≢◌, ◌+◌, ◌-◌, ◌^◌, ◌<◌, ◌≤◌, ◌⊎◌, inl, inr, refl, sym, ap, ◌∙◌, subst, arith, length, find, ne_eqb}
 use Rattle.std.specs.Prelude.{Option, Some, None, Result, Ok, Err, option_to_list}
 use Rattle.std.proofs.lemmas.Bool.{true≢false, cases_eq}
@@ -35,7 +35,7 @@ use Rattle.model.proofs.Sessions.TableCalls.{either}
 use Rattle.model.proofs.Server.TurnCases.{GoesWith, Begun, New, IsTurn, Idles, Says, Unread, TooBig, Gave, Repeats, turn_is, read_of, arrival_only, taking_only, Closes}
 use Rattle.model.proofs.Sessions.OpensJoined.{AreCounted, fewer_same, fewer_filter, other_of, IsOpened, Goes, OpensNone, fewer_goes, does_goes}
 
--- What stands between two events: each request that has begun is of the run
+-- What holds between two events: each request that has begun is of the run
 
 pub record Numbered (run : ℕ) (world : World) : Type 0 where
   run_is : world.run ≡ run
@@ -333,7 +333,7 @@ module _ (run : ℕ) (small_run : run < 2 ^ 32) where
   run_gone begin first serial gone serving history (Flushed {old = old} {new = new} is_run flushes) =
       subst (IsGone serial) (sym flushes.world) (run_gone begin first serial gone old history is_run)
 
-  -- What stands is joined
+  -- What is there is joined
 
   accesses-append : (other : List ℕ) (done more : List Entry) → accesses_in other (done ++ more) ≡ accesses_in other done ++ accesses_in other more
   accesses-append other [] more = refl
@@ -345,7 +345,7 @@ module _ (run : ℕ) (small_run : run < 2 ^ 32) where
   joined-append [] more known = refl
   joined-append (access ∷ accesses) more known = joined-append accesses more (upgraded access known)
 
-  -- the open of this serial, from `known` on, where these were executed
+  -- the open of this serial, from `known` on, if these were executed
   abbrev IsStill : ℕ → Open → List Entry → Opens → Type 0
   IsStill serial known done opens =
       (at serial opens.known ≡ Some (joined_by (accesses_in (other_of run serial) done) known)) ⊎ (at serial opens.known ≡ None)

@@ -12,7 +12,7 @@ use Rattle.model.proofs.Sessions.SeatLaws.{holding_none}
 use Rattle.model.proofs.Sessions.TableCalls.{either}
 use Rattle.model.proofs.Server.TurnCases.{IsTurn, Idles, Says, Closes, Unread, TooBig, Gave, Repeats, turn_is, read_of}
 
--- no seat has changed where the session has none
+-- no seat has changed if the session has none
 module _ (id : List ℕ) (place : ℕ) (reply : List ℕ) where
   held_none : (seats : Seats) (known : Option Session) → has_seat id seats ≡ false → held_by id place reply seats known ≡ seats
   held_none seats None _ = refl

@@ -127,7 +127,7 @@ fewer_clients limits run serial clients q old = record {
   few = let before = old.few in omega (arith, before, size-le q clients);
 }
 
--- a new record, where its owner has no unconfirmed one
+-- a new record, if its owner has no unconfirmed one
 
 given_later : (run serial : ℕ) (client : Client) → given_by run serial client ≡ true → given_by run (serial + 1) client ≡ true
 given_later run serial client is =

@@ -1,4 +1,4 @@
--- Names and entries are read exactly where they are written.
+-- Names and entries are read exactly from what is written for them.
 use Rattle.std.proofs.Common.{◌≡◌, ◌≢◌, ◌⊎◌, inl, inr, ℕ, ◌<◌, ◌^◌, ◌-◌, Bool, true, false, ◌&&◌, List, codes, bytes_eq, nat_lt, refl, sym, ap, subst, ◌∙◌, arith, eqb, eqb-true, ltb-true, lt-ltb, cond}
 use Rattle.std.specs.Prelude.{Option, Some, None, decimal, bit_and, bit_or, option_map, option_and_then}
 use Rattle.std.specs.Cmp.Lexicographic.{bytes_decides}

@@ -1,4 +1,4 @@
--- Feeding a stream in pieces comes to its records.
+-- Feeding a stream in pieces gives its records.
 use Rattle.std.proofs.Common.{◌≡◌, ◌⊎◌, inl, inr, ℕ, zero, suc, ◌-◌, ◌<◌, ◌≤◌, ◌^◌, Bool, true, false, List, [], ◌∷◌, ◌++◌, length, take, drop, refl, sym, ap, subst, ◌∙◌, append_assoc, arith, cond}
 use Rattle.std.specs.Prelude.{Option, Some, None}
 use Rattle.std.proofs.lemmas.List.{append-nil, length-append, take_all}
@@ -19,7 +19,7 @@ append_bytes [] rest front_are rest_are i = rest_are i
 append_bytes (byte ∷ front) rest front_are rest_are zero = front_are zero
 append_bytes (byte ∷ front) rest front_are rest_are (suc i) = append_bytes front rest (λ j. front_are (suc j)) rest_are i
 
--- Where the bytes of a record end within the last piece
+-- The end of a record's bytes within the last piece
 
 at_seam : (sent rest piece : List ℕ) → piece ≡ sent ++ rest → take (length piece - length rest) piece ≡ sent
 at_seam sent rest piece is =
@@ -41,7 +41,7 @@ ends (byte ∷ bytes) piece (first ∷ sent) rest same short =
     head_of none [] = none
     head_of none (x ∷ xs) = x
 
--- the record ended earlier, were more left than the piece
+-- the record ended earlier, if more bytes were left than the piece has
 ended_before : (bytes piece sent rest : List ℕ) → bytes ++ piece ≡ sent ++ rest → length piece < length rest
     → (behind : List ℕ) × (bytes ≡ sent ++ behind)
 ended_before bytes piece [] rest same long = (bytes, refl)
@@ -57,7 +57,7 @@ ended_before (byte ∷ bytes) piece (first ∷ sent) rest same long =
     head_of none (x ∷ xs) = x
 
 module _ (limits : RecordLimits) (small : limits.bytes < 2 ^ 31) where
-  -- what is sent is at the front of whatever begins so
+  -- what is sent is found at the start of whatever begins with it
   sent_front : (bytes one rest : List ℕ) (sent : IsSent limits bytes one rest) (behind : List ℕ)
       → front limits (record_text sent.earlier sent.last ++ behind) ≡ Whole one behind
   sent_front bytes one rest sent behind =
@@ -84,7 +84,7 @@ module _ (limits : RecordLimits) (small : limits.bytes < 2 ^ 31) where
           let before = ended_before bytes piece (record_text sent.earlier sent.last) rest sent.sent long in
           absurd (partial_not one before.0 (sym (ap (front limits) before.1 ∙ sent_front (bytes ++ piece) one rest sent before.0) ∙ partial))
 
-  -- What is kept from step to step: the law, and that the bytes of the next record are a part of one
+  -- What is kept from step to step: the law, and that the next record's bytes are part of one
 
   abbrev IsOpen : Connection → Type 0
   IsOpen (Quiet bytes) = (front limits bytes ≡ Partial) × IsBytes bytes

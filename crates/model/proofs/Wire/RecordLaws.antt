@@ -229,7 +229,7 @@ pub every_cut : EveryCut
 unfolding records_from
 every_cut limits pieces = each_piece limits [] pieces
 
--- What is sent is read again
+-- What is sent is read back
 
 if_false : {A : Type 0} (b : Bool) (x y : A) → b ≡ false → cond b x y ≡ y
 if_false b x y e = ap (λ (b : Bool). cond b x y) e

@@ -1,4 +1,4 @@
--- The result of a COMPOUND is exact, and what the server makes is spelled so.
+-- The result of a COMPOUND is exact, and it encodes what the server makes.
 use Rattle.std.proofs.Common.{◌≡◌, ℕ, List, [], ◌∷◌, ◌++◌, refl, sym, ap, ◌∙◌, arith, length-append}
 use Rattle.std.specs.Prelude.{flat_map}
 use Rattle.std.specs.Int.{w32}

@@ -1,4 +1,4 @@
--- Calls and replies are read exactly where they are spelled.
+-- Calls and replies are read exactly from their encodings.
 use Rattle.std.proofs.Common.{◌≡◌, ◌≢◌, ℕ, ◌<◌, ◌^◌, List, [], ◌∷◌, ◌++◌, Result, Ok, Err, inl, inr, refl, sym, ap, subst, ◌∙◌, append_assoc, arith, not, eqb, eqb-true, ne_eqb}
 use Rattle.std.specs.Prelude.{Option, Some, None, option_map}
 use Rattle.std.specs.Int.{w32}
@@ -139,7 +139,7 @@ module _ (bytes : List ℕ) (bytes_are : IsBytes bytes) where
       no_call : NoCall ≡ OtherVersion xid → ⊥
       no_call same = cc
 
--- what is spelled is read again
+-- what is encoded is read back
 
 abbrev header_of : CallHead → Header
 header_of head = (head.program, (head.version, (head.procedure, (head.credential, head.verifier))))
@@ -262,7 +262,7 @@ reply_head_exact = of_exact _ _ _ (λ _. refl) (λ _. refl)
 pub one_reply_head : OneSpelling reply_head
 one_reply_head = one_spelling reply_head reply_head_exact
 
--- a reply is its header, and its result after it
+-- a reply is its header, followed by its result
 spelled_so : (xid : ℕ) (reply : Reply) → reply_text xid reply ≡ reply_head.spelling (head_of xid reply) ++ result_of reply
 unfolding reply_text
 spelled_so xid rpc.VersionRefused = simp (append_assoc, append-nil)

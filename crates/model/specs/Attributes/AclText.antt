@@ -1,6 +1,6 @@
--- Whom a text names, and which entry of the definitions one on the wire stands for: RFC 8881,
+-- Whom a text names, and which entry of the definitions one on the wire represents: RFC 8881,
 -- sections 5.9 (owner and owner_group), 6.2.1.1 and 6.2.1.3 to 6.2.1.5. Numbers in decimal, and
--- OWNER@, GROUP@ and EVERYONE@ alone of the special names, are this server's profile.
+-- only OWNER@, GROUP@ and EVERYONE@ of the special names, are this server's profile.
 use Rattle.std.specs.Prelude.{◌≡◌, ◌↔◌, ℕ, ◌<◌, ◌^◌, ◌==◌, ◌&&◌, nat_lt, Bool, true, false, if◌then◌else◌, List, Option, Some, None, option_map, option_and_then, bit_or, bytes_eq, codes, decimal, filter_map}
 use Rattle.std.specs.Str.Parse.{digits_value}
 use Rattle.model_tree.specs.declared.acl.Ace.{Ace}
@@ -25,7 +25,7 @@ abbrev pub kind_number : AceKind → ℕ
 kind_number kind.Allow = 0
 kind_number kind.Deny = 1
 
--- the flag that tells a group's number from a user's (section 6.2.1.4)
+-- the flag that distinguishes a group's number from a user's (section 6.2.1.4)
 abbrev pub identifier_group : ℕ
 identifier_group = 0x40
 
@@ -46,7 +46,7 @@ entry_text ace = record {
 
 -- What is read
 
--- the number of 32 bits that the text writes in decimal digits, without zeros in front
+-- the number of 32 bits that the text writes in decimal digits, without leading zeros
 abbrev pub written_number : (text : List ℕ) → (number : ℕ) → Option ℕ
 written_number text number =
     if nat_lt number (2 ^ 32) && bytes_eq text (decimal number) then Some number else None
@@ -58,7 +58,7 @@ abbrev pub numbered : (is_group : Bool) → ℕ → Who
 numbered true number = who.NamedGroup number
 numbered false number = who.User number
 
--- whom the text names; of a special name the flag tells nothing
+-- whom the text names; for a special name the flag is ignored
 unfoldable pub who_in : (is_group : Bool) → (text : List ℕ) → Option Who
 who_in is_group text =
     if bytes_eq text (codes "OWNER@") then Some who.Owner
@@ -82,7 +82,7 @@ ace_of entry of name =
 abbrev pub named_in : AclEntry → Option Who
 named_in entry = who_in (meets entry.flags identifier_group) entry.who
 
--- the entry that one on the wire stands for, if it stands for one
+-- the entry that one on the wire represents, if it represents one
 unfoldable pub ace_in : AclEntry → Option Ace
 ace_in entry =
     option_and_then (λ of. option_map (ace_of entry of) (named_in entry)) (kind_in entry.kind)
@@ -93,13 +93,13 @@ aces_in entries = filter_map ace_in entries
 
 -- The laws
 
--- a number is read exactly where the text is its digits
+-- a number is read exactly if the text is its digits
 abbrev pub ReadsNumbers : Type 0
 ReadsNumbers =
     (text : List ℕ) (number : ℕ) → (number_in text ≡ Some number)
     ↔ ((text ≡ decimal number) × (number < 2 ^ 32))
 
--- what the flag IDENTIFIER_GROUP is where this is meant
+-- what the flag IDENTIFIER_GROUP must be for this name
 abbrev pub Agrees : (is_group : Bool) → Who → Type 0
 Agrees is_group who.Owner = Unit {0}
 Agrees is_group who.Group = Unit {0}
@@ -107,7 +107,7 @@ Agrees is_group who.Everyone = Unit {0}
 Agrees is_group (who.User number) = (is_group ≡ false) × (number < 2 ^ 32)
 Agrees is_group (who.NamedGroup number) = (is_group ≡ true) × (number < 2 ^ 32)
 
--- beside that flag, the text means this one
+-- with that flag, the text means this name
 abbrev pub Means : (is_group : Bool) → (text : List ℕ) → Who → Type 0
 Means is_group text name = (text ≡ who_text name) × Agrees is_group name
 
@@ -116,7 +116,7 @@ ReadsNames =
     (is_group : Bool) (text : List ℕ) (name : Who) → (who_in is_group text ≡ Some name)
     ↔ Means is_group text name
 
--- The entry on the wire stands for the other, whose flags are without IDENTIFIER_GROUP.
+-- The entry on the wire represents the other, whose flags do not include IDENTIFIER_GROUP.
 pub record StandsFor (entry : AclEntry) (ace : Ace) : Type 0 where
   pub kind : entry.kind ≡ kind_number ace.kind
   pub flags : ace.flags.0 ≡ bits_without entry.flags identifier_group
@@ -126,13 +126,13 @@ pub record StandsFor (entry : AclEntry) (ace : Ace) : Type 0 where
 abbrev pub ReadsEntries : Type 0
 ReadsEntries = (entry : AclEntry) (ace : Ace) → (ace_in entry ≡ Some ace) ↔ StandsFor entry ace
 
--- What may be written: no flag of its own beside who it is, and a number of 32 bits
+-- What may be written: no flag for what the name says already, and a number of 32 bits
 abbrev pub HasWidth : Who → Type 0
 HasWidth (who.User number) = number < 2 ^ 32
 HasWidth (who.NamedGroup number) = number < 2 ^ 32
 HasWidth _ = Unit {0}
 
--- what is written is read again, and the flag stands exactly on named groups
+-- what is written is read back, and the flag is set exactly on named groups
 pub record WritesEntries : Type 0 where
   pub again : (ace : Ace) → bits_without ace.flags.0 identifier_group ≡ ace.flags.0
       → HasWidth ace.who → ace_in (entry_text ace) ≡ Some ace

@@ -14,7 +14,7 @@ use Rattle.model_tree.specs.declared.limits.Limits.{Limits}
 use Rattle.model.specs.Operations.Operation.{Attributes}
 use Rattle.model_tree.specs.Refusals.Refusal.{Refusals, first_refusal}
 
--- The attributes of a bitmap, by rising number: bit m of word n stands for attribute 32 n + m
+-- The attributes of a bitmap, by rising number: bit m of word n is attribute 32 n + m
 
 abbrev pub attributes_of_word : (first word : ℕ) → List ℕ
 attributes_of_word first word =
@@ -86,7 +86,7 @@ has_one_outside numbers attributes =
 
 -- What is set
 
--- the values, where the bytes are exactly they
+-- the values, if the bytes are exactly their encoding
 abbrev pub values_of : Attributes → Option (List Value)
 values_of given = whole_values (attributes_of given.bitmap) given.values
 
@@ -94,7 +94,7 @@ abbrev pub or_else : {A : Type 0} → Option A → Option A → Option A
 or_else None other = other
 or_else (Some value) other = Some value
 
--- what the first of the values says that says something
+-- what the first value that says something says
 abbrev pub first_said : {A : Type 0} → (Value → Option A) → List Value → Option A
 first_said says [] = None
 first_said says (value ∷ rest) = or_else (says value) (first_said says rest)

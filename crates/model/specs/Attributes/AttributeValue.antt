@@ -1,6 +1,6 @@
 -- The values of attributes and the entries of lists on the wire, as grammars: RFC 8881, sections
 -- 3.3.9, 5.6, 5.8, 5.9 and 6.2, and RFC 5662. The bitmaps among them, supported_attrs and
--- suppattr_exclcreat, are spelled as in results.
+-- suppattr_exclcreat, are encoded as in results.
 use Rattle.std.specs.Prelude.{◌≡◌, ◌↔◌, ℕ, ◌-◌, ◌^◌, ◌==◌, Bool, List, [], ◌∷◌, Option, Some, None, Result, Ok, Err, map, length, if◌then◌else◌}
 use Rattle.std.specs.List.{flat_map, AllByRecursion}
 use Rattle.xdr.specs.declared.refusal.Refusal.{Refusal}
@@ -22,7 +22,7 @@ file_system_id =
     of (λ (p : ℕ × ℕ). record { major = p.0; minor = p.1 }) (λ i. (i.major, i.minor))
     (unsigned_hyper & unsigned_hyper)
 
--- nfstime4: the seconds as the number that their eight bytes spell
+-- nfstime4: the seconds as the number that their eight bytes encode
 pub record Time : Type 0 where
   pub seconds : ℕ
   pub nanoseconds : ℕ
@@ -32,7 +32,7 @@ time =
     of (λ (p : ℕ × ℕ). record { seconds = p.0; nanoseconds = p.1 })
     (λ t. (t.seconds, t.nanoseconds)) (unsigned_hyper & unsigned_int)
 
--- nfsace4, as it stands on the wire: what its numbers and its text mean is not looked at
+-- nfsace4, as it is on the wire: what its numbers and its text mean is left open
 pub record AclEntry : Type 0 where
   pub kind : ℕ
   pub flags : ℕ
@@ -87,7 +87,7 @@ pub data Value : Type 0 where
   TimeModify : Time → Value
   SuppattrExclcreat : List ℕ → Value
 
--- its attribute's number, and its spelling, which is without that number
+-- its attribute's number, and its encoding, which does not include that number
 abbrev pub value_told : Value → Told
 value_told (SupportedAttrs v) = tells 0 trimmed_bitmap v
 value_told (Kind v) = tells 1 node_kind v
@@ -145,7 +145,7 @@ value_choice =
     (on 53 time TimeModify
     (on 75 trimmed_bitmap SuppattrExclcreat no_other)))))))))))))))))))))))))
 
--- the value of an attribute at the front of bytes
+-- the value of an attribute at the start of bytes
 unfoldable pub value_at : (attribute : ℕ) → List ℕ → Result (Value × List ℕ) Refusal
 value_at attribute bytes = value_choice attribute bytes
 
@@ -169,7 +169,7 @@ values attributes = record {
   read = λ bytes. values_at attributes bytes;
 }
 
--- the values, where the bytes are exactly they
+-- the values, if the bytes are exactly their encoding
 abbrev pub whole : Result (List Value × List ℕ) Refusal → Option (List Value)
 whole (Ok x) = if length x.1 == 0 then Some x.0 else None
 whole (Err e) = None
@@ -177,7 +177,7 @@ whole (Err e) = None
 abbrev pub whole_values : (attributes bytes : List ℕ) → Option (List Value)
 whole_values attributes bytes = whole (values_at attributes bytes)
 
--- Its law: bytes are read whole exactly where they are the values' spelling
+-- Its law: bytes are read whole exactly if they are the values' encoding
 abbrev pub ReadsWhole : Type 0
 ReadsWhole = (attributes bytes : List ℕ) (vs : List Value) → IsBytes bytes
     → (whole_values attributes bytes ≡ Some vs)

@@ -1,4 +1,4 @@
--- The values of a node's attributes, as GETATTR and READDIR answer them: RFC 8881, sections 5.6 to
+-- The values of a node's attributes, as GETATTR and READDIR return them: RFC 8881, sections 5.6 to
 -- 5.8, 18.7 (GETATTR) and 18.23 (READDIR). Which attributes there are, and the values that are
 -- always the same, are this server's profile.
 use Rattle.std.specs.Prelude.{◌≡◌, ℕ, ◌/◌, ◌%◌, true, false, List, [], ◌∷◌, bit_and, decimal, filter, flat_map, length, map}
@@ -35,7 +35,7 @@ abbrev pub acl_support : ℕ
 acl_support = 3
 
 -- all values of the node of this number, by rising attribute number; maxread and maxwrite are what
--- one READ gives and one WRITE takes
+-- one READ returns and one WRITE takes
 abbrev pub node_values : Limits → (number : ℕ) → Node → List Value
 node_values limits number node =
     SupportedAttrs supported_bitmap
@@ -66,7 +66,7 @@ node_values limits number node =
     ∷ SuppattrExclcreat []
     ∷ []
 
--- the values of attributes that are asked
+-- the values of attributes that are asked for
 abbrev pub asked_values : (asked : List ℕ) → List Value → List Value
 asked_values asked values = filter (λ value. is_among asked (attribute_of value)) values
 
@@ -76,7 +76,8 @@ common [] others = []
 common (word ∷ rest) [] = []
 common (word ∷ rest) (other ∷ others) = bit_and word other ∷ common rest others
 
--- What is answered of the attributes that a bitmap asks: those that are not supported are left out
+-- What is returned for the attributes that a bitmap asks for: those that are not supported are left
+-- out
 unfoldable pub node_attributes : Limits → (bitmap : List ℕ) → (number : ℕ) → Node → Attributes
 node_attributes limits bitmap number node = record {
   bitmap = trimmed (common bitmap supported_bitmap);
@@ -84,8 +85,8 @@ node_attributes limits bitmap number node = record {
       flat_map value_text (asked_values (attributes_of bitmap) (node_values limits number node));
 }
 
--- What READDIR answers of an entry whose list may not be read, where rdattr_error is asked beside
--- acl: that attribute alone
+-- What READDIR returns for an entry whose list may not be read, if rdattr_error is asked for
+-- together with acl: only that attribute
 abbrev pub unreadable : Attributes
 unreadable = record {
   bitmap = 0x800 ∷ [];
@@ -100,7 +101,8 @@ pub record AnswersSupported : Type 0 where
       → map attribute_of (node_values limits number node) ≡ supported
   pub bitmap : attributes_of supported_bitmap ≡ supported
 
--- What is answered are the attributes that were asked and that are supported, each with its value.
+-- The attributes that are returned are those that were asked for and that are supported, each with
+-- its value.
 abbrev pub AnswersAsked : Type 0
 AnswersAsked = (limits : Limits) (bitmap : List ℕ) (number : ℕ) (node : Node)
     → attributes_of (node_attributes limits bitmap number node).bitmap

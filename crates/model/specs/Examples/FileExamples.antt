@@ -1,4 +1,5 @@
--- Listing, attributes, opens, reading and writing worked out by hand, on a fresh volume of 256 sectors and 16 nodes in its first run.
+-- Listing, attributes, opens, reading and writing worked out by hand, on a fresh volume of 256
+-- sectors and 16 nodes in its first run.
 use Rattle.std.specs.Prelude.{ℕ, true, false, List, [], ◌∷◌, ◌++◌, ◌^◌, None, ◌≡◌, map, replicate, codes}
 use Rattle.model_tree.specs.declared.status.Status.{Status}
 use Rattle.model_tree.specs.declared.status.Status.TheVariants as status
@@ -90,14 +91,15 @@ bytes_after state operations = bytes_at (state_after volume state operations).tr
 abbrev pub size_zero : Attributes
 size_zero = record { bitmap = 0x10 ∷ []; values = replicate 8 0 }
 
--- a volume where one file may be open
+-- a volume on which one file may be open
 abbrev pub one_open : Limits
 one_open = record volume { opens = 1 }
 
 pub record FileExamples : Type 0 where
-  -- READDIR: 43 bytes have no room for an entry of one letter, 44 have; a cookie is a stamp, whether an entry has it or not
+  -- READDIR: 43 bytes have no room for an entry of one letter, 44 have; a cookie is a stamp,
+  -- whether an entry has it or not
   pub too_small : statuses volume three (list_from 0 43 ∷ []) ≡ status.TooSmall ∷ []
-  -- where nothing is left a page takes 16
+  -- if nothing is left, a page takes 16
   pub no_page : statuses volume three (list_from 4294967299 15 ∷ []) ≡ status.TooSmall ∷ []
   pub nothing_left : outcomes volume three (list_from 4294967299 16 ∷ [])
       ≡ Outcome.Done (Answer.ReadDir (record { entries = []; is_end = true })) ∷ []
@@ -113,7 +115,8 @@ pub record FileExamples : Type 0 where
     bitmap = [];
   }) ∷ []) ≡ status.NotSame ∷ []
   pub no_entries : statuses volume (begun 7 with_a 1) (Argument.PutRootFh ∷ Argument.Lookup (97 ∷ []) ∷ list_from 0 16 ∷ []) ≡ replicate 3 status.Ok
-  -- RENAME over an empty directory leaves one name; a rename of "a" gives it a new stamp, and its filehandle stays
+  -- RENAME over an empty directory leaves one name; a rename of "a" gives it a new stamp, and its
+  -- filehandle stays
   pub renamed_over : names_at (state_after volume three (Argument.SaveFh ∷ Argument.Rename (record { old_name = 97 ∷ []; new_name = 99 ∷ [] }) ∷ [])).tree 1
       ≡ (4294967298, record { name = 98 ∷ []; number = 4294967298 }) ∷ (4294967300, record { name = 99 ∷ []; number = 4294967297 }) ∷ []
   -- the saved and the current filehandle
@@ -132,7 +135,8 @@ pub record FileExamples : Type 0 where
         bitmap = 0 ∷ 0x12 ∷ [];
         values = 0 ∷ 0 ∷ 1 ∷ 0xED ∷ 0 ∷ 0 ∷ 0 ∷ 1 ∷ 0x37 ∷ 0 ∷ 0 ∷ 0 ∷ [];
       })) ∷ []
-  -- SETATTR: a mode above 0o777; a list without entries, after which only the owner may read it, and nobody may look a name up
+  -- SETATTR: a mode above 0o777; a list without entries, after which only the owner may read it,
+  -- and nobody may look a name up
   pub high_mode : statuses volume (begun 7 with_a 1) (Argument.PutRootFh ∷ Argument.Lookup (97 ∷ []) ∷ set (0 ∷ 2 ∷ []) (0 ∷ 0 ∷ 2 ∷ 0 ∷ []) ∷ [])
       ≡ status.Ok ∷ status.Ok ∷ status.Inval ∷ []
   pub size_of_directory : statuses volume (begun 7 with_a 1) (Argument.PutRootFh ∷ Argument.Lookup (97 ∷ []) ∷ set_size 0 ∷ [])
@@ -144,7 +148,8 @@ pub record FileExamples : Type 0 where
       (Argument.PutRootFh ∷ Argument.Lookup (97 ∷ []) ∷ Argument.GetAttr (0x1000 ∷ []) ∷ []) ≡ status.Ok ∷ status.Ok ∷ status.Access ∷ []
   -- an empty bitmap sets nothing, and uses no stamp up
   pub sets_nothing : (state_after volume (begun 7 with_a 1) (Argument.PutRootFh ∷ Argument.Lookup (97 ∷ []) ∷ set [] [] ∷ [])).changes ≡ 1
-  -- OPEN of a new file: the first seqid; the same owner opens it again and joins, after which the first one is old and a later one bad
+  -- OPEN of a new file: the first seqid; the same owner opens it again and joins, after which the
+  -- first one is old and a later one bad
   pub opens : outcomes volume fresh (Argument.PutRootFh ∷ create_f ∷ []) ≡ at_root ∷ Outcome.Done (Answer.Open (record {
     state = stateid 1;
     change = record { is_atomic = true; before = 1; after = 4294967297 };
@@ -181,7 +186,8 @@ pub record FileExamples : Type 0 where
   pub full : statuses one_open file (Argument.PutRootFh ∷ open_file 1 (codes "B") (Guarded nothing_given) (ByName (103 ∷ [])) ∷ [])
       ≡ status.Ok ∷ status.Delay ∷ []
   pub full_makes_nothing : (state_after one_open file (Argument.PutRootFh ∷ open_file 1 (codes "B") (Guarded nothing_given) (ByName (103 ∷ [])) ∷ [])).changes ≡ 1
-  -- WRITE: unstable, stable, and none at all; a hole is zeros, and what was cut off comes back as zeros
+  -- WRITE: unstable, stable, and none at all; a hole is zeros, and what was cut off comes back as
+  -- zeros
   pub unstable : outcomes volume file (write_at 0 0 hello ∷ [])
       ≡ Outcome.Done (Answer.Write (record { count = 5; committed = 0; verifier = 0 ∷ 0 ∷ 0 ∷ 0 ∷ 0 ∷ 0 ∷ 0 ∷ 1 ∷ [] })) ∷ []
   pub stable : outcomes volume file (write_at 0 1 hello ∷ [])
@@ -199,7 +205,7 @@ pub record FileExamples : Type 0 where
       ≡ Outcome.Done (Answer.Read (record { is_end = false; data_bytes = codes "ell" })) ∷ []
   pub reads_behind : outcomes volume with_hello (read_by anonymous 9 3 ∷ [])
       ≡ Outcome.Done (Answer.Read (record { is_end = true; data_bytes = [] })) ∷ []
-  -- OPEN cuts a file: its handle stays, and one stamp is used up
+  -- OPEN truncates a file: its handle stays, and one stamp is used up
   pub cut : bytes_after with_hello (Argument.PutRootFh ∷ open_file 1 (codes "A") (Unchecked size_zero) f ∷ []) ≡ []
   pub cut_counts : (state_after volume with_hello (Argument.PutRootFh ∷ open_file 1 (codes "A") (Unchecked size_zero) f ∷ [])).changes ≡ 3
   pub not_cut : (state_after volume with_hello (Argument.PutRootFh ∷ open_file 1 (codes "A") NoCreate f ∷ [])).changes ≡ 2

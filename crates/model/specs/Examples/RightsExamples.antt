@@ -1,5 +1,6 @@
--- Each right of each operation: who has all rights is answered, and who lacks this one alone is answered ACCESS. RFC 8881, section
--- 6.2.1.3.1. No law can tell which rights an operation asks for, so they stand here by name.
+-- Each right of each operation: a caller that has all rights is served, and one that lacks only
+-- this one gets ACCESS. RFC 8881, section 6.2.1.3.1. No law can say which rights an operation
+-- needs, so they are listed here by name.
 use Rattle.std.specs.Prelude.{ℕ, List, [], ◌∷◌, ◌-◌, Some, None, ◌≡◌, replicate}
 use Rattle.model_tree.specs.declared.acl.Ace.{Ace}
 use Rattle.model_tree.specs.declared.acl.AceKind.TheVariants as kind
@@ -16,8 +17,8 @@ use Rattle.model.specs.Operations.Step.{does}
 use Rattle.model_tree.specs.Trees.Tree.{Tree, Node, Content, File, Directory}
 use Rattle.model.specs.Server.World.{status_of}
 
--- Node 1, the root, holds the file "f", number 2, the directory "d", number 3, and the file "g", number 4. Their owner is 9, so
--- that the lists alone decide for the caller, 7.
+-- Node 1, the root, holds the file "f", number 2, the directory "d", number 3, and the file "g",
+-- number 4. Their owner is 9, so that only the lists decide for the caller, 7.
 
 abbrev pub node : List Ace → Content → Node
 node acl content = record { owner = 9; group = 9; acl = acl; change = 5; time_modify = 0; content = content }
@@ -33,8 +34,8 @@ lists root file directory other = (
     ∷ (4, node other (File []))
     ∷ []
 
--- The root holds two directories: number 2 has the file "f", number 4, and the directory "d", number 5, which have one list;
--- number 3 has the file "g", number 6.
+-- The root holds two directories: number 2 has the file "f", number 4, and the directory "d",
+-- number 5, which have one list; number 3 has the file "g", number 6.
 abbrev pub apart : (source moved target there : List Ace) → Tree
 apart source moved target there = (
   1,
@@ -57,7 +58,7 @@ all = allowed every_right
 abbrev pub all_but : (mask : ℕ) → List Ace
 all_but mask = allowed (every_right - mask)
 
--- what an operation answers, with a saved and a current filehandle
+-- what an operation returns, with a saved and a current filehandle
 abbrev pub answer_at : Tree → (saved current : ℕ) → Argument → Status
 answer_at tree saved current operation = status_of (does (limits_of 256 16) (record {
   tree = tree;
@@ -160,7 +161,7 @@ abbrev pub write : Argument
 write = Argument.Write (record { state = anonymous; offset = 0; stable = 0; data_bytes = 1 ∷ [] })
 
 pub record RightsExamples : Type 0 where
-  -- with every right, each of them is answered; ACCESS asks for none
+  -- with every right, each of them returns OK; ACCESS needs none
   pub answers_look_up : in_root all all all all look_up ≡ status.Ok
   pub answers_make_directory : in_root all all all all make_directory ≡ status.Ok
   pub answers_remove_file : in_root all all all all remove_file ≡ status.Ok
@@ -189,18 +190,20 @@ pub record RightsExamples : Type 0 where
   pub open_wants_look_up : in_root (all_but execute) all all all (by_name 1) ≡ status.Access
   -- CREATE adds a directory
   pub create_wants : in_root (all_but append_data) all all all make_directory ≡ status.Access
-  -- REMOVE wants to delete the node, or a child of the directory: one of both is enough
+  -- REMOVE needs the right to delete the node, or a child of the directory: either is enough
   pub remove_wants : in_root (all_but delete_child) (all_but delete) all all remove_file ≡ status.Access
   pub remove_by_node : in_root (all_but delete_child) all all all remove_file ≡ status.Ok
   pub remove_by_directory : in_root all (all_but delete) all all remove_file ≡ status.Ok
-  -- RENAME takes a name away, and what stands at the new one; a file is added as one, a directory as one
+  -- RENAME removes a name, and what has the new one; a file is added as a file, a directory as a
+  -- directory
   pub rename_wants : in_root (all_but delete_child) (all_but delete) all all (rename 102 110) ≡ status.Access
   pub target_wants : in_root (all_but delete_child) all all (all_but delete) (rename 102 103) ≡ status.Access
   pub file_wants : in_root (all_but write_data) all all all (rename 102 110) ≡ status.Access
   pub file_needs_no_more : in_root (all_but append_data) all all all (rename 102 110) ≡ status.Ok
   pub directory_wants : in_root (all_but append_data) all all all (rename 100 110) ≡ status.Access
   pub directory_needs_no_more : in_root (all_but write_data) all all all (rename 100 110) ≡ status.Ok
-  -- the name is taken from the one directory and put into the other, and each right is asked of its own, and of no more
+  -- the name is taken from one directory and put into the other, and each right is needed on its
+  -- own directory only
   pub across_takes : across (all_but delete_child) (all_but delete) all all (rename 102 110) ≡ status.Access
   pub across_takes_directory : across (all_but delete_child) (all_but delete) all all (rename 100 110) ≡ status.Access
   pub across_replaces : across all all (all_but delete_child) (all_but delete) (rename 102 103) ≡ status.Access
@@ -209,11 +212,12 @@ pub record RightsExamples : Type 0 where
   pub across_file : across (allowed delete_child) [] (allowed write_data) [] (rename 102 110) ≡ status.Ok
   pub across_directory : across (allowed delete_child) [] (allowed append_data) [] (rename 100 110) ≡ status.Ok
   pub across_by_nodes : across [] (allowed delete) (allowed write_data) (allowed delete) (rename 102 103) ≡ status.Ok
-  -- READDIR lists, and shows the list of an entry where that may be read, or where it may tell that it may not
+  -- READDIR lists, and returns the list of an entry if that may be read, or if it can report that
+  -- it may not
   pub list_wants : in_root (all_but read_data) all all all (listing []) ≡ status.Access
   pub entry_wants : in_root all (all_but read_acl) all all (listing (0x1000 ∷ [])) ≡ status.Access
   pub entry_tells : in_root all (all_but read_acl) all all (listing (0x1800 ∷ [])) ≡ status.Ok
-  -- which is asked of the entries after the cookie: "f" has the cookie 2, and "d" the cookie 3
+  -- which is needed of the entries after the cookie: "f" has the cookie 2, and "d" the cookie 3
   pub entry_behind_wants : in_root all all (all_but read_acl) all (listing_behind 2 (0x1000 ∷ [])) ≡ status.Access
   pub entry_before_is_passed : in_root all (all_but read_acl) all all (listing_behind 2 (0x1000 ∷ [])) ≡ status.Ok
   -- GETATTR of the list reads it; of the mode it does not
@@ -225,7 +229,7 @@ pub record RightsExamples : Type 0 where
   pub mode_is_a_list : on_file (all_but write_acl) set_mode ≡ status.Access
   pub owner_wants : on_file (all_but write_owner) set_owner ≡ status.Access
   pub group_wants : on_file (all_but write_owner) set_group ≡ status.Access
-  -- OPEN: for reading, for writing, cutting though it opens for reading, and adding a file
+  -- OPEN: for reading, for writing, truncating although it opens for reading, and adding a file
   pub open_reads : in_root all (all_but read_data) all all (by_name 1) ≡ status.Access
   pub open_writes : in_root all (all_but write_data) all all (by_name 2) ≡ status.Access
   pub open_cuts : in_root all (all_but write_data) all all cutting ≡ status.Access

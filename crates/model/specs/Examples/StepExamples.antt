@@ -1,4 +1,5 @@
--- Operations worked out by hand, on a fresh volume of 256 sectors and 16 nodes in its first run: the definitions compute to them.
+-- Operations worked out by hand, on a fresh volume of 256 sectors and 16 nodes in its first run:
+-- the definitions compute to them.
 use Rattle.std.specs.Prelude.{ℕ, true, List, [], ◌∷◌, Option, Some, None, ◌≡◌, ◌-◌, ◌^◌, replicate}
 use Rattle.model_tree.specs.declared.acl.Cred.{Cred}
 use Rattle.model_tree.specs.declared.acl.AceKind.TheVariants as kind
@@ -27,7 +28,7 @@ volume = limits_of 256 16
 abbrev pub caller : (uid : ℕ) → Cred
 caller uid = record { uid = uid; gid = uid; gids = [] }
 
--- a COMPOUND by this caller begins, after so many changes in the first run
+-- a COMPOUND by this caller begins, after `changes` changes in the first run
 abbrev pub begun : (uid : ℕ) → Tree → (changes : ℕ) → State
 begun uid tree changes = record {
   tree = tree;
@@ -96,7 +97,7 @@ made_a = Outcome.Done (Answer.Create (record {
   was_set = 0 ∷ 2 ∷ [];
 }))
 
--- what one operation in the root answers, where "a" is there
+-- what one operation in the root returns if "a" is there
 abbrev pub in_root : (uid : ℕ) → Argument → List Outcome
 in_root uid operation = outcomes volume (begun uid with_a 1) (Argument.PutRootFh ∷ operation ∷ [])
 
@@ -131,7 +132,8 @@ abbrev pub altered : ChangeInfo
 altered = record { is_atomic = true; before = 4294967297; after = 4294967298 }
 
 pub record StepExamples : Type 0 where
-  -- "a" is made in the root, mode 755: its number is the first change's stamp, and its filehandle that number
+  -- "a" is made in the root, mode 755: its number is the first change's stamp, and its filehandle
+  -- that number
   pub makes : outcomes volume (begun 7 fresh_tree 0) (Argument.PutRootFh ∷ make_a ∷ Argument.GetFh ∷ [])
       ≡ at_root ∷ made_a ∷ Outcome.Done (Answer.GetFh (0 ∷ 0 ∷ 0 ∷ 1 ∷ 0 ∷ 0 ∷ 0 ∷ 1 ∷ [])) ∷ []
   pub made : (state_after volume (begun 7 fresh_tree 0) (Argument.PutRootFh ∷ make_a ∷ [])).tree ≡ with_a
@@ -162,7 +164,7 @@ pub record StepExamples : Type 0 where
   -- refusals of what is to be made
   pub bad_type : in_root 7 (Argument.Create (OtherType 1)) ≡ at_root ∷ Outcome.Refused 6 status.BadType ∷ []
   pub high_mode : in_root 7 (Argument.Create (NewDirectory (98 ∷ []) (mode_given 2 0))) ≡ at_root ∷ Outcome.Refused 6 status.Inval ∷ []
-  -- an empty list may be given, and stands for itself where a mode is given beside it
+  -- an empty list may be given, and remains empty if a mode is given with it
   pub list_given : in_root 7 make_b_without_entries ≡ at_root ∷ Outcome.Done (Answer.Create (record {
     change = altered;
     was_set = 0x1000 ∷ 2 ∷ [];
@@ -181,13 +183,14 @@ pub record StepExamples : Type 0 where
   -- after 2^32 - 1 changes no stamp is left
   pub no_stamp_left : outcomes volume (begun 7 fresh_tree (2 ^ 32 - 1)) (Argument.PutRootFh ∷ make_a ∷ [])
       ≡ at_root ∷ Outcome.Refused 6 status.ServerFault ∷ []
-  -- a name of the root goes to a directory: the same name stays, another is a change, and none goes below itself
+  -- a name of the root goes to a directory: the same name stays, another is a change, and none goes
+  -- below itself
   pub same_name : (does volume (renaming 1) 1000 (rename_to 97)).outcome ≡ Outcome.Done (Answer.Rename (record { source = unchanged; target = unchanged }))
   pub another_name : (does volume (renaming 1) 1000 (rename_to 99)).outcome ≡ Outcome.Done (Answer.Rename (record { source = altered; target = altered }))
   pub moved_tree : names_at (does volume (renaming 1) 1000 (rename_to 99)).state.tree 1
       ≡ (4294967298, record { name = 99 ∷ []; number = 4294967297 }) ∷ []
   pub below_itself : (does volume (renaming 4294967297) 1000 (rename_to 99)).outcome ≡ Outcome.Refused 29 status.Inval
-  -- what is not served, as LINK: the test stands around the operation
+  -- what is not served, such as LINK: the test is around the operation
   pub not_served : (next : Next) → first_or (later_tests 11) next ≡ Refuses 11 status.NotSupp
   -- charges of 8,200, 364,543, 364,545 and 16,777,216 bytes; the data region
   pub charges : charge_of_blocks (divided_up 8200 4096) ∷ charge_of_blocks (divided_up 364544 4096)

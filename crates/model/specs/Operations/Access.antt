@@ -1,5 +1,4 @@
--- ACCESS: RFC 8881, section 18.1. What each of its bits asks for of a mask is this server's
--- profile.
+-- ACCESS: RFC 8881, section 18.1. Which mask each of its bits needs is this server's profile.
 use Rattle.std.specs.Prelude.{ℕ, List, [], ◌∷◌, ◌+◌, ◌&&◌, sum, map, if◌then◌else◌, Option, Some, None}
 use Rattle.model_tree.specs.declared.acl.Cred.{Cred}
 use Rattle.model_tree.specs.declared.node.NodeKind.{NodeKind}
@@ -12,14 +11,14 @@ use Rattle.model_tree.specs.Trees.Keyed.{at}
 use Rattle.model_tree.specs.Trees.Tree.{Node, kind_of}
 
 -- ACCESS4_READ 1, LOOKUP 2, MODIFY 4, EXTEND 8, DELETE 0x10, EXECUTE 0x20, those that a kind has,
--- each with the mask it asks for
+-- each with the mask that it needs
 abbrev pub access_masks : NodeKind → List (ℕ × ℕ)
 access_masks kind.File = (1, read_data) ∷ (4, write_data) ∷ (8, write_data) ∷ (0x20, execute) ∷ []
 access_masks kind.Directory =
     (1, read_data) ∷ (2, execute) ∷ (4, write_data + append_data + delete_child)
     ∷ (8, write_data + append_data) ∷ (0x10, delete_child) ∷ []
 
--- the bits of these that are asked, and those of them that are granted
+-- the bits of these that are asked for, and those of them that are granted
 
 abbrev pub asked_bits : (asked : ℕ) → List (ℕ × ℕ) → ℕ
 asked_bits asked masks = sum (map (λ (bit : ℕ × ℕ). if meets asked bit.0 then bit.0 else 0) masks)

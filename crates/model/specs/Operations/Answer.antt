@@ -68,7 +68,7 @@ pub record SequenceAnswer : Type 0 where
   pub target_highest_slot : ℕ
   pub flags : ℕ
 
--- what an operation answers where its status is OK
+-- what an operation returns if its status is OK
 pub data Answer : Type 0 where
   Access : AccessAnswer → Answer
   Close : StateId → Answer
@@ -124,9 +124,9 @@ operation_of (Sequence _) = OP_SEQUENCE
 operation_of DestroyClientId = OP_DESTROY_CLIENTID
 operation_of ReclaimComplete = OP_RECLAIM_COMPLETE
 
--- One result of a COMPOUND (nfs_resop4). A refused one has its number and status alone, but for
--- SETATTR, where an empty bitmap follows (section 18.30); the number is 10044 where the operation
--- is none (section 15.2).
+-- One result of a COMPOUND (nfs_resop4). A refused one has only its number and status, except that
+-- an empty bitmap follows for SETATTR (section 18.30); the number is 10044 if there is no such
+-- operation (section 15.2).
 pub data Outcome : Type 0 where
   Done : Answer → Outcome
   Refused : (operation : ℕ) → Status → Outcome

@@ -16,7 +16,7 @@ pub record Context : Type 0 where
   pub current : Option Place
   pub saved : Option Place
 
--- the number of a place, 0 where there is none: no node has that
+-- the number of a place, or 0, which no node has, if there is none
 abbrev pub place_number : Option Place → ℕ
 place_number None = 0
 place_number (Some place) = place.number
@@ -50,7 +50,7 @@ has_saved context = is_some context.saved
 abbrev pub saved_number : Context → ℕ
 saved_number context = place_number context.saved
 
--- whether RENAME gives a name to itself: that is no change, and asks for no rights
+-- whether a name is renamed to itself: that is no change, and needs no rights
 abbrev pub is_same_name : Context → RenameArguments → Bool
 is_same_name context arguments =
     saved_number context == current_number context && bytes_eq arguments.old_name arguments.new_name

@@ -1,4 +1,4 @@
--- CREATE: RFC 8881, section 18.4. It makes directories alone.
+-- CREATE: RFC 8881, section 18.4. It makes only directories.
 use Rattle.std.specs.Prelude.{ℕ, true, List, [], ◌∷◌, ◌++◌}
 use Rattle.model_tree.specs.declared.node.NodeKind.TheVariants as kind
 use Rattle.model_tree.specs.declared.status.Status.TheVariants as status
@@ -28,7 +28,7 @@ late_at_create state (OtherType number) = []
 
 -- What it does
 
--- the directory has one name more, and the new directory is the current one
+-- the directory has one more name, and the new directory is the current one
 abbrev pub made : State → (now : ℕ) → (name : List ℕ) → Attributes → State
 made state now name given = moved_to (changed state (made_edits state.tree (current state) name
     (new_directory state.context.cred (acl_of (at (current state) state.tree)) given

@@ -17,7 +17,7 @@ pub record Definition : Type 0 where
   pub late : Limits → State → Refusals
   -- whether it is a change: it alters the tree, and uses up a stamp
   pub alters : State → Bool
-  -- what it does where nothing refuses it; `now` is the moment, in nanoseconds since 1970
+  -- what it does if nothing refuses it; `now` is the moment, in nanoseconds since 1970
   pub effect : Limits → State → (now : ℕ) → Stepped
 
 -- What the caller has to be granted first: this mask on the current node, or nothing
@@ -28,8 +28,8 @@ needs mask tree context = here context mask
 abbrev pub needs_nothing : Tree → Context → List (List Right)
 needs_nothing tree context = []
 
--- The definition of an operation begins with one of these two, and adds its tests, and whether it is
--- a change. It always says what it needs first: a forgotten right is a missing argument.
+-- The definition of an operation begins with one of these two, and adds its tests, and whether it
+-- is a change. It always says what it needs first: a forgotten right is a missing argument.
 
 -- no test, no change
 abbrev pub only : (need_first : Tree → Context → List (List Right))

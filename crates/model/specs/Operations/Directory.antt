@@ -8,13 +8,13 @@ use Rattle.model_tree.specs.Rights.Inherit.{created_list}
 use Rattle.model.specs.Operations.Operation.{Attributes}
 use Rattle.model_tree.specs.Trees.Tree.{Node, Directory}
 
--- the change value of a directory: 0 where there is no such node
+-- the change value of a directory, or 0 if there is no such node
 abbrev pub change_of : Option Node → ℕ
 change_of None = 0
 change_of (Some node) = node.change
 
--- A new directory is the caller's. Its list is the one given, or that of the mode and those handed
--- down, or those handed down, or none where no attribute is given (section 6.4.3).
+-- A new directory is the caller's. Its list is the one given, or that of the mode and the inherited
+-- entries, or the inherited entries, or empty if no attribute is given (section 6.4.3).
 abbrev pub new_directory : Cred → (parent : List Ace) → Attributes → (stamp now : ℕ) → Node
 new_directory cred parent given stamp now = record {
   owner = cred.uid;

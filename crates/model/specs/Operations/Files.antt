@@ -20,7 +20,7 @@ use Rattle.model_tree.specs.Trees.Tree.{is_directory_at, bytes_at}
 abbrev pub file_refusals : State → Refusals
 file_refusals state = (is_directory_at state.tree (current state), status.IsDir) ∷ []
 
--- READ: the end is where what is given reaches the file's size
+-- READ: it is the end if what is returned reaches the file's size
 
 abbrev pub part_of : Limits → List ℕ → ReadArguments → List ℕ
 part_of limits bytes arguments =
@@ -45,7 +45,7 @@ READ arguments = record (on_current (needs read_data)
           ++ state_refusals state.opens state.context read_access arguments.state);
     }
 
--- WRITE takes the first bytes alone, and none is no change
+-- WRITE takes only the first bytes, and writing none is no change
 
 abbrev pub are_bytes : List ℕ → Bool
 are_bytes bytes = list_all (λ byte. nat_lt byte 256) bytes
@@ -64,7 +64,8 @@ write_refusals limits arguments = (
   status.FBig,
 ) ∷ []
 
--- the server's restart count, which tells a client that what was not committed may be lost
+-- the server's restart count: from a new one a client learns that what was not committed may be
+-- lost
 abbrev pub write_verifier : State → List ℕ
 write_verifier state = to_be_bytes w64 state.context.run
 
@@ -97,7 +98,8 @@ WRITE arguments = record (on_current (needs write_data)
       alters = λ state. has_bytes arguments;
     }
 
--- COMMIT leaves the tree; that everything before it is kept from then on is said of runs
+-- COMMIT leaves the tree unchanged; the laws of runs say that everything before it is kept from
+-- then on
 abbrev pub commit : State → Stepped
 commit state = answered state (Answer.Commit (write_verifier state))
 

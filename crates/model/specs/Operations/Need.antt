@@ -1,5 +1,5 @@
 -- Rights on nodes, as an operation needs them: RFC 8881, section 6.2.1.3.1 (which operations a mask
--- bit permits). Each requirement is a list of alternatives, of which one has to be granted.
+-- bit permits). Each requirement is a list of alternatives, one of which must be granted.
 use Rattle.std.specs.Prelude.{ℕ, Bool, true, false, List, [], ◌∷◌, Option, Some, None}
 use Rattle.std.specs.List.{list_any, list_all}
 use Rattle.model_tree.specs.declared.acl.Cred.{Cred}
@@ -20,11 +20,11 @@ granted_on (Some node) cred mask = granted node.acl node.owner node.group cred m
 abbrev pub is_granted : Tree → Cred → Right → Bool
 is_granted tree cred right = granted_on (at right.number tree) cred right.mask
 
--- one requirement, on the current node alone
+-- one requirement, only on the current node
 abbrev pub here : Context → (mask : ℕ) → List (List Right)
 here context mask = (record { number = current_number context; mask = mask } ∷ []) ∷ []
 
--- a requirement only where it holds that it is one
+-- a requirement only if the test holds
 abbrev pub right_if : Bool → (number mask : ℕ) → List (List Right)
 right_if true number mask = (record { number = number; mask = mask } ∷ []) ∷ []
 right_if false number mask = []

@@ -24,7 +24,7 @@ use Rattle.model_tree.specs.Refusals.Refusal.{Refusals}
 use Rattle.model.specs.Operations.State.{State, Stepped, current, stamp_of, current_refusals, named_refusals, is_name_there, answered, changed, change_to}
 use Rattle.model.specs.Sessions.StateIds.{read_access, write_access, Found, Anonymous, Refused, Names, found, close_refusals, new_open, opened, Opened, is_table_full, without_open, open_stateid, closed_state}
 
--- What an opening asks
+-- What an opening asks for
 
 abbrev pub creates : OpenType → Bool
 creates NoCreate = false
@@ -37,8 +37,8 @@ given_by NoCreate = record { bitmap = []; values = [] }
 given_by (Unchecked given) = given
 given_by (Guarded given) = given
 
--- a file that is there is cut where UNCHECKED4 gives the size 0; every other attribute is for a new
--- one
+-- a file that is there is truncated if UNCHECKED4 gives the size 0; every other attribute is for a
+-- new one
 abbrev pub is_zero : Option ℕ → Bool
 is_zero None = false
 is_zero (Some size) = size == 0
@@ -50,7 +50,7 @@ cuts (Guarded given) = false
 
 -- Tests before the caller's rights
 
--- access is READ, WRITE or both; to deny something is refused
+-- access is READ, WRITE or both; denying anything is refused
 abbrev pub share_refusals : OpenArguments → Refusals
 share_refusals arguments =
     (arguments.access == 0 || nat_lt 3 arguments.access, status.Inval)
@@ -121,8 +121,8 @@ access_rights number access =
     right_if (meets access read_access) number read_data
     ++ right_if (meets access write_access) number write_data
 
--- a file by its name: its rights, and to write where it is cut; the right to add a file where the
--- name is not there
+-- a file by its name: the rights on it, and to write if it is truncated; the right to add a file if
+-- the name is not there
 abbrev pub opening_rights : Tree → Context → (access : ℕ) → Opening → List (List Right)
 opening_rights tree context access (Exclusive mode) = []
 opening_rights tree context access (Opening_of how (OtherClaim claim)) = []
@@ -172,7 +172,7 @@ late_at_open limits state arguments =
 
 -- What it does to the tree
 
--- a new file is the caller's, and has as many zero bytes as it was given as its size
+-- a new file is the caller's, and its bytes are zeros up to the size that was given
 abbrev pub new_file : Cred → (parent : List Ace) → Attributes → (stamp now : ℕ) → Node
 new_file cred parent given stamp now = record {
   owner = cred.uid;
@@ -202,7 +202,7 @@ opening_done state now (Opening_of how (ByName name)) =
     with_file (is_name_there state name) state now how name
 opening_done state now (Opening_of how ByHandle) = state
 
--- What it answers: the directory's change, and what was set
+-- What it returns: the directory's change, and what was set
 
 abbrev pub no_change_info : ChangeInfo
 no_change_info = record { is_atomic = true; before = 0; after = 0 }
@@ -231,7 +231,7 @@ set_at_open state (Opening_of how ByHandle) = []
 abbrev pub opened_state : State → Opened → StateId
 opened_state state now = open_stateid state.context.run now.serial now.state.seqid
 
--- the file is the current filehandle, with what was answered as its stateid
+-- the file is the current filehandle, with the stateid that was returned
 abbrev pub at_opened : Context → (number : ℕ) → StateId → Context
 at_opened context number state =
     record context { current = Some (record { number = number; state = Some state }) }

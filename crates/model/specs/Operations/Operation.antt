@@ -10,7 +10,7 @@ pub record StateId : Type 0 where
   pub seqid : ℕ
   pub other : List ℕ
 
--- fattr4: which attributes, and their values by rising number, spelled one after the other
+-- fattr4: which attributes, and their values by rising number, encoded one after the other
 pub record Attributes : Type 0 where
   pub bitmap : List ℕ
   pub values : List ℕ
@@ -31,7 +31,7 @@ pub record Channel : Type 0 where
   pub max_requests : ℕ
   pub rdma_ird : Option ℕ
 
--- nfs_impl_id4: the seconds as the number that their eight bytes spell
+-- nfs_impl_id4: the seconds as the number that their eight bytes encode
 pub record Implementation : Type 0 where
   pub domain : List ℕ
   pub name : List ℕ
@@ -62,25 +62,25 @@ pub record CommitArguments : Type 0 where
   pub offset : ℕ
   pub count : ℕ
 
--- CREATE4args: of a type other than NF4DIR nothing that follows is looked at
+-- CREATE4args: after a type other than NF4DIR, what follows is ignored
 pub data CreateArguments : Type 0 where
   NewDirectory : (name : List ℕ) → Attributes → CreateArguments
   OtherType : (number : ℕ) → CreateArguments
 
--- openflag4, with createhow4 where a file may be made
+-- openflag4, with createhow4 if a file may be made
 pub data OpenType : Type 0 where
   NoCreate : OpenType
   Unchecked : Attributes → OpenType
   Guarded : Attributes → OpenType
 
--- open_claim4: CLAIM_NULL, CLAIM_FH; of another claim nothing that follows is looked at
+-- open_claim4: CLAIM_NULL, CLAIM_FH; after another claim, what follows is ignored
 pub data Claim : Type 0 where
   ByName : List ℕ → Claim
   ByHandle : Claim
   OtherClaim : (number : ℕ) → Claim
 
--- How a file is opened. At an exclusive create (createmode 2 or 3) nothing that follows is looked
--- at, the claim neither.
+-- How a file is opened. For an exclusive create (createmode 2 or 3) what follows is ignored,
+-- including the claim.
 pub data Opening : Type 0 where
   Opens : OpenType → Claim → Opening
   Exclusive : (mode : ℕ) → Opening

@@ -1,5 +1,5 @@
--- The numbers of the operations: RFC 8881, section 18, and RFC 5662, nfs_opnum4. Each stands here
--- alone.
+-- The numbers of the operations: RFC 8881, section 18, and RFC 5662, nfs_opnum4. Each is written
+-- only here.
 use Rattle.std.specs.Prelude.{ℕ}
 
 abbrev pub OP_ACCESS : ℕ

@@ -13,14 +13,14 @@ page_size entries is_end =
     length (answers.read_dir_answer.spelling (record { entries = entries; is_end = is_end }))
 
 pub record IsPage (limits : Limits) (state : State) (arguments : ReadDirArguments) : Type 0 where
-  -- its entries are the first of all after the cookie, and it ends where they are all of them
+  -- its entries are the first of all after the cookie
   pub rest : List Entry
   pub front : all_entries limits state arguments ≡ (page limits state arguments).entries ++ rest
-  -- it has room, as it is spelled
+  -- unless it is empty, it fits, as it is encoded
   pub fits : 0 < length (page limits state arguments).entries
       → page_size (page limits state arguments).entries (page limits state arguments).is_end
       ≤ min arguments.max_count limits.transfer_bytes
-  -- and no further entry has
+  -- and no further entry would fit
   pub longest : (next : Entry) (others : List Entry) (is_end : Bool) → rest ≡ next ∷ others
       → min arguments.max_count limits.transfer_bytes
       < page_size ((page limits state arguments).entries ++ next ∷ []) is_end

@@ -1,5 +1,5 @@
 -- READDIR: RFC 8881, section 18.23. A cookie is an entry's stamp; which entries fit is this
--- server's profile, and so is that dircount is not looked at.
+-- server's profile, and so is ignoring dircount.
 use Rattle.std.specs.Prelude.{ℕ, Bool, false, List, [], ◌∷◌, ◌++◌, ◌-◌, ◌+◌, ◌==◌, ◌&&◌, not, nat_lt, nat_le, length, map, filter, min, replicate, if◌then◌else◌, bytes_eq, Option, Some, None}
 use Rattle.model_tree.specs.declared.acl.Cred.{Cred}
 use Rattle.model_tree.specs.declared.status.Status.TheVariants as status
@@ -19,7 +19,7 @@ use Rattle.model.specs.Operations.State.{State, current, current_refusals, answe
 use Rattle.model_tree.specs.Trees.Tree.{Tree, Node, DirEntry, names_at, is_directory_at}
 use Rattle.model.specs.Wire.WireAnswers as answers
 
--- rdattr_error tells of an entry that its attributes may not be read
+-- rdattr_error says of an entry that its attributes may not be read
 abbrev pub rdattr_error_number : ℕ
 rdattr_error_number = 11
 
@@ -30,14 +30,15 @@ asks_errors bitmap = is_among (attributes_of bitmap) rdattr_error_number
 abbrev pub names_after : (cookie : ℕ) → Keyed DirEntry → Keyed DirEntry
 names_after cookie names = filter (λ (name : ℕ × DirEntry). nat_lt cookie name.0) names
 
--- a cookie but the first goes with the verifier that was answered
+-- a cookie other than the first comes with the verifier that was returned
 abbrev pub cookie_refusals : ReadDirArguments → Refusals
 cookie_refusals arguments = (
   not (arguments.cookie == 0) && not (bytes_eq arguments.verifier (replicate 8 0)),
   status.NotSame,
 ) ∷ []
 
--- each entry after the cookie, where lists are asked and nothing tells that one may not be read
+-- to read the list of each entry after the cookie, if lists are asked for and nothing can report
+-- that one may not be read
 abbrev pub listing_rights : Tree → Context → ReadDirArguments → List (List Right)
 listing_rights tree context arguments =
     if asks_lists arguments.bitmap && not (asks_errors arguments.bitmap)
@@ -45,7 +46,7 @@ listing_rights tree context arguments =
     (names_after arguments.cookie (names_at tree (current_number context)))
     else []
 
--- An entry, as it is answered
+-- An entry, as it is returned
 
 abbrev pub may_read_list : Cred → Option Node → Bool
 may_read_list cred None = false
@@ -67,7 +68,7 @@ listed_entry limits tree cred bitmap name = record {
 
 -- The page: the entries in their order, as many as have room
 
--- an entry stands after a bool
+-- an entry comes after a bool
 abbrev pub entry_size : Entry → ℕ
 entry_size entry = 4 + length (answers.entry.spelling entry)
 
@@ -81,8 +82,8 @@ all_entries limits state arguments =
     map (listed_entry limits state.tree state.context.cred arguments.bitmap)
     (names_after arguments.cookie (names_at state.tree (current state)))
 
--- the bytes that were asked, a page of no entries, and what that leaves: beside the entries stand
--- the verifier, the bool that ends them and the one that tells the end
+-- the bytes that were asked for, a page of no entries, and what that leaves: besides the entries
+-- there are the verifier, the bool that ends them and the one that reports the end
 
 abbrev pub page_bytes : Limits → ReadDirArguments → ℕ
 page_bytes limits arguments = min arguments.max_count limits.transfer_bytes
@@ -99,7 +100,7 @@ page limits state arguments =
     let shown = fitting (page_room limits arguments) all in
     record { entries = shown; is_end = length shown == length all }
 
--- the first entry does not fit, or where none is left not even a page of none
+-- the first entry does not fit, or if none is left, not even a page without entries does
 abbrev pub page_refusals : Limits → State → ReadDirArguments → Refusals
 page_refusals limits state arguments =
     (nat_lt (page_bytes limits arguments) empty_page_bytes, status.TooSmall)

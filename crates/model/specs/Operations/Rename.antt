@@ -56,7 +56,7 @@ rename_rights tree from to arguments =
           else write_data;
     } ∷ []) ∷ []))
 
--- of a name that is given to itself none
+-- no rights if a name is renamed to itself
 abbrev pub renaming_rights : Tree → Context → RenameArguments → List (List Right)
 renaming_rights tree context arguments =
     if is_same_name context arguments
@@ -78,7 +78,7 @@ moved_number state arguments = number_named state.tree (saved state) arguments.o
 abbrev pub target_number : State → RenameArguments → ℕ
 target_number state arguments = number_named state.tree (current state) arguments.new_name
 
--- a directory goes to or below itself; what stands there is of the other kind, or has names
+-- a directory is moved to or below itself; what has the new name is of the other kind, or has names
 abbrev pub late_at_rename : State → RenameArguments → Refusals
 late_at_rename state arguments = (
   is_directory_at state.tree (moved_number state arguments)
@@ -104,7 +104,7 @@ remove state now name =
     (number_named state.tree (current state) name))
     (Answer.Remove (change_to state (current state) (stamp_of state)))
 
--- a name that is given to itself stays, with its stamp
+-- a name that is renamed to itself remains, with its stamp
 abbrev pub rename : Bool → State → (now : ℕ) → RenameArguments → Stepped
 rename true state now arguments = answered state (Answer.Rename (record {
   source = change_to state (saved state) (change_of (at (saved state) state.tree));

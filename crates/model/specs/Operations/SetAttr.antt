@@ -1,5 +1,5 @@
--- SETATTR and GETATTR: RFC 8881, sections 18.30 and 18.7. A list that is set with a mode stands;
--- the order of the tests is this server's profile.
+-- SETATTR and GETATTR: RFC 8881, sections 18.30 and 18.7. A list that is set together with a mode
+-- is kept as it is; the order of the tests is this server's profile.
 use Rattle.std.specs.Prelude.{ℕ, Bool, true, false, [], ◌∷◌, ◌++◌, List, not, ◌||◌, Option, Some, None, unwrap_or, if◌then◌else◌, is_some}
 use Rattle.model_tree.specs.declared.acl.Ace.{Ace}
 use Rattle.model_tree.specs.declared.node.NodeKind.{NodeKind}
@@ -29,7 +29,7 @@ kind_at tree number = if is_directory_at tree number then kind.Directory else ki
 abbrev pub sets_size : Attributes → Bool
 sets_size given = is_some (size_given given)
 
--- a size is a file's, and asks for a stateid
+-- a size is a file's, and needs a stateid
 abbrev pub size_refusals : State → SetAttrArguments → Refusals
 size_refusals state arguments =
     if sets_size arguments.attributes
@@ -43,7 +43,7 @@ set_refusals limits state arguments =
     arguments.attributes
     ++ size_refusals state arguments
 
--- what is set: the size is written, a mode is a list, and so on
+-- the rights that setting these needs: a size is written, a mode is a list, and so on
 abbrev pub setting_rights : Context → (attributes : List ℕ) → List (List Right)
 setting_rights context attributes =
     right_if (is_among attributes size_number) (current_number context) write_data
@@ -52,7 +52,7 @@ setting_rights context attributes =
     ++ right_if (is_among attributes owner_number || is_among attributes owner_group_number)
     (current_number context) write_owner
 
--- The node as it shows afterwards
+-- The node's metadata afterwards
 
 abbrev pub list_set : NodeKind → List Ace → (mode : Option ℕ) → Option (List Ace) → List Ace
 list_set of acl mode (Some set) = set
@@ -101,7 +101,7 @@ SETATTR arguments = record (on_current
       alters = λ state. sets arguments;
     }
 
--- What is shown
+-- What is returned
 
 abbrev pub attributes_at : Limits → (bitmap : List ℕ) → (number : ℕ) → Option Node → Attributes
 attributes_at limits bitmap number None = record { bitmap = []; values = [] }

@@ -16,7 +16,7 @@ use Rattle.model_tree.specs.Refusals.Refusal.{Refusals}
 use Rattle.model_tree.specs.Trees.Stamp.{next_stamp}
 use Rattle.model.specs.Sessions.StateIds.{without_number}
 
--- What an operation works on: the tree, how many changes this run had, the opens, and the
+-- What an operation works on: the tree, how many changes this run has made, the opens, and the
 -- COMPOUND's context
 pub record State : Type 0 where
   pub tree : Tree
@@ -83,6 +83,6 @@ change_to state number after = record {
   after = after;
 }
 
--- a node that is gone has no opens; 0, the number where there is none, had none
+-- a node that is gone has no opens; 0, the number if there is none, had none
 abbrev pub without_opens : State → (number : ℕ) → State
 without_opens state number = record state { opens = without_number number state.opens }

@@ -1,7 +1,7 @@
 -- One operation of a COMPOUND on the tree: RFC 8881, sections 16.2 and 18. It is refused by the
 -- first of its tests that holds, and then changes nothing. The order of the tests is this server's
--- profile: what an operation looks at before the caller's rights, the rights, what it looks at
--- after them, room on the volume, and whether a stamp is left.
+-- profile: what an operation checks before the caller's rights, the rights, what it checks after
+-- them, room on the volume, and whether a stamp is left.
 use Rattle.std.specs.Prelude.{ℕ, Bool, List, [], ◌∷◌, ◌++◌, Option, Some, None, ◌&&◌, not}
 use Rattle.model_tree.specs.declared.status.Status.{Status}
 use Rattle.model_tree.specs.declared.status.Status.TheVariants as status
@@ -99,7 +99,7 @@ refusals limits state operation =
     ++ ((without_rights state (need_then state.tree state.context operation), status.Access)
     ∷ late limits state operation))
 
--- of a change alone: whether the tree fits then, and whether a stamp is left
+-- only for a change: whether the tree then fits, and whether a stamp is left
 abbrev pub change_refusals : Limits → State → Argument → (after : Tree) → Refusals
 change_refusals limits state operation after =
     (alters state operation && not (fits limits after), status.NoSpc)

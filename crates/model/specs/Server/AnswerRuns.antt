@@ -1,4 +1,4 @@
--- Over every run: nobody is answered what the lists deny him: RFC 8881, section 6.2.1. What was
+-- Over every run: nobody is given what the lists deny him: RFC 8881, section 6.2.1. What was
 -- answered OK, a reading as well as a change, was permitted to its caller by the lists of the tree
 -- that it was answered from.
 use Rattle.std.specs.Prelude.{ℕ, ◌≡◌, Some, slice_get, IsTrue}

@@ -44,7 +44,7 @@ NoTakingBack =
     → (k : ℕ) × (i < k)
     × (tree ≡ tree_after start (take k (done_with history (executed serving event))))
 
--- One that keeps a reply and loses its change: where an event changes the seats, a crash after it
+-- One that keeps a reply and loses its change: if an event changes the seats, a crash after it
 -- leaves nothing from before it.
 abbrev pub NoReplyAlone : Type 0
 NoReplyAlone =
@@ -54,7 +54,7 @@ NoReplyAlone =
     → new.world.table.seats ≢ old.world.table.seats
     → (left : Left) → IsAmong new.left left → left ≡ left_after new.world
 
--- One that runs a retry again: where the slot keeps the reply to this number, nothing runs.
+-- One that runs a retry again: if the slot keeps the reply to this number, nothing runs.
 abbrev pub NoSecondRun : Type 0
 NoSecondRun =
     (uid count : ℕ) (arguments : SequenceArguments) (table : Table) (session : Session)
@@ -85,12 +85,12 @@ NoGap = (uid count : ℕ) (arguments : SequenceArguments) (table : Table) (sessi
     → begin uid count arguments table ≡ Runs
     → arguments.sequence ≡ next_number (slot_at session arguments.slot).last
 
--- One whose turn runs more than one operation, or answers before the last one: a turn makes of a
--- request one more result with others to come; or the reply, made of one more result that is the
--- last one or a refusal; or it repeats the reply that a slot keeps, and then executes nothing.
+-- One whose turn runs more than one operation, or replies before the last one: a turn gives a
+-- request one more result, with others to come; or it makes the reply, of one more result that is
+-- the last one or a refusal; or it repeats the reply that a slot keeps, and then executes nothing.
 
--- the outcome of the operation that stands next: it is refused before it runs, or is executed and
--- leaves this tree
+-- the outcome of the next operation: it is refused before it runs, or is executed and leaves this
+-- tree
 abbrev pub IsOutcome : World → InProgress → Next → Outcome → (executed : Option Entry)
     → (tree : Tree) → Type 0
 IsOutcome world request (Refuses operation reason) outcome executed tree =
@@ -132,7 +132,7 @@ pub record IsAnswered (world : World) (request : InProgress) (next : Next) (turn
   pub last : (is_done outcome ≡ false) ⊎ (request.answered + 1 ≡ request.count)
   pub says : reply ≡ framed (reply_with request outcome)
 
--- the reply with the result that its slot keeps to the SEQUENCE which stands next
+-- the reply with the result that its slot keeps for the SEQUENCE which is next
 pub record IsRepeated (world : World) (request : InProgress) (next : Next) (turned : Turned)
     (reply : List ℕ) : Type 0 where
   pub arguments : SequenceArguments
@@ -219,7 +219,7 @@ HangUpIsEvents = (world : World) (number now : ℕ)
     × (hung_up world number now ≡ effect_of (after_turns k world number now) (HangsUp number))
 
 -- What they do not rule out: a server that flushes each change at once. So every list of events is
--- one of a run, but that no reply is taken while something waits.
+-- one of a run, except that no reply is taken while something waits.
 abbrev pub EachEventHappens : Type 0
 EachEventHappens =
     (old : Serving) (event : Event) → old.is_down ≡ false → MayBeTaken old.waits event

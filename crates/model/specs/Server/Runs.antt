@@ -67,7 +67,7 @@ is_durable entry =
 
 -- Replies that seats hold
 
--- of a request that a slot of a session ran: what a seat is to hold of it
+-- for a request that a slot of a session ran: what a seat is to hold of it
 pub record Stored : Type 0 where
   pub session : List ℕ
   pub slot : ℕ
@@ -242,7 +242,7 @@ replies_with history world event false = history.replies ++ replies_of history w
 
 -- The machine
 
--- a tree, and the seats beside it
+-- a tree, and the seats that go with it
 pub record Left : Type 0 where
   pub tree : Tree
   pub seats : Seats
@@ -274,7 +274,7 @@ abbrev pub executed : Serving → Event → Option Entry
 executed serving event = executed_by serving.world event serving.is_down
 
 -- What a crash may leave while an event happens: what it might have left before, or what there is
--- after it. So a tree from before has no seats from after the event beside it.
+-- after it. So no tree from before the event is left with seats from after it.
 
 abbrev pub left_after : World → Left
 left_after world = record { tree = world.tree; seats = world.table.seats }
@@ -307,8 +307,8 @@ MayBeTaken false event = Unit {0}
 MayBeTaken true event = TakesNone event
 
 -- an event happens; then, of a durable operation only the tree after it may be left, and only the
--- seats after it: where these change, nothing from before. Where the event defers, a durable
--- operation need not be kept yet: it waits for the next flush.
+-- seats after it: if these change, nothing from before. If the event defers, a durable operation
+-- need not be kept yet: it waits for the next flush.
 pub record Happens (old : Serving) (event : Event) (new : Serving) : Type 0 where
   pub up : old.is_down ≡ false
   pub world : new.world ≡ effect_of old.world event
@@ -325,7 +325,7 @@ pub record Happens (old : Serving) (event : Event) (new : Serving) : Type 0 wher
   pub taken : MayBeTaken old.waits event
   pub seats : (left : Left) → IsAmong new.left left → left.seats ≡ new.world.table.seats
 
--- A flush of all that waits: of what a crash might leave it leaves only the newest. It is no event,
+-- A flush of all that waits: of what a crash might leave, only the newest remains. It is no event,
 -- since no client sees it.
 pub record Flushes (old new : Serving) : Type 0 where
   pub up : old.is_down ≡ false
@@ -334,8 +334,8 @@ pub record Flushes (old new : Serving) : Type 0 where
   pub none_waits : new.waits ≡ false
   pub newest : (left : Left) → IsAmong new.left left → left ≡ left_after old.world
 
--- the device fails in it: the server is down from now on, and no reply tells of the operation under
--- way, nor of one that waits
+-- the device fails during it: the server is down from now on, and no reply reports the operation
+-- under way, nor one that waits
 pub record DeviceFails (old : Serving) (event : Event) (new : Serving) : Type 0 where
   pub up : old.is_down ≡ false
   pub world : new.world ≡ old.world
@@ -353,8 +353,8 @@ pub record StaysDown (old : Serving) (connection : ℕ) (new : Serving) : Type 0
   pub still_down : new.is_down ≡ true
   pub no_others : (left : Left) → IsAmong new.left left → IsAmong old.left left
 
--- of an operation under way at a failure it isn't known whether it was done: it is the last of
--- `done`, and no reply names it
+-- it is not known whether an operation under way at a failure was done: it is the last of `done`,
+-- and no reply names it
 abbrev pub history_failing : RunHistory → World → Event → RunHistory
 history_failing history world event = record history {
   done = done_with history (executed_of world event);
@@ -410,7 +410,7 @@ pub record IsGoodPrefix (start : Tree) (done : List Entry) (handed_out : List �
   pub permitted : ArePermitted done k
   pub chain : IsChain start done
 
--- Whatever events happen, on whatever connections, and wherever the server crashes, what a crash
+-- Whatever events happen, on whatever connections, and whenever the server crashes, what a crash
 -- may leave is the tree of a good prefix of the operations that were executed.
 abbrev pub EveryRun : Type 0
 EveryRun = (limits : ServerLimits) (run : ℕ) (start : Tree) (seats : Seats) (serving : Serving)
@@ -426,8 +426,8 @@ pub record AreSeats (run : ℕ) (seats : Seats) : Type 0 where
   pub apart : SeatsApart seats
   pub earlier : (id : List ℕ) → has_seat id seats ≡ true → run_of id < run
 
--- Every run that a mount begins does so. In another a seat might be of a session that is yet to be
--- made, and hold its reply before that is stored.
+-- Every run that a mount begins does so. In any other, a seat might be of a session that is yet to
+-- be made, and hold its reply before that is stored.
 abbrev pub BeginsSeated : (run : ℕ) → Seats → Type 0
 BeginsSeated run seats = (run < 2 ^ 32) × AreSeats run seats
 
@@ -438,8 +438,8 @@ pub record IsNamedBelow (done : List Entry) (replies : List (Stored × List ℕ)
   pub among : IsAmong replies (stored, names)
   pub below : HasAllDurable done names k
 
--- so of each reply in these seats (two that are the same in each byte are not told apart: they have
--- at least 2^32 others of their slot between them)
+-- so for each reply in these seats (two that are the same in each byte are not distinguished: they
+-- have at least 2^32 others of their slot between them)
 abbrev pub HasAllHeld : List Entry → (replies : List (Stored × List ℕ)) → Seats → ℕ → Type 0
 HasAllHeld done replies seats k =
     (stored : Stored) (names : List ℕ) → IsAmong replies (stored, names)
@@ -451,9 +451,9 @@ pub record KeepsHeld (start : Tree) (done : List Entry) (handed_out : List ℕ)
   pub prefix : IsGoodPrefix start done handed_out left.tree
   pub held : HasAllHeld done replies left.seats prefix.k
 
--- Of a tree and seats that a crash leaves the tree is that of a good prefix which has what the
--- replies in the seats name: a client that gets such a reply again after a restart is told of
--- nothing that is lost.
+-- If a crash leaves a tree and seats, the tree is that of a good prefix which has what the replies
+-- in the seats name: a client that gets such a reply again after a restart learns of nothing that
+-- is lost.
 abbrev pub EveryHeldIsKept : Type 0
 EveryHeldIsKept =
     (limits : ServerLimits) (run : ℕ) (start : Tree) (seats : Seats) (serving : Serving)

@@ -1,4 +1,4 @@
--- The operations that are served: RFC 8881, section 18. Another one of the standard's is answered
+-- The operations that are served: RFC 8881, section 18. Any other operation of the standard returns
 -- NOTSUPP.
 use Rattle.std.specs.Prelude.{ℕ, ◌==◌, Bool, true, false, List, [], ◌∷◌}
 use Rattle.std.specs.List.{list_any}
@@ -16,8 +16,8 @@ served =
 abbrev pub is_served : (operation : ℕ) → Bool
 is_served operation = list_any (λ known. known == operation) served
 
--- What follows the arguments is not looked at: a CREATE of another type, an OPEN that is exclusive
--- or has another claim
+-- What follows the arguments is ignored: a CREATE of another type, an OPEN that is exclusive or has
+-- another claim
 abbrev pub opens_no_further : Opening → Bool
 opens_no_further (Opens kind (OtherClaim claim)) = true
 opens_no_further (Opens kind claim) = false

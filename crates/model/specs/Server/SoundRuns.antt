@@ -15,8 +15,8 @@ pub record IsStart (limits : Limits) (run : ℕ) (tree : Tree) : Type 0 where
   pub well_formed : IsWellFormed limits tree
   pub before : IsBefore (next_stamp run 0) tree
 
--- Where the limits leave a node, and a mode its five entries: the first run may begin with the tree
--- of a fresh volume, and each later one with what a run before it may leave at any moment
+-- If the limits leave room for a node, and for a mode's five entries: the first run may begin with
+-- the tree of a fresh volume, and each later one with what a run before it may leave at any moment
 pub record EveryTreeIsSound (limits : ServerLimits) : Type 0 where
   pub first : (run : ℕ) → 0 < run → 1 ≤ limits.volume.nodes
       → limits.volume.aces_set + 5 ≤ limits.volume.aces

@@ -8,7 +8,7 @@ use Rattle.model_tree.specs.Seats.Seats.{Seats}
 use Rattle.model_tree.specs.Trees.Tree.{Tree}
 use Rattle.model.specs.Server.World.{ServerLimits, Entry}
 
--- an operation is of this run, and where it changes the tree what it leaves is the old tree's or
+-- an operation is of this run, and if it changes the tree, all that it leaves is the old tree's or
 -- has this stamp
 pub record GivesStamp (run : ℕ) (entry : Entry) : Type 0 where
   pub own : entry.state.context.run ≡ run

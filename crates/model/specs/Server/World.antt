@@ -1,5 +1,5 @@
--- All that the server is between two calls, and what each event makes of it, on bytes: RFC 8881,
--- sections 2.10.6 and 16.2; RFC 5531, section 9. A turn reads and runs one operation of one
+-- The whole state of the server between two calls, and what each event makes of it, on bytes: RFC
+-- 8881, sections 2.10.6 and 16.2; RFC 5531, section 9. A turn reads and runs one operation of one
 -- COMPOUND. The order of tests around the operations is this server's profile.
 use Rattle.std.specs.Prelude.{ℕ, zero, suc, ◌+◌, ◌-◌, Bool, true, false, not, ◌&&◌, ◌||◌, ◌==◌, nat_lt, nat_le, List, [], ◌∷◌, ◌++◌, length, find, Option, None, Some, Result, Ok, Err, if◌then◌else◌}
 use Rattle.std.specs.Int.{w32}
@@ -56,8 +56,8 @@ pub record InProgress : Type 0 where
   -- the status of its last result, once that is there and a seat is to hold the reply
   pub ended : Option Status
 
--- what has come of the next record; a whole request, not begun; one that has begun; a reply that is
--- to be taken; refused for good
+-- what has arrived of the next record; a whole request, not begun; one that has begun; a reply that
+-- is to be taken; refused for good
 pub data Connection : Type 0 where
   Quiet : (bytes : List ℕ) → Connection
   Waiting : (request : List ℕ) → Connection
@@ -74,7 +74,7 @@ pub record World : Type 0 where
   pub table : Table
   pub connections : Keyed Connection
 
--- a run begins with a tree and the seats beside it, and with nothing else
+-- a run begins with a tree and the seats that go with it, and with nothing else
 abbrev pub mounted_world : ServerLimits → (run : ℕ) → Tree → Seats → World
 mounted_world limits run tree seats = record {
   limits = limits;
@@ -106,7 +106,8 @@ is_last request = request.answered + 1 == request.count
 abbrev pub op_illegal : ℕ
 op_illegal = 10044
 
--- EXCHANGE_ID, CREATE_SESSION, DESTROY_SESSION and DESTROY_CLIENTID, each of which stands alone
+-- EXCHANGE_ID, CREATE_SESSION, DESTROY_SESSION and DESTROY_CLIENTID, each of which is the only
+-- operation of its COMPOUND
 abbrev pub stands_alone : (operation : ℕ) → Bool
 stands_alone operation =
     operation == OP_EXCHANGE_ID || operation == OP_CREATE_SESSION || operation == OP_DESTROY_SESSION
@@ -118,7 +119,8 @@ is_sequence operation = operation == OP_SEQUENCE
 abbrev pub is_no_operation : (operation : ℕ) → Bool
 is_no_operation operation = nat_lt operation OP_ACCESS || nat_lt OP_RECLAIM_COMPLETE operation
 
--- tests by the number alone, of the first operation and of a later one; each answers under a number
+-- tests of only the number, for the first operation and for a later one; each gives a number to
+-- refuse under
 abbrev pub first_tests : (count operation : ℕ) → List (Bool × Next)
 first_tests count operation =
     (is_no_operation operation, Refuses op_illegal status.OpIllegal)
@@ -151,7 +153,7 @@ abbrev pub tests_of : InProgress → (operation : ℕ) → List (Bool × Next)
 tests_of request operation =
     if request.answered == 0 then first_tests request.count operation else later_tests operation
 
--- an operation's number that is not there whole: BADXDR, under OP_ILLEGAL's number
+-- an operation's number that is incomplete: BADXDR, under OP_ILLEGAL's number
 abbrev pub by_number : InProgress → Result (ℕ × List ℕ) Refusal → Next
 by_number request (Err fault) = Refuses op_illegal status.BadXdr
 by_number request (Ok read) =
@@ -197,7 +199,7 @@ created_by world request outcome (Ok answer) =
 abbrev pub session_created : World → InProgress → sessions.CreateSessionOutcome → HasRun
 session_created world request outcome = created_by world request outcome outcome.answer
 
--- an operation that answers nothing: its refusal, if there is one, and the table after it
+-- an operation that returns nothing: its refusal, if there is one, and the table after it
 abbrev pub tabled : World → InProgress → (operation : ℕ) → Answer → Option Status × Table → HasRun
 tabled world request operation answer (Some reason, table) =
     refuses (with_table world table) request operation reason
@@ -225,7 +227,7 @@ begun world request arguments sessions.Runs =
     started_in world request arguments
     (find (sessions.is_session arguments.session) world.table.sessions)
 
--- RECLAIM_COMPLETE for one file system asks for a current filehandle, and is answered OK each time
+-- RECLAIM_COMPLETE for one file system needs a current filehandle, and returns OK each time
 -- (section 18.51)
 abbrev pub reclaimed : World → InProgress → Option Status → HasRun
 reclaimed world request None = gives world request Answer.ReclaimComplete
@@ -314,8 +316,8 @@ pub record Entry : Type 0 where
   pub outcome : Outcome
   pub after : Tree
 
--- What a turn did. `keeps` is the slot that keeps the reply from now on, `holds` says whether a seat
--- of its session is to hold it too, and `replays` is the slot whose kept reply is sent again.
+-- What a turn did. `keeps` is the slot that keeps the reply from now on, `holds` says whether a
+-- seat of its session is to hold it too, and `replays` is the slot whose kept reply is sent again.
 pub record Turned : Type 0 where
   pub turn : Turn
   pub world : World
@@ -520,7 +522,7 @@ arrives world number piece =
     connection_changed world number (arrives_at world.limits.records piece)
     (at number world.connections)
 
--- how many bytes of the piece are taken; none where the connection is closed, then or before
+-- how many bytes of the piece are taken; none if the connection is closed, then or before
 abbrev pub taken_of : (piece : List ℕ) → Front → Connection → Option ℕ
 taken_of piece front Closed = None
 taken_of piece Partial connection = Some (length piece)
@@ -570,7 +572,7 @@ unfoldable pub hangs_up : World → (number : ℕ) → World
 hangs_up world number =
     if is_busy (at number world.connections) then world else without_connection world number
 
--- the whole of it: at most so many turns, one for each operation and one for the reply, and then the
+-- the whole of it: at most one turn for each operation left and one for the reply, and then the
 -- connection goes
 abbrev pub operations_left : Option Connection → ℕ
 operations_left (Some (Busy request)) = suc (request.count - request.answered)

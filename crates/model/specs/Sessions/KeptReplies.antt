@@ -15,8 +15,8 @@ use Rattle.model.specs.Server.World.{ServerLimits, InProgress, Busy, World, moun
 abbrev pub reply_so_far : InProgress → List ℕ
 reply_so_far request = reply_text request.xid (Success (result_of request status.Ok))
 
--- of a record, the most that a kept result has: the header of its reply, 24 bytes, is left out, and
--- a refused result, of at most 12 bytes, may follow those that had room
+-- the most bytes of a record that a kept result has: the header of its reply, 24 bytes, is left
+-- out, and a refused result, of at most 12 bytes, may follow those that had room
 abbrev pub max_kept : ServerLimits → ℕ
 max_kept limits = limits.reply_bytes - 12
 
@@ -28,7 +28,8 @@ is_short_state most (Kept reply) = nat_le (length reply) most
 abbrev pub keeps_short : (most : ℕ) → Session → Bool
 keeps_short most session = list_all (λ slot. is_short_state most slot.state) session.slots
 
--- of a request that has begun: the reply that it has so far, or the whole result where that is there
+-- for a request that has begun: the reply that it has so far, or the whole result once that is
+-- there
 abbrev pub IsShortSoFar : ServerLimits → InProgress → (ended : Option Status) → Type 0
 IsShortSoFar limits request None = length (reply_so_far request) ≤ limits.reply_bytes
 IsShortSoFar limits request (Some last) = length (result_of request last) ≤ max_kept limits

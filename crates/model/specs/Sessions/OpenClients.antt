@@ -16,7 +16,7 @@ is_confirmed_client number client = is_client number client && client.is_confirm
 abbrev pub has_record : Table → (number : ℕ) → Bool
 has_record table number = list_any (is_confirmed_client number) table.clients
 
--- the session that a request runs in stands, and is its client's
+-- the session in which a request runs is in the table, and is its client's
 pub record RunsInSession (table : Table) (request : InProgress) : Type 0 where
   pub slot : List ℕ × ℕ
   pub session : Session

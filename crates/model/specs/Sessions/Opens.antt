@@ -9,7 +9,7 @@ pub record Open : Type 0 where
   pub access : ℕ
   pub seqid : ℕ
 
--- how many serials were given in this run, and the opens that stand
+-- how many serials were given in this run, and the opens that there are
 pub record Opens : Type 0 where
   pub given : ℕ
   pub known : Keyed Open

@@ -14,7 +14,7 @@ use Rattle.model_tree.specs.Trees.Tree.{Tree, is_directory_at}
 use Rattle.model.specs.Server.World.{ServerLimits}
 
 pub record AreOpens (limits : Limits) (tree : Tree) (opens : Opens) : Type 0 where
-  -- serials are above 0, and none stands twice
+  -- serials are above 0, and none occurs twice
   pub rising : IsAbove 0 opens.known
   -- each was given in this run
   pub given : (serial : ℕ) (known : Open) → at serial opens.known ≡ Some known

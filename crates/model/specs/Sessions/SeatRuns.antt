@@ -1,5 +1,5 @@
 -- Exactly once over restarts, on sessions that have a seat: RFC 8881, sections 2.10.6.1 and
--- 2.10.6.5. What a seat holds outlives a crash, and a session of an earlier run runs nothing.
+-- 2.10.6.5. What a seat holds survives a crash, and a session of an earlier run runs nothing.
 use Rattle.std.specs.Prelude.{◌≡◌, ◌≢◌, ◌↔◌, ◌≤◌, ◌<◌, ◌^◌, ◌⊎◌, ℕ, Bool, true, false, List, [], ◌∷◌, ◌++◌, slice_get, option_to_list, find, Option, None, Some, if◌then◌else◌}
 use Rattle.std.specs.List.{IsAmong}
 use Rattle.model_tree.specs.declared.status.Status.{Status}
@@ -58,7 +58,7 @@ executed_in stop = done_with stop.history (executed stop.serving stop.event)
 
 -- What is held
 
--- of the i-th reply: it is held, or one to a later request of its slot
+-- the i-th reply is held, or one to a later request of its slot
 pub record HoldsFrom (seats : Seats) (stored : List Stored) (i : ℕ) (one : Stored) : Type 0 where
   pub later : ℕ
   pub behind : i ≤ later
@@ -73,8 +73,8 @@ pub record IsFreed (seats : Seats) (freed : List (List ℕ)) (id : List ℕ) : T
   pub gone : has_seat id seats ≡ false
   pub listed : IsAmong freed id
 
--- Each reply that a seat held, and so each one that was made for a slot of a session with a seat, is
--- held by what a crash leaves, until the next of its slot is, or the seat is freed.
+-- Each reply that a seat held, and so each one that was made for a slot of a session with a seat,
+-- is held by what a crash leaves, until the next of its slot is, or the seat is freed.
 abbrev pub EveryReplyIsHeld : Type 0
 EveryReplyIsHeld =
     (limits : ServerLimits) (stop : Stop limits) (i : ℕ) (one : Stored)
@@ -122,8 +122,8 @@ EveryDeadSession =
     (limits : ServerLimits) (stop : Stop limits) → stop.serving.is_down ≡ false
     → AnswersBySeats stop.serving stop.run
 
--- A session has a seat exactly where its CREATE_SESSION was answered with flag 1. One that is
--- answered again makes no session.
+-- A session has a seat exactly if its CREATE_SESSION returned flag 1. One that is answered again
+-- makes no session.
 
 pub record MakesSession (old new : Table) (executed : Option Entry) (answer : CreateSessionAnswer)
     : Type 0 where
@@ -184,7 +184,7 @@ abbrev pub TakesItsSlot : Entry → SequenceArguments → Type 0
 TakesItsSlot entry arguments =
     (entry.operation ≡ Argument.Sequence arguments) × (is_done entry.outcome ≡ true)
 
--- the slot keeps the reply, where there is one
+-- the slot keeps the reply, if there is one
 abbrev pub KeepsOrNone : Turned → (connection : ℕ) → (slot : Option (List ℕ × ℕ)) → Type 0
 KeepsOrNone turned connection slot =
     (reply_at turned.world connection ≡ None) ⊎ (turned.keeps ≡ slot)
@@ -205,8 +205,8 @@ IsToBeHeld holdings.Changes done names = NamesChange done names
 IsToBeHeld holdings.All done names = Unit {0}
 
 -- A turn that gives a request of a slot its reply lets the slot keep it, and if the session has a
--- seat which is to hold it, that does: of a request that had begun, and of a SEQUENCE that stands
--- alone.
+-- seat which is to hold it, the seat does: for a request that had begun, and for a SEQUENCE that is
+-- the only operation.
 pub record GivesHeld (holding : Holding) (done : List Entry) (names : List ℕ) (turned : Turned)
     (connection : ℕ) (before : Option InProgress) : Type 0 where
   pub held : (id : List ℕ) (slot : ℕ) → turned.keeps ≡ Some (id, slot)
@@ -260,7 +260,7 @@ EveryNumberOnce =
     → CountsFrom 0 (numbers_over id slot (first ∷ lives))
     × OthersBetween (numbers_over id slot (first ∷ lives))
 
--- the last of them, or the first where there is no other
+-- the last of them, or the first if there is no other
 abbrev pub last_of : {limits : ServerLimits} → Stop limits → List (Stop limits) → Stop limits
 last_of first [] = first
 last_of first (next ∷ lives) = last_of next lives

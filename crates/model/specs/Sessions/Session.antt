@@ -15,7 +15,7 @@ use Rattle.model_tree.specs.Seats.Seats.{HeldReply, Seat, Seats, no_seats, is_se
 
 -- The state
 
--- how many there may be, and the sizes that CREATE_SESSION answers
+-- how many there may be, and the sizes that CREATE_SESSION returns
 pub record SessionLimits : Type 0 where
   pub clients : ℕ
   pub sessions : ℕ
@@ -58,8 +58,8 @@ pub record Session : Type 0 where
   pub max_operations : ℕ
   pub slots : List Slot
 
--- Which replies seats hold: those of Changes are the replies to requests that made a change which has
--- to last. A server that holds none has no persistent sessions.
+-- Which replies seats hold: those of Changes are the replies to requests that made a change which
+-- has to last. A server that holds none has no persistent sessions.
 
 abbrev pub may_persist : Holding → Bool
 may_persist holdings.Nothing = false
@@ -70,18 +70,18 @@ holds_reply holdings.Nothing altered = false
 holds_reply holdings.Changes altered = altered
 holds_reply holdings.All altered = true
 
--- What whoever starts a server chooses for a run
+-- What is chosen for a run when a server is started
 pub record Settings : Type 0 where
   -- the major id and the scope that EXCHANGE_ID returns (sections 2.10.4 and 2.10.5): servers of
   -- different names are different servers
   pub name : List ℕ
   -- which replies are held, and so whether a new session may be persistent
   pub holding : Holding
-  -- whether a full table gives up what no client holds: its oldest unconfirmed client record, or the
-  -- dead seat of the oldest run
+  -- whether a full table gives up what no client holds: its oldest unconfirmed client record, or
+  -- the dead seat of the oldest run
   pub yields_when_full : Bool
 
--- All of it, in one run of the server. Records and sessions stand in the order in which they were
+-- All of it, in one run of the server. Records and sessions are in the order in which they were
 -- made; the serials are those given last. The seats are the volume's: a session that has one is
 -- persistent, and a seat whose session is none of this run's is dead.
 pub record Table : Type 0 where
@@ -113,7 +113,7 @@ plain_settings = record {
   yields_when_full = false;
 }
 
--- .. where the volume keeps no session
+-- .. on a volume that keeps no session
 abbrev pub empty_table : ℕ → Table
 empty_table run = loaded_table run plain_settings no_seats
 
@@ -122,7 +122,7 @@ empty_table run = loaded_table run plain_settings no_seats
 abbrev pub without_where : {A : Type 0} → (A → Bool) → List A → List A
 without_where test = filter (λ x. not (test x))
 
--- the list with `change` made where the test holds
+-- the list with `change` applied to each element that passes the test
 abbrev pub changed_where : {A : Type 0} → (A → Bool) → (A → A) → List A → List A
 changed_where test change = map (λ x. if test x then change x else x)
 
@@ -266,8 +266,8 @@ yielding limits table =
     then without_this (find is_unconfirmed table.clients) table
     else table
 
--- A new unconfirmed record beside those of `cleared`, where an older unconfirmed one of the owner
--- gives way to it, and then the oldest of all if there is no place. DELAY leaves `table`.
+-- A new unconfirmed record added to those of `cleared`: an older unconfirmed one of the owner gives
+-- way to it, and then the oldest of all if there is no place. DELAY leaves `table`.
 abbrev pub new_record : SessionLimits → ℕ → ExchangeIdArguments → Table → Table
     → Result ExchangeIdAnswer Status × Table
 new_record limits uid arguments table cleared =
@@ -309,12 +309,12 @@ exchange_id limits has_opens uid arguments table =
 abbrev pub session_flags : ℕ
 session_flags = 7
 
--- the confirmed record of the same owner that this one takes the place of
+-- the confirmed record of the same owner that this one replaces
 abbrev pub is_replaced_by : Client → Client → Bool
 is_replaced_by client other =
     is_confirmed_of client.owner other && not (other.number == client.number)
 
--- the numbers of the clients that end where this one's session is made
+-- the numbers of the clients that end when this one's session is made
 abbrev pub replaced_by : Client → Table → List ℕ
 replaced_by client table =
     map (λ other. other.number) (filter (is_replaced_by client) table.clients)
@@ -403,7 +403,7 @@ abbrev pub limits_for : SessionLimits → (persists : Bool) → SessionLimits
 limits_for limits false = limits
 limits_for limits true = record limits { slots = min limits.seat_slots limits.slots }
 
--- the channels that are answered, without RDMA
+-- the channels that are returned, without RDMA
 abbrev pub fore_channel : SessionLimits → Channel → Channel
 fore_channel limits asked = record {
   header_pad_size = 0;
@@ -473,7 +473,7 @@ with_new_session limits arguments client table = record table {
   seats = seats_after limits arguments client table;
 }
 
--- what CREATE_SESSION answers, whose opens end, and the table after it
+-- what CREATE_SESSION returns, whose opens end, and the table after it
 pub record CreateSessionOutcome : Type 0 where
   pub answer : Result CreateSessionAnswer Status
   pub ended_clients : List ℕ
@@ -492,8 +492,8 @@ create_unless limits arguments client table None = record {
   table = with_new_session limits arguments client table;
 }
 
--- the number after the one asked is the record's next, and that one's result is kept: it is
--- answered again
+-- the number after the one asked for is the record's next, and that one's result is kept: it is
+-- returned again
 abbrev pub create_again : SessionLimits → CreateSessionArguments → Client → Table
     → Option CreateSessionAnswer → CreateSessionOutcome
 create_again limits arguments client table None =
@@ -589,8 +589,8 @@ begin_slot uid count arguments session slot (Kept reply) =
     then (if uid == slot.uid then Replays reply else Refuses status.SeqFalseRetry)
     else begin_new count arguments session slot
 
--- Of a session of an earlier run nothing but what is held can be had: the held number by the held
--- uid gives the held result, and all else is refused.
+-- A session of an earlier run gives only what is held: the held number by the held uid gets the
+-- held result, and all else is refused.
 
 abbrev pub begin_held : ℕ → SequenceArguments → Option HeldReply → Begun
 begin_held uid arguments None = Refuses status.DeadSession
@@ -651,7 +651,7 @@ finish id place holds reply table = record table {
       else table.seats;
 }
 
--- A SEQUENCE that runs answers its slot number, and twice the highest slot of the session.
+-- A SEQUENCE that runs returns its slot number, and twice the highest slot of the session.
 abbrev pub sequence_answer : SequenceArguments → Session → SequenceAnswer
 sequence_answer arguments session = record {
   session = arguments.session;

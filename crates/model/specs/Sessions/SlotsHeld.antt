@@ -1,4 +1,4 @@
--- A slot runs exactly where one connection is busy on it: RFC 8881, section 2.10.6.1.
+-- A slot runs exactly if one connection is busy on it: RFC 8881, section 2.10.6.1.
 use Rattle.std.specs.Prelude.{ℕ, ◌≡◌, Bool, true, false, ◌&&◌, List, Option, Some, None}
 use Rattle.std.specs.List.{list_any}
 use Rattle.model_tree.specs.Seats.Seats.{Seats}
@@ -24,7 +24,7 @@ abbrev pub is_busy_on : (id : List ℕ) → (place : ℕ) → Option Connection 
 is_busy_on id place (Some (Busy request)) = is_on request.slot id place
 is_busy_on id place _ = false
 
--- what runs is held by a connection, by one alone, and what a connection holds runs
+-- what runs is held by exactly one connection, and what a connection holds runs
 pub record RunsWhereBusy (world : World) : Type 0 where
   pub held : (id : List ℕ) (place : ℕ) → is_slot_running id place world.table ≡ true
       → (number : ℕ) × (is_busy_on id place (at number world.connections) ≡ true)

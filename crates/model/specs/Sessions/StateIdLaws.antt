@@ -1,5 +1,5 @@
--- What an answered open stateid means from then on: RFC 8881, sections 8.2.2 to 8.2.4, 18.2 (CLOSE)
--- and 18.16 (OPEN).
+-- What an open's stateid means once it was returned: RFC 8881, sections 8.2.2 to 8.2.4, 18.2
+-- (CLOSE) and 18.16 (OPEN).
 use Rattle.std.specs.Prelude.{ℕ, ◌-◌, ◌^◌, ◌≡◌, ◌≢◌, ◌≤◌, ◌<◌, ◌⊎◌, Bool, true, false, Option, Some, None}
 use Rattle.model_tree.specs.declared.status.Status.TheVariants as status
 use Rattle.model.specs.Operations.Answer.{Answer, Outcome, OpenAnswer}
@@ -12,7 +12,7 @@ use Rattle.model.specs.Operations.Operation.{Argument, OpenArguments}
 use Rattle.model.specs.Sessions.StateIds.{Refused, Names, found, upgraded, open_stateid}
 use Rattle.model.specs.Operations.Step.{State, does}
 
--- Where it is used
+-- The context of its use
 
 -- an open of the session's client on the current file
 pub record IsOwn (context : Context) (known : Open) : Type 0 where
@@ -25,7 +25,7 @@ pub record IsGiven (run serial : ℕ) : Type 0 where
   pub some : 0 < serial
   pub small : serial < 2 ^ 64
 
--- the open of this serial stands
+-- there is an open of this serial
 pub record OpenStands (opens : Opens) (context : Context) (serial : ℕ) (known : Open) : Type 0 where
   pub given : IsGiven context.run serial
   pub there : at serial opens.known ≡ Some known
@@ -69,7 +69,7 @@ OtherRunIsBad =
     → run ≢ context.run → found opens context (open_stateid run serial seqid)
     ≡ Refused status.BadStateId
 
--- and where no open of its serial stands
+-- and if there is no open of its serial
 abbrev pub EndedIsBad : Type 0
 EndedIsBad = (opens : Opens) (context : Context) (serial seqid : ℕ) → IsGiven context.run serial
     → at serial opens.known ≡ None
@@ -77,8 +77,7 @@ EndedIsBad = (opens : Opens) (context : Context) (serial seqid : ℕ) → IsGive
 
 -- What operations make of opens
 
--- OPEN answers the newest stateid of an open that stands then, of its client on the file that is
--- the current one
+-- OPEN returns the newest stateid of an open that there is then, of its client on the current file
 pub record IsAnswered (answer : OpenAnswer) (after : State) : Type 0 where
   pub serial : ℕ
   pub known : Open

@@ -1,4 +1,4 @@
--- What a stateid that OPEN answered means at each later moment of its run, and in every other run:
+-- What a stateid that OPEN returned means at each later moment of its run, and in every other run:
 -- RFC 8881, sections 8.2.2 to 8.2.4, 18.2 (CLOSE) and 18.16 (OPEN).
 use Rattle.std.specs.Prelude.{ℕ, ◌+◌, ◌^◌, ◌≡◌, ◌≢◌, ◌<◌, ◌⊎◌, false, true, List, [], ◌∷◌, ◌++◌, length, Option, Some, None, option_to_list, if◌then◌else◌, bytes_eq}
 use Rattle.model_tree.specs.Seats.Seats.{Seats}
@@ -18,7 +18,7 @@ use Rattle.model.specs.Server.World.{ServerLimits, Entry}
 
 -- The open of a stateid
 
--- in this run an OPEN was executed and answered, and left the server so
+-- in this run an OPEN was executed and answered, and left the server in this state
 pub record WasAnswered (run : ℕ) (entry : Entry) (arguments : OpenArguments)
     (answer : OpenAnswer) (new : Serving) : Type 0 where
   pub limits : ServerLimits
@@ -33,7 +33,7 @@ pub record WasAnswered (run : ℕ) (entry : Entry) (arguments : OpenArguments)
   pub operation : entry.operation ≡ Argument.Open arguments
   pub outcome : entry.outcome ≡ Outcome.Done (Answer.Open answer)
 
--- its open as it stood then, of the client, the owner and the file that the OPEN asked for
+-- its open as it was then, of the client, the owner and the file that the OPEN asked for
 pub record IsOpenOf (run : ℕ) (asked : Open) (state : StateId)
     (serial : ℕ) (known : Open) : Type 0 where
   pub given : IsGiven run serial
@@ -65,18 +65,18 @@ OpenStandsIn serving serial known = at serial serving.world.opens.known ≡ Some
 abbrev pub HasEnded : Serving → (serial : ℕ) → Type 0
 HasEnded serving serial = at serial serving.world.opens.known ≡ None
 
--- What an operation finds that is executed at that moment, where these joined the open since
+-- What an operation that is executed at that moment finds, if these joined the open since
 pub record Verdicts (later : Serving) (state : StateId) (serial : ℕ) (known : Open)
     (accesses : List ℕ) (used : State) : Type 0 where
-  -- where none joined it, its open
+  -- if none joined it, its open
   pub newest : IsOwn used.context known → accesses ≡ [] → OpenStandsIn later serial known
       → found used.opens used.context state ≡ Names serial known
-  -- where some did, it is old, as long as seqids did not begin again at 1
+  -- if some did, it is old, unless seqids began again at 1
   pub old : IsOwn used.context known → 0 < length accesses
       → known.seqid + length accesses < 2 ^ 32
       → OpenStandsIn later serial (joined_by accesses known)
       → found used.opens used.context state ≡ Refused status.OldStateId
-  -- in any case its seqid decides, beside that of the open
+  -- in any case its seqid decides, compared with that of the open
   pub own : IsOwn used.context known → OpenStandsIn later serial (joined_by accesses known)
       → found used.opens used.context state ≡ by_seqid state (joined_by accesses known)
   -- for another client or on another file, and once the open has ended, it is bad
@@ -85,8 +85,8 @@ pub record Verdicts (later : Serving) (state : StateId) (serial : ℕ) (known : 
   pub ended : HasEnded later serial
       → found used.opens used.context state ≡ Refused status.BadStateId
 
--- The open stands as those that joined it since have made it, or it has ended, and then it never
--- comes back.
+-- The open is as those that joined it since have made it, or it has ended, and then it never comes
+-- back.
 pub record GoesOnAs (run : ℕ) (asked : Open) (state : StateId) (new later : Serving)
     (since : List Entry) : Type 0 where
   pub serial : ℕ

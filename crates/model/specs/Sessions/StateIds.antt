@@ -32,7 +32,7 @@ is_anonymous state = state.seqid == 0 && bytes_eq state.other zeros
 abbrev pub is_current : StateId → Bool
 is_current state = state.seqid == 1 && bytes_eq state.other zeros
 
--- what CLOSE answers: no operation takes it
+-- what CLOSE returns: no operation accepts it
 abbrev pub closed_state : StateId
 closed_state = record { seqid = 2 ^ 32 - 1; other = zeros }
 
@@ -104,7 +104,7 @@ access_refusals access (Names serial known) =
 abbrev pub state_refusals : Opens → Context → (access : ℕ) → StateId → Refusals
 state_refusals opens context access state = access_refusals access (found opens context state)
 
--- CLOSE takes no anonymous one
+-- CLOSE accepts no anonymous one
 abbrev pub close_refusals : Found → Refusals
 close_refusals Anonymous = (true, status.BadStateId) ∷ []
 close_refusals (Refused reason) = (true, reason) ∷ []
@@ -125,7 +125,7 @@ open_like opens asked = find (is_like asked) opens.known
 abbrev pub next_seqid : ℕ → ℕ
 next_seqid seqid = if seqid == 2 ^ 32 - 1 then 1 else seqid + 1
 
--- opening again joins the access
+-- opening it again adds the access
 abbrev pub upgraded : (access : ℕ) → Open → Open
 upgraded access known =
     record known { access = bit_or known.access access; seqid = next_seqid known.seqid }
@@ -139,19 +139,19 @@ new_open client owner number access = record {
   seqid = 1;
 }
 
--- A full table, or no serial left, is answered DELAY; but an open that joins another needs neither
+-- A full table, or no serial left, gives DELAY; but an open that joins another needs neither
 abbrev pub is_table_full : (most : ℕ) → Opens → Open → Bool
 is_table_full most opens asked =
     is_none (open_like opens asked)
     && (nat_le most (length opens.known) || nat_le (2 ^ 64 - 1) opens.given)
 
--- an open with its serial, and the opens among which it stands
+-- an open with its serial, and the opens that include it
 pub record Opened : Type 0 where
   pub serial : ℕ
   pub state : Open
   pub opens : Opens
 
--- where none is joined, the next serial is given
+-- if none is joined, the next serial is given
 abbrev pub opened_by : Opens → Open → Option (ℕ × Open) → Opened
 opened_by opens asked (Some entry) = record {
   serial = entry.0;
@@ -179,7 +179,7 @@ without_number number opens =
           opens.known;
     }
 
--- a client that ends takes its opens along
+-- the opens of a client end with it
 abbrev pub has_opens : Opens → (client : ℕ) → Bool
 has_opens opens client = list_any (λ (entry : ℕ × Open). entry.1.client == client) opens.known
 

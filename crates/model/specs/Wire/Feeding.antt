@@ -1,6 +1,6 @@
--- A stream as a connection is fed with it: pieces come, of which fronts are taken, and a whole
--- request is let go before the next record begins (RFC 5531, section 11). However that is done, it
--- comes to the records of the bytes that were taken.
+-- A stream as it is fed to a connection: pieces come, of which prefixes are taken, and a whole
+-- request is released before the next record begins (RFC 5531, section 11). However that is done,
+-- it gives the records of the bytes that were taken.
 use Rattle.std.specs.Prelude.{◌≡◌, ◌⊎◌, ◌<◌, ◌^◌, ℕ, false, List, [], ◌∷◌, ◌++◌, take, Option, None, Some}
 use Rattle.xdr.specs.Laws.{IsBytes}
 use Rattle.model.specs.Wire.Record.{RecordLimits, RecordFault, Stream, records}
@@ -11,7 +11,7 @@ pub data FeedStep : Type 0 where
   Feeds : (piece : List ℕ) → FeedStep
   Releases : FeedStep
 
--- the connection, the bytes that were taken, and the requests that were let go
+-- the connection, the bytes that were taken, and the requests that were released
 pub record Feeding : Type 0 where
   pub connection : Connection
   pub taken : List ℕ
@@ -20,12 +20,12 @@ pub record Feeding : Type 0 where
 abbrev pub nothing_fed : Feeding
 nothing_fed = record { connection = Quiet []; taken = []; released = [] }
 
--- the front of a piece that is taken; the whole of one that is refused
+-- the prefix of a piece that is taken; the whole of one that is refused
 abbrev pub front_taken : (piece : List ℕ) → Option ℕ → List ℕ
 front_taken piece (Some n) = take n piece
 front_taken piece None = piece
 
--- a whole request is let go
+-- a whole request is released
 abbrev pub let_go : Connection → Connection
 let_go (Waiting request) = Quiet []
 let_go connection = connection

@@ -1,6 +1,6 @@
 -- Record marking on a stream of bytes: RFC 5531, section 11. A fragment is a header of 4 bytes,
--- whose top bit says that it is the record's last and whose other 31 bits are its size, and so many
--- bytes.
+-- whose top bit says that it is the record's last and whose other 31 bits are its size, followed by
+-- that many bytes.
 use Rattle.std.specs.Prelude.{◌≡◌, ℕ, zero, suc, ◌+◌, ◌%◌, ◌^◌, ◌<◌, ◌≤◌, Bool, true, false, List, [], ◌∷◌, ◌++◌, length, take, drop, fold, Option, None, Some, nat_lt, nat_le, if◌then◌else◌}
 use Rattle.std.specs.List.{flat_map}
 use Rattle.std.specs.Int.{w32, to_be_bytes, from_be_bytes}
@@ -26,7 +26,7 @@ nothing_gathered = record { bytes = []; fragments = 0 }
 
 -- One fragment
 
--- at the front of some bytes: no whole fragment, a header that is refused, or a fragment and the
+-- at the start of some bytes: no whole fragment, a header that is refused, or a fragment and the
 -- bytes after it
 pub data Fragment : Type 0 where
   Waits : Fragment
@@ -50,7 +50,7 @@ fragment limits gathered bytes =
 
 -- One record
 
--- at the front of some bytes: no whole record, a header that is refused, or a record and the bytes
+-- at the start of some bytes: no whole record, a header that is refused, or a record and the bytes
 -- after it
 pub data Front : Type 0 where
   Partial : Front
@@ -82,7 +82,7 @@ front limits bytes = front_from limits (length bytes) nothing_gathered bytes
 
 -- A stream
 
--- its whole records, and the bytes after them, which begin no whole one; where a header is refused,
+-- its whole records, and the bytes after them, which begin no whole one; if a header is refused,
 -- none are kept
 pub record Stream : Type 0 where
   pub records : List (List ℕ)
@@ -109,7 +109,7 @@ framed bytes = to_be_bytes w32 (2 ^ 31 + length bytes) ++ bytes
 
 -- However it is cut
 
--- a further piece comes: what follows a refused header is not looked at
+-- a further piece comes: what follows a refused header is ignored
 abbrev pub fed_by : RecordLimits → List ℕ → Stream → Option RecordFault → Stream
 fed_by limits piece stream (Some fault) = stream
 fed_by limits piece stream None =
@@ -127,7 +127,7 @@ abbrev pub EveryCut : Type 0
 EveryCut = (limits : RecordLimits) (pieces : List (List ℕ))
     → fold (fed limits) no_stream pieces ≡ records limits (flat_map (λ piece. piece) pieces)
 
--- a record that is sent is read again, whatever follows
+-- a record that is sent is read back, whatever follows
 abbrev pub SentIsRead : Type 0
 SentIsRead = (limits : RecordLimits) (bytes rest : List ℕ)
     → length bytes ≤ limits.bytes → length bytes < 2 ^ 31 → 0 < limits.fragments

@@ -1,5 +1,5 @@
--- The result of a COMPOUND as a grammar: RFC 8881, section 16.2.2. What the server makes of the
--- results of a COMPOUND is spelled by it.
+-- The result of a COMPOUND as a grammar: RFC 8881, section 16.2.2. It encodes what the server makes
+-- of the results of a COMPOUND.
 use Rattle.std.specs.Prelude.{◌≡◌, ℕ, ◌-◌, ◌^◌, List, [], ◌∷◌, ◌++◌, flat_map, length, Some}
 use Rattle.xdr.specs.Grammar.{Grammar, ◌&◌, unsigned_int}
 use Rattle.xdr.specs.Forms.{opaque, array}
@@ -26,7 +26,7 @@ pub record AreResults (request : InProgress) (results : List Outcome) : Type 0 w
   pub answered : request.answered ≡ length results
   pub spelled : request.results ≡ flat_map outcome_text results
 
--- A request begins without results, and goes on after one more; at its end they are spelled as one
+-- A request begins without results, and goes on after one more; at its end they are encoded as one
 -- result.
 pub record SpellsResults : Type 0 where
   pub begins : (world : World) (xid : ℕ) (cred : Cred) (compound : Compound)

@@ -112,14 +112,14 @@ credential_by (Err fault) = None
 credential_by (Ok (known, [])) = Some known
 credential_by (Ok (known, byte ∷ bytes)) = None
 
--- the credential, where the body is exactly the form
+-- the credential, if the body is exactly its encoding
 abbrev pub credential_in : (body : List ℕ) → Option SystemCredential
 credential_in body = credential_by (system_credential.read body)
 
 abbrev pub cred_told : SystemCredential → Cred
 cred_told known = record { uid = known.uid; gid = known.gid; gids = known.gids }
 
--- the caller that it tells
+-- the caller that it names
 abbrev pub cred_of : (body : List ℕ) → Option Cred
 cred_of body = option_map cred_told (credential_in body)
 
@@ -156,7 +156,7 @@ abbrev pub is_empty : List ℕ → Bool
 is_empty [] = true
 is_empty (byte ∷ bytes) = false
 
--- minor version 1 alone is served, and that is tested before the count
+-- only minor version 1 is served, and that is tested before the count
 abbrev pub by_head : Cred → Result ((List ℕ × (ℕ × ℕ)) × List ℕ) Refusal → Request
 by_head cred (Err fault) = Answers GarbageArguments
 by_head cred (Ok head) =
@@ -177,7 +177,7 @@ compound_request call =
     then by_cred call (cred_of call.credential)
     else Answers (AuthRefused 1))
 
--- NFSPROC4_NULL looks at no credential
+-- NFSPROC4_NULL ignores the credential
 abbrev pub null_request : Call → Request
 null_request call = if is_empty call.body then Answers (Success []) else Answers GarbageArguments
 

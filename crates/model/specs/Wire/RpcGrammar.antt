@@ -1,6 +1,6 @@
 -- Calls and replies as grammars: RFC 5531, section 9. What follows the header of a call, and of a
--- reply that tells a result, are the bytes to the end of the record: a procedure's arguments, or
--- its result.
+-- reply with a result, are the bytes to the end of the record: a procedure's arguments, or its
+-- result.
 use Rattle.std.specs.Prelude.{◌≡◌, ◌≢◌, ◌↔◌, ℕ, List, [], ◌++◌, Option, None, Some, Result, Ok, Err, option_map, if◌then◌else◌}
 use Rattle.xdr.specs.declared.refusal.Refusal.{Refusal}
 use Rattle.xdr.specs.Grammar.{Grammar, ◌&◌, of, void, unsigned_int}
@@ -48,7 +48,7 @@ call_with head body = record {
   body = body;
 }
 
--- the record is the spelling of a call's header, and its arguments after it
+-- the record is the encoding of a call's header, followed by its arguments
 pub record IsCall (bytes : List ℕ) (call : Call) : Type 0 where
   pub head : CallHead
   pub fits : call_head.Fits head
@@ -174,20 +174,20 @@ read_reply bytes = reply_by (reply_head.read bytes)
 
 -- The laws
 
--- calls are read exactly where they are spelled
+-- a record is read as a call exactly if it is the call's encoding
 pub record ReadsCalls : Type 0 where
   pub call : (bytes : List ℕ) (call : Call) → IsBytes bytes → (read_call bytes ≡ Calls call)
       ↔ IsCall bytes call
   pub other : (bytes : List ℕ) (xid : ℕ) → IsBytes bytes → (read_call bytes ≡ OtherVersion xid)
       ↔ IsOtherCall bytes xid
 
--- and so are replies, of which each has one spelling
+-- and so for replies, each of which has one encoding
 abbrev pub ReadsReplies : Type 0
 ReadsReplies = (bytes : List ℕ) (xid : ℕ) (reply : Reply) → IsBytes bytes
     → (read_reply bytes ≡ Some (xid, reply))
     ↔ (reply_head.Fits (head_of xid reply) × (bytes ≡ reply_text xid reply))
 
--- a credential of AUTH_SYS is read exactly where the body is its spelling
+-- a credential of AUTH_SYS is read exactly if the body is its encoding
 abbrev pub ReadsCredentials : Type 0
 ReadsCredentials = (body : List ℕ) (known : SystemCredential) → IsBytes body
     → (credential_in body ≡ Some known)

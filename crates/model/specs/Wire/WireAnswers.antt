@@ -1,5 +1,5 @@
--- The results of the operations on the wire, as grammars: RFC 8881, section 18, and RFC 5662. An
--- answered bitmap has no zero word at its end.
+-- The results of the operations on the wire, as grammars: RFC 8881, section 18, and RFC 5662. A
+-- returned bitmap has no zero word at its end.
 use Rattle.std.specs.Prelude.{◌≢◌, ℕ, ◌==◌, Bool, List, [], ◌∷◌, ◌++◌, Option, Some, None, Result, Ok, Err, find, if◌then◌else◌}
 use Rattle.std.specs.Int.{w32}
 use Rattle.xdr.specs.declared.refusal.Refusal.{Refusal}
@@ -65,7 +65,7 @@ write_answer = of
     (λ a. (a.count, (a.committed, a.verifier)))
     (unsigned_int & unsigned_int & verifier)
 
--- SP4_NONE is 0; the minor id of the server's owner is 0, and no implementation is told
+-- SP4_NONE is 0; the minor id of the server's owner is 0, and no implementation is given
 abbrev pub exchange_id_answer : Grammar ExchangeIdAnswer
 exchange_id_answer = of
     (λ (p : ℕ × (ℕ × (ℕ × (Unit {0} × (Unit {0} × (List ℕ × (List ℕ × Unit {0}))))))). record {
@@ -163,7 +163,7 @@ answer_choice =
 
 -- Results: the operation's number, a status (section 15.1), and what follows it
 
--- every status but OK
+-- every status except OK
 abbrev pub refusals : List Status
 refusals =
     status.NoEnt ∷ status.Access ∷ status.Exist ∷ status.NotDir ∷ status.IsDir ∷ status.Inval
@@ -185,7 +185,7 @@ refusals =
 abbrev pub refusal_of : ℕ → Option Status
 refusal_of n = find (λ reason. code_of reason == n) refusals
 
--- after a refused SETATTR an empty bitmap stands (section 18.30)
+-- an empty bitmap follows a refused SETATTR (section 18.30)
 abbrev pub behind_refusal : (operation : ℕ) → List ℕ
 behind_refusal operation = if operation == OP_SETATTR then number w32 0 else []
 

@@ -18,7 +18,7 @@ commit_arguments =
     of (λ (p : ℕ × ℕ). record { offset = p.0; count = p.1 }) (λ a. (a.offset, a.count))
     (unsigned_hyper & unsigned_int)
 
--- NF4DIR is 2; after another type nothing is looked at
+-- NF4DIR is 2; what follows another type is ignored
 abbrev pub create_told : CreateArguments → Told
 create_told (NewDirectory name given) = tells 2 (any_opaque & attributes) (name, given)
 create_told (OtherType n) = record { number = n; Fits = n ≢ 2; text = [] }
@@ -31,7 +31,7 @@ create_choice =
 abbrev pub create_arguments : Grammar CreateArguments
 create_arguments = union create_told create_choice
 
--- CLAIM_NULL is 0 and CLAIM_FH 4; after another claim nothing is looked at
+-- CLAIM_NULL is 0 and CLAIM_FH 4; what follows another claim is ignored
 abbrev pub claim_told : Claim → Told
 claim_told (ByName name) = tells 0 any_opaque name
 claim_told ByHandle = tells 4 void tt
@@ -43,8 +43,8 @@ claim_choice = on 0 any_opaque ByName (on 4 void (λ _. ByHandle) (any_other Oth
 abbrev pub claim : Grammar Claim
 claim = union claim_told claim_choice
 
--- createhow4: UNCHECKED4 is 0 and GUARDED4 1, both with attributes; EXCLUSIVE4 2 and EXCLUSIVE4_1 3
--- are looked at no further
+-- createhow4: UNCHECKED4 is 0 and GUARDED4 1, both with attributes; what follows EXCLUSIVE4 2 and
+-- EXCLUSIVE4_1 3 is ignored
 abbrev pub create_how_told : Opening → Told
 create_how_told (Opens (Unchecked given) by) = tells 0 (attributes & claim) (given, by)
 create_how_told (Opens (Guarded given) by) = tells 1 (attributes & claim) (given, by)

@@ -1,4 +1,4 @@
--- Truth values, beside what the library says of them.
+-- Booleans: what the library lacks.
 use Rattle.std.proofs.Common.{◌≡◌, Bool, true, false, not, ◌&&◌, ◌||◌, if◌then◌else◌, ◌≤◌, refl, ap, ◌∙◌, arith}
 use Rattle.std.proofs.lemmas.Bool.{both_ways, false≢true, not-false, or_parts}
 use Rattle.model_tree.specs.Trees.WellFormed.{one_if}

@@ -23,7 +23,7 @@ size-le p (x ∷ xs) = at_most (p x) (size-le p xs)
     at_most true le = omega arith
     at_most false le = omega arith
 
--- where what passes one test after a change passes another before it
+-- if what passes one test after a change passes another before it
 pub size_changed : {A : Type 0} (p t q : A → Bool) (f : A → A) (xs : List A) → AllByRecursion (λ x. q x ≡ true → p (f x) ≡ true → t x ≡ true) xs
     → size p (map f (filter q xs)) ≤ size t xs
 size_changed p t q f [] all = omega arith

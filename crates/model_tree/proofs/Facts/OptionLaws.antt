@@ -1,4 +1,4 @@
--- What is there or not, beside what the library says of it.
+-- Options: what the library lacks.
 use Rattle.std.proofs.Common.{◌≡◌, false, Option, Some, None, is_some, refl, sym}
 use Rattle.std.proofs.lemmas.Bool.{true≢false}
 use Rattle.std.proofs.lemmas.Option.{none-some}

@@ -118,7 +118,7 @@ module _ (of : NodeKind) (acl : List Ace) (mode : ℕ) where
 
 -- ---- entries
 
--- a word with a bit of another has one of each word around that
+-- a word that meets `part` meets each `whole` that includes it
 meets-wider : (word part whole : ℕ) → bit_and whole part ≡ part → meets word part ≡ true → meets word whole ≡ true
 meets-wider word part whole e h =
     ⊎_elim
@@ -129,7 +129,7 @@ meets-wider word part whole e h =
     absurd (false≢true (sym (ap (λ w. not (w == 0)) less) ∙ h)))
     (cases_Bool (meets word whole))
 
--- what has no bit but some has no other after it lost more
+-- a number with only bits of `bits` has only such bits after it lost some
 within-without : (number less bits : ℕ) → is_within number bits ≡ true → is_within (bits_without number less) bits ≡ true
 within-without number less bits e =
     eq-eqb _ _ (and_comm bits (bits_without number less) ∙ (and_assoc bits number (2 ^ 32 - 1 - less)
@@ -137,7 +137,7 @@ within-without number less bits e =
     ∙ (sym (and_assoc (2 ^ 32 - 1 - less) number bits)
     ∙ ap (λ n. bit_and n (2 ^ 32 - 1 - less)) (and_comm number bits ∙ eqb-true _ number e)))))
 
--- nor after it gained some of them
+-- and after it gained some of them
 within-or : (number more bits : ℕ) → is_within number bits ≡ true → is_within more bits ≡ true → is_within (bit_or number more) bits ≡ true
 within-or number more bits e d = eq-eqb _ _ (same_from_bits _ _ each)
   where
@@ -155,7 +155,7 @@ within-or number more bits e d = eq-eqb _ _ (same_from_bits _ _ each)
           bit_at_or number more i,
         )
 
--- what has no bit but some has none beside them
+-- such a number has no bit outside of `bits`
 pub within-none : (number bits : ℕ) → is_within number bits ≡ true → bit_and bits (2 ^ 32 - 1 - bits) ≡ 0 → bits_without number bits ≡ 0
 within-none number bits e apart =
     ap (λ n. bit_and n (2 ^ 32 - 1 - bits)) (sym (eqb-true _ number e))
@@ -189,7 +189,7 @@ limited_fits of mode ace e =
     let tests = tests_of of ace e in
     fits_by of (limited of mode ace) tests.flags (limited_mask ace.kind ace.mask.0 (rights_lacking of (group_bits mode)) tests.mask) tests.who
 
--- an entry that no longer counts is one for a directory where it was one and was handed down
+-- an entry that no longer counts suits a directory if it did before and was handed down
 handed_meets : (flags : ℕ) (special : Bool) → (not (not (meets flags inherit_only)) || (special && meets flags 3)) ≡ true → (not (meets flags 12) || meets flags 3) ≡ true → meets flags 3 ≡ true
 handed_meets flags special h e =
     ⊎_elim
@@ -370,7 +370,7 @@ all_step : {X : Type 0} (e : X → Bool) (x : X) (xs : List X) (b : Bool) → e 
 all_step e x xs true h le = (refl, omega arith)
 all_step e x xs false h le = absurd (omega arith)
 
--- where no element fails, each passes
+-- if no element fails, each passes
 all_from_position : {X : Type 0} (e : X → Bool) (xs : List X) → length xs ≤ position_or_len (λ y. not (e y)) xs → AllByRecursion (λ y. e y ≡ true) xs
 all_from_position e [] le = tt
 all_from_position e (x ∷ xs) le =

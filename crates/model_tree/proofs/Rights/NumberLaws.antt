@@ -18,11 +18,11 @@ lacking_fits : (of : NodeKind) (bits : ℕ) → rights_lacking of bits ≤ 2 ^ 3
 lacking_fits node.File bits = let h = and_le_l (rights_of node.File 7) (2 ^ 32 - 1 - rights_of node.File bits) in omega arith
 lacking_fits node.Directory bits = let h = and_le_l (rights_of node.Directory 7) (2 ^ 32 - 1 - rights_of node.Directory bits) in omega arith
 
--- what a word lost it does not have
+-- a word does not have the bits that it lost
 pub meets-without : (a b : ℕ) → b ≤ 2 ^ 32 - 1 → meets (bits_without a b) b ≡ false
 meets-without a b h = rw (and-not_self a (2 ^ 32 - 1) b b refl h refl)
 
--- within the rights lacking, where the entry allows something to a number
+-- none of the rights that the group's bits lack, if the entry allows something to a number
 abbrev Within : NodeKind → ℕ → Ace → Type 0
 Within of mode ace = allows_a_number ace ≡ true → meets ace.mask.0 (rights_lacking of (group_bits mode)) ≡ false
 

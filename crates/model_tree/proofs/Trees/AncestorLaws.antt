@@ -1,4 +1,4 @@
--- A node is below another exactly where it is reached from it.
+-- A node is below another exactly if it is reached from it.
 use Rattle.std.proofs.Common.{ℕ, zero, suc, true, false, List, [], ◌∷◌, ◌≡◌, ◌≢◌, ◌+◌, ◌<◌, ◌≤◌, ◌&&◌, not, inl, inr, refl, sym, ap, ◌∙◌, subst, arith, eqb, eq-eqb, ne_eqb, lt-ltb, is_some, length}
 use Rattle.std.specs.Prelude.{Option, Some, None, if◌then◌else◌}
 use Rattle.std.specs.List.{list_any}
@@ -12,7 +12,7 @@ use Rattle.model_tree.specs.Trees.WellFormed.{one_if, links_from, links_to, link
 use Rattle.model_tree.proofs.Trees.KeyedLaws.{at-first, at-rest, at-without_other, total-without, IsAbove-without, some≢none}
 use Rattle.model_tree.proofs.Facts.BooleanLaws.{and_false, if_true, one_at_most}
 
--- what stands in a map is worth at most the sum
+-- a value in a map is worth at most the sum
 pub total-some : {A : Type 0} (worth : A → ℕ) (entries : Keyed A) (key : ℕ) (value : A) → at key entries ≡ Some value → worth value ≤ total worth entries
 total-some worth [] key value is = absurd (some≢none value (sym is))
 total-some worth (entry ∷ rest) key value is = elim (cases_eq key entry.0) [
@@ -58,7 +58,7 @@ length_total : {A : Type 0} (entries : Keyed A) → length entries ≡ total (λ
 length_total [] = refl
 length_total (entry ∷ rest) = let others = length_total rest in omega arith
 
--- so many depths are so many nodes
+-- if there is a node at each depth below `depth`, there are at least `depth` nodes
 crowd : (tree : Tree) (nodes : Keyed Node) (least : ℕ) → IsAbove least nodes → (depth : ℕ)
     → ((of : ℕ) → of < depth → (number : ℕ) × IsDeep tree of number × (is_key number nodes ≡ true)) → depth ≤ length nodes
 crowd tree nodes least above zero each = omega arith

@@ -26,7 +26,7 @@ found_cases true entry others found is = inl (refl, value entry found is)
     value x y same = cc
 found_cases false entry others found is = inr (refl, is)
 
--- a name that is found stands at its stamp
+-- a name that is found is at its stamp
 pub entry_found : (name : List ℕ) (names : Keyed DirEntry) (least : ℕ) → IsAbove least names → (found : ℕ × DirEntry) → entry_of name names ≡ Some found
     → (at found.0 names ≡ Some found.1) × (bytes_eq name found.1.name ≡ true)
 entry_found name [] least above found is = absurd (some≢none found (sym is))
@@ -86,7 +86,7 @@ module _ (limits : Limits) (tree : Tree) (old_forest : IsForest limits tree None
           let owed : links_to tree entry.number + 0 ≡ links_owed tree entry.number = old_forest.linked entry.number in
           key_node (at entry.number tree) (is_owed (is_key entry.number tree) (not (eqb entry.number root)) (omega arith))
 
-  -- A name goes, with what it leads to, where the directory has it
+  -- A name is removed, with what it leads to, if the directory has it
 
   pub record Removed (after : Tree) (place : ℕ) (name : List ℕ) (target : ℕ) : Type 0 where
     pub forest : IsForest limits after None
@@ -154,14 +154,14 @@ module _ (limits : Limits) (tree : Tree) (old_forest : IsForest limits tree None
       true≢false : true ≡ false → ⊥
       true≢false same = cc
 
--- The three changes. Each asks what the operation's tests say, and gives a well-formed tree with its stamps from before each later
--- one, in which what the change altered has its stamp.
+-- The three changes. Each requires what the operation's tests establish, and gives a well-formed
+-- tree whose stamps are below each later one, in which what the change altered has its stamp.
 
 abbrev pub is_file_node : Option Node → Bool
 is_file_node None = false
 is_file_node (Some node) = not (is_directory node.content)
 
--- a change that takes away the node of this number alone, if there is one
+-- a change that removes only the node of this number, if there is one
 pub record IsChanged (limits : Limits) (stamp : ℕ) (tree after : Tree) (gone : ℕ) : Type 0 where
   pub well_formed : fits limits after ≡ true → IsWellFormed limits after
   pub before : (bound : ℕ) → stamp < bound → IsBefore bound after
@@ -196,7 +196,8 @@ module _ (limits : Limits) (tree : Tree) (well : IsWellFormed limits tree) (stam
       let low : there.0.change < stamp = before.change place there.0 there.1 in
       absurd (omega arith)
 
-  -- A directory with names is not what an entry without names leads to, nor is it what no entry leads to
+  -- A directory with names is not what an entry without names leads to, nor is it what no entry
+  -- leads to
   apart_from_target : (number place : ℕ) (found : Option (ℕ × DirEntry)) → is_directory_at tree number ≡ true
       → ((of : ℕ × DirEntry) → found ≡ Some of → (names_at tree of.1.number ≡ []) × ((stamp : ℕ) × (entry : DirEntry) × (at stamp (names_at tree number) ≡ Some entry)))
       → number ≢ number_of_entry found

@@ -1,4 +1,4 @@
--- Each edit keeps a tree well formed, but for one node that may have no name meanwhile.
+-- Each edit keeps a tree well formed, except that one node may have no name meanwhile.
 use Rattle.std.proofs.Common.{ℕ, Bool, true, false, List, [], ◌≡◌, ◌≢◌, ◌+◌, ◌<◌, ◌≤◌, ◌&&◌, ◌⊎◌, not, inl, inr, refl, sym, ap, ◌∙◌, subst, arith, eqb, eq-eqb, ne_eqb, lt_irrefl, is_some, bytes_eq}
 use Rattle.std.specs.Prelude.{Option, Some, None}
 use Rattle.std.specs.Cmp.Lexicographic.{bytes_decides}
@@ -18,7 +18,8 @@ use Rattle.model_tree.proofs.Trees.KeyedLaws.{at-with_same, at-with_other, at-wi
 use Rattle.model_tree.proofs.Facts.BooleanLaws.{and_false, one_at_most}
 use Rattle.model_tree.proofs.Facts.OptionLaws.{none_unless}
 
--- Well formed, but for a node, the head, that no name leads to. Whether it fits is asked at the end alone.
+-- Well formed, except for one node, the head, to which no name leads. Only at the end must the tree
+-- fit.
 
 abbrev pub is_head : Option ℕ → (number : ℕ) → ℕ
 is_head None number = 0
@@ -48,7 +49,7 @@ pub directory_at : (o : Option Node) → is_directory_node o ≡ true → (node 
 directory_at None is = absurd (cc)
 directory_at (Some node) is = (node, refl, is)
 
--- A whole tree is a forest without a head, and back
+-- A well-formed tree is a forest without a head, and conversely
 
 pub forest_of : (limits : Limits) (tree : Tree) → IsWellFormed limits tree → IsForest limits tree None
 forest_of limits tree well = record {
@@ -75,7 +76,7 @@ well_formed_of limits tree forest fitting = record {
   fitting = fitting;
 }
 
--- Where a tree has no name that another lacks, what is reached there is reached in the other
+-- If a tree has no name that another lacks, what is reached in it is reached in the other
 pub from_more : (few more : Tree) → ((number stamp : ℕ) (entry : DirEntry) → at stamp (names_at few number) ≡ Some entry → at stamp (names_at more number) ≡ Some entry)
     → (start number : ℕ) → IsFrom few start number → IsFrom more start number
 from_more few more names start _ Start = Start
@@ -162,7 +163,7 @@ module _ (limits : Limits) (tree : Tree) (forest : IsForest limits tree None) (p
       let owed = same_owed tree forest.numbered place old there dropped number in
       omega arith
 
-  -- what names stay
+  -- which names remain
   pub drop_stays : (number of : ℕ) → (number ≡ place → of ≢ stamp) → at of (names_at then number) ≡ at of (names_at tree number)
   drop_stays number of apart = elim (cases_eq number place) [
     | inl one ↦
@@ -280,7 +281,7 @@ head_is_no_root limits tree head forest same =
     let none = root_not_owed tree in
     absurd (omega arith)
 
--- from where nothing is named nothing else is reached
+-- from a node without names nothing else is reached
 pub from_leaf : (tree : Tree) (start : ℕ) → names_at tree start ≡ [] → (number : ℕ) → IsFrom tree start number → number ≡ start
 from_leaf tree start empty _ Start = refl
 from_leaf tree start empty _ (Named directory stamp entry from has) =
@@ -583,7 +584,7 @@ module _ (limits : Limits) (tree : Tree) (forest : IsForest limits tree None) (n
     nodes = node_which (λ of other. IsNode limits other) is_node forest.nodes;
   }
 
--- A node shows other things
+-- A node gets other metadata
 
 module _ (limits : Limits) (tree : Tree) (head : Option ℕ) (forest : IsForest limits tree head) (place : ℕ) (old : Node)
     (there : at place tree ≡ Some old) (shown : Shown)

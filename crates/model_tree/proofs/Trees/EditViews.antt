@@ -1,4 +1,4 @@
--- What each edit keeps, as a whole: asked of the edit itself, and of what the tree shows.
+-- What each edit keeps, as a whole: in terms of the edit itself, and of what the tree holds.
 use Rattle.std.proofs.Common.{ℕ, true, List, [], ◌≡◌, ◌≢◌, ◌+◌, ◌<◌, ◌≤◌, ◌⊎◌, inl, inr, refl, sym, ap, ◌∙◌, subst, arith, bytes_eq}
 use Rattle.std.specs.Prelude.{Option, Some, None}
 use Rattle.std.proofs.lemmas.Bool.{cases_eq}
@@ -15,7 +15,7 @@ use Rattle.model_tree.specs.Trees.WellFormed.{one_if, times_named, IsFrom, IsNod
 use Rattle.model_tree.proofs.Trees.KeyedLaws.{at-with_same, at-with_other, at-without_same, at-without_other, some≢none}
 use Rattle.model_tree.proofs.Trees.EditLaws.{IsForest, directory_at, which, same_directories, names_before, names_here, names_elsewhere, at_place, at_other, sum_of_names, drop_stays, drop_fewer, drop_forest, free_forest, free_names, free_which, put_forest, node_forest, node_names, node_which, show_forest, show_names}
 
--- An entry's stamp is from before
+-- An entry's stamp is below the bound
 pub entry_before : (bound : ℕ) (tree : Tree) → IsBefore bound tree → (number of : ℕ) (entry : DirEntry) → at of (names_at tree number) ≡ Some entry → of < bound
 entry_before bound tree before number of entry named = by_node (at number tree) refl named
   where
@@ -184,7 +184,7 @@ pub record NodeShown (limits : Limits) (tree after : Tree) (head : Option ℕ) (
   pub here : (node : Node) → at place after ≡ Some node → node.change ≡ shown.change
   pub before : (bound : ℕ) → shown.change < bound → IsBefore bound tree → IsBefore bound after
 
--- a directory shows another change value and time, and its list still
+-- a directory gets other metadata, and keeps its list
 pub node_is_shown : (limits : Limits) (tree : Tree) (head : Option ℕ) → IsForest limits tree head → (place : ℕ) (shown : Shown)
     → is_directory_at tree place ≡ true → acl_of (at place tree) ≡ shown.acl
     → NodeShown limits tree (done (Show place shown) tree) head place shown

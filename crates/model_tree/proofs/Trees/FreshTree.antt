@@ -11,7 +11,7 @@ use Rattle.model_tree.specs.Trees.Tree.{Node, names_of, kind_of, root}
 use Rattle.model_tree.specs.Trees.WellFormed.{IsFrom, Start, IsNode, AreNames, IsWellFormed, IsBefore, links_to, links_owed}
 use Rattle.model_tree.proofs.Trees.KeyedLaws.{at-first, at-rest}
 
--- it has the root alone
+-- it has only the root
 pub only_root : (number : ℕ) (node : Node) → at number fresh_tree ≡ Some node → (number ≡ 1) × (node ≡ fresh_root)
 only_root number node is = elim (cases_eq number 1) [
   | inl one ↦ let same : Some node ≡ Some fresh_root = sym is ∙ at-first 1 number fresh_root [] one in (one, (cc))

@@ -65,7 +65,7 @@ module _ {A : Type 0} where
     ]
   ]
 
-  -- What `with` makes of a map, by where the key stands
+  -- What `with` makes of a map, by the position of the key
 
   with-here : (entry : ℕ × A) (rest : Keyed A) (key : ℕ) (value : A) → key ≡ entry.0
       → with (entry ∷ rest) key value ≡ (key, value) ∷ rest
@@ -93,7 +93,7 @@ module _ {A : Type 0} where
     ]
   ]
 
-  -- the same map but for its first value, or for what follows its first entry
+  -- the same map, except for its first value or for what follows its first entry
   at-first_other : (entry : ℕ × A) (rest : Keyed A) (key other : ℕ) (value : A) → key ≡ entry.0 → other ≢ key
       → at other ((key, value) ∷ rest) ≡ at other (entry ∷ rest)
   at-first_other entry rest key other value one apart =
@@ -115,7 +115,8 @@ module _ {A : Type 0} where
     ]
   ]
 
-  -- Two changes of a map, one after the other: at one key the second stands, at two keys they change places
+  -- Two changes of a map, one after the other: of two at one key only the second remains, and those
+  -- at two keys commute
 
   pub with-with_same : (entries : Keyed A) (key : ℕ) (value other : A) → with (with entries key value) key other ≡ with entries key other
   with-with_same [] key value other = with-here (key, value) [] key other refl
@@ -268,7 +269,7 @@ module _ {A : Type 0} where
         (omega (arith, total-without worth rest key entry.0 above.1))
   ]
 
--- What stands in a map stands above its least key
+-- Every key of a map is above its lower bound
 module _ {A : Type 0} where
   pub at-above : (entries : Keyed A) (least key : ℕ) (value : A) → IsAbove least entries → at key entries ≡ Some value → least < key
   at-above entries least key value above is = elim (cases_lt least key) [
@@ -276,7 +277,7 @@ module _ {A : Type 0} where
     | inr high ↦ absurd (some≢none value (sym is ∙ at-below entries least key above high))
   ]
 
-  -- a sum to which nothing that stands in the map adds
+  -- a sum to which no value in the map adds
   pub total-none : (worth : A → ℕ) (entries : Keyed A) (least : ℕ) → IsAbove least entries
       → ((key : ℕ) (value : A) → at key entries ≡ Some value → worth value ≡ 0) → total worth entries ≡ 0
   total-none worth [] least above none = refl

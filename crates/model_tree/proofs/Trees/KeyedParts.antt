@@ -1,11 +1,11 @@
--- Maps of which some entries are left, and how many entries there are.
+-- Maps of which some entries are kept, and how many entries there are.
 use Rattle.std.proofs.Common.{ℕ, Bool, true, false, [], ◌∷◌, ◌≡◌, ◌+◌, ◌<◌, ◌≤◌, inl, inr, refl, sym, ap, ◌∙◌, subst, arith, cond, length, filter, find}
 use Rattle.std.specs.Prelude.{Some}
 use Rattle.std.proofs.lemmas.Bool.{cases_eq}
 use Rattle.model_tree.specs.Trees.Keyed.{Keyed, at, with, without, IsAbove, total, worth_at}
 use Rattle.model_tree.proofs.Trees.KeyedLaws.{at-first, at-rest, at-above, IsAbove-lower, total-with, total-without, some≢none}
 
--- Maps of which some entries are left
+-- Maps of which some entries are kept
 
 module _ {A : Type 0} (keeps : ℕ × A → Bool) where
   kept_above : (b : Bool) (entry : ℕ × A) (rest : Keyed A) (least : ℕ) → least < entry.0 → IsAbove entry.0 rest → IsAbove least (cond b (entry ∷ rest) rest)
@@ -26,7 +26,7 @@ module _ {A : Type 0} (keeps : ℕ × A → Bool) where
   length-filter (entry ∷ rest) =
       let here = kept_few (keeps entry) entry (filter keeps rest) (length rest) (length-filter rest) in omega (arith, here)
 
-  -- what stands in it stood there, and was to be kept
+  -- what is in it was in the map, and passes the test
   pub at-filter : (entries : Keyed A) (least key : ℕ) (value : A) → IsAbove least entries → at key (filter keeps entries) ≡ Some value
       → (at key entries ≡ Some value) × (keeps (key, value) ≡ true)
   at-filter [] least key value above has = absurd (some≢none value (sym has))
@@ -84,7 +84,7 @@ length-without entries key above =
     let after = total-ones (without entries key) in
     omega (arith, sum, before, after)
 
--- the entry that is found stands there, and passes the test
+-- the entry that is found is in the map, and passes the test
 pub find-at : {A : Type 0} (test : ℕ × A → Bool) (entries : Keyed A) (least : ℕ) (found : ℕ × A) → IsAbove least entries → find test entries ≡ Some found
     → (at found.0 entries ≡ Some found.1) × (test found ≡ true)
 find-at test [] least found above is = absurd (some≢none found (sym is))

@@ -1,4 +1,5 @@
--- A change of one node keeps a tree well formed, and stamps it: bytes are written, a size or other attributes are set.
+-- A change of one node keeps a tree well formed, and stamps it: bytes are written, a size or other
+-- attributes are set.
 use Rattle.std.proofs.Common.{ℕ, List, ◌++◌, ◌≡◌, ◌+◌, ◌-◌, ◌<◌, ◌≤◌, not, inl, inr, sym, ap, ◌∙◌, arith, is_some, length, take, drop, replicate, length-append}
 use Rattle.std.specs.Prelude.{Some, None, All}
 use Rattle.std.proofs.lemmas.Bool.{cases_eq}

@@ -1,5 +1,5 @@
 -- The tests of a name that a client gives, in their order: RFC 8881, sections 14.5 (UTF-8) and
--- 15.1.7 (name errors). Which status answers each of them is this server's profile.
+-- 15.1.7 (name errors). Which status each of them returns is this server's profile.
 use Rattle.std.specs.Prelude.{ℕ, Bool, List, [], ◌∷◌, not, ◌||◌, ◌==◌, nat_lt, length, bytes_eq}
 use Rattle.std.specs.List.{list_any}
 use Rattle.std.specs.Str.{is_utf8}

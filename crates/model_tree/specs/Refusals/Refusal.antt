@@ -1,4 +1,4 @@
--- Why an operation is refused: the tests in their order, each with the status that it answers where
+-- Why an operation is refused: the tests in their order, each with the status that is returned if
 -- it holds.
 use Rattle.std.specs.Prelude.{Bool, true, false, List, [], ◌∷◌, Option, Some, None}
 use Rattle.model_tree.specs.declared.status.Status.{Status}

@@ -16,11 +16,11 @@ use Rattle.model_tree.specs.declared.node.NodeKind.TheVariants as node
 abbrev pub meets : ℕ → ℕ → Bool
 meets a b = not (bit_and a b == 0)
 
--- the bits of a that b lacks
+-- the bits of `a` that `b` lacks
 abbrev pub bits_without : ℕ → ℕ → ℕ
 bits_without a b = bit_and a (2 ^ 32 - 1 - b)
 
--- whether a number has no bit but those
+-- whether a number has only bits of `bits`
 abbrev pub is_within : (number bits : ℕ) → Bool
 is_within number bits = bit_and bits number == number
 
@@ -86,7 +86,7 @@ inheritance = 0xF
 
 -- ---- evaluation (section 6.2.1)
 
--- an entry with INHERIT_ONLY says nothing about its own node: it does not count
+-- an entry with INHERIT_ONLY does not apply to its own node: it does not count
 abbrev pub counts : Ace → Bool
 counts ace = not (meets ace.flags.0 inherit_only)
 
@@ -115,7 +115,7 @@ abbrev pub is_allow : AceKind → Bool
 is_allow kind.Allow = true
 is_allow kind.Deny = false
 
--- where no entry decides, the right is denied
+-- if no entry decides, the right is denied
 abbrev pub allows : Option Ace → Bool
 allows None = false
 allows (Some ace) = is_allow ace.kind
@@ -129,7 +129,7 @@ abbrev pub grants : List Ace → ℕ → ℕ → Cred → ℕ → Bool
 grants acl owner group cred right =
     allows (first acl owner group cred right) || ((cred.uid == owner) && is_owners_right right)
 
--- a mask is granted where each of its rights is
+-- a mask is granted if each of its rights is
 unfoldable pub granted : List Ace → ℕ → ℕ → Cred → ℕ → Bool
 granted acl owner group cred mask = list_all (grants acl owner group cred) (bits_of mask)
 
@@ -142,8 +142,8 @@ is_special who.Everyone = true
 is_special (who.User number) = false
 is_special (who.NamedGroup number) = false
 
--- a file has no flags; a directory's entry has NO_PROPAGATE or INHERIT_ONLY only beside
--- FILE_INHERIT or DIRECTORY_INHERIT. That a number is a group's stands in the name
+-- a file's entry has no flags; a directory's has NO_PROPAGATE or INHERIT_ONLY only together with
+-- FILE_INHERIT or DIRECTORY_INHERIT. The name says whether a number is a group's
 abbrev pub are_flags_for : NodeKind → ℕ → Bool
 are_flags_for node.File flags = flags == 0
 are_flags_for node.Directory flags =
@@ -169,8 +169,8 @@ abbrev pub is_plain : Ace → Bool
 is_plain ace =
     is_special ace.who && counts ace && not (meets ace.flags.0 (file_inherit + directory_inherit))
 
--- whether a node of this kind may have the list, where a client may set so many entries and so many
--- may be stored
+-- whether a node of this kind may have the list, if a client may set `max_set` entries and
+-- `max_stored` may be stored
 unfoldable pub is_list_for : ℕ → ℕ → NodeKind → List Ace → Bool
 is_list_for max_set max_stored of acl =
     list_all (is_entry_for of) acl && nat_le (length acl) max_stored

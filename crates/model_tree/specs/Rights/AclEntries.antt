@@ -1,4 +1,4 @@
--- The entries that lists share: none, where there is no memory of them.
+-- The entries that lists share, or none if no memory is allocated for them.
 use Rattle.std.specs.Prelude.{List, [], Option, Some, None}
 
 abbrev pub entries_in : {R X : Type 0} → (entries : R → List X) → Option R → List X

@@ -89,7 +89,8 @@ pub inherited_by_a_directory : inherited parent node.Directory
 unfolding inherited
 inherited_by_a_directory = refl
 
--- the parent's list suits a directory and no file; with one entry allowed the second is one too many
+-- the parent's list suits a directory and no file; with one entry allowed the second is one too
+-- many
 pub parent_suits_a_directory : is_list_for 64 72 node.Directory parent ≡ true
 unfolding is_list_for
 parent_suits_a_directory = refl
@@ -106,7 +107,7 @@ pub none_refused : first_refused 64 node.Directory parent ≡ None
 unfolding first_refused
 none_refused = refl
 
--- no node has an entry of a right, of a flag or of a number that 32 bits do not tell
+-- no node has an entry with a right, a flag or a number that does not fit in 32 bits
 pub widest_entry : is_entry_for node.Directory (with_flags 0xF (entry kind.Allow (who.User (2 ^ 32 - 1)) every_right)) ≡ true
 widest_entry = refl
 

@@ -25,14 +25,14 @@ NumbersStayWithinTheGroup =
     allows_a_number ace ≡ true → meets ace.mask.0 (rights_lacking of (group_bits mode)) ≡ false)
     (moded of acl mode)
 
--- a list that a node may have is still one after a mode was set, where five more entries may be
--- stored than set
+-- a list that a node may have is still one after a mode was set, if at least five more entries may
+-- be stored than set
 abbrev pub ModesKeepLimits : Type 0
 ModesKeepLimits = (max_set max_stored : ℕ) → max_set + 5 ≤ max_stored
     → (of : NodeKind) (acl : List Ace) (mode : ℕ) → is_list_for max_set max_stored of acl ≡ true
     → is_list_for max_set max_stored of (moded of acl mode) ≡ true
 
--- what is inherited of a list that a directory may have is a list that the new node may have
+-- what is inherited from a list that a directory may have is a list that the new node may have
 abbrev pub InheritanceKeepsLimits : Type 0
 InheritanceKeepsLimits = (max_set max_stored : ℕ) → max_set ≤ max_stored
     → (of : NodeKind) (parent : List Ace)

@@ -56,12 +56,12 @@ group_bits mode = mode / 8 % 8
 abbrev pub other_bits : ℕ → ℕ
 other_bits mode = mode % 8
 
--- the rights that the write bit stands for
+-- the rights that the write bit gives
 abbrev pub write_rights : NodeKind → ℕ
 write_rights node.File = write_data + append_data
 write_rights node.Directory = write_data + append_data + delete_child
 
--- the rights that three bits stand for
+-- the rights that three bits give
 abbrev pub rights_of : NodeKind → ℕ → ℕ
 rights_of of bits =
     (if meets bits 4 then read_data else 0) + (if meets bits 2 then write_rights of else 0)
@@ -80,7 +80,7 @@ entry of name mask = record {
   who = name;
 }
 
--- an entry of a number in a list of a mode: an ALLOW loses what the group's bits lack
+-- an entry for a number in the list of a mode: an ALLOW entry loses what the group's bits lack
 abbrev pub limited_kind : AceKind → ℕ → ℕ → ℕ
 limited_kind kind.Allow mask lacking = bits_without mask lacking
 limited_kind kind.Deny mask lacking = mask
@@ -94,8 +94,8 @@ limited of mode ace =
       };
     }
 
--- what a list hands down, whatever the mode: the entries that do not count, and the special ones
--- that are inherited
+-- whether an entry is handed down, whatever the mode: if it does not count, or is of a special name
+-- and inherited
 abbrev pub is_handed_down : Ace → Bool
 is_handed_down ace =
     not (counts ace) || (is_special ace.who && meets ace.flags.0 (file_inherit + directory_inherit))

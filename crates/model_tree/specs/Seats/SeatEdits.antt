@@ -1,4 +1,4 @@
--- Edits of seats: what a session that is made or ends, and a reply that is held, make of them.
+-- Edits of seats: what changes when a session is made or ends, and when a reply is held.
 use Rattle.std.specs.Prelude.{◌<◌, ℕ, Bool, true, false, ◌&&◌, List, [], ◌∷◌, length, map, Option, None, Some}
 use Rattle.std.specs.Option.{option_map}
 use Rattle.model_tree.specs.Seats.Seats.{HeldReply, Seat, Seats, AreOfRuns, with_held}
@@ -20,13 +20,13 @@ edited_seat Frees place = None
 edited_seat (Takes seat) place = Some seat
 edited_seat (Holds slot held) place = option_map (with_held slot held) place
 
--- of each place
+-- one edit for each place
 abbrev pub edited_all : List SeatEdit → Seats → Seats
 edited_all [] seats = seats
 edited_all (edit ∷ edits) [] = []
 edited_all (edit ∷ edits) (place ∷ seats) = edited_seat edit place ∷ edited_all edits seats
 
--- a reply is held of a slot that the seat has
+-- a reply is held only for a slot that the seat has
 abbrev pub HasSlot : (slot : ℕ) → Option Seat → Type 0
 HasSlot slot None = ⊥
 HasSlot slot (Some seat) = slot < length seat.slots
@@ -53,12 +53,12 @@ abbrev pub all_stay : List SeatEdit → Bool
 all_stay [] = true
 all_stay (edit ∷ edits) = stays edit && all_stay edits
 
--- edits that can be done in a volume that was mounted so often
+-- edits that can be done in a volume that was mounted `run` times
 pub record AreEdits (run : ℕ) (edits : List SeatEdit) (seats : Seats) : Type 0 where
   pub can : CanEditAll edits seats
   pub of_runs : AreOfRuns run (edited_all edits seats)
 
--- What the code's edits stand for
+-- What the code's edits represent
 
 abbrev pub edit_view : code_edit.SeatEdit → SeatEdit
 edit_view kinds.Stays = Stays

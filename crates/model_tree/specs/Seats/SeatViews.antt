@@ -1,4 +1,4 @@
--- What the code's seats stand for, and how a list of them is edited.
+-- What the code's seats represent.
 use Rattle.std.specs.Prelude.{map, Option}
 use Rattle.std.specs.Option.{option_map}
 use Rattle.model_tree.specs.Seats.Seats as model

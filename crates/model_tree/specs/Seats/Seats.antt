@@ -1,24 +1,24 @@
 -- Seats: what a volume keeps of persistent sessions, so that the reply to the last request of each
--- of their slots outlives a crash: RFC 8881, section 2.10.6.5. How many there are is the volume's;
--- which of them give way is told by CREATE_SESSION.
+-- of their slots survives a crash: RFC 8881, section 2.10.6.5. The volume determines how many there
+-- are; CREATE_SESSION says which of them give way.
 use Rattle.std.specs.Prelude.{◌≡◌, ◌≤◌, ◌/◌, ◌^◌, ℕ, Bool, true, false, List, [], ◌∷◌, map, take, Option, None, Some, if◌then◌else◌, slice_index_or, slice_set, is_some, bytes_eq}
 use Rattle.std.specs.Int.{w64, from_be_bytes}
 
--- the reply that is held of a slot's request: the request's number, who sent it, and the whole
+-- the reply that is held for a slot's request: the request's number, who sent it, and the whole
 -- COMPOUND result
 pub record HeldReply : Type 0 where
   pub number : ℕ
   pub uid : ℕ
   pub result : List ℕ
 
--- a session by its id, the owner id and the principal of its client, and what is held of each slot
+-- the id of a session, the owner id and the principal of its client, and what is held for each slot
 pub record Seat : Type 0 where
   pub session : List ℕ
   pub owner : List ℕ
   pub principal : ℕ
   pub slots : List (Option HeldReply)
 
--- by their places, of which one may be free
+-- seats by their places, of which any may be free
 abbrev pub Seats : Type 0
 Seats = List (Option Seat)
 
@@ -54,12 +54,12 @@ SeatsApart [] = Unit {0}
 SeatsApart (None ∷ seats) = SeatsApart seats
 SeatsApart (Some seat ∷ seats) = (has_seat seat.session seats ≡ false) × SeatsApart seats
 
--- and each is of a session that was made in one of so many runs
+-- and each is of a session that was made in one of the runs 1 to `count`
 pub record AreOfRuns (count : ℕ) (seats : Seats) : Type 0 where
   pub apart : SeatsApart seats
   pub made : (id : List ℕ) → has_seat id seats ≡ true → (1 ≤ run_of id) × (run_of id ≤ count)
 
--- What is held of a slot of it
+-- What is held for a slot of a session
 
 abbrev pub held_in : ℕ → Option Seat → Option HeldReply
 held_in place None = None
@@ -89,7 +89,7 @@ seated seat [] = []
 seated seat (None ∷ seats) = Some seat ∷ seats
 seated seat (Some other ∷ seats) = Some other ∷ seated seat seats
 
--- a slot's reply is held from now on, and the one before it no longer
+-- a slot's reply is held from now on, in place of the one before it
 abbrev pub with_held : ℕ → HeldReply → Seat → Seat
 with_held place held seat = record seat { slots = slice_set seat.slots place (Some held) }
 

@@ -7,13 +7,13 @@ use Rattle.model_tree.specs.Trees.Limits.{Limits}
 use Rattle.model_tree.specs.Trees.Tree.{Tree, root}
 use Rattle.model_tree.specs.Trees.WellFormed.{links_from, IsFrom, IsWellFormed}
 
--- the directory in which a name leads to a number: 0, which no node has, where there is none
+-- the directory in which a name leads to a number, or 0, which no node has, if there is none
 abbrev pub parent_of : Tree → (number : ℕ) → ℕ
 parent_of [] number = 0
 parent_of (entry ∷ rest) number =
     if nat_lt 0 (links_from number entry.1) then entry.0 else parent_of rest number
 
--- a node, its parent and so on up to the root, so many at most
+-- a node, its parent and so on up to the root, at most `steps` of them
 abbrev pub ancestors_in : (steps : ℕ) → Tree → (number : ℕ) → List ℕ
 ancestors_in zero tree number = []
 ancestors_in (suc steps) tree number =
@@ -22,11 +22,11 @@ ancestors_in (suc steps) tree number =
 abbrev pub ancestors : Tree → (number : ℕ) → List ℕ
 ancestors tree number = ancestors_in (length tree) tree number
 
--- whether a node is this one or below it
+-- whether a node is `upper` or below it
 abbrev pub is_below : Tree → (upper number : ℕ) → Bool
 is_below tree upper number = list_any (λ of. of == upper) (ancestors tree number)
 
--- That is: whether it is reached from there
+-- That is, whether it is reached from there
 abbrev pub IsBelowIsReached : Type 0
 IsBelowIsReached =
     (limits : Limits) (tree : Tree) → IsWellFormed limits tree → (upper number : ℕ)

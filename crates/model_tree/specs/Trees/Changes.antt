@@ -1,5 +1,5 @@
 -- The edits of each change of names: RFC 8881, sections 18.4 (CREATE), 18.25 (REMOVE) and 18.26
--- (RENAME). Drops stand before puts.
+-- (RENAME). Drops come before puts.
 use Rattle.std.specs.Prelude.{ℕ, List, [], ◌∷◌, ◌++◌, Option, Some, None, ◌≡◌, ◌⊎◌, IsTrue}
 use Rattle.model_tree.specs.Trees.Edit.{Shown, Edit, PutNode, DropNode, Show, PutName, DropName}
 use Rattle.model_tree.specs.Trees.Keyed.{at, is_key}
@@ -18,7 +18,7 @@ abbrev pub group_of : Option Node → ℕ
 group_of None = 0
 group_of (Some node) = node.group
 
--- a node whose content a change alters, and the edit that says so
+-- the metadata of a node whose content a change alters, and the edit that sets it
 abbrev pub touched : Option Node → (stamp now : ℕ) → Shown
 touched node stamp now = record {
   owner = owner_of node;
@@ -31,14 +31,14 @@ touched node stamp now = record {
 abbrev pub touch : Tree → (number stamp now : ℕ) → Edit
 touch tree number stamp now = Show number (touched (at number tree) stamp now)
 
--- a new node of the change's number, and its name
+-- a new node whose number is the change's stamp, and its name
 abbrev pub made_edits : Tree → (directory : ℕ) → (name : List ℕ) → Node → (stamp now : ℕ)
     → List Edit
 made_edits tree directory name node stamp now =
     PutNode stamp node ∷ PutName directory stamp (record { name = name; number = stamp })
     ∷ touch tree directory stamp now ∷ []
 
--- an entry goes, and the node that it leads to
+-- an entry is removed, and the node that it leads to
 abbrev pub removal : (directory : ℕ) → Option (ℕ × DirEntry) → List Edit
 removal directory None = []
 removal directory (Some entry) = DropName directory entry.0 ∷ DropNode entry.1.number ∷ []
@@ -48,7 +48,7 @@ removed_edits tree directory name stamp now =
     removal directory (entry_of name (names_at tree directory))
     ++ (touch tree directory stamp now ∷ [])
 
--- what an entry leads to gets another name in its place
+-- the node that an entry leads to gets another name in place of this one
 abbrev pub moving : (from to : ℕ) → Option (ℕ × DirEntry) → (new_name : List ℕ) → (stamp : ℕ)
     → List Edit
 moving from to None new_name stamp = []
@@ -63,8 +63,9 @@ renamed_edits tree from to old_name new_name stamp now =
     ++ (moving from to (entry_of old_name (names_at tree from)) new_name stamp
     ++ (touch tree from stamp now ∷ touch tree to stamp now ∷ []))
 
--- What a change leaves is the old tree's, or has its stamp: each node is the old one or has the
--- stamp as its change value, each number is old or the stamp, and so is each entry's stamp
+-- After a change, everything is the old tree's or has the change's stamp: each node is the old one
+-- or has the stamp as its change value, each number is old or the stamp, and so is each entry's
+-- stamp
 pub record IsStamped (stamp : ℕ) (tree after : Tree) : Type 0 where
   pub node : (number : ℕ) (node : Node) → at number after ≡ Some node
       → (at number tree ≡ Some node)

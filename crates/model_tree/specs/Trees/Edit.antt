@@ -1,10 +1,10 @@
--- Edits of the tree, of which every change is a list: each is one change of its maps.
+-- Edits of the tree: every change is a list of them, and each is one change of the tree's maps.
 use Rattle.std.specs.Prelude.{ℕ, List, [], ◌∷◌, ◌++◌, Option, Some, None, ◌+◌, ◌-◌, length, take, drop, replicate}
 use Rattle.model_tree.specs.declared.acl.Ace.{Ace}
 use Rattle.model_tree.specs.Trees.Keyed.{at, with, without}
 use Rattle.model_tree.specs.Trees.Tree.{Tree, Node, Content, File, Directory, DirEntry, names_of, bytes_of}
 
--- what a node shows beside its content
+-- a node's metadata: all of it except the content
 pub record Shown : Type 0 where
   pub owner : ℕ
   pub group : ℕ
@@ -21,14 +21,14 @@ pub data Edit : Type 0 where
   PutBytes : (file offset : ℕ) → List ℕ → Edit
   SetSize : (file size : ℕ) → Edit
 
--- bytes cut or filled up with zeros, and with a part written over them
+-- bytes truncated or extended with zeros to a size, and bytes with a part of them overwritten
 abbrev pub resized : List ℕ → (size : ℕ) → List ℕ
 resized bytes size = take size bytes ++ replicate (size - length bytes) 0
 
 abbrev pub overwritten : List ℕ → (offset : ℕ) → (part : List ℕ) → List ℕ
 overwritten bytes offset part = resized bytes offset ++ (part ++ drop (offset + length part) bytes)
 
--- a node that shows this, and one with other content
+-- a node with other metadata, and one with other content
 abbrev pub showing : Shown → Node → Node
 showing shown node = record {
   owner = shown.owner;
@@ -48,7 +48,7 @@ name_put stamp entry node = with_content node (Directory (with (names_of node.co
 abbrev pub name_dropped : (stamp : ℕ) → Node → Node
 name_dropped stamp node = with_content node (Directory (without (names_of node.content) stamp))
 
--- the tree with the node of this number changed, where there is one
+-- the tree with the node of this number changed, if there is one
 abbrev pub altered_at : (Node → Node) → Tree → (number : ℕ) → Option Node → Tree
 altered_at change tree number None = tree
 altered_at change tree number (Some node) = with tree number (change node)

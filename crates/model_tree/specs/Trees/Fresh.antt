@@ -1,4 +1,4 @@
--- The tree of a fresh volume: the root alone, on which everyone may do everything. This server's
+-- The tree of a fresh volume: just the root, on which everyone may do everything. This server's
 -- profile.
 use Rattle.std.specs.Prelude.{ℕ, [], ◌∷◌, ◌≤◌, ◌<◌}
 use Rattle.model_tree.specs.declared.acl.AceKind.TheVariants as kind
@@ -22,8 +22,8 @@ fresh_root = record {
 abbrev pub fresh_tree : Tree
 fresh_tree = (root, fresh_root) ∷ []
 
--- it is well formed on each volume with room for a node and an access control entry, and from
--- before every stamp but the first
+-- it is well formed on each volume with room for a node and an access control entry, and its stamps
+-- are below every stamp above 1
 pub record FreshIsWellFormed (limits : Limits) : Type 0 where
   pub well_formed : 1 ≤ limits.nodes → 1 ≤ limits.aces → IsWellFormed limits fresh_tree
   pub before : (stamp : ℕ) → 1 < stamp → IsBefore stamp fresh_tree

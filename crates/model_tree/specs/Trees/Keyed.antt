@@ -1,12 +1,12 @@
--- A map from numbers to values, as the list of its entries by rising key: of equal maps there is
--- one such list, so that equality of maps is plain equality. The tree is one (by node number), and
--- so is a directory (by entry stamp).
+-- A map from numbers to values, as the list of its entries by rising key: equal maps are the same
+-- list, so that equality of maps is plain equality. The tree is one (by node number), and so is a
+-- directory (by entry stamp).
 use Rattle.std.specs.Prelude.{ℕ, Bool, true, false, List, [], ◌∷◌, Option, Some, None, ◌≡◌, ◌≢◌, ◌+◌, ◌<◌, ◌==◌, nat_lt, is_some}
 
 abbrev pub Keyed : Type 0 → Type 0
 Keyed A = List (ℕ × A)
 
--- What stands at a key: the value of the first entry that has it
+-- The value at a key: that of the first entry that has it
 
 abbrev pub here_or : {A : Type 0} → Bool → A → Option A → Option A
 here_or true value others = Some value
@@ -19,7 +19,7 @@ at key (entry ∷ rest) = here_or (key == entry.0) entry.1 (at key rest)
 abbrev pub is_key : {A : Type 0} → ℕ → Keyed A → Bool
 is_key key entries = is_some (at key entries)
 
--- The map with this value at the key, in place of what stood there
+-- The map with this value at the key, in place of any that was there
 
 abbrev pub before_or_behind : {A : Type 0} → Bool → (ℕ × A) → (ℕ × A) → Keyed A → Keyed A → Keyed A
 before_or_behind true new entry rest others = new ∷ entry ∷ rest
@@ -49,19 +49,19 @@ abbrev pub IsAbove : {A : Type 0} → ℕ → Keyed A → Type 0
 IsAbove key [] = Unit {0}
 IsAbove key (entry ∷ rest) = (key < entry.0) × IsAbove entry.0 rest
 
--- what the values come to, each worth a number
+-- the sum of what the values are worth
 abbrev pub total : {A : Type 0} → (A → ℕ) → Keyed A → ℕ
 total worth [] = 0
 total worth (entry ∷ rest) = worth entry.1 + total worth rest
 
--- what stands at a key is worth, 0 where nothing does
+-- what the value at a key is worth, or 0 if there is none
 abbrev pub worth_at : {A : Type 0} → (A → ℕ) → Option A → ℕ
 worth_at worth None = 0
 worth_at worth (Some value) = worth value
 
 -- Its laws
 
--- two maps that hold the same at each key are one list
+-- two maps that hold the same at each key are the same list
 abbrev pub OnlyMap : Type 0 → Type 0
 OnlyMap A =
     (key : ℕ) (a b : Keyed A) → IsAbove key a → IsAbove key b
@@ -77,7 +77,7 @@ pub record ReadsBack (A : Type 0) : Type 0 where
   pub at-without_other : (entries : Keyed A) (key other : ℕ) → other ≢ key
       → at other (without entries key) ≡ at other entries
 
--- a change keeps the order, and adds the value's worth and takes away what stood there
+-- a change keeps the order; it adds the new value's worth to the sum, and subtracts the old one's
 pub record KeepsOrder (A : Type 0) : Type 0 where
   pub IsAbove-with : (entries : Keyed A) (key least : ℕ) (value : A) → IsAbove least entries
       → least < key

@@ -2,8 +2,8 @@
 use Rattle.std.specs.Prelude.{ℕ, None, ◌≡◌, ◌≢◌, ◌<◌}
 use Rattle.model_tree.specs.Trees.Keyed.{Keyed, at, with, without, IsAbove}
 
--- at one key the second change stands; at two keys they change places; and what was put where
--- nothing stood is taken away again
+-- of two changes at one key only the second remains; changes at two keys commute; and what was put
+-- at a key that had no value is removed again
 pub record ChangesMeet (A : Type 0) : Type 0 where
   pub with-with_same : (entries : Keyed A) (key : ℕ) (value other : A)
       → with (with entries key value) key other ≡ with entries key other

@@ -1,10 +1,10 @@
--- The limits of a volume and of what it keeps: this server's profile. The definitions take them as
+-- The limits of a volume and of what it stores: this server's profile. The definitions take them as
 -- an argument.
 use Rattle.std.specs.Prelude.{ℕ, ◌+◌, ◌-◌}
 pub use Rattle.model_tree.specs.declared.limits.Limits.{Limits}
 
--- the limits of a volume of so many sectors and nodes: what lies before the node table has 148
--- sectors, the table one a node
+-- the limits of a volume of `sectors` sectors and `nodes` nodes: 148 sectors come before the node
+-- table, which has one for each node
 abbrev pub limits_of : (sectors nodes : ℕ) → Limits
 limits_of sectors nodes = record {
   data_sectors = sectors - (148 + nodes);

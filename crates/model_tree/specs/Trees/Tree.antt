@@ -50,7 +50,7 @@ abbrev pub names_of : Content → Keyed DirEntry
 names_of (File bytes) = []
 names_of (Directory names) = names
 
--- Nodes by number: where no node has it, nothing is a directory, and nothing has bytes or names
+-- Nodes by number: a number that no node has is not a directory, and has no bytes and no names
 
 abbrev pub bytes_of_node : Option Node → List ℕ
 bytes_of_node None = []
@@ -84,7 +84,7 @@ abbrev pub entry_of : List ℕ → Keyed DirEntry → Option (ℕ × DirEntry)
 entry_of name [] = None
 entry_of name (entry ∷ rest) = found_or (bytes_eq name entry.1.name) entry (entry_of name rest)
 
--- the number that a name leads to: 0, which no node has, where the directory lacks it
+-- the number that a name leads to, or 0, which no node has, if the directory lacks it
 abbrev pub number_of_entry : Option (ℕ × DirEntry) → ℕ
 number_of_entry None = 0
 number_of_entry (Some entry) = entry.1.number

@@ -1,6 +1,6 @@
 -- What makes a tree well formed. RFC 8881 leaves most of it to the server: sections 4.2
--- (filehandles), 5.8.2 (numlinks) and 14 (names); every node but the root has exactly one name, as
--- there are no hard links.
+-- (filehandles), 5.8.2 (numlinks) and 14 (names); every node except the root has exactly one name,
+-- as there are no hard links.
 use Rattle.std.specs.Prelude.{ℕ, Bool, true, false, List, Some, None, ◌≡◌, ◌<◌, ◌≤◌, ◌==◌, ◌&&◌, not, IsTrue, All, length, bytes_eq}
 use Rattle.model_tree.specs.Rights.Acl.{is_list_for}
 use Rattle.model_tree.specs.Trees.Charge.{fits}
@@ -26,7 +26,7 @@ links_from number node = links_in number (names_of node.content)
 abbrev pub links_to : Tree → (number : ℕ) → ℕ
 links_to tree number = total (links_from number) tree
 
--- how many there are to be: one to each node, but none to the root or to a number that no node has
+-- how many there must be: one for each node, but none for the root or for a number that no node has
 abbrev pub links_owed : Tree → (number : ℕ) → ℕ
 links_owed tree number = one_if (is_key number tree && not (number == root))
 
@@ -50,7 +50,7 @@ pub data IsFrom (tree : Tree) (start : ℕ) : ℕ → Type 0 where
 
 -- One node
 
--- entry stamps are above 0 and rise; each name passes the tests of names and stands once
+-- entry stamps are above 0 and rise; each name passes the tests of names and occurs once
 pub record AreNames (limits : Limits) (names : Keyed DirEntry) : Type 0 where
   pub rising : IsAbove 0 names
   pub named : (stamp : ℕ) (entry : DirEntry) → at stamp names ≡ Some entry
@@ -75,8 +75,7 @@ pub record IsWellFormed (limits : Limits) (tree : Tree) : Type 0 where
   pub nodes : (number : ℕ) (node : Node) → at number tree ≡ Some node → IsNode limits node
   pub fitting : IsTrue (fits limits tree)
 
--- All that the tree has of stamps is from before this one: node numbers, change values and entry
--- stamps
+-- Every stamp in the tree is below this one: node numbers, change values and entry stamps
 pub record IsBefore (stamp : ℕ) (tree : Tree) : Type 0 where
   pub number : (number : ℕ) (node : Node) → at number tree ≡ Some node → number < stamp
   pub change : (number : ℕ) (node : Node) → at number tree ≡ Some node → node.change < stamp
